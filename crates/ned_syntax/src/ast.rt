@@ -1,0 +1,116 @@
+//! What a NED text declares, as values that the later layers use.
+
+use sim_values::text::Text;
+use sim_values::value::{Dimension, Value};
+use sqlite_items::Items;
+
+/// An expression: so far a literal.
+#[derive(Debug, Drop)]
+pub enum Expression {
+    Literal(Value),
+}
+
+/// A value that a parameter is given.
+#[derive(Debug, Drop)]
+pub enum ParameterValue {
+    /// `= e`: it can't be changed by the ini text.
+    Fixed(Expression),
+    /// `= default(e)`: it counts where the ini text gives none.
+    Default(Expression),
+}
+
+/// The word that declares a parameter.
+#[derive(Clone, Copy, Debug, PartialEq, Eq)]
+pub enum ParameterWord {
+    Bool,
+    Int,
+    Text,
+    Double,
+}
+
+/// A parameter that a section declares.
+#[derive(Debug, Drop)]
+pub struct Declaration {
+    pub name: Text,
+    pub word: ParameterWord,
+    /// The dimension of its first `@unit(u)` with a known unit u.
+    pub unit: Option<Dimension>,
+    pub value: Option<ParameterValue>,
+}
+
+/// A line without a word: a value for a parameter that is declared elsewhere.
+#[derive(Debug, Drop)]
+pub struct Assignment {
+    pub name: Text,
+    pub value: Option<ParameterValue>,
+}
+
+/// How the values of a signal are recorded.
+#[derive(Clone, Copy, Debug, PartialEq, Eq)]
+pub enum Mode {
+    Count,
+    Sum,
+    Min,
+    Max,
+    Last,
+    Vector,
+}
+
+/// A mode that a statistic names.
+#[derive(Clone, Copy, Debug, PartialEq, Eq)]
+pub struct RecordedMode {
+    pub mode: Mode,
+    /// Written with a `?`: recorded only where it is asked for.
+    pub optional: bool,
+}
+
+/// `@statistic[name](source=..;record=..)`.
+#[derive(Debug, Drop)]
+pub struct Statistic {
+    pub name: Text,
+    /// The signal that it hears; its own name where no source is written.
+    pub source: Text,
+    /// In the order of the text; none where no `record` is written.
+    pub modes: Items<RecordedMode>,
+}
+
+/// A line of a type's parameter section.
+#[derive(Debug, Drop)]
+pub enum SectionLine {
+    Declaration(Declaration),
+    Assignment(Assignment),
+    Statistic(Statistic),
+    /// `@class(Name)`.
+    Class(Text),
+    /// A property without effect.
+    Ignored,
+}
+
+/// A submodule, as declared.
+#[derive(Debug, Drop)]
+pub struct Submodule {
+    pub name: Text,
+    pub type_name: Text,
+}
+
+/// The word that declares a type.
+#[derive(Clone, Copy, Debug, PartialEq, Eq)]
+pub enum TypeKind {
+    Simple,
+    Network,
+}
+
+/// A type, as declared.
+#[derive(Debug, Drop)]
+pub struct TypeDeclaration {
+    pub kind: TypeKind,
+    pub name: Text,
+    pub lines: Items<SectionLine>,
+    pub submodules: Items<Submodule>,
+}
+
+/// The declarations of a NED text, in order.
+#[derive(Debug, Drop)]
+pub struct NedFile {
+    pub types: Items<TypeDeclaration>,
+}

@@ -1,0 +1,4 @@
+//! The NED language: what a text declares.
+#![tactic(auto)]
+
+pub mod ast;
