@@ -1,0 +1,4 @@
+pub mod Values
+pub mod Behaviour
+pub mod Laws
+pub mod Meaning

@@ -1,0 +1,12 @@
+//! The boundary to simple modules: what a module is told, what it answers, and what it promises.
+#![tactic(auto)]
+
+pub mod call;
+pub mod catalogue;
+pub mod message;
+pub mod reply;
+pub mod simple_module;
+
+pub use sim_values::NoMemory;
+pub use sim_values::text::Text;
+pub use sim_values::value::{Dimension, Value};

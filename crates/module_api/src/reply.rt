@@ -1,0 +1,43 @@
+//! What a module answers to a call.
+
+use sim_time::SimTime;
+use sim_values::text::Text;
+use sqlite_items::Items;
+
+/// A value of the call that a reply, or the state after it, rests on.
+#[derive(Debug, Drop)]
+pub enum Read {
+    /// The parameter of that name, or that there is none.
+    Parameter(Text),
+    /// The direction and size of the gate of that name, or that there is none.
+    Gate(Text),
+}
+
+/// A timer to set.
+#[derive(Debug, Drop)]
+pub struct Schedule {
+    /// The module's own number of the timer, of which one may be pending at a time.
+    pub timer: u32,
+    /// From now, in picoseconds.
+    pub delay: SimTime,
+    pub priority: i16,
+    pub kind: i16,
+}
+
+/// What a module does.
+#[derive(Debug, Drop)]
+pub enum Action {
+    /// Emits a value of the signal of that name.
+    Emit(Text, i64),
+    /// Sets a timer.
+    ScheduleAfter(Schedule),
+    /// Ends the run with the fault ModuleFailed and this text.
+    Fail(Text),
+}
+
+/// What a module answers: what it read, and what is to be done, in order.
+#[derive(Debug, Drop)]
+pub struct Reply {
+    pub reads: Items<Read>,
+    pub actions: Items<Action>,
+}
