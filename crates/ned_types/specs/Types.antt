@@ -1,0 +1,160 @@
+-- The types that files declare, and why they make no model.
+use Rattle.std.specs.Prelude.{◌≡◌, ℕ, Bool, true, false, not, ◌||◌, ◌&&◌, List, [], ◌∷◌, ◌++◌, Option, Some, None, is_some, Result, Ok, Err, if◌then◌else◌, codes}
+use Rattle.std.specs.List.{list_any}
+use Rattle.std.specs.Str.{bytes_eq}
+use Rattle.ned_syntax.specs.declared.ast.NedFile.{NedFile}
+use Rattle.ned_syntax.specs.declared.ast.ParameterValue.{ParameterValue}
+use Rattle.ned_syntax.specs.declared.ast.ParameterValue.TheVariants as parameter_value
+use Rattle.ned_syntax.specs.declared.ast.SectionLine.{SectionLine}
+use Rattle.ned_syntax.specs.declared.ast.SectionLine.TheVariants as line
+use Rattle.ned_syntax.specs.declared.ast.Submodule.{Submodule}
+use Rattle.ned_syntax.specs.declared.ast.TypeDeclaration.{TypeDeclaration}
+use Rattle.ned_syntax.specs.declared.ast.TypeKind.{TypeKind}
+use Rattle.ned_syntax.specs.declared.ast.TypeKind.TheVariants.{Simple, Network}
+use Rattle.ned_types.specs.declared.table.TypeFault.{TypeFault}
+use Rattle.ned_types.specs.declared.table.TypeFault.TheVariants.{DuplicateType, UnknownType, KindClash, NoMemory}
+
+-- the types of all files, one file after the other
+abbrev pub types_of : List NedFile → List TypeDeclaration
+types_of [] = []
+types_of (file ∷ files) = file.types ++ types_of files
+
+-- the first type of that name
+abbrev pub type_named : List ℕ → List TypeDeclaration → Option TypeDeclaration
+type_named name [] = None
+type_named name (t ∷ ts) = if bytes_eq t.name name then Some t else type_named name ts
+
+-- ---- two types of one name
+
+-- whether one of the types has that name
+abbrev pub is_type_named : List ℕ → List TypeDeclaration → Bool
+is_type_named name types = list_any (λ t. bytes_eq t.name name) types
+
+-- whether a built-in channel has that name
+abbrev pub is_built_in : List ℕ → Bool
+is_built_in name = bytes_eq name (codes "IdealChannel") || bytes_eq name (codes "DelayChannel") || bytes_eq name (codes "DatarateChannel")
+
+-- whether two types have one name, or one the name of a built-in channel
+abbrev pub has_duplicate : List TypeDeclaration → Bool
+has_duplicate [] = false
+has_duplicate (t ∷ ts) = (is_built_in t.name || is_type_named t.name ts) || has_duplicate ts
+
+-- ---- a submodule of no type
+
+-- whether the submodule's type is there
+abbrev pub is_submodule_known : List TypeDeclaration → Submodule → Bool
+is_submodule_known types s = is_built_in s.type_name || is_type_named s.type_name types
+
+abbrev pub names_unknown : List TypeDeclaration → List Submodule → Bool
+names_unknown types submodules = list_any (λ s. not (is_submodule_known types s)) submodules
+
+-- whether the type of a submodule isn't there
+abbrev pub has_unknown : List TypeDeclaration → Bool
+has_unknown types = list_any (λ t. names_unknown types t.submodules) types
+
+-- ---- parameter sections
+
+-- the parameter that a line speaks of, and the value that it gives it
+abbrev pub name_in : SectionLine → List ℕ
+name_in (line.Declaration d) = d.name
+name_in (line.Assignment a) = a.name
+name_in _ = []
+
+abbrev pub value_in : SectionLine → Option ParameterValue
+value_in (line.Declaration d) = d.value
+value_in (line.Assignment a) = a.value
+value_in _ = None
+
+-- whether the line declares the parameter
+abbrev pub declares : List ℕ → SectionLine → Bool
+declares name (line.Declaration d) = bytes_eq d.name name
+declares name _ = false
+
+abbrev pub is_declared : List ℕ → List SectionLine → Bool
+is_declared name lines = list_any (λ l. declares name l) lines
+
+abbrev pub is_declaration : SectionLine → Bool
+is_declaration (line.Declaration d) = true
+is_declaration _ = false
+
+-- whether a parameter is declared twice
+abbrev pub redeclares : List SectionLine → Bool
+redeclares [] = false
+redeclares (l ∷ ls) = (is_declaration l && is_declared (name_in l) ls) || redeclares ls
+
+-- whether a value is given to a parameter that isn't declared
+abbrev pub is_undeclared : List SectionLine → SectionLine → Bool
+is_undeclared lines l = is_some (value_in l) && not (is_declared (name_in l) lines)
+
+abbrev pub gives_undeclared : List SectionLine → Bool
+gives_undeclared lines = list_any (λ l. is_undeclared lines l) lines
+
+-- whether the line gives the parameter a value
+abbrev pub gives : List ℕ → SectionLine → Bool
+gives name l = is_some (value_in l) && bytes_eq (name_in l) name
+
+abbrev pub is_fixed : Option ParameterValue → Bool
+is_fixed (Some (parameter_value.Fixed e)) = true
+is_fixed _ = false
+
+abbrev pub is_given : List ℕ → List SectionLine → Bool
+is_given name lines = list_any (λ l. gives name l) lines
+
+-- whether a parameter with a fixed value is given another one
+abbrev pub gives_again : List SectionLine → Bool
+gives_again [] = false
+gives_again (l ∷ ls) = (is_fixed (value_in l) && is_given (name_in l) ls) || gives_again ls
+
+-- ---- submodules
+
+-- whether it is a simple type
+abbrev pub is_simple_kind : TypeKind → Bool
+is_simple_kind Simple = true
+is_simple_kind Network = false
+
+abbrev pub is_simple : Option TypeDeclaration → Bool
+is_simple None = false
+is_simple (Some t) = is_simple_kind t.kind
+
+abbrev pub is_submodule_simple : List TypeDeclaration → Submodule → Bool
+is_submodule_simple types s = is_simple (type_named s.type_name types)
+
+-- whether the type of a submodule isn't a simple type
+abbrev pub has_other_kind : List TypeDeclaration → List Submodule → Bool
+has_other_kind types submodules = list_any (λ s. not (is_submodule_simple types s)) submodules
+
+abbrev pub is_submodule_named : List ℕ → List Submodule → Bool
+is_submodule_named name submodules = list_any (λ s. bytes_eq s.name name) submodules
+
+-- whether a submodule is declared twice
+abbrev pub repeats_submodule : List Submodule → Bool
+repeats_submodule [] = false
+repeats_submodule (s ∷ ss) = is_submodule_named s.name ss || repeats_submodule ss
+
+-- ---- the faults, in their order
+
+abbrev pub section_clashes : List SectionLine → Bool
+section_clashes lines = redeclares lines || (gives_undeclared lines || gives_again lines)
+
+abbrev pub submodules_clash : List TypeDeclaration → List Submodule → Bool
+submodules_clash types submodules = repeats_submodule submodules || has_other_kind types submodules
+
+-- whether a member of the type is declared twice, a value is given to an undeclared parameter or after a fixed one, or
+-- a submodule is of another kind than simple
+abbrev pub clashes : List TypeDeclaration → TypeDeclaration → Bool
+clashes types t = section_clashes t.lines || submodules_clash types t.submodules
+
+abbrev pub has_clash : List TypeDeclaration → Bool
+has_clash types = list_any (λ t. clashes types t) types
+
+-- why the types make no model, where they don't
+abbrev pub fault_of : List TypeDeclaration → Option TypeFault
+fault_of types =
+    if has_duplicate types then Some DuplicateType
+    else (if has_unknown types then Some UnknownType else (if has_clash types then Some KindClash else None))
+
+-- the answer to these types: all of them, or their first fault; or memory ran out
+abbrev pub Builds : List TypeDeclaration → Result (List TypeDeclaration) TypeFault → Type 0
+Builds types (Ok table) = (table ≡ types) × (fault_of types ≡ None)
+Builds types (Err NoMemory) = Unit {0}
+Builds types (Err fault) = fault_of types ≡ Some fault

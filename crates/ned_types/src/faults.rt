@@ -1,0 +1,254 @@
+//! Why declared types make no model.
+
+ghost use Rattle.std.specs.Prelude.{◌≡◌, ◌||◌};
+ghost use Rattle.ned_types.specs.Types.{fault_of, has_duplicate, has_unknown, has_clash, is_built_in, is_type_named, names_unknown, is_submodule_known, clashes, section_clashes, submodules_clash, is_submodule_simple, is_simple, is_submodule_named, repeats_submodule, has_other_kind, redeclares, declares, is_declaration, is_declared, is_undeclared, gives_undeclared, gives_again, gives, is_given, is_fixed, name_in, value_in};
+ghost use Rattle.std.specs.Option.{option_copied};
+
+use crate::table::{TypeFault, find_type};
+use ned_syntax::ast::{ParameterValue, SectionLine, Submodule, TypeDeclaration, TypeKind};
+
+/// The first fault of these types, in the order of TypeFault.
+pub fn fault_of(types: &[TypeDeclaration]) -> Option<TypeFault>
+    ensures { result ≡ fault_of types.now }
+{
+    if has_duplicate(types) {
+        return Some(TypeFault::DuplicateType);
+    }
+    if has_unknown(types) {
+        return Some(TypeFault::UnknownType);
+    }
+    if has_clash(types) {
+        return Some(TypeFault::KindClash);
+    }
+    None
+}
+
+/// Whether two types have one name, or one the name of a built-in channel.
+fn has_duplicate(types: &[TypeDeclaration]) -> bool
+    ensures { result ≡ has_duplicate types.now }
+{
+    let mut rest = types;
+    while let [declared, after @ ..] = rest {
+        if is_taken(declared.name.as_bytes(), after) {
+            return true;
+        }
+        rest = after;
+    }
+    false
+}
+
+/// Whether a built-in channel or one of the types has that name.
+fn is_taken(name: &[u8], types: &[TypeDeclaration]) -> bool
+    ensures { result ≡ is_built_in name.now || is_type_named name.now types.now }
+{
+    is_built_in(name) || is_type_named(name, types)
+}
+
+/// Whether a built-in channel has that name.
+fn is_built_in(name: &[u8]) -> bool
+    ensures { result ≡ is_built_in name.now }
+{
+    name == b"IdealChannel".as_slice()
+        || name == b"DelayChannel".as_slice()
+        || name == b"DatarateChannel".as_slice()
+}
+
+/// Whether one of the types has that name.
+fn is_type_named(name: &[u8], types: &[TypeDeclaration]) -> bool
+    ensures { result ≡ is_type_named name.now types.now }
+{
+    types.iter().any(|declared| declared.name.is(name))
+}
+
+/// Whether a submodule's type isn't there.
+fn has_unknown(types: &[TypeDeclaration]) -> bool
+    ensures { result ≡ has_unknown types.now }
+{
+    types
+        .iter()
+        .any(|declared| names_unknown(types, declared.submodules.as_slice()))
+}
+
+/// Whether the type of one of these submodules isn't there.
+fn names_unknown(types: &[TypeDeclaration], submodules: &[Submodule]) -> bool
+    ensures { result ≡ names_unknown types.now submodules.now }
+{
+    submodules.iter().any(|s| !is_submodule_known(types, s))
+}
+
+/// Whether the submodule's type is there.
+fn is_submodule_known(types: &[TypeDeclaration], submodule: &Submodule) -> bool
+    ensures { result ≡ is_submodule_known types.now submodule.now }
+{
+    is_taken(submodule.type_name.as_bytes(), types)
+}
+
+/// Whether one of the types has a clash.
+fn has_clash(types: &[TypeDeclaration]) -> bool
+    ensures { result ≡ has_clash types.now }
+{
+    types.iter().any(|declared| clashes(types, declared))
+}
+
+/// Whether a member of the type clashes.
+fn clashes(types: &[TypeDeclaration], declared: &TypeDeclaration) -> bool
+    ensures { result ≡ clashes types.now declared.now }
+{
+    section_clashes(declared.lines.as_slice())
+        || submodules_clash(types, declared.submodules.as_slice())
+}
+
+fn section_clashes(lines: &[SectionLine]) -> bool
+    ensures { result ≡ section_clashes lines.now }
+{
+    redeclares(lines) || gives_undeclared(lines) || gives_again(lines)
+}
+
+fn submodules_clash(types: &[TypeDeclaration], submodules: &[Submodule]) -> bool
+    ensures { result ≡ submodules_clash types.now submodules.now }
+{
+    repeats_submodule(submodules) || has_other_kind(types, submodules)
+}
+
+/// Whether a parameter is declared twice.
+fn redeclares(lines: &[SectionLine]) -> bool
+    ensures { result ≡ redeclares lines.now }
+{
+    let mut rest = lines;
+    while let [line, after @ ..] = rest {
+        if is_declaration(line) && is_declared(name_in(line), after) {
+            return true;
+        }
+        rest = after;
+    }
+    false
+}
+
+fn is_declaration(line: &SectionLine) -> bool
+    ensures { result ≡ is_declaration line.now }
+{
+    matches!(line, SectionLine::Declaration(_))
+}
+
+/// Whether one of the lines declares the parameter.
+fn is_declared(name: &[u8], lines: &[SectionLine]) -> bool
+    ensures { result ≡ is_declared name.now lines.now }
+{
+    lines.iter().any(|line| declares(name, line))
+}
+
+/// Whether the line declares the parameter.
+fn declares(name: &[u8], line: &SectionLine) -> bool
+    ensures { result ≡ declares name.now line.now }
+{
+    match line {
+        SectionLine::Declaration(declaration) => declaration.name.is(name),
+        _ => false,
+    }
+}
+
+/// The parameter that a line speaks of.
+pub fn name_in(line: &SectionLine) -> &[u8]
+    ensures { result.now ≡ name_in line.now }
+{
+    match line {
+        SectionLine::Declaration(declaration) => declaration.name.as_bytes(),
+        SectionLine::Assignment(assignment) => assignment.name.as_bytes(),
+        _ => b"".as_slice(),
+    }
+}
+
+/// The value that a line gives.
+pub fn value_in(line: &SectionLine) -> Option<&ParameterValue>
+    ensures { option_copied result ≡ value_in line.now }
+{
+    match line {
+        SectionLine::Declaration(declaration) => declaration.value.as_ref(),
+        SectionLine::Assignment(assignment) => assignment.value.as_ref(),
+        _ => None,
+    }
+}
+
+/// Whether a value is given to a parameter that isn't declared.
+fn gives_undeclared(lines: &[SectionLine]) -> bool
+    ensures { result ≡ gives_undeclared lines.now }
+{
+    lines.iter().any(|line| is_undeclared(lines, line))
+}
+
+fn is_undeclared(lines: &[SectionLine], line: &SectionLine) -> bool
+    ensures { result ≡ is_undeclared lines.now line.now }
+{
+    value_in(line).is_some() && !is_declared(name_in(line), lines)
+}
+
+/// Whether a parameter with a fixed value is given another one.
+fn gives_again(lines: &[SectionLine]) -> bool
+    ensures { result ≡ gives_again lines.now }
+{
+    let mut rest = lines;
+    while let [line, after @ ..] = rest {
+        if fixes(line) && is_given(name_in(line), after) {
+            return true;
+        }
+        rest = after;
+    }
+    false
+}
+
+/// Whether the line gives a fixed value.
+fn fixes(line: &SectionLine) -> bool
+    ensures { result ≡ is_fixed (value_in line.now) }
+{
+    matches!(value_in(line), Some(ParameterValue::Fixed(_)))
+}
+
+/// Whether one of the lines gives the parameter a value.
+fn is_given(name: &[u8], lines: &[SectionLine]) -> bool
+    ensures { result ≡ is_given name.now lines.now }
+{
+    lines.iter().any(|line| gives(name, line))
+}
+
+/// Whether the line gives the parameter a value.
+pub fn gives(name: &[u8], line: &SectionLine) -> bool
+    ensures { result ≡ gives name.now line.now }
+{
+    value_in(line).is_some() && name_in(line) == name
+}
+
+/// Whether a submodule is declared twice.
+fn repeats_submodule(submodules: &[Submodule]) -> bool
+    ensures { result ≡ repeats_submodule submodules.now }
+{
+    let mut rest = submodules;
+    while let [submodule, after @ ..] = rest {
+        if is_submodule_named(submodule.name.as_bytes(), after) {
+            return true;
+        }
+        rest = after;
+    }
+    false
+}
+
+fn is_submodule_named(name: &[u8], submodules: &[Submodule]) -> bool
+    ensures { result ≡ is_submodule_named name.now submodules.now }
+{
+    submodules.iter().any(|submodule| submodule.name.is(name))
+}
+
+/// Whether the type of a submodule isn't a simple type.
+fn has_other_kind(types: &[TypeDeclaration], submodules: &[Submodule]) -> bool
+    ensures { result ≡ has_other_kind types.now submodules.now }
+{
+    submodules.iter().any(|s| !is_submodule_simple(types, s))
+}
+
+fn is_submodule_simple(types: &[TypeDeclaration], submodule: &Submodule) -> bool
+    ensures { result ≡ is_submodule_simple types.now submodule.now }
+{
+    match find_type(types, submodule.type_name.as_bytes()) {
+        Some(declared) => matches!(declared.kind, TypeKind::Simple),
+        None => false,
+    }
+}

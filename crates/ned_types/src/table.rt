@@ -1,0 +1,106 @@
+//! The table of types.
+
+ghost use Rattle.std.specs.Prelude.{◌≡◌, IfOk};
+ghost use Rattle.std.specs.Option.{option_copied};
+ghost use Rattle.ned_types.specs.Types.{type_named, types_of, Builds};
+
+use crate::faults;
+use ned_syntax::ast::{NedFile, TypeDeclaration};
+use sim_values::NoMemory;
+use sqlite_items::Items;
+use std::alloc::{AllocError, Global};
+use std::marker::Model;
+use thiserror::Error;
+
+/// Why declared types make no model. Of several reasons the first in this order is told.
+#[derive(Clone, Copy, Debug, PartialEq, Eq, Error)]
+pub enum TypeFault {
+    /// Two types have one name, or one has that of a built-in channel.
+    #[error("DuplicateType")]
+    DuplicateType,
+    /// A submodule's type isn't declared.
+    #[error("UnknownType")]
+    UnknownType,
+    /// A member is declared twice, a value is given to an undeclared parameter or after a fixed
+    /// one, or a submodule's type is no simple type.
+    #[error("KindClash")]
+    KindClash,
+    #[error("NoMemory")]
+    NoMemory,
+}
+
+impl From<AllocError> for TypeFault {
+    ghost use Rattle.std.specs.Prelude.{◌≡◌};
+    ghost use Rattle.ned_types.specs.declared.table.TypeFault.TheVariants.{NoMemory};
+
+    ghost from_gives = { λ _ e. e ≡ NoMemory };
+
+    fn from(_e: AllocError) -> TypeFault {
+        TypeFault::NoMemory
+    }
+}
+
+/// All declared types, in the order of the files and within them, which contracts see as their list.
+#[derive(Debug, Drop)]
+pub struct TypeTable {
+    types: Items<TypeDeclaration>,
+}
+
+impl Model for TypeTable {
+    ghost use Rattle.std.specs.Prelude.{List};
+    ghost use Rattle.ned_syntax.specs.declared.ast.TypeDeclaration.{TypeDeclaration};
+
+    ghost Value = { List TypeDeclaration };
+
+    ghost view = { λ t. t.types };
+}
+
+impl TypeTable {
+    /// The table of the files' types, or the first reason why they make none.
+    pub fn build(alloc: Global, files: Vec<NedFile>) -> Result<TypeTable, TypeFault>
+        ensures { Builds (types_of files.items) result }
+    {
+        let types = joined(alloc, files)?;
+        match faults::fault_of(types.as_slice()) {
+            Some(fault) => Err(fault),
+            None => Ok(TypeTable { types }),
+        }
+    }
+
+    /// The types, in order.
+    pub fn types(&self) -> &[TypeDeclaration]
+        ensures { result.now ≡ self.now }
+    {
+        self.types.as_slice()
+    }
+
+    /// The type of that name.
+    pub fn find(&self, name: &[u8]) -> Option<&TypeDeclaration>
+        ensures { option_copied result ≡ type_named name.now self.now }
+    {
+        find_type(self.types.as_slice(), name)
+    }
+}
+
+/// The types of all files, one file after the other.
+fn joined(alloc: Global, files: Vec<NedFile>) -> Result<Items<TypeDeclaration>, AllocError>
+    ensures { IfOk result (λ types. types ≡ types_of files.items) }
+{
+    let mut types = Items::new(alloc);
+    for file in files {
+        types.append(file.types)?;
+    }
+    Ok(types)
+}
+
+/// The first type of that name.
+pub fn find_type<'a>(types: &'a [TypeDeclaration], name: &[u8]) -> Option<&'a TypeDeclaration>
+    ensures { option_copied result ≡ type_named name.now types.now }
+{
+    for declared in types {
+        if declared.name.is(name) {
+            return Some(declared);
+        }
+    }
+    None
+}
