@@ -1,0 +1,5 @@
+//! The ini text: its lines, and what they say of a module's parameters.
+#![tactic(auto)]
+
+pub mod entries;
+pub mod lines;

@@ -1,0 +1,88 @@
+//! The lines of an ini text.
+
+use ned_syntax::ast::Expression;
+use sim_values::text::Text;
+use sqlite_items::Items;
+use std::marker::Model;
+
+/// The value of a parameter entry.
+#[derive(Debug, Drop)]
+pub enum EntryValue {
+    /// The word `default`: the value is the one of the NED text.
+    Default,
+    Given(Expression),
+}
+
+/// A value for all parameters of a name.
+#[derive(Debug, Drop)]
+pub struct ParameterEntry {
+    pub name: Text,
+    pub value: EntryValue,
+}
+
+/// What an entry says.
+#[derive(Debug, Drop)]
+pub enum EntryMeaning {
+    /// The option `network`: the name of the network to be run.
+    Network(Text),
+    /// `**.name = value`.
+    Parameter(ParameterEntry),
+}
+
+/// An entry, with its key and its value as they are written.
+#[derive(Debug, Drop)]
+pub struct Entry {
+    pub key: Text,
+    pub value: Text,
+    pub meaning: EntryMeaning,
+}
+
+/// What a line is.
+#[derive(Debug, Drop)]
+pub enum LineMeaning {
+    Blank,
+    Comment,
+    /// A section, by its name.
+    Section(Text),
+    Entry(Entry),
+}
+
+/// A line, without its end.
+#[derive(Debug, Drop)]
+pub struct IniLine {
+    pub text: Text,
+    pub meaning: LineMeaning,
+}
+
+/// An ini text, which contracts see as the list of its lines.
+#[derive(Debug, Drop)]
+pub struct IniText {
+    lines: Items<IniLine>,
+}
+
+impl Model for IniText {
+    ghost use Rattle.std.specs.Prelude.{List};
+    ghost use Rattle.ini_config.specs.declared.lines.IniLine.{IniLine};
+
+    ghost Value = { List IniLine };
+
+    ghost view = { λ t. t.lines };
+}
+
+impl IniText {
+    ghost use Rattle.std.specs.Prelude.{◌≡◌};
+
+    /// The text of these lines.
+    pub(crate) fn of_lines(lines: Items<IniLine>) -> IniText
+        ensures { result ≡ lines }
+    {
+        IniText { lines }
+    }
+
+    /// The lines, in order.
+    pub fn lines(&self) -> &[IniLine]
+        ensures { result.now ≡ self.now }
+    {
+        self.lines.as_slice()
+    }
+}
