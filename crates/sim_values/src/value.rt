@@ -1,6 +1,9 @@
 //! Values of parameters.
 
+ghost use Rattle.std.specs.Prelude.{◌≡◌, IfOk};
+
 use crate::text::Text;
+use std::alloc::{AllocError, Global};
 
 /// What a quantity measures.
 #[derive(Clone, Copy, Debug, PartialEq, Eq)]
@@ -21,4 +24,18 @@ pub enum Value {
     Text(Text),
     /// An amount in ps, bps or b.
     Quantity(Dimension, i64),
+}
+
+impl Value {
+    /// An equal value.
+    pub fn copy(&self, alloc: Global) -> Result<Value, AllocError>
+        ensures { IfOk result (λ v. v ≡ self.now) }
+    {
+        match self {
+            Value::Whole(n) => Ok(Value::Whole(*n)),
+            Value::Truth(b) => Ok(Value::Truth(*b)),
+            Value::Text(text) => Ok(Value::Text(text.copy(alloc)?)),
+            Value::Quantity(dimension, amount) => Ok(Value::Quantity(*dimension, *amount)),
+        }
+    }
 }

@@ -1,0 +1,10 @@
+use Rattle.std.proofs.Common.{arith}
+use Rattle.std.proofs.lemmas.Bool.Decides.{nat_tests}
+use Rattle.model_answers.proofs.RecordLemmas.{path_up-under, pushed_under}
+use Rattle.model_answers.proofs.record.+push_path.Goals as goal
+
+pub returns : goal.returns
+returns t c =
+    pushed_under c.push_own_name-2.result c.args.path.now.items _ c.push_path.new.path.items c.push.new.self.items c.push_own_name-2.new.path.items _ _
+    c.in_ok-push_path.ensures c.in_ok-push.ensures.items c.push_own_name-2.ensures
+    (path_up-under c.args.depth c.args.records.now c.args.id c.in-Some.of.now c.if-depth-eq0.false c.in-Some.ensures (grind (arith, nat_tests)))

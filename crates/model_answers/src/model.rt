@@ -1,0 +1,63 @@
+//! The model of a run.
+
+ghost use Rattle.std.specs.Prelude.{◌≡◌};
+ghost use Rattle.std.specs.Option.{option_copied};
+ghost use Rattle.model_answers.specs.Models.{network_of, type_at, type_of_record, inner_type, as_network};
+ghost use Rattle.model_answers.specs.Records.{record_at};
+
+use crate::record::{Record, record_at};
+use ini_config::entries::network_entry;
+use ini_config::lines::IniText;
+use ned_syntax::ast::{TypeDeclaration, TypeKind};
+use ned_types::flat::submodule_named;
+use ned_types::table::TypeTable;
+use sim_values::text::Text;
+
+/// What a run is made of: the declared types, the ini text, and the selected configuration.
+#[derive(Debug, Drop)]
+pub struct Model {
+    pub types: TypeTable,
+    pub ini: IniText,
+    pub config: Text,
+}
+
+impl Model {
+    /// The network that is to be run, where the option `network` names one.
+    pub fn network(&self) -> Option<&TypeDeclaration>
+        ensures { option_copied result ≡ network_of self.now }
+    {
+        let name = network_entry(self.ini.lines())?;
+        let declared = self.types.find(name)?;
+        as_network(declared)
+    }
+
+    /// The type of the module of that id.
+    pub fn type_at(&self, records: &[Record], id: u32) -> Option<&TypeDeclaration>
+        ensures { option_copied result ≡ type_at self.now records.now id }
+    {
+        let record = record_at(records, id)?;
+        if record.parent == 0 {
+            return self.network();
+        }
+        self.inner_type(record.name.as_bytes())
+    }
+
+    /// The type of the network's submodule of that name.
+    fn inner_type(&self, name: &[u8]) -> Option<&TypeDeclaration>
+        ensures { option_copied result ≡ inner_type self.now (network_of self.now) name.now }
+    {
+        let network = self.network()?;
+        let submodule = submodule_named(name, network.submodules.as_slice())?;
+        self.types.find(submodule.type_name.as_bytes())
+    }
+}
+
+/// The type, where it is a network.
+fn as_network(declared: &TypeDeclaration) -> Option<&TypeDeclaration>
+    ensures { option_copied result ≡ as_network declared.now }
+{
+    match declared.kind {
+        TypeKind::Network => Some(declared),
+        TypeKind::Simple => None,
+    }
+}

@@ -1,0 +1,101 @@
+//! Records of the modules that were created, and their paths.
+
+ghost use Rattle.std.specs.Prelude.{◌≡◌, IfOk, OnOk, ◌++◌};
+ghost use Rattle.std.specs.Option.{option_copied};
+ghost use Rattle.model_answers.specs.Records.{record_at, own_name, path_up, path_of, path_under, index_of};
+
+use itoa::Buffer;
+use sim_values::text::Text;
+use std::alloc::{AllocError, Global};
+
+/// A module that was created. Its id is its place among the records, counted from 1.
+#[derive(Debug, Drop)]
+pub struct Record {
+    /// The id of the enclosing module, 0 for the network.
+    pub parent: u32,
+    pub name: Text,
+    /// Its place in its vector, none where it is no vector's element.
+    pub index: Option<u32>,
+    /// The class of a simple module, none for a compound module.
+    pub class: Option<Text>,
+}
+
+/// How deep modules are nested at most, the network included.
+pub const MAX_NESTING: u32 = 32;
+
+/// The record of that id.
+pub fn record_at(records: &[Record], id: u32) -> Option<&Record>
+    ensures { option_copied result ≡ record_at records.now id }
+{
+    if id == 0 {
+        return None;
+    }
+    records.get(id as usize - 1)
+}
+
+/// The place of the module of that id in its vector.
+pub fn index_of(records: &[Record], id: u32) -> Option<u32>
+    ensures { result ≡ index_of (record_at records.now id) }
+{
+    match record_at(records, id) {
+        Some(record) => record.index,
+        None => None,
+    }
+}
+
+/// Adds a module's name, with its index in brackets where it has one.
+fn push_own_name(path: &mut Vec<u8>, of: &Record) -> Result<(), AllocError>
+    ensures { OnOk result (path.new.items ≡ path.old.items ++ own_name of.now.name of.now.index) }
+{
+    path.extend_from_slice(of.name.as_bytes())?;
+    let Some(index) = of.index else {
+        return Ok(());
+    };
+    path.extend_from_slice(b"[")?;
+    let mut buffer = Buffer::new();
+    path.extend_from_slice(buffer.format(index).as_bytes())?;
+    path.extend_from_slice(b"]")
+}
+
+/// Adds the path of the module of that id, with at most so many names.
+fn push_path(
+    path: &mut Vec<u8>,
+    depth: u32,
+    records: &[Record],
+    id: u32,
+) -> Result<(), AllocError>
+    ensures { OnOk result (path.new.items ≡ path.old.items ++ path_up depth records.now id) }
+{
+    if depth == 0 {
+        return Ok(());
+    }
+    let Some(of) = record_at(records, id) else {
+        return Ok(());
+    };
+    if of.parent == 0 {
+        return push_own_name(path, of);
+    }
+    push_path(path, depth - 1, records, of.parent)?;
+    path.push(b'.')?;
+    push_own_name(path, of)
+}
+
+#[tactic(auto, unfolding(crate::specs::Records::path_of))]
+/// The full path of the module of that id, as `N.h[2].b`.
+pub fn path_of(alloc: Global, records: &[Record], id: u32) -> Result<Text, AllocError>
+    ensures { IfOk result (λ path. path ≡ path_of records.now id) }
+{
+    let mut path = Vec::new(alloc);
+    push_path(&mut path, MAX_NESTING, records, id)?;
+    Ok(Text::from_vec(path))
+}
+
+/// The path of a submodule of that name in the module of that path.
+pub fn path_under(alloc: Global, path: &[u8], name: &[u8]) -> Result<Text, AllocError>
+    ensures { IfOk result (λ found. found ≡ path_under path.now name.now) }
+{
+    let mut under = Vec::from_slice(alloc, path)?;
+    under.push(b'.')?;
+    under.extend_from_slice(name)?;
+    Ok(Text::from_vec(under))
+}
