@@ -1,0 +1,92 @@
+-- The answers of a model.
+use Rattle.std.specs.Prelude.{ℕ, List, [], ◌∷◌, Option, Some, None, Result, Ok, Err}
+use Rattle.ini_config.specs.declared.lines.Entry.{Entry}
+use Rattle.module_api.specs.declared.call.Parameter.{Parameter}
+use Rattle.ned_syntax.specs.declared.ast.Declaration.{Declaration}
+use Rattle.ned_syntax.specs.declared.ast.SectionLine.{SectionLine}
+use Rattle.ned_syntax.specs.declared.ast.SectionLine.TheVariants as line
+use Rattle.ned_syntax.specs.declared.ast.TypeDeclaration.{TypeDeclaration}
+use Rattle.ned_syntax.specs.declared.ast.TypeKind.{TypeKind}
+use Rattle.ned_syntax.specs.declared.ast.TypeKind.TheVariants.{Simple, Network}
+use Rattle.ned_types.specs.Flat.{declaration_named}
+use Rattle.sim_values.specs.declared.value.Value.{Value}
+use Rattle.model_answers.specs.declared.answer.Answer.{Answer}
+use Rattle.model_answers.specs.declared.answer.Answer.TheVariants as answer
+use Rattle.model_answers.specs.declared.answer.Built.{Built}
+use Rattle.model_answers.specs.declared.answer.ModelFault.{ModelFault}
+use Rattle.model_answers.specs.declared.answer.Question.{Question}
+use Rattle.model_answers.specs.declared.answer.Question.TheVariants as question
+use Rattle.model_answers.specs.declared.inside.PlacedFault.{PlacedFault}
+use Rattle.model_answers.specs.declared.model.Model.{Model}
+use Rattle.model_answers.specs.declared.record.Record.{Record}
+use Rattle.model_answers.specs.Inside.{built_all}
+use Rattle.model_answers.specs.Models.{entries_in, network_of, type_at}
+use Rattle.model_answers.specs.Parameters.{parameter_value}
+use Rattle.model_answers.specs.Records.{path_of}
+
+-- which network is run
+abbrev pub root_answer : Option TypeDeclaration → Answer
+root_answer None = answer.Absent
+root_answer (Some t) = answer.Root t.name
+
+abbrev pub built_answer : Result (List Built) PlacedFault → Answer
+built_answer (Ok inside) = answer.Inside inside
+built_answer (Err found) = answer.Fault found.path found.fault
+
+-- what is inside of a compound module of that path and type
+abbrev pub inside_of : Model → List ℕ → TypeDeclaration → Answer
+inside_of m path t = built_answer (built_all m path t.submodules)
+
+abbrev pub inside_by : Model → List ℕ → TypeDeclaration → TypeKind → Answer
+inside_by m path t Network = inside_of m path t
+inside_by m path t Simple = answer.Absent
+
+abbrev pub inside_answer : Model → List ℕ → Option TypeDeclaration → Answer
+inside_answer m path None = answer.Absent
+inside_answer m path (Some t) = inside_by m path t t.kind
+
+abbrev pub value_answer : List ℕ → Result Value ModelFault → Answer
+value_answer path (Ok v) = answer.Value v
+value_answer path (Err fault) = answer.Fault path fault
+
+abbrev pub declared_answer : List Entry → List ℕ → List SectionLine → Option Declaration → Answer
+declared_answer entries path lines None = answer.Absent
+declared_answer entries path lines (Some d) = value_answer path (parameter_value entries lines d)
+
+-- the value of a parameter of a module of that path and type
+abbrev pub param_answer : Model → List ℕ → Option TypeDeclaration → List ℕ → Answer
+param_answer m path None name = answer.Absent
+param_answer m path (Some t) name = declared_answer (entries_in m) path t.lines (declaration_named name t.lines)
+
+-- THE ANSWER of a model to a question, with the modules of these records; no type declares a gate yet
+abbrev pub answer_of : Model → List Record → Question → Answer
+answer_of m records question.Root = root_answer (network_of m)
+answer_of m records (question.Build id) = inside_answer m (path_of records id) (type_at m records id)
+answer_of m records (question.Param id name) = param_answer m (path_of records id) (type_at m records id) name
+answer_of m records (question.GateSize id name) = answer.Absent
+
+-- ---- the parameters of a module, as a call shows them
+
+abbrev pub with_value : List ℕ → Answer → List Parameter → List Parameter
+with_value name (answer.Value v) rest = record { name = name; value = v } ∷ rest
+with_value name _ rest = rest
+
+abbrev pub with_line : (List ℕ → Answer) → SectionLine → List Parameter → List Parameter
+with_line answers (line.Declaration d) rest = with_value d.name (answers d.name) rest
+with_line answers _ rest = rest
+
+abbrev pub with_lines : (List ℕ → Answer) → List SectionLine → List Parameter
+with_lines answers [] = []
+with_lines answers (l ∷ ls) = with_line answers l (with_lines answers ls)
+
+abbrev pub lines_of : Option TypeDeclaration → List SectionLine
+lines_of None = []
+lines_of (Some t) = t.lines
+
+-- the answers about the parameters of a module
+abbrev pub answer_for : Model → List Record → ℕ → List ℕ → Answer
+answer_for m records id name = answer_of m records (question.Param id name)
+
+-- all parameters of a module, in the order of their declaration, each with the value that the model answers
+abbrev pub parameters_of : Model → List Record → ℕ → List Parameter
+parameters_of m records id = with_lines (answer_for m records id) (lines_of (type_at m records id))

@@ -1,0 +1,72 @@
+-- What is inside of a compound module.
+use Rattle.std.specs.Prelude.{ℕ, List, [], ◌∷◌, ◌++◌, Option, Some, None, Result, Ok, Err}
+use Rattle.ini_config.specs.declared.lines.Entry.{Entry}
+use Rattle.ned_syntax.specs.declared.ast.SectionLine.{SectionLine}
+use Rattle.ned_syntax.specs.declared.ast.SectionLine.TheVariants as line
+use Rattle.ned_syntax.specs.declared.ast.Submodule.{Submodule}
+use Rattle.ned_syntax.specs.declared.ast.TypeDeclaration.{TypeDeclaration}
+use Rattle.ned_syntax.specs.declared.ast.TypeKind.{TypeKind}
+use Rattle.ned_syntax.specs.declared.ast.TypeKind.TheVariants.{Simple, Network}
+use Rattle.sim_values.specs.declared.value.Value.{Value}
+use Rattle.ned_types.specs.Flat.{class_of}
+use Rattle.model_answers.specs.declared.answer.Built.{Built}
+use Rattle.model_answers.specs.declared.answer.ModelFault.{ModelFault}
+use Rattle.model_answers.specs.declared.answer.ModelFault.TheVariants.{UnknownType}
+use Rattle.model_answers.specs.declared.inside.PlacedFault.{PlacedFault}
+use Rattle.model_answers.specs.declared.model.Model.{Model}
+use Rattle.model_answers.specs.Models.{entries_in, named_type}
+use Rattle.model_answers.specs.Parameters.{parameter_value}
+use Rattle.model_answers.specs.Records.{path_under}
+
+abbrev pub fault_of_value : Result Value ModelFault → Option ModelFault
+fault_of_value (Ok v) = None
+fault_of_value (Err fault) = Some fault
+
+-- the fault of the parameter that a line declares in a section of these lines
+abbrev pub fault_at : List Entry → List SectionLine → SectionLine → Option ModelFault
+fault_at entries lines (line.Declaration d) = fault_of_value (parameter_value entries lines d)
+fault_at entries lines _ = None
+
+abbrev pub first_of : Option ModelFault → Option ModelFault → Option ModelFault
+first_of (Some fault) other = Some fault
+first_of None other = other
+
+-- the first fault of the parameters, in the order of their declaration
+abbrev pub fault_in : List Entry → List SectionLine → List SectionLine → Option ModelFault
+fault_in entries lines [] = None
+fault_in entries lines (l ∷ ls) = first_of (fault_at entries lines l) (fault_in entries lines ls)
+
+abbrev pub class_by : TypeKind → List ℕ → Option (List ℕ)
+class_by Simple class = Some class
+class_by Network class = None
+
+-- the class that a module of the type has, none for a compound module
+abbrev pub class_to_build : TypeDeclaration → Option (List ℕ)
+class_to_build t = class_by t.kind (class_of t)
+
+abbrev pub built_without : List ℕ → List ℕ → TypeDeclaration → Option ModelFault → Result Built PlacedFault
+built_without path name t (Some fault) = Err (record { path = path_under path name; fault = fault })
+built_without path name t None = Ok (record { name = name; index = None; class = class_to_build t })
+
+abbrev pub built_of : List Entry → List ℕ → List ℕ → Option TypeDeclaration → Result Built PlacedFault
+built_of entries path name None = Err (record { path = path_under path name; fault = UnknownType })
+built_of entries path name (Some t) = built_without path name t (fault_in entries t.lines t.lines)
+
+-- one submodule of the module of that path, or its first fault: its type, then its parameters
+abbrev pub built_one : Model → List ℕ → Submodule → Result Built PlacedFault
+built_one m path s = built_of (entries_in m) path s.name (named_type m s.type_name)
+
+abbrev pub and_then : Result Built PlacedFault → Result (List Built) PlacedFault → Result (List Built) PlacedFault
+and_then (Err fault) rest = Err fault
+and_then (Ok b) (Err fault) = Err fault
+and_then (Ok b) (Ok bs) = Ok (b ∷ bs)
+
+-- the submodules in the order of their declaration, or the first fault
+abbrev pub built_all : Model → List ℕ → List Submodule → Result (List Built) PlacedFault
+built_all m path [] = Ok []
+built_all m path (s ∷ ss) = and_then (built_one m path s) (built_all m path ss)
+
+-- these, and then the others
+abbrev pub with_front : List Built → Result (List Built) PlacedFault → Result (List Built) PlacedFault
+with_front front (Ok bs) = Ok (front ++ bs)
+with_front front (Err fault) = Err fault

@@ -1,0 +1,60 @@
+//! Questions to a model, and their answers.
+
+use sim_values::text::Text;
+use sim_values::value::Value;
+use sqlite_items::Items;
+
+/// What a run asks of its model. All that it takes from the model is an answer to one of these.
+#[derive(Debug, Drop)]
+pub enum Question {
+    /// Which network is run.
+    Root,
+    /// What is inside of the compound module of that id.
+    Build(u32),
+    /// The value of a parameter of the module of that id.
+    Param(u32, Text),
+    /// The direction and size of a gate of the module of that id.
+    GateSize(u32, Text),
+}
+
+/// A question, with the number of the event in which it was asked.
+#[derive(Debug, Drop)]
+pub struct Asked {
+    pub event: u64,
+    pub question: Question,
+}
+
+/// Why a model can't answer with a value.
+#[derive(Clone, Copy, Debug, PartialEq, Eq)]
+pub enum ModelFault {
+    /// A submodule's type isn't declared.
+    UnknownType,
+    /// A parameter has no value.
+    Unassigned,
+    /// A value is of another kind than its parameter.
+    Mismatch,
+}
+
+/// A submodule that a compound module is built with.
+#[derive(Debug, Drop)]
+pub struct Built {
+    pub name: Text,
+    /// Its place in its vector, none where it is no vector's element.
+    pub index: Option<u32>,
+    /// The class of a simple module, none for a compound module.
+    pub class: Option<Text>,
+}
+
+/// What a model answers.
+#[derive(Debug, Drop)]
+pub enum Answer {
+    /// The name of the network.
+    Root(Text),
+    /// The submodules, in the order in which they are created.
+    Inside(Items<Built>),
+    Value(Value),
+    /// The fault, with the path that it is told with.
+    Fault(Text, ModelFault),
+    /// There is no such thing.
+    Absent,
+}

@@ -1,0 +1,148 @@
+//! The answers of a model.
+
+ghost use Rattle.std.specs.Prelude.{◌≡◌, ◌++◌, [], IfOk, OnOk};
+ghost use Rattle.model_answers.specs.Answering.{answer_of, root_answer, inside_answer, inside_of, param_answer, parameters_of, with_line, answer_for};
+ghost use Rattle.model_answers.specs.Models.{network_of, type_at};
+ghost use Rattle.model_answers.specs.Records.{path_of};
+ghost use Rattle.std.specs.Option.{option_copied};
+
+use crate::answer::{Answer, Question};
+use crate::inside::built_all;
+use crate::model::Model;
+use crate::parameters::parameter_value;
+use crate::record::{Record, path_of};
+use module_api::call::Parameter;
+use ned_syntax::ast::{SectionLine, TypeDeclaration, TypeKind};
+use ned_types::flat::declaration_named;
+use sim_values::NoMemory;
+use sim_values::text::Text;
+use sqlite_items::Items;
+use std::alloc::Global;
+
+/// The model's answer to a question, with the modules of these records.
+pub fn answer(
+    alloc: Global,
+    model: &Model,
+    records: &[Record],
+    question: &Question,
+) -> Result<Answer, NoMemory>
+    ensures { IfOk result (λ found. found ≡ answer_of model.now records.now question.now) }
+{
+    match question {
+        Question::Root => root_answer(alloc, model.network()),
+        Question::Build(id) => inside_answer(alloc, model, records, *id),
+        Question::Param(id, name) => param_answer(alloc, model, records, *id, name.as_bytes()),
+        Question::GateSize(_, _) => Ok(Answer::Absent),
+    }
+}
+
+/// Which network is run.
+fn root_answer(alloc: Global, network: Option<&TypeDeclaration>) -> Result<Answer, NoMemory>
+    ensures { IfOk result (λ found. found ≡ root_answer (option_copied network.entry)) }
+{
+    match network {
+        Some(declared) => Ok(Answer::Root(declared.name.copy(alloc)?)),
+        None => Ok(Answer::Absent),
+    }
+}
+
+/// What is inside of the compound module of that id.
+fn inside_answer(
+    alloc: Global,
+    model: &Model,
+    records: &[Record],
+    id: u32,
+) -> Result<Answer, NoMemory>
+    ensures { IfOk result (λ found. found ≡ inside_answer model.now (path_of records.now id) (type_at model.now records.now id)) }
+{
+    let Some(declared) = model.type_at(records, id) else {
+        return Ok(Answer::Absent);
+    };
+    match declared.kind {
+        TypeKind::Simple => Ok(Answer::Absent),
+        TypeKind::Network => {
+            let path = path_of(alloc, records, id)?;
+            inside_of(alloc, model, path.as_bytes(), declared)
+        }
+    }
+}
+
+/// What is inside of a compound module of that path and type.
+fn inside_of(
+    alloc: Global,
+    model: &Model,
+    path: &[u8],
+    declared: &TypeDeclaration,
+) -> Result<Answer, NoMemory>
+    ensures { IfOk result (λ found. found ≡ inside_of model.now path.now declared.now) }
+{
+    match built_all(alloc, model, path, declared.submodules.as_slice())? {
+        Ok(inside) => Ok(Answer::Inside(inside)),
+        Err(found) => Ok(Answer::Fault(found.path, found.fault)),
+    }
+}
+
+/// The value of a parameter of the module of that id.
+fn param_answer(
+    alloc: Global,
+    model: &Model,
+    records: &[Record],
+    id: u32,
+    name: &[u8],
+) -> Result<Answer, NoMemory>
+    ensures { IfOk result (λ found. found ≡ param_answer model.now (path_of records.now id) (type_at model.now records.now id) name.now) }
+{
+    let Some(declared) = model.type_at(records, id) else {
+        return Ok(Answer::Absent);
+    };
+    let Some(declaration) = declaration_named(name, declared.lines.as_slice()) else {
+        return Ok(Answer::Absent);
+    };
+    match parameter_value(model, declared.lines.as_slice(), declaration) {
+        Ok(value) => Ok(Answer::Value(value.copy(alloc)?)),
+        Err(fault) => Ok(Answer::Fault(path_of(alloc, records, id)?, fault)),
+    }
+}
+
+/// All parameters of the module of that id and their values, in the order of their declaration.
+pub fn parameters_of(
+    alloc: Global,
+    model: &Model,
+    records: &[Record],
+    id: u32,
+) -> Result<Items<Parameter>, NoMemory>
+    ensures { IfOk result (λ parameters. parameters ≡ parameters_of model.now records.now id) }
+{
+    let mut parameters = Items::new(alloc);
+    let Some(declared) = model.type_at(records, id) else {
+        return Ok(parameters);
+    };
+    for line in declared.lines.as_slice() {
+        push_line(&mut parameters, alloc, model, records, id, line)?;
+    }
+    Ok(parameters)
+}
+
+/// Adds the parameter that a line declares.
+fn push_line(
+    parameters: &mut Items<Parameter>,
+    alloc: Global,
+    model: &Model,
+    records: &[Record],
+    id: u32,
+    line: &SectionLine,
+) -> Result<(), NoMemory>
+    ensures { OnOk result (parameters.new ≡ parameters.old ++ with_line (answer_for model.now records.now id) line.now []) }
+{
+    let SectionLine::Declaration(declaration) = line else {
+        return Ok(());
+    };
+    let name = declaration.name.as_bytes();
+    if let Answer::Value(value) = param_answer(alloc, model, records, id, name)? {
+        parameters.push(Parameter {
+            name: Text::from_bytes(alloc, name)?,
+            value,
+        })?;
+    }
+    Ok(())
+}

@@ -1,0 +1,108 @@
+//! What is inside of a compound module.
+
+ghost use Rattle.std.specs.Prelude.{◌≡◌, IfOk};
+ghost use Rattle.model_answers.specs.Inside.{built_one, built_all, fault_in, fault_at, class_to_build};
+ghost use Rattle.model_answers.specs.Models.{entries_in};
+
+use crate::answer::{Built, ModelFault};
+use crate::model::Model;
+use crate::parameters::parameter_value;
+use crate::record::path_under;
+use ned_syntax::ast::{SectionLine, Submodule, TypeDeclaration, TypeKind};
+use ned_types::flat::class_of;
+use sim_values::NoMemory;
+use sim_values::text::Text;
+use sqlite_items::Items;
+use std::alloc::{AllocError, Global};
+
+/// A fault of a part of the model, with the path that it is told with.
+#[derive(Debug, Drop)]
+pub struct PlacedFault {
+    pub path: Text,
+    pub fault: ModelFault,
+}
+
+/// The first fault of the parameters that these lines declare, in their order.
+fn fault_in(model: &Model, lines: &[SectionLine]) -> Option<ModelFault>
+    ensures { result ≡ fault_in (entries_in model.now) lines.now lines.now }
+{
+    for line in lines {
+        if let Some(fault) = fault_at(model, lines, line) {
+            return Some(fault);
+        }
+    }
+    None
+}
+
+/// The fault of the parameter that a line declares.
+fn fault_at(model: &Model, lines: &[SectionLine], line: &SectionLine) -> Option<ModelFault>
+    ensures { result ≡ fault_at (entries_in model.now) lines.now line.now }
+{
+    match line {
+        SectionLine::Declaration(declaration) => {
+            match parameter_value(model, lines, declaration) {
+                Ok(_) => None,
+                Err(fault) => Some(fault),
+            }
+        }
+        _ => None,
+    }
+}
+
+/// The class that a module of the type has, none for a compound module.
+fn class_to_build(alloc: Global, declared: &TypeDeclaration) -> Result<Option<Text>, AllocError>
+    ensures { IfOk result (λ class. class ≡ class_to_build declared.now) }
+{
+    match declared.kind {
+        TypeKind::Simple => Ok(Some(Text::from_bytes(alloc, class_of(declared))?)),
+        TypeKind::Network => Ok(None),
+    }
+}
+
+/// One submodule of the module of that path, or its first fault.
+fn built_one(
+    alloc: Global,
+    model: &Model,
+    path: &[u8],
+    submodule: &Submodule,
+) -> Result<Result<Built, PlacedFault>, NoMemory>
+    ensures { IfOk result (λ made. made ≡ built_one model.now path.now submodule.now) }
+{
+    let name = submodule.name.as_bytes();
+    let Some(declared) = model.types.find(submodule.type_name.as_bytes()) else {
+        let path = path_under(alloc, path, name)?;
+        return Ok(Err(PlacedFault {
+            path,
+            fault: ModelFault::UnknownType,
+        }));
+    };
+    if let Some(fault) = fault_in(model, declared.lines.as_slice()) {
+        let path = path_under(alloc, path, name)?;
+        return Ok(Err(PlacedFault { path, fault }));
+    }
+    let class = class_to_build(alloc, declared)?;
+    Ok(Ok(Built {
+        name: submodule.name.copy(alloc)?,
+        index: None,
+        class,
+    }))
+}
+
+/// The submodules of the module of that path, or the first fault.
+pub fn built_all(
+    alloc: Global,
+    model: &Model,
+    path: &[u8],
+    submodules: &[Submodule],
+) -> Result<Result<Items<Built>, PlacedFault>, NoMemory>
+    ensures { IfOk result (λ made. made ≡ built_all model.now path.now submodules.now) }
+{
+    let mut inside = Items::new(alloc);
+    for submodule in submodules {
+        match built_one(alloc, model, path, submodule)? {
+            Ok(built) => inside.push(built)?,
+            Err(fault) => return Ok(Err(fault)),
+        }
+    }
+    Ok(Ok(inside))
+}

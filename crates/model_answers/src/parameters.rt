@@ -1,0 +1,89 @@
+//! Values of parameters.
+
+ghost use Rattle.std.specs.Prelude.{◌≡◌, Some, Ok, Err, MatchResult};
+ghost use Rattle.std.specs.Option.{option_copied};
+ghost use Rattle.model_answers.specs.Models.{entries_in};
+ghost use Rattle.model_answers.specs.Parameters.{literal_of, chosen, parameter_value, is_of_kind, checked};
+
+use crate::answer::ModelFault;
+use crate::model::Model;
+use ini_config::entries::first_match;
+use ini_config::lines::EntryValue;
+use ned_syntax::ast::{Declaration, Expression, ParameterValue, ParameterWord, SectionLine};
+use ned_types::flat::last_value;
+use sim_values::value::{Dimension, Value};
+
+/// The expression that gives a parameter its value: the first that exists of the fixed one of the
+/// type, the one of the ini text, and the default of the type.
+fn chosen<'a>(
+    declared: Option<&'a ParameterValue>,
+    entry: Option<&'a EntryValue>,
+) -> Option<&'a Expression>
+    ensures { option_copied result ≡ chosen (option_copied declared.entry) (option_copied entry.entry) }
+{
+    match (declared, entry) {
+        (Some(ParameterValue::Fixed(expression)), _) => Some(expression),
+        (_, Some(EntryValue::Given(expression))) => Some(expression),
+        (Some(ParameterValue::Default(expression)), _) => Some(expression),
+        (None, _) => None,
+    }
+}
+
+/// The value of a parameter that a section of these lines declares.
+pub fn parameter_value<'a>(
+    model: &'a Model,
+    lines: &'a [SectionLine],
+    declaration: &Declaration,
+) -> Result<&'a Value, ModelFault>
+    ensures { MatchResult result
+        (λ v. parameter_value (entries_in model.now) lines.now declaration.now ≡ Ok v.now)
+        (λ e. parameter_value (entries_in model.now) lines.now declaration.now ≡ Err e) }
+{
+    let name = declaration.name.as_bytes();
+    let declared = last_value(name, lines);
+    let entry = first_match(name, model.ini.lines());
+    checked(declaration, chosen(declared, entry))
+}
+
+/// The value of the expression, where it is of the parameter's kind.
+fn checked<'a>(
+    declaration: &Declaration,
+    expression: Option<&'a Expression>,
+) -> Result<&'a Value, ModelFault>
+    ensures { MatchResult result
+        (λ v. checked declaration.now (option_copied expression.entry) ≡ Ok v.now)
+        (λ e. checked declaration.now (option_copied expression.entry) ≡ Err e) }
+{
+    let Some(expression) = expression else {
+        return Err(ModelFault::Unassigned);
+    };
+    let value = literal_of(expression);
+    if is_of_kind(declaration.word, declaration.unit, value) {
+        Ok(value)
+    } else {
+        Err(ModelFault::Mismatch)
+    }
+}
+
+/// The value of an expression.
+fn literal_of(expression: &Expression) -> &Value
+    ensures { result.now ≡ literal_of expression.now }
+{
+    match expression {
+        Expression::Literal(value) => value,
+    }
+}
+
+/// Whether a parameter that is declared so may have the value.
+fn is_of_kind(word: ParameterWord, unit: Option<Dimension>, value: &Value) -> bool
+    ensures { result ≡ is_of_kind word unit value.now }
+{
+    match (word, unit, value) {
+        (ParameterWord::Bool, _, Value::Truth(_)) => true,
+        (ParameterWord::Text, _, Value::Text(_)) => true,
+        (ParameterWord::Int, None, Value::Whole(_)) => true,
+        (ParameterWord::Int, Some(unit), Value::Quantity(dimension, _)) => unit == *dimension,
+        (ParameterWord::Double, Some(unit), Value::Quantity(dimension, _)) => unit == *dimension,
+        _ => false,
+    }
+}
