@@ -1,0 +1,74 @@
+-- The end of a run: the modules that were started are finished.
+use Rattle.std.specs.Prelude.{ℕ, nat_lt, Bool, true, false, List, [], ◌∷◌, ◌++◌, Option, Some, None, length, slice_get, if◌then◌else◌}
+use Rattle.module_api.specs.declared.call.Prompt.TheVariants as prompt
+use Rattle.module_api.specs.declared.reply.Action.{Action}
+use Rattle.module_api.specs.declared.reply.Action.TheVariants.{Emit, ScheduleAfter, Fail}
+use Rattle.module_api.specs.declared.reply.Reply.{Reply}
+use Rattle.module_api.specs.Behaviour.{Behaviour, Replied}
+use Rattle.model_answers.specs.declared.model.Model.{Model}
+use Rattle.run_semantics.specs.declared.outcome.Fault.TheVariants as fault
+use Rattle.run_semantics.specs.declared.outcome.Outcome.{Outcome}
+use Rattle.run_semantics.specs.declared.outcome.Outcome.TheVariants.{Fault}
+use Rattle.run_semantics.specs.declared.traces.Instance.{Instance}
+use Rattle.run_semantics.specs.World.{World}
+use Rattle.run_semantics.specs.Perform.{Flow, On, Stopped, Broken, ◌>>=◌, broken, perform, read_fault, unless_fault}
+use Rattle.run_semantics.specs.Event.{call_of, place_in, with_state}
+use Rattle.run_semantics.specs.Run.{Part, standing, Ran, is_fault}
+
+-- whether an action is for a reply to the end
+abbrev pub is_last_action : Action → Bool
+is_last_action (Emit signal value) = true
+is_last_action (ScheduleAfter s) = false
+is_last_action (Fail text) = true
+
+abbrev pub perform_last : ℕ → Action → World → Flow
+perform_last id action w = if is_last_action action then perform id action w else broken id fault.NotInFinish w
+
+abbrev pub perform_last_all : ℕ → List Action → World → Flow
+perform_last_all id [] w = On w
+perform_last_all id (action ∷ actions) w = perform_last id action w >>= perform_last_all id actions
+
+abbrev pub acted_last : ℕ → List Action → World → Flow
+acted_last id actions w = if nat_lt 1000 (length actions) then broken id fault.TooManyActions w else perform_last_all id actions w
+
+-- what follows a reply to the end: its questions belong to no event, so they are not noted
+abbrev pub answered_last : Model → ℕ → Reply → World → Flow
+answered_last m id reply w = unless_fault id (read_fault m w.records id reply.reads) (acted_last id reply.actions) w
+
+abbrev pub replied_last : Model → ℕ → Instance → Replied → World → Flow
+replied_last m place i r w = answered_last m i.id r.reply (with_state place i r.state w)
+
+abbrev pub called_last : Behaviour → Model → World → ℕ → Option Instance → Flow
+called_last b m w place None = On w
+called_last b m w place (Some i) = replied_last m place i ((b.naming i.kind).reply i.state (call_of m i.id prompt.Finish w)) w
+
+abbrev pub call_last_at : Behaviour → Model → World → Option ℕ → Flow
+call_last_at b m w None = On w
+call_last_at b m w (Some place) = called_last b m w place (slice_get w.modules place)
+
+-- a module counts as finished when its reply is done without a fault
+abbrev pub with_finished : ℕ → World → World
+with_finished id w = record w { finished = w.finished ++ id ∷ [] }
+
+abbrev pub marked : ℕ → World → Flow
+marked id w = On (with_finished id w)
+
+abbrev pub finish : Behaviour → Model → Part → World → Flow
+finish b m p w = call_last_at b m w (place_in p.id w.modules) >>= marked p.id
+
+-- the submodules by id, and then the network
+abbrev pub finish_all : Behaviour → Model → List Part → World → Flow
+finish_all b m [] w = On (with_finished 1 w)
+finish_all b m (p ∷ ps) w = finish b m p w >>= finish_all b m ps
+
+-- a fault in the end has the number of the last event
+abbrev pub concluded : Outcome → Flow → Ran
+concluded outcome (On w) = record { world = w; outcome = outcome }
+concluded outcome (Stopped w) = record { world = w; outcome = outcome }
+concluded outcome (Broken w path f) = record { world = w; outcome = Fault w.count path f }
+
+-- THE ENDING of a run; after a fault no module is finished
+abbrev pub ending : Behaviour → Model → Ran → Ran
+ending b m ran =
+    if is_fault ran.outcome then ran
+    else concluded ran.outcome (finish_all b m (standing ran.world.modules) ran.world)

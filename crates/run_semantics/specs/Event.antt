@@ -1,0 +1,74 @@
+-- One event.
+use Rattle.std.specs.Prelude.{ℕ, ℤ, ◌+◌, suc, ◌==◌, List, [], ◌∷◌, Option, Some, None, option_map, slice_get, slice_set, if◌then◌else◌}
+use Rattle.module_api.specs.declared.call.Call.{Call}
+use Rattle.module_api.specs.declared.call.Prompt.{Prompt}
+use Rattle.module_api.specs.declared.call.Prompt.TheVariants as prompt
+use Rattle.module_api.specs.declared.message.Message.{Message}
+use Rattle.module_api.specs.declared.message.Origin.TheVariants as origin
+use Rattle.module_api.specs.Behaviour.{Behaviour, Replied}
+use Rattle.model_answers.specs.declared.model.Model.{Model}
+use Rattle.model_answers.specs.Answering.{parameters_of}
+use Rattle.model_answers.specs.Records.{path_of, record_at, index_of}
+use Rattle.run_semantics.specs.declared.pending.Happening.{Happening}
+use Rattle.run_semantics.specs.declared.pending.Happening.TheVariants.{Timer}
+use Rattle.run_semantics.specs.declared.pending.Pending.{Pending}
+use Rattle.run_semantics.specs.declared.traces.Instance.{Instance}
+use Rattle.run_semantics.specs.World.{World}
+use Rattle.run_semantics.specs.Perform.{Flow, On, answered}
+
+-- ---- calls
+
+-- what a module is told
+abbrev pub call_of : Model → ℕ → Prompt → World → Call
+call_of m id prompt w = record {
+  time = w.clock;
+  event = w.count;
+  id = id;
+  path = path_of w.records id;
+  index = index_of (record_at w.records id);
+  parameters = parameters_of m w.records id;
+  gates = [];
+  prompt = prompt;
+}
+
+-- where the module of that id stands among the modules
+abbrev pub place_in : ℕ → List Instance → Option ℕ
+place_in id [] = None
+place_in id (i ∷ is) = if i.id == id then Some 0 else option_map suc (place_in id is)
+
+-- the module at that place has a new state
+abbrev pub with_state : ℕ → Instance → List ℕ → World → World
+with_state place i state w = record w { modules = slice_set w.modules place (record i { state = state }) }
+
+abbrev pub replied : Model → ℕ → Instance → Replied → World → Flow
+replied m place i r w = answered m i.id r.reply (with_state place i r.state w)
+
+-- the module at that place is called
+abbrev pub called : Behaviour → Model → Prompt → World → ℕ → Option Instance → Flow
+called b m prompt w place None = On w
+called b m prompt w place (Some i) = replied m place i ((b.naming i.kind).reply i.state (call_of m i.id prompt w)) w
+
+abbrev pub call_at : Behaviour → Model → Prompt → World → Option ℕ → Flow
+call_at b m prompt w None = On w
+call_at b m prompt w (Some place) = called b m prompt w place (slice_get w.modules place)
+
+-- ONE CALL of the module of that id; a call of what isn't there is passed over
+abbrev pub call_module : Behaviour → Model → ℕ → Prompt → World → Flow
+call_module b m id prompt w = call_at b m prompt w (place_in id w.modules)
+
+-- ---- events
+
+-- the message that arrives
+abbrev pub message_by : ℤ → Happening → Message
+message_by priority (Timer timer kind) = record { kind = kind; priority = priority; bits = 0; payload = []; origin = origin.Timer timer }
+
+abbrev pub message_of : Pending → Message
+message_of p = message_by p.priority p.what
+
+-- the event that is taken out begins: these are left
+abbrev pub begun : Pending → List Pending → World → World
+begun p rest w = record w { clock = p.time; count = w.count + 1; pending = rest }
+
+-- ONE EVENT, the first of those to come
+abbrev pub event : Behaviour → Model → Pending → List Pending → World → Flow
+event b m p rest w = call_module b m p.id (prompt.Message (message_of p)) (begun p rest w)

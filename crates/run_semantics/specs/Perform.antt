@@ -1,0 +1,140 @@
+-- What a reply leads to.
+use Rattle.std.specs.Prelude.{ℕ, ℤ, ◌+◌, nat_lt, ◌==◌, ◌&&◌, Bool, true, false, List, [], ◌∷◌, ◌++◌, Option, Some, None, if◌then◌else◌, length}
+use Rattle.std.specs.List.{list_any}
+use Rattle.sim_time.specs.Time.{time_sum}
+use Rattle.module_api.specs.declared.reply.Action.{Action}
+use Rattle.module_api.specs.declared.reply.Action.TheVariants.{Emit, ScheduleAfter, Fail}
+use Rattle.module_api.specs.declared.reply.Read.{Read}
+use Rattle.module_api.specs.declared.reply.Read.TheVariants as read
+use Rattle.module_api.specs.declared.reply.Reply.{Reply}
+use Rattle.module_api.specs.declared.reply.Schedule.{Schedule}
+use Rattle.model_answers.specs.declared.answer.Answer.{Answer}
+use Rattle.model_answers.specs.declared.answer.Answer.TheVariants as answer
+use Rattle.model_answers.specs.declared.answer.ModelFault.{ModelFault}
+use Rattle.model_answers.specs.declared.answer.ModelFault.TheVariants as model_fault_kind
+use Rattle.model_answers.specs.declared.answer.Question.{Question}
+use Rattle.model_answers.specs.declared.answer.Question.TheVariants.{Param, GateSize}
+use Rattle.model_answers.specs.declared.model.Model.{Model}
+use Rattle.model_answers.specs.declared.record.Record.{Record}
+use Rattle.model_answers.specs.Answering.{answer_of}
+use Rattle.model_answers.specs.Records.{path_of}
+use Rattle.run_semantics.specs.declared.outcome.Fault.{Fault}
+use Rattle.run_semantics.specs.declared.outcome.Fault.TheVariants as fault
+use Rattle.run_semantics.specs.declared.outcome.Turn.{Turn}
+use Rattle.run_semantics.specs.declared.outcome.Turn.TheVariants.{GoOn, Stop, Break}
+use Rattle.run_semantics.specs.declared.pending.Happening.{Happening}
+use Rattle.run_semantics.specs.declared.pending.Happening.TheVariants.{Timer}
+use Rattle.run_semantics.specs.declared.pending.Pending.{Pending}
+use Rattle.run_semantics.specs.Order.{inserted}
+use Rattle.run_semantics.specs.World.{World, asked}
+
+-- where an event stands: it goes on; the rest of it is discarded; or a fault, told with a path, has ended the run
+pub data Flow : Type 0 where
+  On : (world : World) → Flow
+  Stopped : (world : World) → Flow
+  Broken : (world : World) (path : List ℕ) (fault : Fault) → Flow
+
+-- what a turn in code says of the world that it leaves
+abbrev pub flow_of : Turn → World → Flow
+flow_of GoOn w = On w
+flow_of Stop w = Stopped w
+flow_of (Break path f) w = Broken w path f
+
+-- the next part of an event, where it goes on
+infixl 10 ◌>>=◌
+abbrev pub ◌>>=◌ : Flow → (World → Flow) → Flow
+On w >>= f = f w
+Stopped w >>= f = Stopped w
+Broken w path fault >>= f = Broken w path fault
+
+-- a fault of the module of that id
+abbrev pub broken : ℕ → Fault → World → Flow
+broken id f w = Broken w (path_of w.records id) f
+
+-- the fault that a model answers
+abbrev pub model_fault : ModelFault → Fault
+model_fault model_fault_kind.UnknownType = fault.UnknownType
+model_fault model_fault_kind.Unassigned = fault.Unassigned
+model_fault model_fault_kind.Mismatch = fault.Mismatch
+
+-- ---- actions
+
+-- whether it is that timer of that module
+abbrev pub is_timer_number : ℕ → Happening → Bool
+is_timer_number timer (Timer number kind) = number == timer
+
+abbrev pub is_timer : ℕ → ℕ → Pending → Bool
+is_timer id timer p = (p.id == id) && is_timer_number timer p.what
+
+-- an event at a time, where there is one
+abbrev pub scheduled_at : ℕ → Schedule → World → ℕ → Flow
+scheduled_at id s w time =
+    if list_any (λ p. is_timer id s.timer p) w.pending then broken id fault.AlreadyScheduled w
+    else On (record w {
+      pending = inserted (record { time = time; priority = s.priority; number = w.next; id = id; what = Timer s.timer s.kind }) w.pending;
+      next = w.next + 1
+    })
+
+abbrev pub scheduled : ℕ → Schedule → World → Option ℕ → Flow
+scheduled id s w None = broken id fault.TimeOverflow w
+scheduled id s w (Some time) = scheduled_at id s w time
+
+-- ONE ACTION of the module of that id
+abbrev pub perform : ℕ → Action → World → Flow
+perform id (Emit signal value) w =
+    On (record w { emissions = w.emissions ++ record { id = id; signal = signal; event = w.count; time = w.clock; value = value } ∷ [] })
+perform id (ScheduleAfter s) w = scheduled id s w (time_sum w.clock s.delay)
+perform id (Fail text) w = broken id (fault.ModuleFailed text) w
+
+-- its actions, in order
+abbrev pub perform_all : ℕ → List Action → World → Flow
+perform_all id [] w = On w
+perform_all id (action ∷ actions) w = perform id action w >>= perform_all id actions
+
+-- ---- reads
+
+-- the question that a read asks
+abbrev pub question_of : ℕ → Read → Question
+question_of id (read.Parameter name) = Param id name
+question_of id (read.Gate name) = GateSize id name
+
+-- all values that a reply used are asked, in order
+abbrev pub ask_all : ℕ → List Read → World → World
+ask_all id [] w = w
+ask_all id (r ∷ rs) w = ask_all id rs (asked (question_of id r) w)
+
+abbrev pub parameter_fault : Answer → Option Fault
+parameter_fault (answer.Value v) = None
+parameter_fault (answer.Fault path f) = Some (model_fault f)
+parameter_fault _ = Some fault.NoParameter
+
+-- what is wrong with a read, by its answer
+abbrev pub fault_of_read : Read → Answer → Option Fault
+fault_of_read (read.Parameter name) a = parameter_fault a
+fault_of_read (read.Gate name) a = Some fault.NoGate
+
+abbrev pub first_fault : Option Fault → Option Fault → Option Fault
+first_fault (Some f) other = Some f
+first_fault None other = other
+
+-- the fault of the first read that has one
+abbrev pub read_fault : Model → List Record → ℕ → List Read → Option Fault
+read_fault m records id [] = None
+read_fault m records id (r ∷ rs) =
+    first_fault (fault_of_read r (answer_of m records (question_of id r))) (read_fault m records id rs)
+
+-- ---- a reply
+
+-- its actions, where there are at most 1,000
+abbrev pub acted : ℕ → List Action → World → Flow
+acted id actions w = if nat_lt 1000 (length actions) then broken id fault.TooManyActions w else perform_all id actions w
+
+abbrev pub unless_fault : ℕ → Option Fault → (World → Flow) → World → Flow
+unless_fault id (Some f) go w = broken id f w
+unless_fault id None go w = go w
+
+-- WHAT FOLLOWS A REPLY: all its reads are asked, then the first that has no value is the fault, then its actions are
+-- performed in order
+abbrev pub answered : Model → ℕ → Reply → World → Flow
+answered m id reply w =
+    unless_fault id (read_fault m w.records id reply.reads) (acted id reply.actions) (ask_all id reply.reads w)

@@ -1,0 +1,194 @@
+-- Whole runs.
+use Rattle.std.specs.Prelude.{◌≡◌, ℕ, suc, zero, ◌+◌, nat_lt, max, Bool, true, false, List, [], ◌∷◌, ◌++◌, Option, Some, None, map, length, slice_get, if◌then◌else◌}
+use Rattle.module_api.specs.declared.call.Prompt.TheVariants as prompt
+use Rattle.module_api.specs.Behaviour.{Behaviour}
+use Rattle.model_answers.specs.declared.answer.Answer.{Answer}
+use Rattle.model_answers.specs.declared.answer.Answer.TheVariants as answer
+use Rattle.model_answers.specs.declared.answer.Built.{Built}
+use Rattle.model_answers.specs.declared.answer.Question.TheVariants.{Root, Build}
+use Rattle.model_answers.specs.declared.model.Model.{Model}
+use Rattle.model_answers.specs.declared.record.Record.{Record}
+use Rattle.model_answers.specs.Answering.{answer_of}
+use Rattle.model_answers.specs.Records.{path_of, path_under, own_name}
+use Rattle.run_semantics.specs.declared.outcome.Fault.TheVariants as fault
+use Rattle.run_semantics.specs.declared.outcome.Outcome.{Outcome}
+use Rattle.run_semantics.specs.declared.outcome.Outcome.TheVariants.{Ended, EventLimit, NoMoreEvents, Fault}
+use Rattle.run_semantics.specs.declared.pending.Pending.{Pending}
+use Rattle.run_semantics.specs.declared.traces.Instance.{Instance}
+use Rattle.run_semantics.specs.World.{World, empty, asked}
+use Rattle.run_semantics.specs.Perform.{Flow, On, Stopped, Broken, ◌>>=◌, broken, model_fault}
+use Rattle.run_semantics.specs.Event.{call_module, event}
+
+-- ---- setup: the network, and its submodules in the order of their declaration
+
+-- the network has the id 1
+abbrev pub network_record : List ℕ → Record
+network_record name = record { parent = 0; name = name; index = None; class = None }
+
+abbrev pub rooted : Answer → World → Flow
+rooted (answer.Root name) w = On (record w { records = network_record name ∷ []; live = 1 ∷ [] })
+rooted _ w = Broken w [] fault.UnknownType
+
+abbrev pub record_under : ℕ → Built → Record
+record_under parent b = record { parent = parent; name = b.name; index = b.index; class = b.class }
+
+-- as many ids as there are modules, from this one on
+abbrev pub ids_from : {X : Type 0} → ℕ → List X → List ℕ
+ids_from id [] = []
+ids_from id (x ∷ xs) = id ∷ ids_from (suc id) xs
+
+abbrev pub with_submodules : ℕ → List Built → World → World
+with_submodules parent bs w =
+    record w { records = w.records ++ map (record_under parent) bs; live = w.live ++ ids_from (suc (length w.records)) bs }
+
+-- at most 65,536 modules live: the one that would be one too many is told
+abbrev pub unless_many : ℕ → List Built → World → Option Built → Flow
+unless_many parent bs w (Some b) = Broken w (path_under (path_of w.records parent) (own_name b.name b.index)) fault.TooManyModules
+unless_many parent bs w None = On (with_submodules parent bs w)
+
+abbrev pub built : ℕ → Answer → World → Flow
+built parent (answer.Inside bs) w = unless_many parent bs w (slice_get bs 65535)
+built parent (answer.Fault path f) w = Broken w path (model_fault f)
+built parent _ w = broken parent fault.UnknownType w
+
+-- the network and its submodules are created, as the model answers
+abbrev pub root_asked : Model → Flow
+root_asked m = rooted (answer_of m [] Root) (asked Root empty)
+
+abbrev pub inside_asked : Model → World → Flow
+inside_asked m w = built 1 (answer_of m w.records (Build 1)) (asked (Build 1) w)
+
+abbrev pub prepared : Model → Flow
+prepared m = root_asked m >>= inside_asked m
+
+-- ---- the start: every simple module has a box in its state at first, and is initialized
+
+-- a simple module: its id and its kind
+pub record Part : Type 0 where
+  pub id : ℕ
+  pub kind : List ℕ
+
+abbrev pub with_class : ℕ → Option (List ℕ) → List Part → List Part
+with_class id (Some kind) parts = record { id = id; kind = kind } ∷ parts
+with_class id None parts = parts
+
+abbrev pub parts_from : ℕ → List Record → List Part
+parts_from id [] = []
+parts_from id (r ∷ rs) = with_class id r.class (parts_from (suc id) rs)
+
+-- the simple modules that are to be started, by rising id
+abbrev pub parts_of : World → List Part
+parts_of w = parts_from 1 w.records
+
+abbrev pub placed : Part → List ℕ → World → World
+placed p state w = record w { modules = w.modules ++ record { id = p.id; kind = p.kind; state = state } ∷ [] }
+
+abbrev pub place : Behaviour → Part → World → Flow
+place b p w = if b.known p.kind then On (placed p (b.naming p.kind).initial w) else broken p.id fault.UnknownClass w
+
+-- the modules in their states at first, before any call
+abbrev pub place_all : Behaviour → List Part → World → Flow
+place_all b [] w = On w
+place_all b (p ∷ ps) w = place b p w >>= place_all b ps
+
+-- what stands of them: their ids and kinds
+abbrev pub part_of : Instance → Part
+part_of i = record { id = i.id; kind = i.kind }
+
+abbrev pub standing : List Instance → List Part
+standing is = map part_of is
+
+-- the greatest number of stages
+abbrev pub most_stages : Behaviour → List Part → ℕ
+most_stages b [] = 0
+most_stages b (p ∷ ps) = max (b.naming p.kind).stages (most_stages b ps)
+
+-- a module is called for the stages below its own number
+abbrev pub initialize : Behaviour → Model → ℕ → Part → World → Flow
+initialize b m stage p w = if nat_lt stage (b.naming p.kind).stages then call_module b m p.id (prompt.Initialize stage) w else On w
+
+-- one stage of all modules, siblings by id
+abbrev pub one_stage : Behaviour → Model → ℕ → List Part → World → Flow
+one_stage b m stage [] w = On w
+one_stage b m stage (p ∷ ps) w = initialize b m stage p w >>= one_stage b m stage ps
+
+-- as many stages, from this one on
+abbrev pub stages_from : Behaviour → Model → List Part → ℕ → ℕ → World → Flow
+stages_from b m ps stage zero w = On w
+stages_from b m ps stage (suc left) w = one_stage b m stage ps w >>= stages_from b m ps (suc stage) left
+
+-- all modules that live count as started
+abbrev pub with_started : World → World
+with_started w = record w { started = w.live }
+
+-- stage 0 of all modules, stage 1, and so on (OMNeT++ Simulation Manual, "Multi-Stage Initialization")
+abbrev pub initialize_all : Behaviour → Model → World → Flow
+initialize_all b m w = stages_from b m (standing w.modules) 0 (most_stages b (standing w.modules)) (with_started w)
+
+abbrev pub place_parts : Behaviour → World → Flow
+place_parts b w = place_all b (parts_of w) w
+
+-- ---- runs
+
+-- a run between two events: it may go on, or it is over
+pub data Stage : Type 0 where
+  Running : (world : World) → Stage
+  Over : (world : World) (outcome : Outcome) → Stage
+
+-- what an outcome in code says of the world beside it
+abbrev pub stage_of : Option Outcome → World → Stage
+stage_of None w = Running w
+stage_of (Some outcome) w = Over w outcome
+
+-- its world
+abbrev pub world_at : Stage → World
+world_at (Running w) = w
+world_at (Over w outcome) = w
+
+-- the end of an event: a fault ends the run, and what was done before it stands
+abbrev pub settled : Flow → Stage
+settled (On w) = Running w
+settled (Stopped w) = Running w
+settled (Broken w path f) = Over w (Fault w.count path f)
+
+-- EVENT ZERO: setup, the boxes, and initialization
+abbrev pub start : Behaviour → Model → Stage
+start b m = settled (prepared m >>= place_parts b >>= initialize_all b m)
+
+-- the next event
+abbrev pub picked : Behaviour → Model → World → List Pending → Stage
+picked b m w [] = Over w NoMoreEvents
+picked b m w (p ∷ rest) = settled (event b m p rest w)
+
+abbrev pub next_stage : Behaviour → Model → Stage → Stage
+next_stage b m (Running w) = if w.ended then Over w Ended else picked b m w w.pending
+next_stage b m (Over w outcome) = Over w outcome
+
+-- the run after n events, or where it ended before
+abbrev pub after : Behaviour → Model → ℕ → Stage
+after b m zero = start b m
+after b m (suc n) = next_stage b m (after b m n)
+
+-- what a run leaves: its world before the modules are finished, and its outcome
+pub record Ran : Type 0 where
+  pub world : World
+  pub outcome : Outcome
+
+-- a run that the caller's limit stops
+abbrev pub stopped : Stage → Ran
+stopped (Running w) = record { world = w; outcome = if w.ended then Ended else EventLimit }
+stopped (Over w outcome) = record { world = w; outcome = outcome }
+
+-- A RUN, stopped after at most n events
+abbrev pub run_to : Behaviour → Model → ℕ → Ran
+run_to b m n = stopped (after b m n)
+
+-- the run got as far as event n
+abbrev pub IsReached : Stage → ℕ → Type 0
+IsReached stage n = (world_at stage).count ≡ n
+
+abbrev pub is_fault : Outcome → Bool
+is_fault Ended = false
+is_fault EventLimit = false
+is_fault NoMoreEvents = false
+is_fault (Fault event path f) = true

@@ -1,0 +1,37 @@
+-- What a run is at a moment.
+use Rattle.std.specs.Prelude.{ℕ, Bool, false, List, [], ◌∷◌, ◌++◌}
+use Rattle.model_answers.specs.declared.answer.Asked.{Asked}
+use Rattle.model_answers.specs.declared.answer.Question.{Question}
+use Rattle.model_answers.specs.declared.record.Record.{Record}
+use Rattle.run_semantics.specs.declared.pending.Pending.{Pending}
+use Rattle.run_semantics.specs.declared.traces.Emission.{Emission}
+use Rattle.run_semantics.specs.declared.traces.Instance.{Instance}
+
+-- A world: the clock; how many events were executed; the records of the modules that were created, and the ids of those
+-- that live; the simple modules with their states, by rising id; the ids of the modules that were started, and of those
+-- that were finished; the events to come, in order, and the number of the next one that is inserted; whether the end was
+-- asked for; what was emitted; what was asked of the model, each question with its event.
+pub record World : Type 0 where
+  pub clock : ℕ
+  pub count : ℕ
+  pub records : List Record
+  pub live : List ℕ
+  pub modules : List Instance
+  pub started : List ℕ
+  pub finished : List ℕ
+  pub pending : List Pending
+  pub next : ℕ
+  pub ended : Bool
+  pub emissions : List Emission
+  pub questions : List Asked
+
+-- nothing stands, and nothing happened
+abbrev pub empty : World
+empty = record {
+  clock = 0; count = 0; records = []; live = []; modules = []; started = []; finished = []; pending = []; next = 0;
+  ended = false; emissions = []; questions = []
+}
+
+-- a question is asked in the event that is executed
+abbrev pub asked : Question → World → World
+asked q w = record w { questions = w.questions ++ record { event = w.count; question = q } ∷ [] }

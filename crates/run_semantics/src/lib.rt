@@ -1,0 +1,6 @@
+//! The definitions of a run, and the small types that a world is made of.
+#![tactic(auto)]
+
+pub mod outcome;
+pub mod pending;
+pub mod traces;

@@ -1,0 +1,129 @@
+//! How a run ends.
+
+ghost use Rattle.std.specs.Prelude.{◌≡◌, IfOk};
+ghost use Rattle.run_semantics.specs.Perform.{model_fault};
+ghost use Rattle.run_semantics.specs.Run.{is_fault};
+
+use model_answers::answer::ModelFault;
+use sim_values::text::Text;
+use std::alloc::{AllocError, Global};
+use thiserror::Error;
+
+/// Why a run can't go on.
+#[derive(Debug, Drop, Error)]
+pub enum Fault {
+    #[error("UnknownType")]
+    UnknownType,
+    #[error("Unassigned")]
+    Unassigned,
+    #[error("Mismatch")]
+    Mismatch,
+    /// More than 65,536 modules would live.
+    #[error("TooManyModules")]
+    TooManyModules,
+    /// No box is there for a module's class.
+    #[error("UnknownClass")]
+    UnknownClass,
+    /// A reply read a parameter that the module doesn't have.
+    #[error("NoParameter")]
+    NoParameter,
+    /// A reply read a gate that the module doesn't have.
+    #[error("NoGate")]
+    NoGate,
+    /// A reply has more than 1,000 actions.
+    #[error("TooManyActions")]
+    TooManyActions,
+    /// A reply to the end of the run has an action that is not for it.
+    #[error("NotInFinish")]
+    NotInFinish,
+    /// A time is above the greatest time.
+    #[error("TimeOverflow")]
+    TimeOverflow,
+    /// The timer is pending already.
+    #[error("AlreadyScheduled")]
+    AlreadyScheduled,
+    /// The module said so.
+    #[error("ModuleFailed")]
+    ModuleFailed(Text),
+}
+
+/// How a run ends.
+#[derive(Debug, Drop)]
+pub enum Outcome {
+    /// A module ended it.
+    Ended,
+    /// The caller's limit of events was reached.
+    EventLimit,
+    /// No event is left.
+    NoMoreEvents,
+    /// The event of that number had a fault, told with a module's path.
+    Fault(u64, Text, Fault),
+}
+
+/// Whether an event goes on.
+#[derive(Debug, Drop)]
+pub enum Turn {
+    GoOn,
+    /// The rest of the event is discarded.
+    Stop,
+    /// The run is over, with a fault told with that path.
+    Break(Text, Fault),
+}
+
+/// The fault that a model answers.
+pub fn fault_of(fault: ModelFault) -> Fault
+    ensures { result ≡ model_fault fault }
+{
+    match fault {
+        ModelFault::UnknownType => Fault::UnknownType,
+        ModelFault::Unassigned => Fault::Unassigned,
+        ModelFault::Mismatch => Fault::Mismatch,
+    }
+}
+
+impl Fault {
+    /// An equal fault.
+    pub fn copy(&self, alloc: Global) -> Result<Fault, AllocError>
+        ensures { IfOk result (λ fault. fault ≡ self.now) }
+    {
+        Ok(match self {
+            Fault::UnknownType => Fault::UnknownType,
+            Fault::Unassigned => Fault::Unassigned,
+            Fault::Mismatch => Fault::Mismatch,
+            Fault::TooManyModules => Fault::TooManyModules,
+            Fault::UnknownClass => Fault::UnknownClass,
+            Fault::NoParameter => Fault::NoParameter,
+            Fault::NoGate => Fault::NoGate,
+            Fault::TooManyActions => Fault::TooManyActions,
+            Fault::NotInFinish => Fault::NotInFinish,
+            Fault::TimeOverflow => Fault::TimeOverflow,
+            Fault::AlreadyScheduled => Fault::AlreadyScheduled,
+            Fault::ModuleFailed(text) => Fault::ModuleFailed(text.copy(alloc)?),
+        })
+    }
+}
+
+impl Outcome {
+    /// An equal outcome.
+    pub fn copy(&self, alloc: Global) -> Result<Outcome, AllocError>
+        ensures { IfOk result (λ outcome. outcome ≡ self.now) }
+    {
+        match self {
+            Outcome::Ended => Ok(Outcome::Ended),
+            Outcome::EventLimit => Ok(Outcome::EventLimit),
+            Outcome::NoMoreEvents => Ok(Outcome::NoMoreEvents),
+            Outcome::Fault(event, path, fault) => Ok(Outcome::Fault(
+                *event,
+                path.copy(alloc)?,
+                fault.copy(alloc)?,
+            )),
+        }
+    }
+
+    /// Whether it is a fault.
+    pub fn is_fault(&self) -> bool
+        ensures { result ≡ is_fault self.now }
+    {
+        matches!(self, Outcome::Fault(_, _, _))
+    }
+}

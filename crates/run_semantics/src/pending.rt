@@ -1,0 +1,22 @@
+//! Events to come.
+
+use sim_time::SimTime;
+
+/// What is to happen.
+#[derive(Debug, Drop)]
+pub enum Happening {
+    /// A self-message: the module's number of the timer, and the message's kind.
+    Timer(u32, i16),
+}
+
+/// An event to come.
+#[derive(Debug, Drop)]
+pub struct Pending {
+    pub time: SimTime,
+    pub priority: i16,
+    /// The number of its insertion: of events of one time and priority the first inserted comes first.
+    pub number: u128,
+    /// The id of the module that it is for.
+    pub id: u32,
+    pub what: Happening,
+}

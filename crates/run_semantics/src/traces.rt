@@ -1,0 +1,24 @@
+//! What a run leaves behind.
+
+use sim_time::SimTime;
+use sim_values::text::Text;
+
+/// A value that a module emitted.
+#[derive(Debug, Drop)]
+pub struct Emission {
+    /// The module that emitted it.
+    pub id: u32,
+    pub signal: Text,
+    /// The number of the event.
+    pub event: u64,
+    pub time: SimTime,
+    pub value: i64,
+}
+
+/// A simple module that was started: its kind, and its state as bytes.
+#[derive(Debug, Drop)]
+pub struct Instance {
+    pub id: u32,
+    pub kind: Text,
+    pub state: Text,
+}
