@@ -44,11 +44,11 @@ pub fn index_of(records: &[Record], id: u32) -> Option<u32>
 }
 
 /// Adds a module's name, with its index in brackets where it has one.
-fn push_own_name(path: &mut Vec<u8>, of: &Record) -> Result<(), AllocError>
-    ensures { OnOk result (path.new.items ≡ path.old.items ++ own_name of.now.name of.now.index) }
+fn push_own_name(path: &mut Vec<u8>, name: &[u8], index: Option<u32>) -> Result<(), AllocError>
+    ensures { OnOk result (path.new.items ≡ path.old.items ++ own_name name.now index) }
 {
-    path.extend_from_slice(of.name.as_bytes())?;
-    let Some(index) = of.index else {
+    path.extend_from_slice(name)?;
+    let Some(index) = index else {
         return Ok(());
     };
     path.extend_from_slice(b"[")?;
@@ -73,11 +73,11 @@ fn push_path(
         return Ok(());
     };
     if of.parent == 0 {
-        return push_own_name(path, of);
+        return push_own_name(path, of.name.as_bytes(), of.index);
     }
     push_path(path, depth - 1, records, of.parent)?;
     path.push(b'.')?;
-    push_own_name(path, of)
+    push_own_name(path, of.name.as_bytes(), of.index)
 }
 
 #[tactic(auto, unfolding(crate::specs::Records::path_of))]
@@ -98,4 +98,20 @@ pub fn path_under(alloc: Global, path: &[u8], name: &[u8]) -> Result<Text, Alloc
     under.push(b'.')?;
     under.extend_from_slice(name)?;
     Ok(Text::from_vec(under))
+}
+
+/// The path of a submodule of that name and index in the module of that id.
+pub fn submodule_path(
+    alloc: Global,
+    records: &[Record],
+    parent: u32,
+    name: &[u8],
+    index: Option<u32>,
+) -> Result<Text, AllocError>
+    ensures { IfOk result (λ found. found ≡ path_under (path_of records.now parent) (own_name name.now index)) }
+{
+    let mut own = Vec::new(alloc);
+    push_own_name(&mut own, name, index)?;
+    let path = path_of(alloc, records, parent)?;
+    path_under(alloc, path.as_bytes(), own.as_slice())
 }

@@ -1,0 +1,495 @@
+//! A world but for the modules and their states.
+
+ghost use Rattle.std.specs.Prelude.{◌≡◌, ◌+◌, ◌^◌, ◌<◌, OnOk, IfOk, MatchOption, [], ◌∷◌, ◌++◌, length, drop, slice_get};
+ghost use Rattle.run_semantics.specs.World.{empty, asked};
+ghost use Rattle.run_semantics.specs.Perform.{flow_of, perform, perform_all, scheduled, scheduled_at, ask_all, question_of, fault_of_read, parameter_fault, read_fault, acted, answered, broken};
+ghost use Rattle.run_semantics.specs.Ending.{is_last_action, perform_last, perform_last_all, acted_last, answered_last, with_finished};
+ghost use Rattle.run_semantics.specs.Event.{begun};
+ghost use Rattle.run_semantics.specs.Run.{rooted, built, unless_many, with_submodules, with_started};
+
+use crate::event_list::EventList;
+use model_answers::answer::{Answer, Asked, Built, Question};
+use model_answers::answering::answer;
+use model_answers::model::Model as NetworkModel;
+use model_answers::record::{Record, path_of, submodule_path};
+use module_api::reply::{Action, Read, Reply, Schedule};
+use run_semantics::outcome::{Fault, Turn, fault_of};
+use run_semantics::pending::{Happening, Pending};
+use run_semantics::traces::Emission;
+use sim_time::SimTime;
+use sim_values::NoMemory;
+use sim_values::text::Text;
+use sqlite_items::Items;
+use std::alloc::{AllocError, Global};
+use std::marker::Model;
+
+/// A world but for the modules, which contracts see as a world with none.
+#[derive(Drop)]
+pub struct Core {
+    clock: SimTime,
+    count: u64,
+    records: Items<Record>,
+    live: Items<u32>,
+    started: Items<u32>,
+    finished: Items<u32>,
+    pending: EventList,
+    next: u128,
+    ended: bool,
+    emissions: Items<Emission>,
+    questions: Items<Asked>,
+}
+
+impl Model for Core {
+    ghost use Rattle.std.specs.Prelude.{[]};
+    ghost use Rattle.run_semantics.specs.World.{World};
+
+    ghost Value = { World };
+
+    ghost view = { λ k. record {
+      clock = k.clock;
+      count = k.count;
+      records = k.records;
+      live = k.live;
+      modules = [];
+      started = k.started;
+      finished = k.finished;
+      pending = k.pending;
+      next = k.next;
+      ended = k.ended;
+      emissions = k.emissions;
+      questions = k.questions;
+    } };
+}
+
+impl Core {
+    /// Nothing stands, and nothing happened.
+    pub fn new(alloc: Global) -> Self
+        ensures { result ≡ empty }
+    {
+        Core {
+            clock: SimTime::zero(),
+            count: 0,
+            records: Items::new(alloc),
+            live: Items::new(alloc),
+            started: Items::new(alloc),
+            finished: Items::new(alloc),
+            pending: EventList::new(alloc),
+            next: 0,
+            ended: false,
+            emissions: Items::new(alloc),
+            questions: Items::new(alloc),
+        }
+    }
+
+    // ---- what callers read
+
+    pub fn clock(&self) -> SimTime
+        ensures { result ≡ self.now.clock }
+    {
+        self.clock
+    }
+
+    pub fn count(&self) -> u64
+        ensures { result ≡ self.now.count }
+    {
+        self.count
+    }
+
+    pub fn records(&self) -> &[Record]
+        ensures { result.now ≡ self.now.records }
+    {
+        self.records.as_slice()
+    }
+
+    pub fn emissions(&self) -> &[Emission]
+        ensures { result.now ≡ self.now.emissions }
+    {
+        self.emissions.as_slice()
+    }
+
+    pub fn is_ended(&self) -> bool
+        ensures { result ≡ self.now.ended }
+    {
+        self.ended
+    }
+
+    // ---- actions
+
+    /// A fault of the module of that id.
+    fn broken(&self, alloc: Global, id: u32, fault: Fault) -> Result<Turn, NoMemory>
+        ensures { IfOk result (λ turn. flow_of turn self.now ≡ broken id fault self.now) }
+    {
+        let path = path_of(alloc, self.records.as_slice(), id)?;
+        Ok(Turn::Break(path, fault))
+    }
+
+    /// Puts a timer among the events to come.
+    fn schedule_at(
+        &mut self,
+        alloc: Global,
+        id: u32,
+        schedule: &Schedule,
+        time: SimTime,
+    ) -> Result<Turn, NoMemory>
+        requires { self.old.next + 1 < 2 ^ 128 }
+        ensures { IfOk result (λ turn. flow_of turn self.new ≡ scheduled_at id schedule.now self.old time) }
+    {
+        if self.pending.has_timer(id, schedule.timer) {
+            return self.broken(alloc, id, Fault::AlreadyScheduled);
+        }
+        self.pending.insert(Pending {
+            time,
+            priority: schedule.priority,
+            number: self.next,
+            id,
+            what: Happening::Timer(schedule.timer, schedule.kind),
+        })?;
+        self.next += 1;
+        Ok(Turn::GoOn)
+    }
+
+    /// Sets a timer.
+    fn schedule(&mut self, alloc: Global, id: u32, schedule: &Schedule) -> Result<Turn, NoMemory>
+        requires { self.old.next + 1 < 2 ^ 128 }
+        ensures { IfOk result (λ turn. flow_of turn self.new ≡ perform id (Action.ScheduleAfter schedule.now) self.old) }
+    {
+        match self.clock.checked_add(schedule.delay) {
+            Ok(time) => self.schedule_at(alloc, id, schedule, time),
+            Err(_) => self.broken(alloc, id, Fault::TimeOverflow),
+        }
+    }
+
+    /// Notes an emission.
+    fn emit(&mut self, alloc: Global, id: u32, signal: &Text, value: i64) -> Result<Turn, NoMemory>
+        ensures { IfOk result (λ turn. flow_of turn self.new ≡ perform id (Action.Emit signal.now value) self.old) }
+    {
+        let signal = signal.copy(alloc)?;
+        self.emissions.push(Emission {
+            id,
+            signal,
+            event: self.count,
+            time: self.clock,
+            value,
+        })?;
+        Ok(Turn::GoOn)
+    }
+
+    /// One action of the module of that id.
+    fn perform(&mut self, alloc: Global, id: u32, action: &Action) -> Result<Turn, NoMemory>
+        requires { self.old.next + 1 < 2 ^ 128 }
+        ensures { IfOk result (λ turn. flow_of turn self.new ≡ perform id action.now self.old) }
+    {
+        match action {
+            Action::Emit(signal, value) => self.emit(alloc, id, signal, *value),
+            Action::ScheduleAfter(schedule) => self.schedule(alloc, id, schedule),
+            Action::Fail(text) => {
+                let text = text.copy(alloc)?;
+                self.broken(alloc, id, Fault::ModuleFailed(text))
+            }
+        }
+    }
+
+    /// The actions of a reply, in order.
+    fn perform_all(&mut self, alloc: Global, id: u32, actions: &[Action]) -> Result<Turn, NoMemory>
+        requires { self.old.next + length actions.now < 2 ^ 128 }
+        ensures { IfOk result (λ turn. flow_of turn self.new ≡ perform_all id actions.now self.old) }
+    {
+        for action in actions {
+            match self.perform(alloc, id, action)? {
+                Turn::GoOn => {}
+                turn => return Ok(turn),
+            }
+        }
+        Ok(Turn::GoOn)
+    }
+
+    // ---- reads
+
+    /// Notes a question.
+    pub fn ask(&mut self, question: Question) -> Result<(), NoMemory>
+        ensures { OnOk result (self.new ≡ asked question self.old) }
+    {
+        self.questions.push(Asked {
+            event: self.count,
+            question,
+        })?;
+        Ok(())
+    }
+
+    /// Notes the questions of all values that a reply used.
+    fn ask_all(&mut self, alloc: Global, id: u32, reads: &[Read]) -> Result<(), NoMemory>
+        ensures { OnOk result (self.new ≡ ask_all id reads.now self.old) }
+    {
+        for read in reads {
+            self.ask(question_of(alloc, id, read)?)?;
+        }
+        Ok(())
+    }
+
+    /// The fault of the first read that has one.
+    fn read_fault(
+        &self,
+        alloc: Global,
+        model: &NetworkModel,
+        id: u32,
+        reads: &[Read],
+    ) -> Result<Option<Fault>, NoMemory>
+        ensures { IfOk result (λ found. found ≡ read_fault model.now self.now.records id reads.now) }
+    {
+        for read in reads {
+            let question = question_of(alloc, id, read)?;
+            let answer = answer(alloc, model, self.records.as_slice(), &question)?;
+            if let Some(fault) = fault_of_read(read, &answer) {
+                return Ok(Some(fault));
+            }
+        }
+        Ok(None)
+    }
+
+    // ---- replies
+
+    /// The actions of a reply, where there are at most 1,000.
+    fn act(&mut self, alloc: Global, id: u32, actions: &[Action]) -> Result<Turn, NoMemory>
+        requires { self.old.next + 1000 < 2 ^ 128 }
+        ensures { IfOk result (λ turn. flow_of turn self.new ≡ acted id actions.now self.old) }
+    {
+        if actions.len() > 1000 {
+            return self.broken(alloc, id, Fault::TooManyActions);
+        }
+        self.perform_all(alloc, id, actions)
+    }
+
+    /// Carries out a reply.
+    pub fn follow(
+        &mut self,
+        alloc: Global,
+        model: &NetworkModel,
+        id: u32,
+        reply: &Reply,
+    ) -> Result<Turn, NoMemory>
+        requires { self.old.next + 1000 < 2 ^ 128 }
+        ensures { IfOk result (λ turn. flow_of turn self.new ≡ answered model.now id reply.now self.old) }
+    {
+        let fault = self.read_fault(alloc, model, id, reply.reads.as_slice())?;
+        self.ask_all(alloc, id, reply.reads.as_slice())?;
+        match fault {
+            Some(fault) => self.broken(alloc, id, fault),
+            None => self.act(alloc, id, reply.actions.as_slice()),
+        }
+    }
+
+    // ---- the end
+
+    /// One action of a reply to the end.
+    fn perform_last(&mut self, alloc: Global, id: u32, action: &Action) -> Result<Turn, NoMemory>
+        requires { self.old.next + 1 < 2 ^ 128 }
+        ensures { IfOk result (λ turn. flow_of turn self.new ≡ perform_last id action.now self.old) }
+    {
+        if !is_last_action(action) {
+            return self.broken(alloc, id, Fault::NotInFinish);
+        }
+        self.perform(alloc, id, action)
+    }
+
+    /// The actions of a reply to the end, in order.
+    fn perform_last_all(
+        &mut self,
+        alloc: Global,
+        id: u32,
+        actions: &[Action],
+    ) -> Result<Turn, NoMemory>
+        requires { self.old.next + length actions.now < 2 ^ 128 }
+        ensures { IfOk result (λ turn. flow_of turn self.new ≡ perform_last_all id actions.now self.old) }
+    {
+        for action in actions {
+            match self.perform_last(alloc, id, action)? {
+                Turn::GoOn => {}
+                turn => return Ok(turn),
+            }
+        }
+        Ok(Turn::GoOn)
+    }
+
+    fn act_last(&mut self, alloc: Global, id: u32, actions: &[Action]) -> Result<Turn, NoMemory>
+        requires { self.old.next + 1000 < 2 ^ 128 }
+        ensures { IfOk result (λ turn. flow_of turn self.new ≡ acted_last id actions.now self.old) }
+    {
+        if actions.len() > 1000 {
+            return self.broken(alloc, id, Fault::TooManyActions);
+        }
+        self.perform_last_all(alloc, id, actions)
+    }
+
+    /// Carries out a reply to the end.
+    pub fn follow_last(
+        &mut self,
+        alloc: Global,
+        model: &NetworkModel,
+        id: u32,
+        reply: &Reply,
+    ) -> Result<Turn, NoMemory>
+        requires { self.old.next + 1000 < 2 ^ 128 }
+        ensures { IfOk result (λ turn. flow_of turn self.new ≡ answered_last model.now id reply.now self.old) }
+    {
+        match self.read_fault(alloc, model, id, reply.reads.as_slice())? {
+            Some(fault) => self.broken(alloc, id, fault),
+            None => self.act_last(alloc, id, reply.actions.as_slice()),
+        }
+    }
+
+    /// Notes that a module is finished.
+    pub fn mark_finished(&mut self, id: u32) -> Result<(), NoMemory>
+        ensures { OnOk result (self.new ≡ with_finished id self.old) }
+    {
+        self.finished.push(id)?;
+        Ok(())
+    }
+
+    // ---- events
+
+    /// Takes out the first event to come, which begins.
+    pub fn begin(&mut self) -> Option<Pending>
+        requires { self.old.count + 1 < 2 ^ 64 }
+        ensures { MatchOption result ((self.old.pending ≡ []) × (self.new ≡ self.old))
+            (λ p. (self.old.pending ≡ p ∷ drop 1 self.old.pending) × (self.new ≡ begun p (drop 1 self.old.pending) self.old)) }
+    {
+        let event = self.pending.take_first()?;
+        self.clock = event.time;
+        self.count += 1;
+        Some(event)
+    }
+
+    // ---- setup
+
+    /// Creates the network, as the model answered.
+    pub fn root(&mut self, alloc: Global, found: Answer) -> Result<Turn, NoMemory>
+        requires no_records { self.old.records ≡ [] }
+        requires none_live { self.old.live ≡ [] }
+        ensures { IfOk result (λ turn. flow_of turn self.new ≡ rooted found self.old) }
+    {
+        let Answer::Root(name) = found else {
+            return Ok(Turn::Break(Text::empty(alloc), Fault::UnknownType));
+        };
+        self.records.push(Record {
+            parent: 0,
+            name,
+            index: None,
+            class: None,
+        })?;
+        self.live.push(1)?;
+        Ok(Turn::GoOn)
+    }
+
+    /// Creates one more module.
+    fn create(&mut self, alloc: Global, parent: u32, built: &Built) -> Result<(), NoMemory>
+        requires { length self.old.records + 1 < 2 ^ 32 }
+        ensures { OnOk result (self.new ≡ with_submodules parent (built.now ∷ []) self.old) }
+    {
+        let id = self.records.len() as u32 + 1;
+        let name = built.name.copy(alloc)?;
+        let class = copy_class(alloc, &built.class)?;
+        self.records.push(Record {
+            parent,
+            name,
+            index: built.index,
+            class,
+        })?;
+        self.live.push(id)?;
+        Ok(())
+    }
+
+    /// Creates the submodules of a module, in order.
+    fn create_all(&mut self, alloc: Global, parent: u32, inside: &[Built]) -> Result<(), NoMemory>
+        requires { length self.old.records + length inside.now < 2 ^ 32 }
+        ensures { OnOk result (self.new ≡ with_submodules parent inside.now self.old) }
+    {
+        for built in inside {
+            self.create(alloc, parent, built)?;
+        }
+        Ok(())
+    }
+
+    /// Creates the submodules of a module, where not too many would live.
+    fn create_few(
+        &mut self,
+        alloc: Global,
+        parent: u32,
+        inside: &[Built],
+    ) -> Result<Turn, NoMemory>
+        requires { length self.old.records + 65536 < 2 ^ 32 }
+        ensures { IfOk result (λ turn. flow_of turn self.new ≡ unless_many parent inside.now self.old (slice_get inside.now 65535)) }
+    {
+        if let Some(built) = inside.get(MAX_SUBMODULES) {
+            let records = self.records.as_slice();
+            let path = submodule_path(alloc, records, parent, built.name.as_bytes(), built.index)?;
+            return Ok(Turn::Break(path, Fault::TooManyModules));
+        }
+        self.create_all(alloc, parent, inside)?;
+        Ok(Turn::GoOn)
+    }
+
+    /// Creates what the model answered to be inside of a module.
+    pub fn build(&mut self, alloc: Global, parent: u32, found: Answer) -> Result<Turn, NoMemory>
+        requires { length self.old.records + 65536 < 2 ^ 32 }
+        ensures { IfOk result (λ turn. flow_of turn self.new ≡ built parent found self.old) }
+    {
+        match found {
+            Answer::Inside(inside) => self.create_few(alloc, parent, inside.as_slice()),
+            Answer::Fault(path, fault) => Ok(Turn::Break(path, fault_of(fault))),
+            _ => self.broken(alloc, parent, Fault::UnknownType),
+        }
+    }
+
+    /// Notes that all modules that live are started.
+    pub fn mark_started(&mut self, alloc: Global) -> Result<(), NoMemory>
+        ensures { OnOk result (self.new ≡ with_started self.old) }
+    {
+        self.started = Items::from_slice(alloc, self.live.as_slice())?;
+        Ok(())
+    }
+}
+
+/// How many submodules the network has at most: 65,536 modules live.
+const MAX_SUBMODULES: usize = 65535;
+
+/// An equal class, where there is one.
+fn copy_class(alloc: Global, class: &Option<Text>) -> Result<Option<Text>, AllocError>
+    ensures { IfOk result (λ copy. copy ≡ class.now) }
+{
+    match class {
+        Some(name) => Ok(Some(name.copy(alloc)?)),
+        None => Ok(None),
+    }
+}
+
+/// The question that a read asks.
+fn question_of(alloc: Global, id: u32, read: &Read) -> Result<Question, AllocError>
+    ensures { IfOk result (λ question. question ≡ question_of id read.now) }
+{
+    match read {
+        Read::Parameter(name) => Ok(Question::Param(id, name.copy(alloc)?)),
+        Read::Gate(name) => Ok(Question::GateSize(id, name.copy(alloc)?)),
+    }
+}
+
+/// What is wrong with a read, by its answer.
+fn fault_of_read(read: &Read, answer: &Answer) -> Option<Fault>
+    ensures { result ≡ fault_of_read read.now answer.now }
+{
+    match (read, answer) {
+        (Read::Gate(_), _) => Some(Fault::NoGate),
+        (Read::Parameter(_), Answer::Value(_)) => None,
+        (Read::Parameter(_), Answer::Fault(_, fault)) => Some(fault_of(*fault)),
+        (Read::Parameter(_), _) => Some(Fault::NoParameter),
+    }
+}
+
+/// Whether an action is for a reply to the end.
+fn is_last_action(action: &Action) -> bool
+    ensures { result ≡ is_last_action action.now }
+{
+    match action {
+        Action::Emit(_, _) | Action::Fail(_) => true,
+        Action::ScheduleAfter(_) => false,
+    }
+}
