@@ -1,17 +1,18 @@
 //! A world but for the modules and their states.
 
-ghost use Rattle.std.specs.Prelude.{◌≡◌, ◌+◌, ◌^◌, ◌<◌, OnOk, IfOk, MatchOption, [], ◌∷◌, ◌++◌, length, drop, slice_get};
+ghost use Rattle.std.specs.Prelude.{◌≡◌, ◌+◌, ◌^◌, ◌<◌, OnOk, IfOk, MatchOption, [], ◌∷◌, ◌++◌, length, drop, slice_get, ◌≤◌};
 ghost use Rattle.run_semantics.specs.World.{empty, asked};
 ghost use Rattle.run_semantics.specs.Perform.{flow_of, perform, perform_all, scheduled, scheduled_at, ask_all, question_of, fault_of_read, parameter_fault, read_fault, acted, answered, broken};
 ghost use Rattle.run_semantics.specs.Ending.{is_last_action, perform_last, perform_last_all, acted_last, answered_last, with_finished};
-ghost use Rattle.run_semantics.specs.Event.{begun};
-ghost use Rattle.run_semantics.specs.Run.{rooted, built, unless_many, with_submodules, with_started};
+ghost use Rattle.run_semantics.specs.Event.{begun, call_of};
+ghost use Rattle.run_semantics.specs.Run.{rooted, built, unless_many, with_submodules, with_started, root_asked, inside_asked, prepared};
 
 use crate::event_list::EventList;
 use model_answers::answer::{Answer, Asked, Built, Question};
-use model_answers::answering::answer;
+use model_answers::answering::{answer, parameters_of};
 use model_answers::model::Model as NetworkModel;
-use model_answers::record::{Record, path_of, submodule_path};
+use model_answers::record::{Record, index_of, path_of, submodule_path};
+use module_api::call::{Call, Prompt};
 use module_api::reply::{Action, Read, Reply, Schedule};
 use run_semantics::outcome::{Fault, Turn, fault_of};
 use run_semantics::pending::{Happening, Pending};
@@ -111,6 +112,29 @@ impl Core {
         ensures { result ≡ self.now.ended }
     {
         self.ended
+    }
+
+    /// What a module is told.
+    pub fn call(
+        &self,
+        alloc: Global,
+        model: &NetworkModel,
+        id: u32,
+        prompt: Prompt,
+    ) -> Result<Call, NoMemory>
+        ensures { IfOk result (λ call. call ≡ call_of model.now id prompt self.now) }
+    {
+        let records = self.records.as_slice();
+        Ok(Call {
+            time: self.clock,
+            event: self.count,
+            id,
+            path: path_of(alloc, records, id)?,
+            index: index_of(records, id),
+            parameters: parameters_of(alloc, model, records, id)?,
+            gates: Items::new(alloc),
+            prompt,
+        })
     }
 
     // ---- actions
@@ -362,10 +386,11 @@ impl Core {
     // ---- setup
 
     /// Creates the network, as the model answered.
-    pub fn root(&mut self, alloc: Global, found: Answer) -> Result<Turn, NoMemory>
+    fn root(&mut self, alloc: Global, found: Answer) -> Result<Turn, NoMemory>
         requires no_records { self.old.records ≡ [] }
         requires none_live { self.old.live ≡ [] }
-        ensures { IfOk result (λ turn. flow_of turn self.new ≡ rooted found self.old) }
+        ensures flow { IfOk result (λ turn. flow_of turn self.new ≡ rooted found self.old) }
+        ensures few { length self.new.records ≤ 1 }
     {
         let Answer::Root(name) = found else {
             return Ok(Turn::Break(Text::empty(alloc), Fault::UnknownType));
@@ -378,6 +403,38 @@ impl Core {
         })?;
         self.live.push(1)?;
         Ok(Turn::GoOn)
+    }
+
+    /// Asks which network is run, and creates it.
+    fn ask_root(&mut self, alloc: Global, model: &NetworkModel) -> Result<Turn, NoMemory>
+        requires { self.old ≡ empty }
+        ensures flow { IfOk result (λ turn. flow_of turn self.new ≡ root_asked model.now) }
+        ensures few { OnOk result (length self.new.records ≤ 1) }
+    {
+        self.ask(Question::Root)?;
+        let found = answer(alloc, model, &[], &Question::Root)?;
+        self.root(alloc, found)
+    }
+
+    /// Asks what is inside of the network, and creates it.
+    fn ask_inside(&mut self, alloc: Global, model: &NetworkModel) -> Result<Turn, NoMemory>
+        requires { length self.old.records ≤ 1 }
+        ensures { IfOk result (λ turn. flow_of turn self.new ≡ inside_asked model.now self.old) }
+    {
+        let found = answer(alloc, model, self.records.as_slice(), &Question::Build(1))?;
+        self.ask(Question::Build(1))?;
+        self.build(alloc, 1, found)
+    }
+
+    /// Sets the network and its submodules up, as the model answers.
+    pub fn set_up(&mut self, alloc: Global, model: &NetworkModel) -> Result<Turn, NoMemory>
+        requires { self.old ≡ empty }
+        ensures { IfOk result (λ turn. flow_of turn self.new ≡ prepared model.now) }
+    {
+        match self.ask_root(alloc, model)? {
+            Turn::GoOn => self.ask_inside(alloc, model),
+            turn => Ok(turn),
+        }
     }
 
     /// Creates one more module.
@@ -429,7 +486,7 @@ impl Core {
     }
 
     /// Creates what the model answered to be inside of a module.
-    pub fn build(&mut self, alloc: Global, parent: u32, found: Answer) -> Result<Turn, NoMemory>
+    fn build(&mut self, alloc: Global, parent: u32, found: Answer) -> Result<Turn, NoMemory>
         requires { length self.old.records + 65536 < 2 ^ 32 }
         ensures { IfOk result (λ turn. flow_of turn self.new ≡ built parent found self.old) }
     {

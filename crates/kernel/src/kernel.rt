@@ -1,0 +1,213 @@
+//! A world in code, one event at a time.
+
+ghost use Rattle.std.specs.Prelude.{◌≡◌, ◌+◌, ◌*◌, ◌^◌, ◌<◌, ◌≤◌, OnOk, OnErr, IfOk, IfErr, Some, None, [], map, length, slice_get, option_map};
+ghost use Rattle.std.specs.List.{position_from};
+ghost use Rattle.module_api.specs.Meaning.{IsOfKind, Answered, IsSameModule};
+ghost use Rattle.run_semantics.specs.World.{empty, HasRoom};
+ghost use Rattle.run_semantics.specs.Perform.{flow_of, On};
+ghost use Rattle.run_semantics.specs.Event.{call_module};
+ghost use Rattle.run_semantics.specs.Run.{Running, stage_of, settled, prepared, ready, placed, standing, parts_from, most_stages, initialize, one_stage, stages_from, initialize_all, start, next_stage, stopped};
+ghost use Rattle.run_semantics.specs.Ending.{finish, finish_all, ending};
+ghost use Rattle.kernel.specs.Seats.{Seat, ServedAt, missing_of, missing_part};
+ghost use Rattle.kernel.specs.Kernels.{seat_of, seats_in, world_in, HasKinds};
+
+use crate::core_part::Core;
+use crate::request::Request;
+use model_answers::model::Model;
+use model_answers::record::{Record, path_of};
+use module_api::call::{Call, Prompt};
+use module_api::catalogue::Catalogue;
+use module_api::reply::Reply;
+use module_api::simple_module::SimpleModule;
+use module_tree::Tree;
+use run_semantics::outcome::{Fault, Outcome, Turn};
+use run_semantics::traces::Emission;
+use sim_values::NoMemory;
+use sim_values::text::Text;
+use std::alloc::{AllocFailed, Global};
+use std::marker::PhantomData;
+
+/// A module's box.
+#[derive(Drop)]
+pub struct Slot {
+    pub id: u32,
+    pub held: Box<dyn SimpleModule>,
+}
+
+/// A world in code.
+#[derive(Drop)]
+pub struct Kernel<C: Catalogue> {
+    core: Core,
+    boxes: Tree<Slot>,
+    of: PhantomData<C>,
+}
+
+impl<C: Catalogue> Kernel<C> {
+    /// Nothing stands, and nothing happened. The empty tree is handed in.
+    pub fn new(alloc: Global, boxes: Tree<Slot>) -> Kernel<C>
+        requires { boxes ≡ [] }
+        ensures world { world_in (λ v. (⟦<dyn SimpleModule as SimpleModule>⟧ v).meaning) result ≡ empty }
+        ensures kinds { HasKinds C.behaviour (λ v. (⟦<dyn SimpleModule as SimpleModule>⟧ v).meaning) result }
+    {
+        Kernel {
+            core: Core::new(alloc),
+            boxes,
+            of: PhantomData,
+        }
+    }
+
+    // ---- what callers read
+
+    /// How many events were executed.
+    pub fn count(&self) -> u64
+        ensures { result ≡ (world_in (λ v. (⟦<dyn SimpleModule as SimpleModule>⟧ v).meaning) self.now).count }
+    {
+        self.core.count()
+    }
+
+    /// The modules that were created.
+    pub fn records(&self) -> &[Record]
+        ensures { result.now ≡ (world_in (λ v. (⟦<dyn SimpleModule as SimpleModule>⟧ v).meaning) self.now).records }
+    {
+        self.core.records()
+    }
+
+    /// What was emitted.
+    pub fn emissions(&self) -> &[Emission]
+        ensures { result.now ≡ (world_in (λ v. (⟦<dyn SimpleModule as SimpleModule>⟧ v).meaning) self.now).emissions }
+    {
+        self.core.emissions()
+    }
+
+    // ---- setup, up to the boxes
+
+    /// What the end of an event makes of the run.
+    fn settle(&self, turn: Turn) -> Option<Outcome>
+        ensures { let world = world_in (λ v. (⟦<dyn SimpleModule as SimpleModule>⟧ v).meaning) self.now in
+            stage_of result world ≡ settled (flow_of turn world) }
+    {
+        match turn {
+            Turn::GoOn | Turn::Stop => None,
+            Turn::Break(path, fault) => Some(Outcome::Fault(self.core.count(), path, fault)),
+        }
+    }
+
+    /// Sets the network up anew, as the model answers. All boxes are dropped.
+    pub fn setup(&mut self, alloc: Global, model: &Model) -> Result<Option<Outcome>, NoMemory>
+        ensures kinds { HasKinds C.behaviour (λ v. (⟦<dyn SimpleModule as SimpleModule>⟧ v).meaning) self.new }
+        ensures step { IfOk result (λ over. stage_of over (world_in (λ v. (⟦<dyn SimpleModule as SimpleModule>⟧ v).meaning) self.new) ≡ settled (prepared model.now)) }
+    {
+        self.boxes.clear();
+        self.core = Core::new(alloc);
+        let turn = self.core.set_up(alloc, model)?;
+        Ok(self.settle(turn))
+    }
+
+    /// The simple module that has no box yet, of the least id.
+    pub fn missing(&self, alloc: Global) -> Result<Option<Request>, NoMemory>
+        ensures { IfOk result (λ wanted. wanted ≡ missing_of (world_in (λ v. (⟦<dyn SimpleModule as SimpleModule>⟧ v).meaning) self.now)) }
+    {
+        let records = self.core.records();
+        let Some((id, kind)) = part_at(records, self.boxes.len()) else {
+            return Ok(None);
+        };
+        Ok(Some(Request {
+            kind: Text::from_bytes(alloc, kind)?,
+            path: path_of(alloc, records, id)?,
+            id,
+        }))
+    }
+
+    /// Keeps a box of the module of that id, or hands it back where memory runs out.
+    pub fn supply(
+        &mut self,
+        id: u32,
+        held: Box<dyn SimpleModule>,
+    ) -> Result<(), AllocFailed<Box<dyn SimpleModule>>>
+        requires of_kind { IsOfKind C.behaviour (meaning held) }
+        requires kinds { HasKinds C.behaviour (λ v. (⟦<dyn SimpleModule as SimpleModule>⟧ v).meaning) self.old }
+        ensures kinds { HasKinds C.behaviour (λ v. (⟦<dyn SimpleModule as SimpleModule>⟧ v).meaning) self.new }
+        ensures ok { OnOk result (world_in (λ v. (⟦<dyn SimpleModule as SimpleModule>⟧ v).meaning) self.new
+            ≡ placed (record { id = id; kind = (meaning held).kind }) (meaning held).state (world_in (λ v. (⟦<dyn SimpleModule as SimpleModule>⟧ v).meaning) self.old)) }
+        ensures err { OnErr result (world_in (λ v. (⟦<dyn SimpleModule as SimpleModule>⟧ v).meaning) self.new ≡ world_in (λ v. (⟦<dyn SimpleModule as SimpleModule>⟧ v).meaning) self.old) }
+        ensures returned { IfErr result (λ failed. failed.value ≡ held) }
+    {
+        match self.boxes.place(Slot { id, held }) {
+            Ok(()) => Ok(()),
+            Err(failed) => Err(returned(failed)),
+        }
+    }
+}
+
+/// The box that was handed back.
+fn returned(failed: AllocFailed<Slot>) -> AllocFailed<Box<dyn SimpleModule>>
+    ensures { result.value ≡ failed.value.held }
+{
+    let AllocFailed { value } = failed;
+    let Slot { id: _, held } = value;
+    AllocFailed { value: held }
+}
+
+/// The simple module of that number, counted from 0: its id and its class.
+fn part_at(records: &[Record], number: usize) -> Option<(u32, &[u8])>
+    ensures { option_map (λ part. record { id = part.0; kind = part.1.now }) result ≡ slice_get (parts_from 1 records.now) number }
+{
+    let mut left = number;
+    for (index, found) in records.iter().enumerate() {
+        if let Some(kind) = &found.class {
+            if left == 0 {
+                return Some((index as u32 + 1, kind.as_bytes()));
+            }
+            left -= 1;
+        }
+    }
+    None
+}
+
+/// Where the box of the module of that id stands.
+fn place_in(slots: &[Slot], id: u32) -> Option<usize>
+    ensures { result ≡ position_from (λ slot. slot.id == id) 0 slots.now }
+{
+    for (place, slot) in slots.iter().enumerate() {
+        if slot.id == id {
+            return Some(place);
+        }
+    }
+    None
+}
+
+/// Calls the box at that place.
+fn serve_at(
+    boxes: &mut Tree<Slot>,
+    alloc: Global,
+    place: usize,
+    call: &Call,
+) -> Result<Reply, NoMemory>
+    requires there { place < length boxes.old }
+    ensures { (before : Seat) → slice_get (map (seat_of (λ v. (⟦<dyn SimpleModule as SimpleModule>⟧ v).meaning)) boxes.old) place ≡ Some before
+        → ServedAt (map (seat_of (λ v. (⟦<dyn SimpleModule as SimpleModule>⟧ v).meaning)) boxes.old) (map (seat_of (λ v. (⟦<dyn SimpleModule as SimpleModule>⟧ v).meaning)) boxes.new) place before call.now result }
+{
+    let slot = boxes.get_mut(place).unwrap();
+    serve_slot(slot, alloc, call)
+}
+
+/// Calls the box of a module.
+fn serve_slot(slot: &mut Slot, alloc: Global, call: &Call) -> Result<Reply, NoMemory>
+    ensures id { slot.new.id ≡ slot.old.id }
+    ensures answered { Answered (seat_of (λ v. (⟦<dyn SimpleModule as SimpleModule>⟧ v).meaning) slot.old).box call.now result (seat_of (λ v. (⟦<dyn SimpleModule as SimpleModule>⟧ v).meaning) slot.new).box }
+    ensures same { IsSameModule (seat_of (λ v. (⟦<dyn SimpleModule as SimpleModule>⟧ v).meaning) slot.old).box (seat_of (λ v. (⟦<dyn SimpleModule as SimpleModule>⟧ v).meaning) slot.new).box }
+{
+    serve(&mut slot.held, alloc, call)
+}
+
+/// Calls a box for what the call names.
+fn serve(held: &mut Box<dyn SimpleModule>, alloc: Global, call: &Call) -> Result<Reply, NoMemory>
+    ensures answered { Answered (meaning held.old) call.now result (meaning held.new) }
+    ensures same { IsSameModule (meaning held.old) (meaning held.new) }
+{
+    match &call.prompt {
+        Prompt::Initialize(_) => held.initialize(alloc, call),
+        Prompt::Message(_) => held.handle_message(alloc, call),
+        Prompt::Finish => held.finish(alloc, call),
+    }
+}

@@ -1,6 +1,7 @@
 //! One run, event by event.
 #![tactic(auto)]
 
-pub mod event_list;
 pub mod core_part;
+pub mod event_list;
 pub mod kernel;
+pub mod request;

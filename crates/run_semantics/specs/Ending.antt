@@ -35,16 +35,16 @@ acted_last id actions w = if nat_lt 1000 (length actions) then broken id fault.T
 abbrev pub answered_last : Model → ℕ → Reply → World → Flow
 answered_last m id reply w = unless_fault id (read_fault m w.records id reply.reads) (acted_last id reply.actions) w
 
-abbrev pub replied_last : Model → ℕ → Instance → Replied → World → Flow
-replied_last m place i r w = answered_last m i.id r.reply (with_state place i r.state w)
+abbrev pub replied_last : Model → ℕ → ℕ → Instance → Replied → World → Flow
+replied_last m id place i r w = answered_last m id r.reply (with_state place i r.state w)
 
-abbrev pub called_last : Behaviour → Model → World → ℕ → Option Instance → Flow
-called_last b m w place None = On w
-called_last b m w place (Some i) = replied_last m place i ((b.naming i.kind).reply i.state (call_of m i.id prompt.Finish w)) w
+abbrev pub called_last : Behaviour → Model → ℕ → World → ℕ → Option Instance → Flow
+called_last b m id w place None = On w
+called_last b m id w place (Some i) = replied_last m id place i ((b.naming i.kind).reply i.state (call_of m id prompt.Finish w)) w
 
-abbrev pub call_last_at : Behaviour → Model → World → Option ℕ → Flow
-call_last_at b m w None = On w
-call_last_at b m w (Some place) = called_last b m w place (slice_get w.modules place)
+abbrev pub call_last_at : Behaviour → Model → ℕ → World → Option ℕ → Flow
+call_last_at b m id w None = On w
+call_last_at b m id w (Some place) = called_last b m id w place (slice_get w.modules place)
 
 -- a module counts as finished when its reply is done without a fault
 abbrev pub with_finished : ℕ → World → World
@@ -54,7 +54,7 @@ abbrev pub marked : ℕ → World → Flow
 marked id w = On (with_finished id w)
 
 abbrev pub finish : Behaviour → Model → Part → World → Flow
-finish b m p w = call_last_at b m w (place_in p.id w.modules) >>= marked p.id
+finish b m p w = call_last_at b m p.id w (place_in p.id w.modules) >>= marked p.id
 
 -- the submodules by id, and then the network
 abbrev pub finish_all : Behaviour → Model → List Part → World → Flow

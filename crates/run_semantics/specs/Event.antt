@@ -1,5 +1,6 @@
 -- One event.
-use Rattle.std.specs.Prelude.{ℕ, ℤ, ◌+◌, suc, ◌==◌, List, [], ◌∷◌, Option, Some, None, option_map, slice_get, slice_set, if◌then◌else◌}
+use Rattle.std.specs.Prelude.{ℕ, ℤ, ◌+◌, ◌==◌, List, [], Option, Some, None, slice_get, slice_set}
+use Rattle.std.specs.List.{position_from}
 use Rattle.module_api.specs.declared.call.Call.{Call}
 use Rattle.module_api.specs.declared.call.Prompt.{Prompt}
 use Rattle.module_api.specs.declared.call.Prompt.TheVariants as prompt
@@ -33,28 +34,27 @@ call_of m id prompt w = record {
 
 -- where the module of that id stands among the modules
 abbrev pub place_in : ℕ → List Instance → Option ℕ
-place_in id [] = None
-place_in id (i ∷ is) = if i.id == id then Some 0 else option_map suc (place_in id is)
+place_in id is = position_from (λ (i : Instance). i.id == id) 0 is
 
 -- the module at that place has a new state
 abbrev pub with_state : ℕ → Instance → List ℕ → World → World
 with_state place i state w = record w { modules = slice_set w.modules place (record i { state = state }) }
 
-abbrev pub replied : Model → ℕ → Instance → Replied → World → Flow
-replied m place i r w = answered m i.id r.reply (with_state place i r.state w)
+abbrev pub replied : Model → ℕ → ℕ → Instance → Replied → World → Flow
+replied m id place i r w = answered m id r.reply (with_state place i r.state w)
 
--- the module at that place is called
-abbrev pub called : Behaviour → Model → Prompt → World → ℕ → Option Instance → Flow
-called b m prompt w place None = On w
-called b m prompt w place (Some i) = replied m place i ((b.naming i.kind).reply i.state (call_of m i.id prompt w)) w
+-- the module of that id, which stands at that place, is called
+abbrev pub called : Behaviour → Model → ℕ → Prompt → World → ℕ → Option Instance → Flow
+called b m id prompt w place None = On w
+called b m id prompt w place (Some i) = replied m id place i ((b.naming i.kind).reply i.state (call_of m id prompt w)) w
 
-abbrev pub call_at : Behaviour → Model → Prompt → World → Option ℕ → Flow
-call_at b m prompt w None = On w
-call_at b m prompt w (Some place) = called b m prompt w place (slice_get w.modules place)
+abbrev pub call_at : Behaviour → Model → ℕ → Prompt → World → Option ℕ → Flow
+call_at b m id prompt w None = On w
+call_at b m id prompt w (Some place) = called b m id prompt w place (slice_get w.modules place)
 
 -- ONE CALL of the module of that id; a call of what isn't there is passed over
 abbrev pub call_module : Behaviour → Model → ℕ → Prompt → World → Flow
-call_module b m id prompt w = call_at b m prompt w (place_in id w.modules)
+call_module b m id prompt w = call_at b m id prompt w (place_in id w.modules)
 
 -- ---- events
 

@@ -151,9 +151,13 @@ settled (On w) = Running w
 settled (Stopped w) = Running w
 settled (Broken w path f) = Over w (Fault w.count path f)
 
+-- all that is set up, and the boxes
+abbrev pub ready : Behaviour → Model → Flow
+ready b m = prepared m >>= place_parts b
+
 -- EVENT ZERO: setup, the boxes, and initialization
 abbrev pub start : Behaviour → Model → Stage
-start b m = settled (prepared m >>= place_parts b >>= initialize_all b m)
+start b m = settled (ready b m >>= initialize_all b m)
 
 -- the next event
 abbrev pub picked : Behaviour → Model → World → List Pending → Stage

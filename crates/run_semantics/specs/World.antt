@@ -1,5 +1,5 @@
 -- What a run is at a moment.
-use Rattle.std.specs.Prelude.{ℕ, Bool, false, List, [], ◌∷◌, ◌++◌}
+use Rattle.std.specs.Prelude.{ℕ, ◌+◌, ◌*◌, ◌^◌, ◌≤◌, Bool, false, List, [], ◌∷◌, ◌++◌}
 use Rattle.model_answers.specs.declared.answer.Asked.{Asked}
 use Rattle.model_answers.specs.declared.answer.Question.{Question}
 use Rattle.model_answers.specs.declared.record.Record.{Record}
@@ -35,3 +35,7 @@ empty = record {
 -- a question is asked in the event that is executed
 abbrev pub asked : Question → World → World
 asked q w = record w { questions = w.questions ++ record { event = w.count; question = q } ∷ [] }
+
+-- insertion numbers are far from running out
+abbrev pub HasRoom : World → Type 0
+HasRoom w = w.next ≤ 2 ^ 82 + 1000 * w.count
