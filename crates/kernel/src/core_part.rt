@@ -41,7 +41,7 @@ pub struct Core {
 }
 
 impl Model for Core {
-    ghost use Rattle.std.specs.Prelude.{[]};
+    ghost use Rattle.std.specs.Prelude.{[], length, ◌<◌, ◌^◌};
     ghost use Rattle.run_semantics.specs.World.{World};
 
     ghost Value = { World };
@@ -60,6 +60,9 @@ impl Model for Core {
       emissions = k.emissions;
       questions = k.questions;
     } };
+
+    // ids are numbers of 32 bits
+    ghost invariant = { λ k. length k.records < 2 ^ 32 };
 }
 
 impl Core {
@@ -97,7 +100,8 @@ impl Core {
     }
 
     pub fn records(&self) -> &[Record]
-        ensures { result.now ≡ self.now.records }
+        ensures records { result.now ≡ self.now.records }
+        ensures few { length result.now < 2 ^ 32 }
     {
         self.records.as_slice()
     }

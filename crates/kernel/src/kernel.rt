@@ -1,6 +1,6 @@
 //! A world in code, one event at a time.
 
-ghost use Rattle.std.specs.Prelude.{◌≡◌, ◌+◌, ◌*◌, ◌^◌, ◌<◌, ◌≤◌, OnOk, OnErr, IfOk, IfErr, Some, None, [], map, length, slice_get, option_map};
+ghost use Rattle.std.specs.Prelude.{◌≡◌, ◌==◌, ◌+◌, ◌*◌, ◌^◌, ◌<◌, ◌≤◌, OnOk, OnErr, IfOk, IfErr, Some, None, [], map, length, slice_get, option_map};
 ghost use Rattle.std.specs.List.{position_from};
 ghost use Rattle.module_api.specs.Meaning.{IsOfKind, Answered, IsSameModule};
 ghost use Rattle.run_semantics.specs.World.{empty, HasRoom};
@@ -150,6 +150,7 @@ fn returned(failed: AllocFailed<Slot>) -> AllocFailed<Box<dyn SimpleModule>>
 
 /// The simple module of that number, counted from 0: its id and its class.
 fn part_at(records: &[Record], number: usize) -> Option<(u32, &[u8])>
+    requires { length records.now < 2 ^ 32 }
     ensures { option_map (λ part. record { id = part.0; kind = part.1.now }) result ≡ slice_get (parts_from 1 records.now) number }
 {
     let mut left = number;

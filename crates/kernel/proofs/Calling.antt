@@ -1,0 +1,82 @@
+-- A call of a box is a call of the definitions.
+use Rattle.std.proofs.Common.{◌≡◌, ℕ, ◌<◌, ◌==◌, List, [], ◌∷◌, Option, Some, None, Result, Ok, Err, refl, sym, ap, ◌∙◌, arith, subst, slice_get, slice_set, length, map}
+use Rattle.std.proofs.lemmas.List.{length-map, map-set}
+use Rattle.std.specs.List.{position_from}
+use Rattle.sim_values.specs.declared.NoMemory.{NoMemory}
+use Rattle.module_api.specs.declared.call.Call.{Call}
+use Rattle.module_api.specs.declared.call.Prompt.{Prompt}
+use Rattle.module_api.specs.declared.call.Prompt.TheVariants as prompt
+use Rattle.module_api.specs.declared.reply.Reply.{Reply}
+use Rattle.module_api.specs.Behaviour.{Behaviour, Replied}
+use Rattle.module_api.specs.Meaning.{Module, Answered, IsSameModule, IsOfKind}
+use Rattle.model_answers.specs.declared.model.Model.{Model}
+use Rattle.run_semantics.specs.declared.outcome.Turn.{Turn}
+use Rattle.run_semantics.specs.declared.traces.Instance.{Instance}
+use Rattle.run_semantics.specs.World.{World}
+use Rattle.run_semantics.specs.Perform.{Flow, flow_of, answered}
+use Rattle.run_semantics.specs.Event.{call_of, place_in, with_state, called, call_at, call_module}
+use Rattle.run_semantics.specs.Run.{standing}
+use Rattle.run_semantics.specs.Ending.{answered_last, called_last, call_last_at}
+use Rattle.kernel.specs.Seats.{Seat, instance_of, world_of, AreOfKinds, ServedAt}
+use Rattle.kernel.proofs.Apart.{with_modules, flow_with, flow_of_with, answered_apart, answered_last_apart}
+use Rattle.kernel.proofs.Seating.{get_map, get-map, seat_at, kind_at, kinds_set, kind_same, standing_set, position_from-map}
+
+-- what a served slot says of the seats
+pub served : {A : Type 0} (seat : A → Seat) (xs : List A) (place : ℕ) (x y : A) (before : Seat) (call : Call) (result : Result Reply NoMemory) → slice_get xs place ≡ Some x → slice_get (map seat xs) place ≡ Some before → (seat y).id ≡ (seat x).id → Answered (seat x).box call result (seat y).box → IsSameModule (seat x).box (seat y).box → ServedAt (map seat xs) (map seat (slice_set xs place y)) place before call result
+served seat xs place x y before call result is here same_id told same =
+    let e : before ≡ seat x = get-map seat xs place x before is here in
+    let id : (seat y).id ≡ before.id = same_id ∙ ap (λ (s : Seat). s.id) (sym e) in
+    let whole : seat y ≡ record { id = before.id; box = (seat y).box } = ap (λ i. record { id = i; box = (seat y).box }) id in
+    record {
+      after = (seat y).box;
+      answered = subst (λ (s : Seat). Answered s.box call result (seat y).box) (sym e) told;
+      same = subst (λ (s : Seat). IsSameModule s.box (seat y).box) (sym e) same;
+      seats = map-set seat xs place y ∙ ap (slice_set (map seat xs) place) whole;
+    }
+
+-- a call keeps the kinds, whatever it gave
+pub kinds_served : (b : Behaviour) (old new : List Seat) (place : ℕ) (call : Call) (result : Result Reply NoMemory) → place < length old → ((before : Seat) → slice_get old place ≡ Some before → ServedAt old new place before call result) → AreOfKinds b old → AreOfKinds b new
+kinds_served b old new place call result lt serves h =
+    let at = seat_at old place lt in
+    let s = serves at.0 at.1 in
+    subst (AreOfKinds b) (sym s.seats) (kinds_set b old place (record { id = at.0.id; box = s.after }) (kind_same b at.0.box s.after s.same (kind_at b old place at.0 at.1 h)) h)
+
+-- and what stands
+pub standing_served : (old new : List Seat) (place : ℕ) (call : Call) (result : Result Reply NoMemory) → place < length old → ((before : Seat) → slice_get old place ≡ Some before → ServedAt old new place before call result) → standing (map instance_of new) ≡ standing (map instance_of old)
+standing_served old new place call result lt serves =
+    let at = seat_at old place lt in
+    let s = serves at.0 at.1 in
+    ap (λ (ss : List Seat). standing (map instance_of ss)) s.seats ∙ standing_set old place at.0 (record { id = at.0.id; box = s.after }) at.1 refl s.same.kind
+
+-- the state that is left stands where the old one stood
+module _ (b : Behaviour) (m : Model) (id place : ℕ) (p : Prompt) (core : World) (old new : List Seat) (before : Seat) (reply : Reply) (kind : IsOfKind b before.box) (at : slice_get old place ≡ Some before) (s : ServedAt old new place before (call_of m id p core) (Ok reply)) where
+
+
+
+  told_reply : reply ≡ ((b.naming before.box.kind).reply before.box.state (call_of m id p core)).reply
+  told_reply = s.answered.0 ∙ ap (λ n. (n.reply before.box.state (call_of m id p core)).reply) kind.named
+
+  left_state : s.after.state ≡ ((b.naming before.box.kind).reply before.box.state (call_of m id p core)).state
+  left_state = s.answered.1 ∙ ap (λ n. (n.reply before.box.state (call_of m id p core)).state) kind.named
+
+  pub modules_after : map instance_of new ≡ slice_set (map instance_of old) place (record (instance_of before) { state = ((b.naming before.box.kind).reply before.box.state (call_of m id p core)).state })
+  modules_after =
+      let here : instance_of (record { id = before.id; box = s.after }) ≡ record (instance_of before) { state = ((b.naming before.box.kind).reply before.box.state (call_of m id p core)).state } =
+          ap (λ k. record { id = before.id; kind = k; state = s.after.state }) s.same.kind
+          ∙ ap (λ st. record { id = before.id; kind = before.box.kind; state = st }) left_state in
+      ap (map instance_of) s.seats ∙ map-set instance_of old place (record { id = before.id; box = s.after }) ∙ ap (slice_set (map instance_of old) place) here
+
+  pub called_is_step : answered m id reply (world_of core new) ≡ called b m id p (world_of core old) place (slice_get (map instance_of old) place)
+  called_is_step =
+      ap (λ (ms : List Instance). answered m id reply (with_modules ms core)) modules_after
+      ∙ ap (λ (x : Reply). answered m id x (with_state place (instance_of before) ((b.naming before.box.kind).reply before.box.state (call_of m id p core)).state (world_of core old))) told_reply
+      ∙ sym (ap (called b m id p (world_of core old) place) (get_map instance_of old place before at))
+
+-- what follows the reply, in the core and in the world
+pub called_is : (b : Behaviour) (m : Model) (id place : ℕ) (p : Prompt) (core core' : World) (old new : List Seat) (call : Call) (reply : Reply) (turn : Turn) → place < length old → AreOfKinds b old → call ≡ call_of m id p core → ((before : Seat) → slice_get old place ≡ Some before → ServedAt old new place before call (Ok reply)) → flow_of turn core' ≡ answered m id reply core → flow_of turn (world_of core' new) ≡ call_at b m id p (world_of core old) (Some place)
+called_is b m id place p core core' old new call reply turn lt kinds made serves e =
+    let at = seat_at old place lt in
+    flow_of_with (map instance_of new) turn core'
+    ∙ ap (flow_with (map instance_of new)) e
+    ∙ sym (answered_apart (map instance_of new) m id reply core)
+    ∙ called_is_step b m id place p core old new at.0 reply (kind_at b old place at.0 at.1 kinds) at.1 (rw made at serves at.0 at.1)
