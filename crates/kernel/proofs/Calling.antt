@@ -1,5 +1,5 @@
 -- A call of a box is a call of the definitions.
-use Rattle.std.proofs.Common.{◌≡◌, ℕ, ◌<◌, ◌==◌, List, [], ◌∷◌, Option, Some, None, Result, Ok, Err, refl, sym, ap, ◌∙◌, arith, subst, slice_get, slice_set, length, map}
+use Rattle.std.proofs.Common.{◌≡◌, ℕ, suc, ◌+◌, ◌<◌, ◌==◌, Bool, true, false, cond, List, [], ◌∷◌, Option, Some, None, IfSome, Result, Ok, Err, refl, sym, ap, ◌∙◌, arith, subst, slice_get, slice_set, length, map}
 use Rattle.std.proofs.lemmas.List.{length-map, map-set}
 use Rattle.std.specs.List.{position_from}
 use Rattle.sim_values.specs.declared.NoMemory.{NoMemory}
@@ -16,7 +16,7 @@ use Rattle.run_semantics.specs.World.{World}
 use Rattle.run_semantics.specs.Perform.{Flow, flow_of, answered}
 use Rattle.run_semantics.specs.Event.{call_of, place_in, with_state, called, call_at, call_module}
 use Rattle.run_semantics.specs.Run.{standing}
-use Rattle.run_semantics.specs.Ending.{answered_last, called_last, call_last_at}
+use Rattle.run_semantics.specs.Ending.{answered_last, replied_last, called_last, call_last_at}
 use Rattle.kernel.specs.Seats.{Seat, instance_of, world_of, AreOfKinds, ServedAt}
 use Rattle.kernel.proofs.Apart.{with_modules, flow_with, flow_of_with, answered_apart, answered_last_apart}
 use Rattle.kernel.proofs.Seating.{get_map, get-map, seat_at, kind_at, kinds_set, kind_same, standing_set, position_from-map}
@@ -72,6 +72,11 @@ module _ (b : Behaviour) (m : Model) (id place : ℕ) (p : Prompt) (core : World
       ∙ ap (λ (x : Reply). answered m id x (with_state place (instance_of before) ((b.naming before.box.kind).reply before.box.state (call_of m id p core)).state (world_of core old))) told_reply
       ∙ sym (ap (called b m id p (world_of core old) place) (get_map instance_of old place before at))
 
+  pub called_last_is_step : answered_last m id reply (world_of core new) ≡ replied_last m id place (instance_of before) ((b.naming before.box.kind).reply before.box.state (call_of m id p core)) (world_of core old)
+  called_last_is_step =
+      ap (λ (ms : List Instance). answered_last m id reply (with_modules ms core)) modules_after
+      ∙ ap (λ (x : Reply). answered_last m id x (with_state place (instance_of before) ((b.naming before.box.kind).reply before.box.state (call_of m id p core)).state (world_of core old))) told_reply
+
 -- what follows the reply, in the core and in the world
 pub called_is : (b : Behaviour) (m : Model) (id place : ℕ) (p : Prompt) (core core' : World) (old new : List Seat) (call : Call) (reply : Reply) (turn : Turn) → place < length old → AreOfKinds b old → call ≡ call_of m id p core → ((before : Seat) → slice_get old place ≡ Some before → ServedAt old new place before call (Ok reply)) → flow_of turn core' ≡ answered m id reply core → flow_of turn (world_of core' new) ≡ call_at b m id p (world_of core old) (Some place)
 called_is b m id place p core core' old new call reply turn lt kinds made serves e =
@@ -80,3 +85,50 @@ called_is b m id place p core core' old new call reply turn lt kinds made serves
     ∙ ap (flow_with (map instance_of new)) e
     ∙ sym (answered_apart (map instance_of new) m id reply core)
     ∙ called_is_step b m id place p core old new at.0 reply (kind_at b old place at.0 at.1 kinds) at.1 (rw made at serves at.0 at.1)
+
+pub called_last_is : (b : Behaviour) (m : Model) (id place : ℕ) (core core' : World) (old new : List Seat) (call : Call) (reply : Reply) (turn : Turn) → place < length old → AreOfKinds b old → call ≡ call_of m id prompt.Finish core → ((before : Seat) → slice_get old place ≡ Some before → ServedAt old new place before call (Ok reply)) → flow_of turn core' ≡ answered_last m id reply core → flow_of turn (world_of core' new) ≡ call_last_at b m id (world_of core old) (Some place)
+called_last_is b m id place core core' old new call reply turn lt kinds made serves e =
+    let at = seat_at old place lt in
+    flow_of_with (map instance_of new) turn core'
+    ∙ ap (flow_with (map instance_of new)) e
+    ∙ sym (answered_last_apart (map instance_of new) m id reply core)
+    ∙ called_last_is_step b m id place prompt.Finish core old new at.0 reply (kind_at b old place at.0 at.1 kinds) at.1 (rw made at serves at.0 at.1)
+    ∙ sym (ap (called_last b m id (world_of core old) place) (get_map instance_of old place at.0 at.1))
+
+-- ---- the same, of boxes
+
+-- a place that a search finds is there
+at_first : (c : Bool) (k n len : ℕ) (rest : Option ℕ) → cond c (Some k) rest ≡ Some n → (rest ≡ Some n → n < k + 1 + len) → n < k + suc len
+at_first true k n len rest d h = let s : k ≡ n = cc in omega arith
+at_first false k n len rest d h = omega (arith, h d)
+
+position_from-lt : {A : Type 0} (p : A → Bool) (k : ℕ) (xs : List A) (n : ℕ) → position_from p k xs ≡ Some n → n < k + length xs
+position_from-lt p k [] n e = cc
+position_from-lt p k (x ∷ xs) n e = at_first (p x) k n (length xs) (position_from p (k + 1) xs) e (position_from-lt p (k + 1) xs n)
+
+pub place_lt : {A : Type 0} (p : A → Bool) (xs : List A) (o : Option ℕ) → o ≡ position_from p 0 xs → IfSome o (λ n. n < length xs)
+place_lt p xs None e = tt
+place_lt p xs (Some n) e = omega (arith, position_from-lt p 0 xs n (sym e))
+
+-- where the module of that id stands, by the boxes
+pub place_of_boxes : {A : Type 0} (seat : A → Seat) (id : ℕ) (xs : List A) → place_in id (map instance_of (map seat xs)) ≡ position_from (λ x. (seat x).id == id) 0 xs
+place_of_boxes seat id xs =
+    position_from-map instance_of (λ (i : Instance). i.id == id) 0 (map seat xs) ∙ position_from-map seat (λ (s : Seat). s.id == id) 0 xs
+
+module _ {A : Type 0} (seat : A → Seat) (old new : List A) (place : ℕ) (call : Call) (result : Result Reply NoMemory) (lt : place < length (map seat old)) (serves : (before : Seat) → slice_get (map seat old) place ≡ Some before → ServedAt (map seat old) (map seat new) place before call result) where
+  pub boxes_kinds : (b : Behaviour) → AreOfKinds b (map seat old) → AreOfKinds b (map seat new)
+  boxes_kinds b = kinds_served b (map seat old) (map seat new) place call result lt serves
+
+  pub boxes_standing : standing (map instance_of (map seat new)) ≡ standing (map instance_of (map seat old))
+  boxes_standing = standing_served (map seat old) (map seat new) place call result lt serves
+
+module _ {A : Type 0} (seat : A → Seat) (old new : List A) (place : ℕ) (lt : place < length (map seat old)) (b : Behaviour) (m : Model) (id : ℕ) (core core' : World) (call : Call) (reply : Reply) (turn : Turn) (kinds : AreOfKinds b (map seat old)) (here : place_in id (map instance_of (map seat old)) ≡ Some place) (serves : (before : Seat) → slice_get (map seat old) place ≡ Some before → ServedAt (map seat old) (map seat new) place before call (Ok reply)) where
+  pub boxes_called : (p : Prompt) → call ≡ call_of m id p core → flow_of turn core' ≡ answered m id reply core → flow_of turn (world_of core' (map seat new)) ≡ call_module b m id p (world_of core (map seat old))
+  boxes_called p made e =
+      called_is b m id place p core core' (map seat old) (map seat new) call reply turn lt kinds made serves e
+      ∙ sym (ap (call_at b m id p (world_of core (map seat old))) here)
+
+  pub boxes_called_last : call ≡ call_of m id prompt.Finish core → flow_of turn core' ≡ answered_last m id reply core → flow_of turn (world_of core' (map seat new)) ≡ call_last_at b m id (world_of core (map seat old)) (place_in id (map instance_of (map seat old)))
+  boxes_called_last made e =
+      called_last_is b m id place core core' (map seat old) (map seat new) call reply turn lt kinds made serves e
+      ∙ sym (ap (call_last_at b m id (world_of core (map seat old))) here)

@@ -1,3 +1,4 @@
 pub mod Apart
 pub mod Calling
 pub mod Seating
+pub mod Starting

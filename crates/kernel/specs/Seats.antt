@@ -1,5 +1,5 @@
 -- The world that a core and its boxes make.
-use Rattle.std.specs.Prelude.{◌≡◌, ℕ, suc, List, [], ◌∷◌, Option, Some, None, option_map, Result, map, length, slice_get, slice_set}
+use Rattle.std.specs.Prelude.{◌≡◌, ℕ, suc, List, [], ◌∷◌, Option, Some, None, option_map, Result, map, max, length, slice_get, slice_set}
 use Rattle.sim_values.specs.declared.NoMemory.{NoMemory}
 use Rattle.module_api.specs.declared.call.Call.{Call}
 use Rattle.module_api.specs.declared.reply.Reply.{Reply}
@@ -46,3 +46,8 @@ missing_part w = slice_get (parts_of w) (length w.modules)
 
 abbrev pub missing_of : World → Option Request
 missing_of w = option_map (request_for w) (missing_part w)
+
+-- the greatest number of stages of a box
+abbrev pub most_of : List Seat → ℕ
+most_of [] = 0
+most_of (s ∷ ss) = max s.box.naming.stages (most_of ss)

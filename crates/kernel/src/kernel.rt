@@ -1,14 +1,14 @@
 //! A world in code, one event at a time.
 
-ghost use Rattle.std.specs.Prelude.{◌≡◌, ◌==◌, ◌+◌, ◌*◌, ◌^◌, ◌<◌, ◌≤◌, OnOk, OnErr, IfOk, IfErr, Some, None, [], map, length, slice_get, option_map};
+ghost use Rattle.std.specs.Prelude.{◌≡◌, ◌==◌, ◌+◌, ◌*◌, ◌^◌, ◌<◌, ◌≤◌, OnOk, OnErr, IfOk, IfErr, IfSome, Some, None, [], map, length, slice_get, option_map};
 ghost use Rattle.std.specs.List.{position_from};
 ghost use Rattle.module_api.specs.Meaning.{IsOfKind, Answered, IsSameModule};
 ghost use Rattle.run_semantics.specs.World.{empty, HasRoom};
 ghost use Rattle.run_semantics.specs.Perform.{flow_of, On};
-ghost use Rattle.run_semantics.specs.Event.{call_module};
-ghost use Rattle.run_semantics.specs.Run.{Running, stage_of, settled, prepared, ready, placed, standing, parts_from, most_stages, initialize, one_stage, stages_from, initialize_all, start, next_stage, stopped};
+ghost use Rattle.run_semantics.specs.Event.{call_module, place_in};
+ghost use Rattle.run_semantics.specs.Run.{Running, Part, stage_of, settled, prepared, ready, placed, standing, parts_from, most_stages, initialize, one_stage, stages_from, initialize_all, start, next_stage, stopped};
 ghost use Rattle.run_semantics.specs.Ending.{finish, finish_all, ending};
-ghost use Rattle.kernel.specs.Seats.{Seat, ServedAt, missing_of, missing_part};
+ghost use Rattle.kernel.specs.Seats.{Seat, ServedAt, most_of, missing_of, missing_part};
 ghost use Rattle.kernel.specs.Kernels.{seat_of, seats_in, world_in, HasKinds};
 
 use crate::core_part::Core;
@@ -137,6 +137,94 @@ impl<C: Catalogue> Kernel<C> {
             Err(failed) => Err(returned(failed)),
         }
     }
+
+    // ---- calls
+
+    /// Where the box of the module of that id stands.
+    fn find(&self, id: u32) -> Option<usize>
+        ensures place { result ≡ place_in id (world_in (λ v. (⟦<dyn SimpleModule as SimpleModule>⟧ v).meaning) self.now).modules }
+        ensures there { IfSome result (λ place. place < length (seats_in (λ v. (⟦<dyn SimpleModule as SimpleModule>⟧ v).meaning) self.now)) }
+    {
+        place_in(self.boxes.as_slice(), id)
+    }
+
+    /// One call of the module of that id. A call of what isn't there is passed over.
+    fn call_module(
+        &mut self,
+        alloc: Global,
+        model: &Model,
+        id: u32,
+        prompt: Prompt,
+    ) -> Result<Turn, NoMemory>
+        requires room { (world_in (λ v. (⟦<dyn SimpleModule as SimpleModule>⟧ v).meaning) self.old).next + 1000 < 2 ^ 128 }
+        requires kinds { HasKinds C.behaviour (λ v. (⟦<dyn SimpleModule as SimpleModule>⟧ v).meaning) self.old }
+        ensures kinds { HasKinds C.behaviour (λ v. (⟦<dyn SimpleModule as SimpleModule>⟧ v).meaning) self.new }
+        ensures standing { standing (world_in (λ v. (⟦<dyn SimpleModule as SimpleModule>⟧ v).meaning) self.new).modules ≡ standing (world_in (λ v. (⟦<dyn SimpleModule as SimpleModule>⟧ v).meaning) self.old).modules }
+        ensures step { IfOk result (λ turn. flow_of turn (world_in (λ v. (⟦<dyn SimpleModule as SimpleModule>⟧ v).meaning) self.new)
+            ≡ call_module C.behaviour model.now id prompt (world_in (λ v. (⟦<dyn SimpleModule as SimpleModule>⟧ v).meaning) self.old)) }
+    {
+        let Some(place) = self.find(id) else {
+            return Ok(Turn::GoOn);
+        };
+        let call = self.core.call(alloc, model, id, prompt)?;
+        let reply = serve_at(&mut self.boxes, alloc, place, &call)?;
+        let turn = self.core.follow(alloc, model, id, &reply)?;
+        Ok(turn)
+    }
+
+    // ---- event zero
+
+    /// Initializes the module whose box stands at that place, where it has that stage.
+    fn initialize(
+        &mut self,
+        alloc: Global,
+        model: &Model,
+        stage: u8,
+        place: usize,
+    ) -> Result<Turn, NoMemory>
+        requires there { place < length (seats_in (λ v. (⟦<dyn SimpleModule as SimpleModule>⟧ v).meaning) self.old) }
+        requires room { (world_in (λ v. (⟦<dyn SimpleModule as SimpleModule>⟧ v).meaning) self.old).next + 1000 < 2 ^ 128 }
+        requires kinds { HasKinds C.behaviour (λ v. (⟦<dyn SimpleModule as SimpleModule>⟧ v).meaning) self.old }
+        ensures kinds { HasKinds C.behaviour (λ v. (⟦<dyn SimpleModule as SimpleModule>⟧ v).meaning) self.new }
+        ensures standing { standing (world_in (λ v. (⟦<dyn SimpleModule as SimpleModule>⟧ v).meaning) self.new).modules ≡ standing (world_in (λ v. (⟦<dyn SimpleModule as SimpleModule>⟧ v).meaning) self.old).modules }
+        ensures next { OnOk result ((world_in (λ v. (⟦<dyn SimpleModule as SimpleModule>⟧ v).meaning) self.new).next ≤ (world_in (λ v. (⟦<dyn SimpleModule as SimpleModule>⟧ v).meaning) self.old).next + 1000) }
+        ensures step { IfOk result (λ turn. (p : Part) → slice_get (standing (world_in (λ v. (⟦<dyn SimpleModule as SimpleModule>⟧ v).meaning) self.old).modules) place ≡ Some p
+            → flow_of turn (world_in (λ v. (⟦<dyn SimpleModule as SimpleModule>⟧ v).meaning) self.new) ≡ initialize C.behaviour model.now stage p (world_in (λ v. (⟦<dyn SimpleModule as SimpleModule>⟧ v).meaning) self.old)) }
+    {
+        let (id, stages) = stages_at(self.boxes.as_slice(), place);
+        if stage >= stages {
+            return Ok(Turn::GoOn);
+        }
+        let turn = self.call_module(alloc, model, id, Prompt::Initialize(stage))?;
+        Ok(turn)
+    }
+
+    /// One stage of the initialization of all modules.
+    fn one_stage(&mut self, alloc: Global, model: &Model, stage: u8) -> Result<Turn, NoMemory>
+        requires room { (world_in (λ v. (⟦<dyn SimpleModule as SimpleModule>⟧ v).meaning) self.old).next + 2 ^ 75 < 2 ^ 128 }
+        requires kinds { HasKinds C.behaviour (λ v. (⟦<dyn SimpleModule as SimpleModule>⟧ v).meaning) self.old }
+        ensures kinds { HasKinds C.behaviour (λ v. (⟦<dyn SimpleModule as SimpleModule>⟧ v).meaning) self.new }
+        ensures standing { standing (world_in (λ v. (⟦<dyn SimpleModule as SimpleModule>⟧ v).meaning) self.new).modules ≡ standing (world_in (λ v. (⟦<dyn SimpleModule as SimpleModule>⟧ v).meaning) self.old).modules }
+        ensures next { OnOk result ((world_in (λ v. (⟦<dyn SimpleModule as SimpleModule>⟧ v).meaning) self.new).next ≤ (world_in (λ v. (⟦<dyn SimpleModule as SimpleModule>⟧ v).meaning) self.old).next + 2 ^ 74) }
+        ensures step { IfOk result (λ turn. flow_of turn (world_in (λ v. (⟦<dyn SimpleModule as SimpleModule>⟧ v).meaning) self.new)
+            ≡ one_stage C.behaviour model.now stage (standing (world_in (λ v. (⟦<dyn SimpleModule as SimpleModule>⟧ v).meaning) self.old).modules) (world_in (λ v. (⟦<dyn SimpleModule as SimpleModule>⟧ v).meaning) self.old)) }
+    {
+        for place in 0..self.boxes.len() {
+            match self.initialize(alloc, model, stage, place)? {
+                Turn::GoOn => {}
+                turn => return Ok(turn),
+            }
+        }
+        Ok(Turn::GoOn)
+    }
+
+    /// The greatest number of stages of a module.
+    fn most_stages(&self) -> u8
+        requires { HasKinds C.behaviour (λ v. (⟦<dyn SimpleModule as SimpleModule>⟧ v).meaning) self.now }
+        ensures { result ≡ most_stages C.behaviour (standing (world_in (λ v. (⟦<dyn SimpleModule as SimpleModule>⟧ v).meaning) self.now).modules) }
+    {
+        most_stages(self.boxes.as_slice())
+    }
 }
 
 /// The box that was handed back.
@@ -184,7 +272,7 @@ fn serve_at(
     place: usize,
     call: &Call,
 ) -> Result<Reply, NoMemory>
-    requires there { place < length boxes.old }
+    requires there { place < length (map (seat_of (λ v. (⟦<dyn SimpleModule as SimpleModule>⟧ v).meaning)) boxes.old) }
     ensures { (before : Seat) → slice_get (map (seat_of (λ v. (⟦<dyn SimpleModule as SimpleModule>⟧ v).meaning)) boxes.old) place ≡ Some before
         → ServedAt (map (seat_of (λ v. (⟦<dyn SimpleModule as SimpleModule>⟧ v).meaning)) boxes.old) (map (seat_of (λ v. (⟦<dyn SimpleModule as SimpleModule>⟧ v).meaning)) boxes.new) place before call.now result }
 {
@@ -211,4 +299,35 @@ fn serve(held: &mut Box<dyn SimpleModule>, alloc: Global, call: &Call) -> Result
         Prompt::Message(_) => held.handle_message(alloc, call),
         Prompt::Finish => held.finish(alloc, call),
     }
+}
+
+/// The id of the module whose box stands at that place, and how many stages it has.
+fn stages_at(slots: &[Slot], place: usize) -> (u32, u8)
+    requires { place < length (map (seat_of (λ v. (⟦<dyn SimpleModule as SimpleModule>⟧ v).meaning)) slots.now) }
+    ensures { IfSome (slice_get (map (seat_of (λ v. (⟦<dyn SimpleModule as SimpleModule>⟧ v).meaning)) slots.now) place)
+        (λ s. (result.0 ≡ s.id) × (result.1 ≡ s.box.naming.stages)) }
+{
+    let slot = &slots[place];
+    (slot.id, stages_of(&slot.held))
+}
+
+/// How many stages a module has.
+fn stages_of(held: &Box<dyn SimpleModule>) -> u8
+    ensures { result ≡ (meaning held.now).naming.stages }
+{
+    held.stages()
+}
+
+/// The greatest number of stages.
+fn most_stages(slots: &[Slot]) -> u8
+    ensures { result ≡ most_of (map (seat_of (λ v. (⟦<dyn SimpleModule as SimpleModule>⟧ v).meaning)) slots.now) }
+{
+    let mut most = 0;
+    for slot in slots {
+        let stages = stages_of(&slot.held);
+        if stages > most {
+            most = stages;
+        }
+    }
+    most
 }

@@ -1,8 +1,88 @@
--- The worlds of a run have room for more.
-use Rattle.std.proofs.Common.{◌≡◌, ℕ, List, [], ◌∷◌, refl}
+-- The worlds of a run have room for more: an action inserts one event at most.
+use Rattle.std.proofs.Common.{◌≡◌, ℕ, suc, ◌+◌, ◌≤◌, Bool, true, false, List, [], ◌∷◌, Option, Some, None, refl, sym, ◌∙◌, ap, arith, subst, slice_get, length, nat_lt, if◌then◌else◌}
+use Rattle.std.specs.List.{list_any}
+use Rattle.std.proofs.lemmas.Bool.Decides.{nat_tests}
+use Rattle.sim_time.specs.Time.{time_sum}
+use Rattle.module_api.specs.Behaviour.{Behaviour, Replied}
+use Rattle.module_api.specs.declared.call.Prompt.{Prompt}
+use Rattle.module_api.specs.declared.call.Prompt.TheVariants as prompt
+use Rattle.module_api.specs.declared.reply.Action.{Action}
+use Rattle.module_api.specs.declared.reply.Action.TheVariants.{Emit, ScheduleAfter, Fail}
 use Rattle.module_api.specs.declared.reply.Read.{Read}
+use Rattle.module_api.specs.declared.reply.Reply.{Reply}
+use Rattle.module_api.specs.declared.reply.Schedule.{Schedule}
+use Rattle.model_answers.specs.declared.model.Model.{Model}
+use Rattle.run_semantics.specs.declared.outcome.Fault.{Fault}
+use Rattle.run_semantics.specs.declared.outcome.Turn.{Turn}
+use Rattle.run_semantics.specs.declared.outcome.Turn.TheVariants.{GoOn, Stop, Break}
+use Rattle.run_semantics.specs.declared.traces.Instance.{Instance}
 use Rattle.run_semantics.specs.World.{World, asked}
-use Rattle.run_semantics.specs.Perform.{ask_all, question_of}
+use Rattle.run_semantics.specs.Perform.{Flow, flow_of, On, Stopped, Broken, ◌>>=◌, is_timer, scheduled_at, scheduled, perform, perform_all, ask_all, question_of, acted, read_fault, unless_fault, answered}
+use Rattle.run_semantics.specs.Event.{call_of, place_in, with_state, replied, called, call_at, call_module}
+use Rattle.run_semantics.specs.Ending.{is_last_action, perform_last, perform_last_all, acted_last, answered_last, replied_last, called_last, call_last_at}
+
+-- the world of a flow
+abbrev pub in_flow : Flow → World
+in_flow (On w) = w
+in_flow (Stopped w) = w
+in_flow (Broken w path f) = w
+
+pub in_flow-of : (turn : Turn) (w : World) → in_flow (flow_of turn w) ≡ w
+in_flow-of GoOn w = refl
+in_flow-of Stop w = refl
+in_flow-of (Break path f) w = refl
+
+-- from the first world to the second: so many insertions at most, and no event more
+pub record Keeps (n : ℕ) (old new : World) : Type 0 where
+  pub count : new.count ≡ old.count
+  pub next : new.next ≤ old.next + n
+
+pub keeps_same : (n : ℕ) (w : World) → Keeps n w w
+keeps_same n w = record { count = refl; next = omega arith }
+
+pub keeps_on : (n m : ℕ) (u v w : World) → Keeps n u v → Keeps m v w → Keeps (n + m) u w
+keeps_on n m u v w f g = record { count = g.count ∙ f.count; next = omega (arith, f.next, g.next) }
+
+pub keeps_more : (n m : ℕ) (u v : World) → n ≤ m → Keeps n u v → Keeps m u v
+keeps_more n m u v l f = record { count = f.count; next = omega (arith, f.next, l) }
+
+pub then_keeps : (n : ℕ) (fl : Flow) (k : World → Flow) → ((w : World) → Keeps n w (in_flow (k w))) → Keeps n (in_flow fl) (in_flow (fl >>= k))
+then_keeps n (On w) k h = h w
+then_keeps n (Stopped w) k h = keeps_same n w
+then_keeps n (Broken w path f) k h = keeps_same n w
+
+-- of two ways on, the second only where the test fails
+pub either_keeps : (n : ℕ) (c : Bool) (f g : Flow) (w : World) → Keeps n w (in_flow f) → (c ≡ false → Keeps n w (in_flow g)) → Keeps n w (in_flow (if c then f else g))
+either_keeps n true f g w h k = h
+either_keeps n false f g w h k = k refl
+
+-- ---- actions: one line for each
+
+scheduled_keeps : (id : ℕ) (s : Schedule) (w : World) (time : Option ℕ) → Keeps 1 w (in_flow (scheduled id s w time))
+scheduled_keeps id s w None = keeps_same 1 w
+scheduled_keeps id s w (Some time) =
+    either_keeps 1 (list_any (λ p. is_timer id s.timer p) w.pending) _ _ w (keeps_same 1 w) (λ e. record { count = refl; next = omega arith })
+
+pub perform_keeps : (id : ℕ) (action : Action) (w : World) → Keeps 1 w (in_flow (perform id action w))
+perform_keeps id (Emit signal value) w = record { count = refl; next = omega arith }
+perform_keeps id (ScheduleAfter s) w = scheduled_keeps id s w (time_sum w.clock s.delay)
+perform_keeps id (Fail text) w = keeps_same 1 w
+
+perform_all_keeps : (id : ℕ) (actions : List Action) (w : World) → Keeps (length actions) w (in_flow (perform_all id actions w))
+perform_all_keeps id [] w = keeps_same 0 w
+perform_all_keeps id (action ∷ actions) w =
+    keeps_more (1 + length actions) (suc (length actions)) w _ (omega arith)
+    (keeps_on 1 (length actions) w (in_flow (perform id action w)) _ (perform_keeps id action w) (then_keeps (length actions) (perform id action w) (perform_all id actions) (perform_all_keeps id actions)))
+
+few : (n m : ℕ) → nat_lt n m ≡ false → m ≤ n
+few n m e = grind (arith, nat_tests)
+
+acted_keeps : (id : ℕ) (actions : List Action) (w : World) → Keeps 1000 w (in_flow (acted id actions w))
+acted_keeps id actions w =
+    either_keeps 1000 (nat_lt 1000 (length actions)) _ _ w (keeps_same 1000 w)
+    (λ e. keeps_more (length actions) 1000 w _ (few 1000 (length actions) e) (perform_all_keeps id actions w))
+
+-- ---- replies and calls
 
 pub ask_all-next : (id : ℕ) (reads : List Read) (w : World) → (ask_all id reads w).next ≡ w.next
 ask_all-next id [] w = refl
@@ -10,3 +90,71 @@ ask_all-next id (r ∷ rs) w = ask_all-next id rs (asked (question_of id r) w)
 
 pub asked_next : (id : ℕ) (reads : List Read) (w v : World) → v ≡ ask_all id reads w → v.next ≡ w.next
 asked_next id reads w v e = rw e (ask_all-next id reads w)
+
+ask_all_keeps : (id : ℕ) (reads : List Read) (w : World) → Keeps 0 w (ask_all id reads w)
+ask_all_keeps id [] w = keeps_same 0 w
+ask_all_keeps id (r ∷ rs) w = let f = ask_all_keeps id rs (asked (question_of id r) w) in record { count = f.count; next = f.next }
+
+unless_keeps : (n id : ℕ) (found : Option Fault) (go : World → Flow) (w : World) → Keeps n w (in_flow (go w)) → Keeps n w (in_flow (unless_fault id found go w))
+unless_keeps n id (Some f) go w h = keeps_same n w
+unless_keeps n id None go w h = h
+
+pub answered_keeps : (m : Model) (id : ℕ) (reply : Reply) (w : World) → Keeps 1000 w (in_flow (answered m id reply w))
+answered_keeps m id reply w =
+    let v : World = ask_all id reply.reads w in
+    keeps_on 0 1000 w v _ (ask_all_keeps id reply.reads w) (unless_keeps 1000 id (read_fault m w.records id reply.reads) (acted id reply.actions) v (acted_keeps id reply.actions v))
+
+called_keeps : (b : Behaviour) (m : Model) (id : ℕ) (p : Prompt) (w : World) (place : ℕ) (i : Option Instance) → Keeps 1000 w (in_flow (called b m id p w place i))
+called_keeps b m id p w place None = keeps_same 1000 w
+called_keeps b m id p w place (Some i) =
+    let r : Replied = (b.naming i.kind).reply i.state (call_of m id p w) in
+    let f = answered_keeps m id r.reply (with_state place i r.state w) in
+    record { count = f.count; next = f.next }
+
+call_at_keeps : (b : Behaviour) (m : Model) (id : ℕ) (p : Prompt) (w : World) (place : Option ℕ) → Keeps 1000 w (in_flow (call_at b m id p w place))
+call_at_keeps b m id p w None = keeps_same 1000 w
+call_at_keeps b m id p w (Some place) = called_keeps b m id p w place (slice_get w.modules place)
+
+pub call_keeps : (b : Behaviour) (m : Model) (id : ℕ) (p : Prompt) (w : World) → Keeps 1000 w (in_flow (call_module b m id p w))
+call_keeps b m id p w = call_at_keeps b m id p w (place_in id w.modules)
+
+-- what a call leaves, by what the code says of it
+pub call_leaves : (b : Behaviour) (m : Model) (id : ℕ) (p : Prompt) (turn : Turn) (w v : World) → flow_of turn v ≡ call_module b m id p w → Keeps 1000 w v
+call_leaves b m id p turn w v e =
+    let same : in_flow (call_module b m id p w) ≡ v = ap in_flow (sym e) ∙ in_flow-of turn v in
+    subst (λ (u : World). Keeps 1000 w u) same (call_keeps b m id p w)
+
+-- ---- the end
+
+perform_last_keeps : (id : ℕ) (action : Action) (w : World) → Keeps 1 w (in_flow (perform_last id action w))
+perform_last_keeps id action w = either_keeps 1 (is_last_action action) _ _ w (perform_keeps id action w) (λ e. keeps_same 1 w)
+
+perform_last_all_keeps : (id : ℕ) (actions : List Action) (w : World) → Keeps (length actions) w (in_flow (perform_last_all id actions w))
+perform_last_all_keeps id [] w = keeps_same 0 w
+perform_last_all_keeps id (action ∷ actions) w =
+    keeps_more (1 + length actions) (suc (length actions)) w _ (omega arith)
+    (keeps_on 1 (length actions) w (in_flow (perform_last id action w)) _ (perform_last_keeps id action w) (then_keeps (length actions) (perform_last id action w) (perform_last_all id actions) (perform_last_all_keeps id actions)))
+
+acted_last_keeps : (id : ℕ) (actions : List Action) (w : World) → Keeps 1000 w (in_flow (acted_last id actions w))
+acted_last_keeps id actions w =
+    either_keeps 1000 (nat_lt 1000 (length actions)) _ _ w (keeps_same 1000 w)
+    (λ e. keeps_more (length actions) 1000 w _ (few 1000 (length actions) e) (perform_last_all_keeps id actions w))
+
+answered_last_keeps : (m : Model) (id : ℕ) (reply : Reply) (w : World) → Keeps 1000 w (in_flow (answered_last m id reply w))
+answered_last_keeps m id reply w = unless_keeps 1000 id (read_fault m w.records id reply.reads) (acted_last id reply.actions) w (acted_last_keeps id reply.actions w)
+
+called_last_keeps : (b : Behaviour) (m : Model) (id : ℕ) (w : World) (place : ℕ) (i : Option Instance) → Keeps 1000 w (in_flow (called_last b m id w place i))
+called_last_keeps b m id w place None = keeps_same 1000 w
+called_last_keeps b m id w place (Some i) =
+    let r : Replied = (b.naming i.kind).reply i.state (call_of m id prompt.Finish w) in
+    let f = answered_last_keeps m id r.reply (with_state place i r.state w) in
+    record { count = f.count; next = f.next }
+
+call_last_at_keeps : (b : Behaviour) (m : Model) (id : ℕ) (w : World) (place : Option ℕ) → Keeps 1000 w (in_flow (call_last_at b m id w place))
+call_last_at_keeps b m id w None = keeps_same 1000 w
+call_last_at_keeps b m id w (Some place) = called_last_keeps b m id w place (slice_get w.modules place)
+
+pub call_last_leaves : (b : Behaviour) (m : Model) (id : ℕ) (turn : Turn) (w v : World) → flow_of turn v ≡ call_last_at b m id w (place_in id w.modules) → Keeps 1000 w v
+call_last_leaves b m id turn w v e =
+    let same : in_flow (call_last_at b m id w (place_in id w.modules)) ≡ v = ap in_flow (sym e) ∙ in_flow-of turn v in
+    subst (λ (u : World). Keeps 1000 w u) same (call_last_at_keeps b m id w (place_in id w.modules))
