@@ -55,7 +55,7 @@ stops GoOn w k h = absurd (h refl)
 stops Stop w k h = refl
 stops (Break path f) w k h = refl
 
-part_at : (ps : List Part) (i : ℕ) → i < length ps → (p : Part) × (slice_get ps i ≡ Some p) × (drop i ps ≡ p ∷ drop (suc i) ps)
+pub part_at : (ps : List Part) (i : ℕ) → i < length ps → (p : Part) × (slice_get ps i ≡ Some p) × (drop i ps ≡ p ∷ drop (suc i) ps)
 part_at [] i h = absurd (omega arith)
 part_at (p ∷ ps) zero h = (p, refl, refl)
 part_at (p ∷ ps) (suc i) h = part_at ps i (omega arith)
@@ -95,3 +95,10 @@ stages_end b m ps stage most w h =
 pub length-standing : (ss : List Seat) → length (standing (map instance_of ss)) ≡ length ss
 length-standing [] = refl
 length-standing (s ∷ ss) = ap suc (length-standing ss)
+
+-- one stage more, in the loop
+pub stages_on : (b : Behaviour) (m : Model) (ps now : List Part) (stage most : ℕ) (w : World) (fl whole : Flow) → now ≡ ps → stage < most → fl ≡ one_stage b m stage now w → stages_from b m ps stage (most - stage) w ≡ whole → (fl >>= stages_from b m ps (stage + 1) (most - (stage + 1))) ≡ whole
+stages_on b m ps now stage most w fl whole same lt step done =
+    ap (λ (f : Flow). f >>= stages_from b m ps (stage + 1) (most - (stage + 1))) (step ∙ ap (λ (xs : List Part). one_stage b m stage xs w) same)
+    ∙ sym (stages_step b m ps stage most w lt)
+    ∙ done

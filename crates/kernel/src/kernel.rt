@@ -5,9 +5,9 @@ ghost use Rattle.std.specs.List.{position_from};
 ghost use Rattle.module_api.specs.Meaning.{IsOfKind, Answered, IsSameModule};
 ghost use Rattle.run_semantics.specs.World.{empty, HasRoom};
 ghost use Rattle.run_semantics.specs.Perform.{flow_of, On};
-ghost use Rattle.run_semantics.specs.Event.{call_module, place_in};
+ghost use Rattle.run_semantics.specs.Event.{call_module, place_in, message_of};
 ghost use Rattle.run_semantics.specs.Run.{Running, Part, stage_of, settled, prepared, ready, placed, standing, parts_from, most_stages, initialize, one_stage, stages_from, initialize_all, start, next_stage, stopped};
-ghost use Rattle.run_semantics.specs.Ending.{finish, finish_all, ending};
+ghost use Rattle.run_semantics.specs.Ending.{call_last_at, finish, finish_all, ending};
 ghost use Rattle.kernel.specs.Seats.{Seat, ServedAt, most_of, missing_of, missing_part};
 ghost use Rattle.kernel.specs.Kernels.{seat_of, seats_in, world_in, HasKinds};
 
@@ -17,10 +17,12 @@ use model_answers::model::Model;
 use model_answers::record::{Record, path_of};
 use module_api::call::{Call, Prompt};
 use module_api::catalogue::Catalogue;
+use module_api::message::{Message, Origin};
 use module_api::reply::Reply;
 use module_api::simple_module::SimpleModule;
 use module_tree::Tree;
 use run_semantics::outcome::{Fault, Outcome, Turn};
+use run_semantics::pending::{Happening, Pending};
 use run_semantics::traces::Emission;
 use sim_values::NoMemory;
 use sim_values::text::Text;
@@ -225,6 +227,162 @@ impl<C: Catalogue> Kernel<C> {
     {
         most_stages(self.boxes.as_slice())
     }
+
+    /// All stages below this number.
+    fn stages(&mut self, alloc: Global, model: &Model, most: u8) -> Result<Turn, NoMemory>
+        requires next { (world_in (λ v. (⟦<dyn SimpleModule as SimpleModule>⟧ v).meaning) self.old).next ≡ 0 }
+        requires kinds { HasKinds C.behaviour (λ v. (⟦<dyn SimpleModule as SimpleModule>⟧ v).meaning) self.old }
+        ensures kinds { HasKinds C.behaviour (λ v. (⟦<dyn SimpleModule as SimpleModule>⟧ v).meaning) self.new }
+        ensures standing { standing (world_in (λ v. (⟦<dyn SimpleModule as SimpleModule>⟧ v).meaning) self.new).modules ≡ standing (world_in (λ v. (⟦<dyn SimpleModule as SimpleModule>⟧ v).meaning) self.old).modules }
+        ensures next { OnOk result ((world_in (λ v. (⟦<dyn SimpleModule as SimpleModule>⟧ v).meaning) self.new).next ≤ 2 ^ 82) }
+        ensures step { IfOk result (λ turn. flow_of turn (world_in (λ v. (⟦<dyn SimpleModule as SimpleModule>⟧ v).meaning) self.new)
+            ≡ stages_from C.behaviour model.now (standing (world_in (λ v. (⟦<dyn SimpleModule as SimpleModule>⟧ v).meaning) self.old).modules) 0 most (world_in (λ v. (⟦<dyn SimpleModule as SimpleModule>⟧ v).meaning) self.old)) }
+    {
+        for stage in 0..most {
+            match self.one_stage(alloc, model, stage)? {
+                Turn::GoOn => {}
+                turn => return Ok(turn),
+            }
+        }
+        Ok(Turn::GoOn)
+    }
+
+    /// Initializes all modules, where each has its box: the end of event zero.
+    pub fn start(&mut self, alloc: Global, model: &Model) -> Result<Option<Outcome>, NoMemory>
+        requires ready { On (world_in (λ v. (⟦<dyn SimpleModule as SimpleModule>⟧ v).meaning) self.old) ≡ ready C.behaviour model.now }
+        requires next { (world_in (λ v. (⟦<dyn SimpleModule as SimpleModule>⟧ v).meaning) self.old).next ≡ 0 }
+        requires kinds { HasKinds C.behaviour (λ v. (⟦<dyn SimpleModule as SimpleModule>⟧ v).meaning) self.old }
+        ensures kinds { HasKinds C.behaviour (λ v. (⟦<dyn SimpleModule as SimpleModule>⟧ v).meaning) self.new }
+        ensures next { OnOk result ((world_in (λ v. (⟦<dyn SimpleModule as SimpleModule>⟧ v).meaning) self.new).next ≤ 2 ^ 82) }
+        ensures step { IfOk result (λ over. stage_of over (world_in (λ v. (⟦<dyn SimpleModule as SimpleModule>⟧ v).meaning) self.new) ≡ start C.behaviour model.now) }
+    {
+        let most = self.most_stages();
+        self.core.mark_started(alloc)?;
+        let turn = self.stages(alloc, model, most)?;
+        Ok(self.settle(turn))
+    }
+
+    // ---- events
+
+    /// The next event, or how the run ends.
+    pub fn step(&mut self, alloc: Global, model: &Model) -> Result<Option<Outcome>, NoMemory>
+        requires room { HasRoom (world_in (λ v. (⟦<dyn SimpleModule as SimpleModule>⟧ v).meaning) self.old) }
+        requires count { (world_in (λ v. (⟦<dyn SimpleModule as SimpleModule>⟧ v).meaning) self.old).count + 1 < 2 ^ 64 }
+        requires kinds { HasKinds C.behaviour (λ v. (⟦<dyn SimpleModule as SimpleModule>⟧ v).meaning) self.old }
+        ensures kinds { HasKinds C.behaviour (λ v. (⟦<dyn SimpleModule as SimpleModule>⟧ v).meaning) self.new }
+        ensures room { OnOk result (HasRoom (world_in (λ v. (⟦<dyn SimpleModule as SimpleModule>⟧ v).meaning) self.new)) }
+        ensures step { IfOk result (λ over. stage_of over (world_in (λ v. (⟦<dyn SimpleModule as SimpleModule>⟧ v).meaning) self.new)
+            ≡ next_stage C.behaviour model.now (Running (world_in (λ v. (⟦<dyn SimpleModule as SimpleModule>⟧ v).meaning) self.old))) }
+    {
+        if self.core.is_ended() {
+            return Ok(Some(Outcome::Ended));
+        }
+        let Some(event) = self.core.begin() else {
+            return Ok(Some(Outcome::NoMoreEvents));
+        };
+        let prompt = Prompt::Message(message_of(alloc, &event));
+        let turn = self.call_module(alloc, model, event.id, prompt)?;
+        Ok(self.settle(turn))
+    }
+
+    /// How the run ends that is stopped here.
+    pub fn outcome_of(&self, over: Option<Outcome>) -> Outcome
+        ensures { let world = world_in (λ v. (⟦<dyn SimpleModule as SimpleModule>⟧ v).meaning) self.now in
+            record { world = world; outcome = result } ≡ stopped (stage_of over world) }
+    {
+        match over {
+            Some(outcome) => outcome,
+            None if self.core.is_ended() => Outcome::Ended,
+            None => Outcome::EventLimit,
+        }
+    }
+
+    // ---- the end
+
+    /// Tells the module whose box stands at that place that the run is over.
+    fn call_last(
+        &mut self,
+        alloc: Global,
+        model: &Model,
+        id: u32,
+    ) -> Result<Turn, NoMemory>
+        requires room { (world_in (λ v. (⟦<dyn SimpleModule as SimpleModule>⟧ v).meaning) self.old).next + 1000 < 2 ^ 128 }
+        requires kinds { HasKinds C.behaviour (λ v. (⟦<dyn SimpleModule as SimpleModule>⟧ v).meaning) self.old }
+        ensures kinds { HasKinds C.behaviour (λ v. (⟦<dyn SimpleModule as SimpleModule>⟧ v).meaning) self.new }
+        ensures standing { standing (world_in (λ v. (⟦<dyn SimpleModule as SimpleModule>⟧ v).meaning) self.new).modules ≡ standing (world_in (λ v. (⟦<dyn SimpleModule as SimpleModule>⟧ v).meaning) self.old).modules }
+        ensures step { IfOk result (λ turn. flow_of turn (world_in (λ v. (⟦<dyn SimpleModule as SimpleModule>⟧ v).meaning) self.new)
+            ≡ call_last_at C.behaviour model.now id (world_in (λ v. (⟦<dyn SimpleModule as SimpleModule>⟧ v).meaning) self.old) (place_in id (world_in (λ v. (⟦<dyn SimpleModule as SimpleModule>⟧ v).meaning) self.old).modules)) }
+    {
+        let Some(place) = self.find(id) else {
+            return Ok(Turn::GoOn);
+        };
+        let call = self.core.call(alloc, model, id, Prompt::Finish)?;
+        let reply = serve_at(&mut self.boxes, alloc, place, &call)?;
+        let turn = self.core.follow_last(alloc, model, id, &reply)?;
+        Ok(turn)
+    }
+
+    /// Finishes the module whose box stands at that place.
+    fn finish_one(&mut self, alloc: Global, model: &Model, place: usize) -> Result<Turn, NoMemory>
+        requires there { place < length (seats_in (λ v. (⟦<dyn SimpleModule as SimpleModule>⟧ v).meaning) self.old) }
+        requires room { (world_in (λ v. (⟦<dyn SimpleModule as SimpleModule>⟧ v).meaning) self.old).next + 1000 < 2 ^ 128 }
+        requires kinds { HasKinds C.behaviour (λ v. (⟦<dyn SimpleModule as SimpleModule>⟧ v).meaning) self.old }
+        ensures kinds { HasKinds C.behaviour (λ v. (⟦<dyn SimpleModule as SimpleModule>⟧ v).meaning) self.new }
+        ensures standing { standing (world_in (λ v. (⟦<dyn SimpleModule as SimpleModule>⟧ v).meaning) self.new).modules ≡ standing (world_in (λ v. (⟦<dyn SimpleModule as SimpleModule>⟧ v).meaning) self.old).modules }
+        ensures next { OnOk result ((world_in (λ v. (⟦<dyn SimpleModule as SimpleModule>⟧ v).meaning) self.new).next ≤ (world_in (λ v. (⟦<dyn SimpleModule as SimpleModule>⟧ v).meaning) self.old).next + 1000) }
+        ensures step { IfOk result (λ turn. (p : Part) → slice_get (standing (world_in (λ v. (⟦<dyn SimpleModule as SimpleModule>⟧ v).meaning) self.old).modules) place ≡ Some p
+            → flow_of turn (world_in (λ v. (⟦<dyn SimpleModule as SimpleModule>⟧ v).meaning) self.new) ≡ finish C.behaviour model.now p (world_in (λ v. (⟦<dyn SimpleModule as SimpleModule>⟧ v).meaning) self.old)) }
+    {
+        let (id, _) = stages_at(self.boxes.as_slice(), place);
+        match self.call_last(alloc, model, id)? {
+            Turn::GoOn => {
+                self.core.mark_finished(id)?;
+                Ok(Turn::GoOn)
+            }
+            turn => Ok(turn),
+        }
+    }
+
+    /// Finishes all modules, the network last.
+    fn finish_all(&mut self, alloc: Global, model: &Model) -> Result<Turn, NoMemory>
+        requires room { (world_in (λ v. (⟦<dyn SimpleModule as SimpleModule>⟧ v).meaning) self.old).next + 2 ^ 75 < 2 ^ 128 }
+        requires kinds { HasKinds C.behaviour (λ v. (⟦<dyn SimpleModule as SimpleModule>⟧ v).meaning) self.old }
+        ensures kinds { HasKinds C.behaviour (λ v. (⟦<dyn SimpleModule as SimpleModule>⟧ v).meaning) self.new }
+        ensures step { IfOk result (λ turn. flow_of turn (world_in (λ v. (⟦<dyn SimpleModule as SimpleModule>⟧ v).meaning) self.new)
+            ≡ finish_all C.behaviour model.now (standing (world_in (λ v. (⟦<dyn SimpleModule as SimpleModule>⟧ v).meaning) self.old).modules) (world_in (λ v. (⟦<dyn SimpleModule as SimpleModule>⟧ v).meaning) self.old)) }
+    {
+        for place in 0..self.boxes.len() {
+            match self.finish_one(alloc, model, place)? {
+                Turn::GoOn => {}
+                turn => return Ok(turn),
+            }
+        }
+        self.core.mark_finished(1)?;
+        Ok(Turn::GoOn)
+    }
+
+    /// Finishes the modules of a run that ended so, and answers how it ends then.
+    pub fn finish(
+        &mut self,
+        alloc: Global,
+        model: &Model,
+        outcome: Outcome,
+    ) -> Result<Outcome, NoMemory>
+        requires room { HasRoom (world_in (λ v. (⟦<dyn SimpleModule as SimpleModule>⟧ v).meaning) self.old) }
+        requires count { (world_in (λ v. (⟦<dyn SimpleModule as SimpleModule>⟧ v).meaning) self.old).count < 2 ^ 64 }
+        requires kinds { HasKinds C.behaviour (λ v. (⟦<dyn SimpleModule as SimpleModule>⟧ v).meaning) self.old }
+        ensures kinds { HasKinds C.behaviour (λ v. (⟦<dyn SimpleModule as SimpleModule>⟧ v).meaning) self.new }
+        ensures step { IfOk result (λ last. record { world = world_in (λ v. (⟦<dyn SimpleModule as SimpleModule>⟧ v).meaning) self.new; outcome = last }
+            ≡ ending C.behaviour model.now (record { world = world_in (λ v. (⟦<dyn SimpleModule as SimpleModule>⟧ v).meaning) self.old; outcome = outcome })) }
+    {
+        if outcome.is_fault() {
+            return Ok(outcome);
+        }
+        match self.finish_all(alloc, model)? {
+            Turn::GoOn | Turn::Stop => Ok(outcome),
+            Turn::Break(path, fault) => Ok(Outcome::Fault(self.core.count(), path, fault)),
+        }
+    }
 }
 
 /// The box that was handed back.
@@ -330,4 +488,19 @@ fn most_stages(slots: &[Slot]) -> u8
         }
     }
     most
+}
+
+/// The message that arrives.
+fn message_of(alloc: Global, event: &Pending) -> Message
+    ensures { result ≡ message_of event.now }
+{
+    match &event.what {
+        Happening::Timer(timer, kind) => Message {
+            kind: *kind,
+            priority: event.priority,
+            bits: 0,
+            payload: Text::empty(alloc),
+            origin: Origin::Timer(*timer),
+        },
+    }
 }
