@@ -3,6 +3,7 @@
 
 pub mod call;
 pub mod catalogue;
+pub mod law;
 pub mod message;
 pub mod reply;
 pub mod simple_module;

@@ -1,0 +1,560 @@
+-- The grammar of NED over tokens, a definition for each rule (OMNeT++ Simulation Manual, "NED Language Grammar").
+-- `a ⊗ b` is a and then b; `a ▷ b` the same with the value of b, `a ◁ b` with that of a.
+use denote.Enum.Bare.{sameb}
+use Rattle.std.specs.Prelude.{ℕ, ◌^◌, pos, neg_ℤ, Bool, true, false, ◌||◌, not, List, [], ◌∷◌, Option, Some, None, nat_lt, if◌then◌else◌, codes, is_some, unwrap_or}
+use Rattle.std.specs.Str.{bytes_eq}
+use Rattle.sim_values.specs.declared.value.Value.{Value}
+use Rattle.sim_values.specs.declared.value.Value.TheVariants as values
+use Rattle.sim_values.specs.declared.value.Dimension.{Dimension}
+use Rattle.ned_tokens.specs.contracts.token.Keyword as keywords
+use Rattle.ned_tokens.specs.contracts.token.Mark as marks
+use Rattle.ned_tokens.specs.declared.token.Keyword.{Keyword}
+use Rattle.ned_tokens.specs.declared.token.Keyword.TheVariants as k
+use Rattle.ned_tokens.specs.declared.token.Mark.{Mark}
+use Rattle.ned_tokens.specs.declared.token.Mark.TheVariants as m
+use Rattle.ned_tokens.specs.declared.token.Token.{Token}
+use Rattle.ned_tokens.specs.declared.token.Token.TheVariants as token
+use Rattle.ned_tokens.specs.Words.{or_else}
+use Rattle.ned_tokens.specs.Units.{unit_of}
+use Rattle.ned_tokens.specs.Rule.{Rule, token as one_token, ◌⊗◌, ◌◁◌, ◌▷◌, made, such_that, either, optional, many}
+use Rattle.ned_tokens.specs.Balanced.{Turn, opens, closes, stays, bars, balanced}
+use Rattle.ned_syntax.specs.declared.ast.Expression.{Expression}
+use Rattle.ned_syntax.specs.declared.ast.Expression.TheVariants as expressions
+use Rattle.ned_syntax.specs.declared.ast.ParameterValue.{ParameterValue}
+use Rattle.ned_syntax.specs.declared.ast.ParameterValue.TheVariants as given
+use Rattle.ned_syntax.specs.declared.ast.ParameterWord.{ParameterWord}
+use Rattle.ned_syntax.specs.declared.ast.ParameterWord.TheVariants as words
+use Rattle.ned_syntax.specs.declared.ast.Declaration.{Declaration}
+use Rattle.ned_syntax.specs.declared.ast.Assignment.{Assignment}
+use Rattle.ned_syntax.specs.declared.ast.Mode.{Mode}
+use Rattle.ned_syntax.specs.declared.ast.Mode.TheVariants as modes_are
+use Rattle.ned_syntax.specs.declared.ast.RecordedMode.{RecordedMode}
+use Rattle.ned_syntax.specs.declared.ast.Statistic.{Statistic}
+use Rattle.ned_syntax.specs.declared.ast.SectionLine.{SectionLine}
+use Rattle.ned_syntax.specs.declared.ast.SectionLine.TheVariants as lines
+use Rattle.ned_syntax.specs.declared.ast.Submodule.{Submodule}
+use Rattle.ned_syntax.specs.declared.ast.TypeDeclaration.{TypeDeclaration}
+use Rattle.ned_syntax.specs.declared.ast.TypeKind.TheVariants as kinds
+use Rattle.ned_syntax.specs.declared.ast.NedFile.{NedFile}
+use Rattle.ned_syntax.specs.declared.properties.PropertyName.{PropertyName}
+use Rattle.ned_syntax.specs.declared.properties.PropertyName.TheVariants as names
+use Rattle.ned_syntax.specs.declared.properties.Effect.{Effect}
+use Rattle.ned_syntax.specs.declared.properties.Effect.TheVariants as effects
+use Rattle.ned_syntax.specs.declared.statistics.Part.{Part}
+use Rattle.ned_syntax.specs.declared.statistics.Part.TheVariants as part_is
+use Rattle.ned_syntax.specs.declared.statistics.Except.{Except}
+use Rattle.ned_syntax.specs.declared.statistics.Except.TheVariants as except_is
+use Rattle.ned_syntax.specs.declared.statistics.Said.{Said}
+use Rattle.ned_syntax.specs.declared.parameters.Valued.{Valued}
+use Rattle.ned_syntax.specs.declared.parameters.Tail.{Tail}
+
+abbrev pub Bytes : Type 0
+Bytes = List ℕ
+
+-- ---- tokens
+
+abbrev pub same_word : Keyword → Keyword → Bool
+same_word = sameb keywords.the_type
+
+abbrev pub same_mark : Mark → Mark → Bool
+same_mark = sameb marks.the_type
+
+abbrev pub is_word : Keyword → Token → Option (Unit {0})
+is_word k (token.Word w) = if same_word w k then Some tt else None
+is_word k _ = None
+
+abbrev pub is_mark : Mark → Token → Option (Unit {0})
+is_mark k (token.Mark w) = if same_mark w k then Some tt else None
+is_mark k _ = None
+
+abbrev pub name_of : Token → Option Bytes
+name_of (token.Name text) = Some text
+name_of _ = None
+
+-- a word of the language
+unfoldable pub word : Keyword → Rule (Unit {0})
+word k = one_token (is_word k)
+
+-- a mark
+unfoldable pub mark : Mark → Rule (Unit {0})
+mark k = one_token (is_mark k)
+
+-- a name
+unfoldable pub name : Rule Bytes
+name = one_token name_of
+
+-- ---- text in parentheses: of the tokens only parentheses count, and a broken token stands nowhere
+
+abbrev pub turn_of : Token → Turn
+turn_of (token.Mark m.LeftParen) = opens
+turn_of (token.Mark m.RightParen) = closes
+turn_of token.Broken = bars
+turn_of _ = stays
+
+-- "(" balanced ")"
+unfoldable pub in_parens : Rule (List Token)
+in_parens = mark m.LeftParen ▷ (balanced turn_of ◁ mark m.RightParen)
+
+-- ---- values
+
+-- a number is at most 2^63 - 1
+abbrev pub whole_of : ℕ → Option ℕ
+whole_of n = if nat_lt n (2 ^ 63) then Some n else None
+
+abbrev pub whole_value : Option ℕ → Option Value
+whole_value None = None
+whole_value (Some n) = Some (values.Whole (pos n))
+
+abbrev pub quantity_value : Dimension → Option ℕ → Option Value
+quantity_value d None = None
+quantity_value d (Some n) = Some (values.Quantity d (pos n))
+
+-- a literal without a sign: a number, a truth value, a text or quantities in a row
+abbrev pub literal_of : Token → Option Value
+literal_of (token.Number n) = whole_value (whole_of n)
+literal_of (token.Word k.True) = Some (values.Truth true)
+literal_of (token.Word k.False) = Some (values.Truth false)
+literal_of (token.Literal text) = Some (values.Text text)
+literal_of (token.Quantity d n) = quantity_value d (whole_of n)
+literal_of _ = None
+
+abbrev pub number_of : Token → Option ℕ
+number_of (token.Number n) = whole_of n
+number_of _ = None
+
+unfoldable pub plain_literal : Rule Value
+plain_literal = one_token literal_of
+
+unfoldable pub number : Rule ℕ
+number = one_token number_of
+
+abbrev pub negated : ℕ → Value
+negated n = values.Whole (neg_ℤ (pos n))
+
+-- "-" number
+unfoldable pub negative_literal : Rule Value
+negative_literal = made negated (mark m.Minus ▷ number)
+
+-- a literal: "-" number, or one without a sign
+unfoldable pub literal : Rule Value
+literal = either negative_literal plain_literal
+
+-- an expression: so far a literal
+unfoldable pub expression : Rule Expression
+expression = made expressions.Literal literal
+
+-- "default" "(" expression ")"
+unfoldable pub default_value : Rule ParameterValue
+default_value = made given.Default (word k.Default ▷ (mark m.LeftParen ▷ (expression ◁ mark m.RightParen)))
+
+-- value = expression | "default" "(" expression ")"
+unfoldable pub value_rule : Rule ParameterValue
+value_rule = either default_value (made given.Fixed expression)
+
+-- ---- properties
+
+abbrev pub is_statistic : Bytes → Bool
+is_statistic text = bytes_eq text (codes "statistic")
+
+abbrev pub property_named : Bytes → PropertyName
+property_named text =
+    if is_statistic text then names.Statistic
+    else (if bytes_eq text (codes "unit") then names.Unit
+    else (if bytes_eq text (codes "class") then names.Class
+    else names.Other))
+
+-- a property's name is a name or a word of the language
+abbrev pub property_name_of : Token → Option PropertyName
+property_name_of (token.Name text) = Some (property_named text)
+property_name_of (token.Word w) = Some names.Other
+property_name_of _ = None
+
+unfoldable pub property_name : Rule PropertyName
+property_name = one_token property_name_of
+
+-- "[" name "]"
+unfoldable pub bracketed : Rule Bytes
+bracketed = mark m.LeftBracket ▷ (name ◁ mark m.RightBracket)
+
+-- ["[" name "]"]
+unfoldable pub index : Rule (Option Bytes)
+index = optional bracketed
+
+-- ["(" balanced ")"]
+unfoldable pub body : Rule (Option (List Token))
+body = optional in_parens
+
+abbrev pub unit_effect : Option (Dimension × ℕ) → Effect
+unit_effect None = effects.Other
+unit_effect (Some u) = effects.Unit u.0
+
+-- `unit` with one word of the table of units, and `class` with one name, say something.
+abbrev pub said_by_word : PropertyName → Token → Effect
+said_by_word names.Unit (token.Name text) = unit_effect (unit_of text)
+said_by_word names.Class (token.Name text) = effects.Class text
+said_by_word _ _ = effects.Other
+
+abbrev pub said : PropertyName → List Token → Effect
+said property [] = effects.Other
+said property (t ∷ []) = said_by_word property t
+said property (t ∷ u ∷ ts) = effects.Other
+
+-- A property with an index, or without a body, says nothing.
+abbrev pub effect_of : PropertyName → Option Bytes → Option (List Token) → Effect
+effect_of property (Some text) tokens = effects.Other
+effect_of property None None = effects.Other
+effect_of property None (Some tokens) = said property tokens
+
+-- property = "@" name ["[" name "]"] ["(" balanced ")"]
+unfoldable pub property : Rule Effect
+property = mark m.At ▷ made (λ p. effect_of p.0 p.1.0 p.1.1) (property_name ⊗ (index ⊗ body))
+
+-- the first unit that properties say
+abbrev pub first_unit : List Effect → Option Dimension
+first_unit [] = None
+first_unit (effects.Unit d ∷ es) = Some d
+first_unit (_ ∷ es) = first_unit es
+
+-- ---- statistics
+
+abbrev pub mode_named : Bytes → Option Mode
+mode_named text =
+    if bytes_eq text (codes "count") then Some modes_are.Count
+    else (if bytes_eq text (codes "sum") then Some modes_are.Sum
+    else (if bytes_eq text (codes "min") then Some modes_are.Min
+    else (if bytes_eq text (codes "max") then Some modes_are.Max
+    else (if bytes_eq text (codes "last") then Some modes_are.Last
+    else (if bytes_eq text (codes "vector") then Some modes_are.Vector
+    else None)))))
+
+abbrev pub mode_of : Token → Option Mode
+mode_of (token.Name text) = mode_named text
+mode_of _ = None
+
+unfoldable pub mode_word : Rule Mode
+mode_word = one_token mode_of
+
+-- ["?"]
+unfoldable pub question : Rule Bool
+question = made is_some (optional (mark m.Question))
+
+-- mode = ("count" | "sum" | "min" | "max" | "last" | "vector") ["?"]
+unfoldable pub mode_rule : Rule RecordedMode
+mode_rule = made (λ p. record { mode = p.0; optional = p.1 }) (mode_word ⊗ question)
+
+unfoldable pub next_mode : Rule RecordedMode
+next_mode = mark m.Comma ▷ mode_rule
+
+-- modes = mode { "," mode }
+unfoldable pub modes : Rule (List RecordedMode)
+modes = made (λ p. p.0 ∷ p.1) (mode_rule ⊗ many next_mode)
+
+-- text in parentheses, of no effect
+unfoldable pub group : Rule (Unit {0})
+group = made (λ _. tt) in_parens
+
+abbrev pub is_source : Bytes → Bool
+is_source text = bytes_eq text (codes "source")
+
+abbrev pub is_record : Bytes → Bool
+is_record text = bytes_eq text (codes "record")
+
+-- a name with which a loose text may begin
+abbrev pub is_loose_name : Except → Bytes → Bool
+is_loose_name except_is.Keys text = not (is_source text || is_record text)
+is_loose_name _ text = true
+
+abbrev pub is_loose_equals : Except → Bool
+is_loose_equals except_is.Equals = false
+is_loose_equals _ = true
+
+-- a token with which a loose text may begin, outside parentheses
+abbrev pub is_loose : Except → Token → Bool
+is_loose e (token.Mark m.LeftParen) = false
+is_loose e (token.Mark m.RightParen) = false
+is_loose e (token.Mark m.Semi) = false
+is_loose e (token.Mark m.Equals) = is_loose_equals e
+is_loose e (token.Name text) = is_loose_name e text
+is_loose e token.Broken = false
+is_loose e _ = true
+
+abbrev pub loose_of : Except → Token → Option (Unit {0})
+loose_of e t = if is_loose e t then Some tt else None
+
+unfoldable pub loose_token : Except → Rule (Unit {0})
+loose_token e = one_token (loose_of e)
+
+-- a token of a part, or text in parentheses
+unfoldable pub piece : Except → Rule (Unit {0})
+piece e = either group (loose_token e)
+
+unfoldable pub pieces : Rule (Unit {0})
+pieces = made (λ _. tt) (many (piece except_is.Nothing))
+
+-- text without `;` outside parentheses, which begins with nothing that is excepted
+unfoldable pub loose_text : Except → Rule (Unit {0})
+loose_text e = piece e ▷ pieces
+
+-- a text behind a key that has no value
+unfoldable pub no_value : Rule Part
+no_value = made (λ _. part_is.Other) (loose_text except_is.Equals)
+
+-- "=" name
+unfoldable pub source_value : Rule Part
+source_value = made part_is.Source (mark m.Equals ▷ name)
+
+-- "=" modes
+unfoldable pub record_value : Rule Part
+record_value = made part_is.Record (mark m.Equals ▷ modes)
+
+unfoldable pub source_tail : Rule Part
+source_tail = either source_value no_value
+
+unfoldable pub record_tail : Rule Part
+record_tail = either record_value no_value
+
+abbrev pub source_of : Token → Option (Unit {0})
+source_of (token.Name text) = if is_source text then Some tt else None
+source_of _ = None
+
+abbrev pub record_of : Token → Option (Unit {0})
+record_of (token.Name text) = if is_record text then Some tt else None
+record_of _ = None
+
+unfoldable pub source_word : Rule (Unit {0})
+source_word = one_token source_of
+
+unfoldable pub record_word : Rule (Unit {0})
+record_word = one_token record_of
+
+abbrev pub part_or_other : Option Part → Part
+part_or_other None = part_is.Other
+part_or_other (Some p) = p
+
+-- "source" ["=" name | text without "=" at its front]
+unfoldable pub source_part : Rule Part
+source_part = made part_or_other (source_word ▷ optional source_tail)
+
+-- "record" ["=" modes | text without "=" at its front]
+unfoldable pub record_part : Rule Part
+record_part = made part_or_other (record_word ▷ optional record_tail)
+
+-- text that begins with no key
+unfoldable pub other_part : Rule Part
+other_part = made (λ _. part_is.Other) (loose_text except_is.Keys)
+
+unfoldable pub record_or_other : Rule Part
+record_or_other = either record_part other_part
+
+unfoldable pub any_part : Rule Part
+any_part = either source_part record_or_other
+
+-- A part of a statistic's body may be empty.
+unfoldable pub part : Rule (Option Part)
+part = optional any_part
+
+unfoldable pub next_part : Rule (Option Part)
+next_part = mark m.Semi ▷ part
+
+abbrev pub nothing_said : Said
+nothing_said = record { source = None; modes = None }
+
+-- what a part says in place of what the parts behind it say
+abbrev pub over : Option Part → Said → Said
+over (Some (part_is.Source text)) later = record { source = Some text; modes = later.modes }
+over (Some (part_is.Record list)) later = record { source = later.source; modes = Some list }
+over (Some part_is.Other) later = later
+over None later = later
+
+abbrev pub over_all : List (Option Part) → Said → Said
+over_all [] later = later
+over_all (p ∷ ps) later = over p (over_all ps later)
+
+-- what parts say: of two with one key the first counts
+abbrev pub said_in : List (Option Part) → Said
+said_in ps = over_all ps nothing_said
+
+-- "(" part { ";" part } ")"
+unfoldable pub statistic_body : Rule Said
+statistic_body = mark m.LeftParen ▷ (made (λ p. said_in (p.0 ∷ p.1)) (part ⊗ many next_part) ◁ mark m.RightParen)
+
+unfoldable pub optional_body : Rule (Option Said)
+optional_body = optional statistic_body
+
+-- A statistic hears the signal of its own name, and records nothing, where its body does not say otherwise.
+abbrev pub statistic_line : Bytes → Option Said → SectionLine
+statistic_line text None = lines.Statistic (record { name = text; source = text; modes = [] })
+statistic_line text (Some s) = lines.Statistic (record { name = text; source = unwrap_or s.source text; modes = unwrap_or s.modes [] })
+
+-- "[" name "]" ["(" parts ")"]
+unfoldable pub indexed_statistic : Rule SectionLine
+indexed_statistic = made (λ p. statistic_line p.0 p.1) (bracketed ⊗ optional_body)
+
+-- Without a name in brackets a statistic is a property without effect.
+unfoldable pub unnamed_statistic : Rule SectionLine
+unnamed_statistic = made (λ _. lines.Ignored) in_parens
+
+unfoldable pub named_or_not : Rule SectionLine
+named_or_not = either indexed_statistic unnamed_statistic
+
+abbrev pub line_or_ignored : Option SectionLine → SectionLine
+line_or_ignored None = lines.Ignored
+line_or_ignored (Some line) = line
+
+unfoldable pub statistic_tail : Rule SectionLine
+statistic_tail = made line_or_ignored (optional named_or_not)
+
+abbrev pub statistic_of : Token → Option (Unit {0})
+statistic_of (token.Name text) = if is_statistic text then Some tt else None
+statistic_of _ = None
+
+unfoldable pub statistic_word : Rule (Unit {0})
+statistic_word = one_token statistic_of
+
+-- a statistic behind its `@`
+unfoldable pub statistic : Rule SectionLine
+statistic = statistic_word ▷ statistic_tail
+
+-- ---- the lines of a parameter section
+
+-- a property's name but `statistic`
+abbrev pub plain_property : PropertyName → Option PropertyName
+plain_property names.Statistic = None
+plain_property property = Some property
+
+abbrev pub plain_of : Option PropertyName → Option PropertyName
+plain_of None = None
+plain_of (Some property) = plain_property property
+
+abbrev pub plain_name_of : Token → Option PropertyName
+plain_name_of t = plain_of (property_name_of t)
+
+unfoldable pub plain_name : Rule PropertyName
+plain_name = one_token plain_name_of
+
+-- A class is a line's meaning; all else has none.
+abbrev pub line_of : Effect → SectionLine
+line_of (effects.Class text) = lines.Class text
+line_of _ = lines.Ignored
+
+-- a property but a statistic, behind its `@`, as a line
+unfoldable pub plain_line : Rule SectionLine
+plain_line = made (λ p. line_of (effect_of p.0 p.1.0 p.1.1)) (plain_name ⊗ (index ⊗ body))
+
+unfoldable pub property_text : Rule SectionLine
+property_text = either statistic plain_line
+
+-- a property as a line of its own
+unfoldable pub property_line : Rule SectionLine
+property_line = mark m.At ▷ property_text
+
+-- "=" value {property}
+unfoldable pub valued : Rule Valued
+valued = made (λ p. record { value = p.0; behind = p.1 }) ((mark m.Equals ▷ value_rule) ⊗ many property)
+
+-- tail = {property} ["=" value] {property}, where those behind the value count as such only if there is one
+unfoldable pub tail : Rule Tail
+tail = made (λ p. record { before = p.0; valued = p.1 }) (many property ⊗ optional valued)
+
+abbrev pub value_in : Option Valued → Option ParameterValue
+value_in None = None
+value_in (Some v) = Some v.value
+
+abbrev pub unit_behind : Option Valued → Option Dimension
+unit_behind None = None
+unit_behind (Some v) = first_unit v.behind
+
+-- Bool and string parameters have no unit.
+abbrev pub has_unit : ParameterWord → Bool
+has_unit words.Int = true
+has_unit words.Double = true
+has_unit words.Bool = false
+has_unit words.Text = false
+
+-- the first unit behind a parameter's name
+abbrev pub unit_in : ParameterWord → Tail → Option Dimension
+unit_in w t = if has_unit w then or_else (first_unit t.before) (unit_behind t.valued) else None
+
+abbrev pub declared : ParameterWord → Bytes → Tail → Declaration
+declared w text t = record { name = text; word = w; unit = unit_in w t; value = value_in t.valued }
+
+abbrev pub parameter_word_of : Token → Option ParameterWord
+parameter_word_of (token.Word k.Bool) = Some words.Bool
+parameter_word_of (token.Word k.Int) = Some words.Int
+parameter_word_of (token.Word k.Text) = Some words.Text
+parameter_word_of (token.Word k.Double) = Some words.Double
+parameter_word_of _ = None
+
+-- "bool" | "int" | "string" | "double"
+unfoldable pub parameter_word : Rule ParameterWord
+parameter_word = one_token parameter_word_of
+
+-- ["volatile"], which changes nothing
+unfoldable pub volatile : Rule (Unit {0})
+volatile = made (λ _. tt) (optional (word k.Volatile))
+
+unfoldable pub any_declaration : Rule Declaration
+any_declaration = made (λ p. declared p.0 p.1.0 p.1.1) (volatile ▷ (parameter_word ⊗ (name ⊗ tail)))
+
+-- A `double` has a unit.
+abbrev pub is_measured_word : ParameterWord → Option Dimension → Bool
+is_measured_word words.Double unit = is_some unit
+is_measured_word _ unit = true
+
+abbrev pub is_measured : Declaration → Bool
+is_measured d = is_measured_word d.word d.unit
+
+-- ["volatile"] word name tail
+unfoldable pub declaration : Rule Declaration
+declaration = such_that is_measured any_declaration
+
+-- name tail
+unfoldable pub assignment : Rule Assignment
+assignment = made (λ p. record { name = p.0; value = value_in p.1.valued }) (name ⊗ tail)
+
+unfoldable pub assigned_or_said : Rule SectionLine
+assigned_or_said = either (made lines.Assignment assignment) property_line
+
+unfoldable pub any_line : Rule SectionLine
+any_line = either (made lines.Declaration declaration) assigned_or_said
+
+-- param ";" | property ";"
+unfoldable pub section_line : Rule SectionLine
+section_line = any_line ◁ mark m.Semi
+
+-- ["parameters" ":"]
+unfoldable pub heading : Rule (Unit {0})
+heading = made (λ _. tt) (optional (word k.Parameters ▷ mark m.Colon))
+
+-- params = ["parameters" ":"] { param ";" | property ";" }
+unfoldable pub section : Rule (List SectionLine)
+section = heading ▷ many section_line
+
+-- ---- types
+
+-- "simple" name "{" [params] "}"
+unfoldable pub simple : Rule TypeDeclaration
+simple = made (λ p. record { kind = kinds.Simple; name = p.0; lines = p.1; submodules = [] }) (word k.Simple ▷ (name ⊗ (mark m.Open ▷ (section ◁ mark m.Close))))
+
+-- name ":" name ";"
+unfoldable pub submodule : Rule Submodule
+submodule = made (λ p. record { name = p.0; type_name = p.1 }) (name ⊗ (mark m.Colon ▷ (name ◁ mark m.Semi)))
+
+abbrev pub listed : {X : Type 0} → Option (List X) → List X
+listed None = []
+listed (Some xs) = xs
+
+-- ["submodules" ":" { submodule }]
+unfoldable pub submodules : Rule (List Submodule)
+submodules = made listed (optional (word k.Submodules ▷ (mark m.Colon ▷ many submodule)))
+
+-- "network" name "{" [submodules] "}"
+unfoldable pub network : Rule TypeDeclaration
+network = made (λ p. record { kind = kinds.Network; name = p.0; lines = []; submodules = p.1 }) (word k.Network ▷ (name ⊗ (mark m.Open ▷ (submodules ◁ mark m.Close))))
+
+unfoldable pub type_rule : Rule TypeDeclaration
+type_rule = either simple network
+
+-- file = { type }
+unfoldable pub file : Rule NedFile
+file = made (λ ts. record { types = ts }) (many type_rule)

@@ -1,0 +1,132 @@
+//! Single tokens, and text in balanced parentheses.
+
+ghost use Rattle.std.specs.Prelude.{◌≡◌, ◌<◌, ◌^◌};
+ghost use Rattle.ned_tokens.specs.Rule.{Gives, begins};
+ghost use Rattle.ned_tokens.specs.Balanced.{balanced, depth_behind, is_closes};
+ghost use Rattle.ned_syntax.specs.Grammar as grammar;
+
+use ned_tokens::refusal::Refusal;
+use ned_tokens::token::{Keyword, Mark, Token};
+use sim_values::text::Text;
+use std::alloc::Global;
+
+fn same_word(a: Keyword, b: Keyword) -> bool
+    ensures { result ≡ grammar.same_word a b }
+{
+    a == b
+}
+
+fn same_mark(a: Mark, b: Mark) -> bool
+    ensures { result ≡ grammar.same_mark a b }
+{
+    a == b
+}
+
+#[tactic(auto, unfolding(crate::specs::Grammar::word))]
+pub(crate) fn word(wanted: Keyword, tokens: &[Token]) -> Result<&[Token], Refusal>
+    ensures { Gives (λ rest. (tt, rest.now)) result ((grammar.word wanted).read tokens.now) }
+{
+    match tokens {
+        [Token::Word(found), rest @ ..] if same_word(*found, wanted) => Ok(rest),
+        _ => Err(Refusal::At(tokens.len())),
+    }
+}
+
+#[tactic(auto, unfolding(crate::specs::Grammar::word))]
+pub(crate) fn begins_word(wanted: Keyword, tokens: &[Token]) -> bool
+    ensures { result ≡ begins (grammar.word wanted).starts tokens.now }
+{
+    match tokens {
+        [Token::Word(found), ..] => same_word(*found, wanted),
+        _ => false,
+    }
+}
+
+#[tactic(auto, unfolding(crate::specs::Grammar::mark))]
+pub(crate) fn mark(wanted: Mark, tokens: &[Token]) -> Result<&[Token], Refusal>
+    ensures { Gives (λ rest. (tt, rest.now)) result ((grammar.mark wanted).read tokens.now) }
+{
+    match tokens {
+        [Token::Mark(found), rest @ ..] if same_mark(*found, wanted) => Ok(rest),
+        _ => Err(Refusal::At(tokens.len())),
+    }
+}
+
+#[tactic(auto, unfolding(crate::specs::Grammar::mark))]
+pub(crate) fn begins_mark(wanted: Mark, tokens: &[Token]) -> bool
+    ensures { result ≡ begins (grammar.mark wanted).starts tokens.now }
+{
+    match tokens {
+        [Token::Mark(found), ..] => same_mark(*found, wanted),
+        _ => false,
+    }
+}
+
+#[tactic(auto, unfolding(crate::specs::Grammar::name))]
+pub(crate) fn name(alloc: Global, tokens: &[Token]) -> Result<(Text, &[Token]), Refusal>
+    ensures { Gives (λ x. (x.0, x.1.now)) result (grammar.name.read tokens.now) }
+{
+    match tokens {
+        [Token::Name(found), rest @ ..] => Ok((found.copy(alloc)?, rest)),
+        _ => Err(Refusal::At(tokens.len())),
+    }
+}
+
+#[tactic(auto, unfolding(crate::specs::Grammar::name))]
+pub(crate) fn begins_name(tokens: &[Token]) -> bool
+    ensures { result ≡ begins grammar.name.starts tokens.now }
+{
+    matches!(tokens, [Token::Name(_), ..])
+}
+
+/// How many parentheses are open behind a token, where this many are before it; none where the text ends at it.
+fn depth_behind(token: &Token, depth: usize) -> Option<usize>
+    requires { depth < 2 ^ 63 }
+    ensures { result ≡ depth_behind (grammar.turn_of token.now) depth }
+{
+    match token {
+        Token::Mark(Mark::LeftParen) => Some(depth + 1),
+        Token::Mark(Mark::RightParen) => depth.checked_sub(1),
+        Token::Broken => None,
+        _ => Some(depth),
+    }
+}
+
+fn closes(token: &Token) -> bool
+    ensures { result ≡ is_closes (grammar.turn_of token.now) }
+{
+    matches!(token, Token::Mark(Mark::RightParen))
+}
+
+/// Text in which each parenthesis is closed, up to one that isn't opened in it.
+pub(crate) fn balanced_text(tokens: &[Token]) -> Result<(&[Token], &[Token]), Refusal>
+    ensures { Gives (λ x. (x.0.now, x.1.now)) result ((balanced grammar.turn_of).read tokens.now) }
+{
+    let mut depth: usize = 0;
+    let mut end = 0;
+    'tokens: while end < tokens.len() {
+        let token = &tokens[end];
+        let Some(next) = depth_behind(token, depth) else {
+            if closes(token) {
+                return Ok(tokens.split_at(end));
+            }
+            return Err(Refusal::At(tokens.len() - end));
+        };
+        depth = next;
+        end += 1;
+    }
+    if depth > 0 {
+        return Err(Refusal::At(0));
+    }
+    Ok((tokens, &[]))
+}
+
+#[tactic(auto, unfolding(crate::specs::Grammar::in_parens))]
+pub(crate) fn in_parens(tokens: &[Token]) -> Result<(&[Token], &[Token]), Refusal>
+    ensures { Gives (λ x. (x.0.now, x.1.now)) result (grammar.in_parens.read tokens.now) }
+{
+    let rest = mark(Mark::LeftParen, tokens)?;
+    let (text, rest) = balanced_text(rest)?;
+    let rest = mark(Mark::RightParen, rest)?;
+    Ok((text, rest))
+}

@@ -1,0 +1,299 @@
+//! The lines of a parameter section.
+
+ghost use Rattle.std.specs.Prelude.{◌≡◌};
+ghost use Rattle.ned_tokens.specs.Rule.{Gives, begins, many, optional};
+ghost use Rattle.ned_syntax.specs.Grammar as grammar;
+
+use crate::ast::{Assignment, Declaration, ParameterValue, ParameterWord, SectionLine};
+use crate::leaves::{begins_mark, begins_name, begins_word, mark, name, word};
+use crate::literals::value;
+use crate::properties::{Effect, first_unit, plain_line, properties};
+use crate::statistics::{begins_statistic, statistic};
+use ned_tokens::refusal::Refusal;
+use ned_tokens::token::{Keyword, Mark, Token};
+use sim_values::text::Text;
+use sim_values::value::Dimension;
+use sqlite_items::Items;
+use std::alloc::Global;
+
+/// A value, and the properties behind it.
+#[derive(Debug, Drop)]
+pub(crate) struct Valued {
+    value: ParameterValue,
+    behind: Items<Effect>,
+}
+
+/// What is behind a parameter's name.
+#[derive(Debug, Drop)]
+pub(crate) struct Tail {
+    before: Items<Effect>,
+    valued: Option<Valued>,
+}
+
+#[tactic(auto, unfolding(crate::specs::Grammar::valued))]
+fn read_valued(alloc: Global, tokens: &[Token]) -> Result<(Valued, &[Token]), Refusal>
+    ensures { Gives (λ x. (x.0, x.1.now)) result (grammar.valued.read tokens.now) }
+{
+    let rest = mark(Mark::Equals, tokens)?;
+    let (value, rest) = value(alloc, rest)?;
+    let (behind, rest) = properties(alloc, rest)?;
+    Ok((Valued { value, behind }, rest))
+}
+
+#[tactic(auto, unfolding(crate::specs::Grammar::valued, crate::specs::Grammar::mark))]
+fn optional_value(alloc: Global, tokens: &[Token]) -> Result<(Option<Valued>, &[Token]), Refusal>
+    ensures { Gives (λ x. (x.0, x.1.now)) result ((optional grammar.valued).read tokens.now) }
+{
+    if !begins_mark(Mark::Equals, tokens) {
+        return Ok((None, tokens));
+    }
+    let (valued, rest) = read_valued(alloc, tokens)?;
+    Ok((Some(valued), rest))
+}
+
+#[tactic(auto, unfolding(crate::specs::Grammar::tail))]
+fn read_tail(alloc: Global, tokens: &[Token]) -> Result<(Tail, &[Token]), Refusal>
+    ensures { Gives (λ x. (x.0, x.1.now)) result (grammar.tail.read tokens.now) }
+{
+    let (before, rest) = properties(alloc, tokens)?;
+    let (valued, rest) = optional_value(alloc, rest)?;
+    Ok((Tail { before, valued }, rest))
+}
+
+fn value_in(valued: Option<Valued>) -> Option<ParameterValue>
+    ensures { result ≡ grammar.value_in valued }
+{
+    match valued {
+        Some(valued) => Some(valued.value),
+        None => None,
+    }
+}
+
+fn unit_behind(valued: &Option<Valued>) -> Option<Dimension>
+    ensures { result ≡ grammar.unit_behind valued.now }
+{
+    match valued {
+        Some(valued) => first_unit(valued.behind.as_slice()),
+        None => None,
+    }
+}
+
+/// Bool and string parameters have no unit.
+fn has_unit(word: ParameterWord) -> bool
+    ensures { result ≡ grammar.has_unit word }
+{
+    match word {
+        ParameterWord::Int | ParameterWord::Double => true,
+        ParameterWord::Bool | ParameterWord::Text => false,
+    }
+}
+
+/// The unit of a parameter: the first that stands behind its name.
+fn unit_in(word: ParameterWord, tail: &Tail) -> Option<Dimension>
+    ensures { result ≡ grammar.unit_in word tail.now }
+{
+    if !has_unit(word) {
+        return None;
+    }
+    match first_unit(tail.before.as_slice()) {
+        Some(unit) => Some(unit),
+        None => unit_behind(&tail.valued),
+    }
+}
+
+fn declared(word: ParameterWord, name: Text, tail: Tail) -> Declaration
+    ensures { result ≡ grammar.declared word name tail }
+{
+    let unit = unit_in(word, &tail);
+    Declaration {
+        name,
+        word,
+        unit,
+        value: value_in(tail.valued),
+    }
+}
+
+#[tactic(auto, unfolding(crate::specs::Grammar::parameter_word))]
+fn parameter_word(tokens: &[Token]) -> Result<(ParameterWord, &[Token]), Refusal>
+    ensures { Gives (λ x. (x.0, x.1.now)) result (grammar.parameter_word.read tokens.now) }
+{
+    match tokens {
+        [Token::Word(Keyword::Bool), rest @ ..] => Ok((ParameterWord::Bool, rest)),
+        [Token::Word(Keyword::Int), rest @ ..] => Ok((ParameterWord::Int, rest)),
+        [Token::Word(Keyword::Text), rest @ ..] => Ok((ParameterWord::Text, rest)),
+        [Token::Word(Keyword::Double), rest @ ..] => Ok((ParameterWord::Double, rest)),
+        _ => Err(Refusal::At(tokens.len())),
+    }
+}
+
+#[tactic(auto, unfolding(crate::specs::Grammar::volatile, crate::specs::Grammar::word))]
+fn volatile(tokens: &[Token]) -> Result<&[Token], Refusal>
+    ensures { Gives (λ rest. (tt, rest.now)) result (grammar.volatile.read tokens.now) }
+{
+    if !begins_word(Keyword::Volatile, tokens) {
+        return Ok(tokens);
+    }
+    word(Keyword::Volatile, tokens)
+}
+
+#[tactic(auto, unfolding(crate::specs::Grammar::any_declaration))]
+fn any_declaration(alloc: Global, tokens: &[Token]) -> Result<(Declaration, &[Token]), Refusal>
+    ensures { Gives (λ x. (x.0, x.1.now)) result (grammar.any_declaration.read tokens.now) }
+{
+    let rest = volatile(tokens)?;
+    let (word, rest) = parameter_word(rest)?;
+    let (name, rest) = name(alloc, rest)?;
+    let (tail, rest) = read_tail(alloc, rest)?;
+    Ok((declared(word, name, tail), rest))
+}
+
+/// A `double` has to have a unit.
+fn is_measured(declaration: &Declaration) -> bool
+    ensures { result ≡ grammar.is_measured declaration.now }
+{
+    match declaration.word {
+        ParameterWord::Double => declaration.unit.is_some(),
+        _ => true,
+    }
+}
+
+#[tactic(auto, unfolding(crate::specs::Grammar::declaration))]
+fn declaration(alloc: Global, tokens: &[Token]) -> Result<(Declaration, &[Token]), Refusal>
+    ensures { Gives (λ x. (x.0, x.1.now)) result (grammar.declaration.read tokens.now) }
+{
+    let (declaration, rest) = any_declaration(alloc, tokens)?;
+    if !is_measured(&declaration) {
+        return Err(Refusal::At(rest.len()));
+    }
+    Ok((declaration, rest))
+}
+
+#[tactic(auto, unfolding(crate::specs::Grammar::assignment))]
+fn assignment(alloc: Global, tokens: &[Token]) -> Result<(Assignment, &[Token]), Refusal>
+    ensures { Gives (λ x. (x.0, x.1.now)) result (grammar.assignment.read tokens.now) }
+{
+    let (name, rest) = name(alloc, tokens)?;
+    let (tail, rest) = read_tail(alloc, rest)?;
+    Ok((
+        Assignment {
+            name,
+            value: value_in(tail.valued),
+        },
+        rest,
+    ))
+}
+
+/// A property as a line of its own, behind its `@`.
+#[tactic(auto, unfolding(crate::specs::Grammar::property_text))]
+fn property_text(alloc: Global, tokens: &[Token]) -> Result<(SectionLine, &[Token]), Refusal>
+    ensures { Gives (λ x. (x.0, x.1.now)) result (grammar.property_text.read tokens.now) }
+{
+    if begins_statistic(tokens) {
+        statistic(alloc, tokens)
+    } else {
+        plain_line(alloc, tokens)
+    }
+}
+
+#[tactic(auto, unfolding(crate::specs::Grammar::property_line))]
+fn property_line(alloc: Global, tokens: &[Token]) -> Result<(SectionLine, &[Token]), Refusal>
+    ensures { Gives (λ x. (x.0, x.1.now)) result (grammar.property_line.read tokens.now) }
+{
+    let rest = mark(Mark::At, tokens)?;
+    property_text(alloc, rest)
+}
+
+#[tactic(auto, unfolding(crate::specs::Grammar::assigned_or_said, crate::specs::Grammar::assignment, crate::specs::Grammar::name))]
+fn assigned_or_said(alloc: Global, tokens: &[Token]) -> Result<(SectionLine, &[Token]), Refusal>
+    ensures { Gives (λ x. (x.0, x.1.now)) result (grammar.assigned_or_said.read tokens.now) }
+{
+    if begins_name(tokens) {
+        let (assignment, rest) = assignment(alloc, tokens)?;
+        Ok((SectionLine::Assignment(assignment), rest))
+    } else {
+        property_line(alloc, tokens)
+    }
+}
+
+#[tactic(auto, unfolding(crate::specs::Grammar::declaration, crate::specs::Grammar::any_declaration, crate::specs::Grammar::volatile, crate::specs::Grammar::parameter_word, crate::specs::Grammar::word))]
+fn begins_declaration(tokens: &[Token]) -> bool
+    ensures { result ≡ begins grammar.declaration.starts tokens.now }
+{
+    matches!(
+        tokens,
+        [
+            Token::Word(
+                Keyword::Volatile
+                    | Keyword::Bool
+                    | Keyword::Int
+                    | Keyword::Text
+                    | Keyword::Double
+            ),
+            ..
+        ]
+    )
+}
+
+#[tactic(auto, unfolding(crate::specs::Grammar::any_line))]
+fn any_line(alloc: Global, tokens: &[Token]) -> Result<(SectionLine, &[Token]), Refusal>
+    ensures { Gives (λ x. (x.0, x.1.now)) result (grammar.any_line.read tokens.now) }
+{
+    if begins_declaration(tokens) {
+        let (declaration, rest) = declaration(alloc, tokens)?;
+        Ok((SectionLine::Declaration(declaration), rest))
+    } else {
+        assigned_or_said(alloc, tokens)
+    }
+}
+
+#[tactic(auto, unfolding(crate::specs::Grammar::section_line))]
+fn section_line(alloc: Global, tokens: &[Token]) -> Result<(SectionLine, &[Token]), Refusal>
+    ensures { Gives (λ x. (x.0, x.1.now)) result (grammar.section_line.read tokens.now) }
+{
+    let (line, rest) = any_line(alloc, tokens)?;
+    let rest = mark(Mark::Semi, rest)?;
+    Ok((line, rest))
+}
+
+#[tactic(auto, unfolding(crate::specs::Grammar::section_line, crate::specs::Grammar::any_line, crate::specs::Grammar::assigned_or_said, crate::specs::Grammar::assignment, crate::specs::Grammar::property_line, crate::specs::Grammar::name, crate::specs::Grammar::mark))]
+fn begins_line(tokens: &[Token]) -> bool
+    ensures { result ≡ begins grammar.section_line.starts tokens.now }
+{
+    begins_declaration(tokens) || (begins_name(tokens) || begins_mark(Mark::At, tokens))
+}
+
+fn section_lines(alloc: Global, tokens: &[Token]) -> Result<(Items<SectionLine>, &[Token]), Refusal>
+    ensures { Gives (λ x. (x.0, x.1.now)) result ((many grammar.section_line).read tokens.now) }
+{
+    let mut lines = Items::new(alloc);
+    let mut rest = tokens;
+    'items: while begins_line(rest) {
+        let (next, after) = section_line(alloc, rest)?;
+        lines.push(next)?;
+        rest = after;
+    }
+    Ok((lines, rest))
+}
+
+#[tactic(auto, unfolding(crate::specs::Grammar::heading, crate::specs::Grammar::word))]
+fn heading(tokens: &[Token]) -> Result<&[Token], Refusal>
+    ensures { Gives (λ rest. (tt, rest.now)) result (grammar.heading.read tokens.now) }
+{
+    if !begins_word(Keyword::Parameters, tokens) {
+        return Ok(tokens);
+    }
+    let rest = word(Keyword::Parameters, tokens)?;
+    mark(Mark::Colon, rest)
+}
+
+/// A parameter section.
+#[tactic(auto, unfolding(crate::specs::Grammar::section))]
+pub(crate) fn section(
+    alloc: Global,
+    tokens: &[Token],
+) -> Result<(Items<SectionLine>, &[Token]), Refusal>
+    ensures { Gives (λ x. (x.0, x.1.now)) result (grammar.section.read tokens.now) }
+{
+    let rest = heading(tokens)?;
+    section_lines(alloc, rest)
+}

@@ -1,0 +1,68 @@
+//! Reading NED texts.
+
+ghost use Rattle.std.specs.Prelude.{◌≡◌, ◌<◌, length, IfOk, IfErr, Err};
+ghost use Rattle.ned_tokens.specs.Meaning.{max_length};
+ghost use Rattle.ned_syntax.specs.NedText.{IsNedFile, IsExpressionText, Answers, ExplainsFile, ExplainsExpression};
+ghost use Rattle.ned_syntax.specs.declared.ast.NedFile.{NedFile};
+ghost use Rattle.ned_syntax.specs.declared.ast.Expression.{Expression};
+
+use crate::ast::{Expression, NedFile};
+use crate::error::NedError;
+use crate::literals::whole_expression;
+use crate::types::whole_file;
+use ned_tokens::lines::{blamed_line, tokenize};
+use ned_tokens::refusal::Refusal;
+use std::alloc::Global;
+
+/// The longest text that is read: 1 MiB.
+pub const MAX_LENGTH: usize = 1 << 20;
+
+/// The declarations of a NED text (OMNeT++ Simulation Manual, "The NED Language").
+pub fn parse_ned(alloc: Global, bytes: &[u8]) -> Result<NedFile, NedError>
+    // What is read is what the text declares.
+    ensures accepted { IfOk result (λ file. IsNedFile bytes.now file) }
+    // What the text declares is read, unless memory runs out.
+    ensures complete { (file : NedFile) → IsNedFile bytes.now file → Answers file result }
+    // Each refusal has its reason.
+    ensures explained { IfErr result (λ e. ExplainsFile bytes.now e) }
+    ensures large { max_length < length bytes.now → result ≡ Err NedError.TooLarge }
+{
+    if bytes.len() > MAX_LENGTH {
+        return Err(NedError::TooLarge);
+    }
+    let list = tokenize(alloc, bytes)?;
+    match whole_file(alloc, list.tokens.as_slice()) {
+        Ok(file) => Ok(file),
+        Err(Refusal::Memory) => Err(NedError::NoMemory),
+        Err(Refusal::At(left)) => Err(NedError::NedSyntax(blamed_line(
+            bytes,
+            list.lines.as_slice(),
+            left,
+        ))),
+    }
+}
+
+/// The expression that a text is.
+pub fn parse_expression(alloc: Global, bytes: &[u8]) -> Result<Expression, NedError>
+    // What is read is what the text says.
+    ensures accepted { IfOk result (λ expression. IsExpressionText bytes.now expression) }
+    // What the text says is read, unless memory runs out.
+    ensures complete { (expression : Expression) → IsExpressionText bytes.now expression → Answers expression result }
+    // Each refusal has its reason.
+    ensures explained { IfErr result (λ e. ExplainsExpression bytes.now e) }
+    ensures large { max_length < length bytes.now → result ≡ Err NedError.TooLarge }
+{
+    if bytes.len() > MAX_LENGTH {
+        return Err(NedError::TooLarge);
+    }
+    let list = tokenize(alloc, bytes)?;
+    match whole_expression(alloc, list.tokens.as_slice()) {
+        Ok(expression) => Ok(expression),
+        Err(Refusal::Memory) => Err(NedError::NoMemory),
+        Err(Refusal::At(left)) => Err(NedError::NedSyntax(blamed_line(
+            bytes,
+            list.lines.as_slice(),
+            left,
+        ))),
+    }
+}

@@ -1,0 +1,219 @@
+//! Properties: `@name`, perhaps an index in brackets, perhaps a text in parentheses.
+
+ghost use Rattle.std.specs.Prelude.{◌≡◌, IfOk, option_map};
+ghost use Rattle.ned_tokens.specs.Rule.{Gives, begins, many};
+ghost use Rattle.ned_syntax.specs.Grammar as grammar;
+
+use crate::ast::SectionLine;
+use crate::leaves::{begins_mark, in_parens, mark, name};
+use ned_tokens::refusal::Refusal;
+use ned_tokens::token::{Mark, Token};
+use ned_tokens::unit_of;
+use sim_values::text::Text;
+use sim_values::value::Dimension;
+use sqlite_items::Items;
+use std::alloc::{AllocError, Global};
+
+/// The name of a property, as far as it has an effect.
+#[derive(Clone, Copy, Debug)]
+pub(crate) enum PropertyName {
+    Unit,
+    Class,
+    Statistic,
+    Other,
+}
+
+/// What a property says.
+#[derive(Debug, Drop)]
+pub(crate) enum Effect {
+    /// `@unit(u)`, with u of the table.
+    Unit(Dimension),
+    /// `@class(Name)`.
+    Class(Text),
+    /// Anything else.
+    Other,
+}
+
+fn name_of(text: &[u8]) -> PropertyName
+    ensures { result ≡ grammar.property_named text.now }
+{
+    if text == b"statistic".as_slice() {
+        PropertyName::Statistic
+    } else if text == b"unit".as_slice() {
+        PropertyName::Unit
+    } else if text == b"class".as_slice() {
+        PropertyName::Class
+    } else {
+        PropertyName::Other
+    }
+}
+
+/// A name or a word of the language.
+#[tactic(auto, unfolding(crate::specs::Grammar::property_name))]
+fn property_name(tokens: &[Token]) -> Result<(PropertyName, &[Token]), Refusal>
+    ensures { Gives (λ x. (x.0, x.1.now)) result (grammar.property_name.read tokens.now) }
+{
+    match tokens {
+        [Token::Name(text), rest @ ..] => Ok((name_of(text.as_bytes()), rest)),
+        [Token::Word(_), rest @ ..] => Ok((PropertyName::Other, rest)),
+        _ => Err(Refusal::At(tokens.len())),
+    }
+}
+
+#[tactic(auto, unfolding(crate::specs::Grammar::bracketed))]
+pub(crate) fn bracketed(alloc: Global, tokens: &[Token]) -> Result<(Text, &[Token]), Refusal>
+    ensures { Gives (λ x. (x.0, x.1.now)) result (grammar.bracketed.read tokens.now) }
+{
+    let rest = mark(Mark::LeftBracket, tokens)?;
+    let (index, rest) = name(alloc, rest)?;
+    let rest = mark(Mark::RightBracket, rest)?;
+    Ok((index, rest))
+}
+
+#[tactic(auto, unfolding(crate::specs::Grammar::index, crate::specs::Grammar::bracketed, crate::specs::Grammar::mark))]
+fn index(alloc: Global, tokens: &[Token]) -> Result<(Option<Text>, &[Token]), Refusal>
+    ensures { Gives (λ x. (x.0, x.1.now)) result (grammar.index.read tokens.now) }
+{
+    if !begins_mark(Mark::LeftBracket, tokens) {
+        return Ok((None, tokens));
+    }
+    let (index, rest) = bracketed(alloc, tokens)?;
+    Ok((Some(index), rest))
+}
+
+#[tactic(auto, unfolding(crate::specs::Grammar::body, crate::specs::Grammar::in_parens, crate::specs::Grammar::mark))]
+fn body(tokens: &[Token]) -> Result<(Option<&[Token]>, &[Token]), Refusal>
+    ensures { Gives (λ x. (option_map (λ b. b.now) x.0, x.1.now)) result (grammar.body.read tokens.now) }
+{
+    if !begins_mark(Mark::LeftParen, tokens) {
+        return Ok((None, tokens));
+    }
+    let (text, rest) = in_parens(tokens)?;
+    Ok((Some(text), rest))
+}
+
+/// What a property of this name without an index says in its body.
+fn said(alloc: Global, name: PropertyName, body: &[Token]) -> Result<Effect, AllocError>
+    ensures { IfOk result (λ effect. effect ≡ grammar.said name body.now) }
+{
+    match (name, body) {
+        (PropertyName::Unit, [Token::Name(unit)]) => match unit_of(unit.as_bytes()) {
+            Some((dimension, _)) => Ok(Effect::Unit(dimension)),
+            None => Ok(Effect::Other),
+        },
+        (PropertyName::Class, [Token::Name(class)]) => Ok(Effect::Class(class.copy(alloc)?)),
+        _ => Ok(Effect::Other),
+    }
+}
+
+/// What a property says.
+fn effect_of(
+    alloc: Global,
+    name: PropertyName,
+    index: Option<Text>,
+    body: Option<&[Token]>,
+) -> Result<Effect, AllocError>
+    ensures { IfOk result (λ effect. effect ≡ grammar.effect_of name index (option_map (λ b. b.now) body.entry)) }
+{
+    match (index, body) {
+        (None, Some(body)) => said(alloc, name, body),
+        _ => Ok(Effect::Other),
+    }
+}
+
+#[tactic(auto, unfolding(crate::specs::Grammar::property, crate::specs::Grammar::mark))]
+pub(crate) fn property(alloc: Global, tokens: &[Token]) -> Result<(Effect, &[Token]), Refusal>
+    ensures { Gives (λ x. (x.0, x.1.now)) result (grammar.property.read tokens.now) }
+{
+    let rest = mark(Mark::At, tokens)?;
+    let (name, rest) = property_name(rest)?;
+    let (index, rest) = index(alloc, rest)?;
+    let (body, rest) = body(rest)?;
+    Ok((effect_of(alloc, name, index, body)?, rest))
+}
+
+#[tactic(auto, unfolding(crate::specs::Grammar::property, crate::specs::Grammar::mark))]
+pub(crate) fn begins_property(tokens: &[Token]) -> bool
+    ensures { result ≡ begins grammar.property.starts tokens.now }
+{
+    begins_mark(Mark::At, tokens)
+}
+
+pub(crate) fn properties(
+    alloc: Global,
+    tokens: &[Token],
+) -> Result<(Items<Effect>, &[Token]), Refusal>
+    ensures { Gives (λ x. (x.0, x.1.now)) result ((many grammar.property).read tokens.now) }
+{
+    let mut properties = Items::new(alloc);
+    let mut rest = tokens;
+    'items: while begins_property(rest) {
+        let (next, after) = property(alloc, rest)?;
+        properties.push(next)?;
+        rest = after;
+    }
+    Ok((properties, rest))
+}
+
+/// The dimension of the first unit.
+pub(crate) fn first_unit(effects: &[Effect]) -> Option<Dimension>
+    ensures { result ≡ grammar.first_unit effects.now }
+{
+    let mut rest = effects;
+    'effects: while let [effect, after @ ..] = rest {
+        if let Effect::Unit(dimension) = effect {
+            return Some(*dimension);
+        }
+        rest = after;
+    }
+    None
+}
+
+fn plain_name_of(token: &Token) -> Option<PropertyName>
+    ensures { result ≡ grammar.plain_name_of token.now }
+{
+    match token {
+        Token::Name(text) => match name_of(text.as_bytes()) {
+            PropertyName::Statistic => None,
+            name => Some(name),
+        },
+        Token::Word(_) => Some(PropertyName::Other),
+        _ => None,
+    }
+}
+
+/// The name of a property that is no statistic.
+#[tactic(auto, unfolding(crate::specs::Grammar::plain_name))]
+fn plain_name(tokens: &[Token]) -> Result<(PropertyName, &[Token]), Refusal>
+    ensures { Gives (λ x. (x.0, x.1.now)) result (grammar.plain_name.read tokens.now) }
+{
+    if let [first, rest @ ..] = tokens {
+        if let Some(name) = plain_name_of(first) {
+            return Ok((name, rest));
+        }
+    }
+    Err(Refusal::At(tokens.len()))
+}
+
+fn line_of(effect: Effect) -> SectionLine
+    ensures { result ≡ grammar.line_of effect }
+{
+    match effect {
+        Effect::Class(class) => SectionLine::Class(class),
+        _ => SectionLine::Ignored,
+    }
+}
+
+/// A property that is no statistic, behind its `@`, as a line.
+#[tactic(auto, unfolding(crate::specs::Grammar::plain_line))]
+pub(crate) fn plain_line(
+    alloc: Global,
+    tokens: &[Token],
+) -> Result<(SectionLine, &[Token]), Refusal>
+    ensures { Gives (λ x. (x.0, x.1.now)) result (grammar.plain_line.read tokens.now) }
+{
+    let (name, rest) = plain_name(tokens)?;
+    let (index, rest) = index(alloc, rest)?;
+    let (body, rest) = body(rest)?;
+    Ok((line_of(effect_of(alloc, name, index, body)?), rest))
+}

@@ -1,0 +1,612 @@
+//! Statistics: `@statistic[name](key=value;..)` (OMNeT++ Simulation Manual, "Declaring Statistics").
+
+ghost use Rattle.std.specs.Prelude.{◌≡◌, ◌∷◌, IfOk};
+ghost use Rattle.ned_tokens.specs.Rule.{Gives, begins, many};
+ghost use Rattle.ned_syntax.specs.Grammar as grammar;
+
+use crate::ast::{Mode, RecordedMode, SectionLine, Statistic};
+use crate::leaves::{begins_mark, in_parens, mark, name};
+use crate::properties::bracketed;
+use ned_tokens::refusal::Refusal;
+use ned_tokens::token::{Mark, Token};
+use sim_values::text::Text;
+use sqlite_items::Items;
+use std::alloc::{AllocError, Global};
+
+/// A part of a statistic's body.
+#[derive(Debug, Drop)]
+pub(crate) enum Part {
+    /// `source=name`.
+    Source(Text),
+    /// `record=mode,..`.
+    Record(Items<RecordedMode>),
+    /// A part without effect.
+    Other,
+}
+
+// ---- modes
+
+fn mode_named(text: &[u8]) -> Option<Mode>
+    ensures { result ≡ grammar.mode_named text.now }
+{
+    if text == b"count".as_slice() {
+        Some(Mode::Count)
+    } else if text == b"sum".as_slice() {
+        Some(Mode::Sum)
+    } else if text == b"min".as_slice() {
+        Some(Mode::Min)
+    } else if text == b"max".as_slice() {
+        Some(Mode::Max)
+    } else if text == b"last".as_slice() {
+        Some(Mode::Last)
+    } else if text == b"vector".as_slice() {
+        Some(Mode::Vector)
+    } else {
+        None
+    }
+}
+
+#[tactic(auto, unfolding(crate::specs::Grammar::mode_word))]
+fn mode_word(tokens: &[Token]) -> Result<(Mode, &[Token]), Refusal>
+    ensures { Gives (λ x. (x.0, x.1.now)) result (grammar.mode_word.read tokens.now) }
+{
+    if let [Token::Name(text), rest @ ..] = tokens {
+        if let Some(mode) = mode_named(text.as_bytes()) {
+            return Ok((mode, rest));
+        }
+    }
+    Err(Refusal::At(tokens.len()))
+}
+
+#[tactic(auto, unfolding(crate::specs::Grammar::question, crate::specs::Grammar::mark))]
+fn question(tokens: &[Token]) -> Result<(bool, &[Token]), Refusal>
+    ensures { Gives (λ x. (x.0, x.1.now)) result (grammar.question.read tokens.now) }
+{
+    if !begins_mark(Mark::Question, tokens) {
+        return Ok((false, tokens));
+    }
+    let rest = mark(Mark::Question, tokens)?;
+    Ok((true, rest))
+}
+
+#[tactic(auto, unfolding(crate::specs::Grammar::mode_rule))]
+fn mode(tokens: &[Token]) -> Result<(RecordedMode, &[Token]), Refusal>
+    ensures { Gives (λ x. (x.0, x.1.now)) result (grammar.mode_rule.read tokens.now) }
+{
+    let (mode, rest) = mode_word(tokens)?;
+    let (optional, rest) = question(rest)?;
+    Ok((RecordedMode { mode, optional }, rest))
+}
+
+#[tactic(auto, unfolding(crate::specs::Grammar::next_mode))]
+fn next_mode(tokens: &[Token]) -> Result<(RecordedMode, &[Token]), Refusal>
+    ensures { Gives (λ x. (x.0, x.1.now)) result (grammar.next_mode.read tokens.now) }
+{
+    let rest = mark(Mark::Comma, tokens)?;
+    mode(rest)
+}
+
+#[tactic(auto, unfolding(crate::specs::Grammar::next_mode, crate::specs::Grammar::mark))]
+fn begins_next_mode(tokens: &[Token]) -> bool
+    ensures { result ≡ begins grammar.next_mode.starts tokens.now }
+{
+    begins_mark(Mark::Comma, tokens)
+}
+
+fn next_modes(alloc: Global, tokens: &[Token]) -> Result<(Items<RecordedMode>, &[Token]), Refusal>
+    ensures { Gives (λ x. (x.0, x.1.now)) result ((many grammar.next_mode).read tokens.now) }
+{
+    let mut modes = Items::new(alloc);
+    let mut rest = tokens;
+    'items: while begins_next_mode(rest) {
+        let (next, after) = next_mode(rest)?;
+        modes.push(next)?;
+        rest = after;
+    }
+    Ok((modes, rest))
+}
+
+fn with_first(
+    alloc: Global,
+    first: RecordedMode,
+    others: Items<RecordedMode>,
+) -> Result<Items<RecordedMode>, AllocError>
+    ensures { IfOk result (λ modes. modes ≡ first ∷ others) }
+{
+    let mut modes = Items::new(alloc);
+    modes.push(first)?;
+    modes.append(others)?;
+    Ok(modes)
+}
+
+#[tactic(auto, unfolding(crate::specs::Grammar::modes))]
+fn modes(alloc: Global, tokens: &[Token]) -> Result<(Items<RecordedMode>, &[Token]), Refusal>
+    ensures { Gives (λ x. (x.0, x.1.now)) result (grammar.modes.read tokens.now) }
+{
+    let (first, rest) = mode(tokens)?;
+    let (others, rest) = next_modes(alloc, rest)?;
+    Ok((with_first(alloc, first, others)?, rest))
+}
+
+// ---- loose text
+
+#[tactic(auto, unfolding(crate::specs::Grammar::group, crate::specs::Grammar::in_parens))]
+fn group(tokens: &[Token]) -> Result<&[Token], Refusal>
+    ensures { Gives (λ rest. (tt, rest.now)) result (grammar.group.read tokens.now) }
+{
+    let (_, rest) = in_parens(tokens)?;
+    Ok(rest)
+}
+
+/// Which tokens a loose text may not begin with.
+#[derive(Clone, Copy, Debug)]
+enum Except {
+    Nothing,
+    /// A `=`.
+    Equals,
+    /// The keys with an effect.
+    Keys,
+}
+
+fn is_source(text: &[u8]) -> bool
+    ensures { result ≡ grammar.is_source text.now }
+{
+    text == b"source".as_slice()
+}
+
+fn is_record(text: &[u8]) -> bool
+    ensures { result ≡ grammar.is_record text.now }
+{
+    text == b"record".as_slice()
+}
+
+/// Whether a token may begin a loose text outside parentheses.
+fn is_loose(except: Except, token: &Token) -> bool
+    ensures { result ≡ grammar.is_loose except token.now }
+{
+    match token {
+        Token::Mark(Mark::LeftParen | Mark::RightParen | Mark::Semi) | Token::Broken => false,
+        Token::Mark(Mark::Equals) => !matches!(except, Except::Equals),
+        Token::Name(text) => match except {
+            Except::Keys => !is_source(text.as_bytes()) && !is_record(text.as_bytes()),
+            _ => true,
+        },
+        _ => true,
+    }
+}
+
+#[tactic(auto, unfolding(crate::specs::Grammar::loose_token))]
+fn loose_token(except: Except, tokens: &[Token]) -> Result<&[Token], Refusal>
+    ensures { Gives (λ rest. (tt, rest.now)) result ((grammar.loose_token except).read tokens.now) }
+{
+    match tokens {
+        [first, rest @ ..] if is_loose(except, first) => Ok(rest),
+        _ => Err(Refusal::At(tokens.len())),
+    }
+}
+
+#[tactic(auto, unfolding(crate::specs::Grammar::loose_token))]
+fn begins_loose_token(except: Except, tokens: &[Token]) -> bool
+    ensures { result ≡ begins (grammar.loose_token except).starts tokens.now }
+{
+    match tokens {
+        [first, ..] => is_loose(except, first),
+        _ => false,
+    }
+}
+
+#[tactic(auto, unfolding(crate::specs::Grammar::group, crate::specs::Grammar::in_parens, crate::specs::Grammar::mark))]
+fn begins_group(tokens: &[Token]) -> bool
+    ensures { result ≡ begins grammar.group.starts tokens.now }
+{
+    begins_mark(Mark::LeftParen, tokens)
+}
+
+#[tactic(auto, unfolding(crate::specs::Grammar::piece))]
+fn piece(except: Except, tokens: &[Token]) -> Result<&[Token], Refusal>
+    ensures { Gives (λ rest. (tt, rest.now)) result ((grammar.piece except).read tokens.now) }
+{
+    if begins_group(tokens) {
+        group(tokens)
+    } else {
+        loose_token(except, tokens)
+    }
+}
+
+#[tactic(auto, unfolding(crate::specs::Grammar::piece, crate::specs::Grammar::group, crate::specs::Grammar::in_parens, crate::specs::Grammar::mark, crate::specs::Grammar::loose_token))]
+fn begins_piece(except: Except, tokens: &[Token]) -> bool
+    ensures { result ≡ begins (grammar.piece except).starts tokens.now }
+{
+    begins_group(tokens) || begins_loose_token(except, tokens)
+}
+
+#[tactic(auto, unfolding(crate::specs::Grammar::pieces))]
+fn pieces(tokens: &[Token]) -> Result<&[Token], Refusal>
+    ensures { Gives (λ rest. (tt, rest.now)) result (grammar.pieces.read tokens.now) }
+{
+    let mut rest = tokens;
+    'items: while begins_piece(Except::Nothing, rest) {
+        let after = piece(Except::Nothing, rest)?;
+        rest = after;
+    }
+    Ok(rest)
+}
+
+#[tactic(auto, unfolding(crate::specs::Grammar::loose_text))]
+fn loose_text(except: Except, tokens: &[Token]) -> Result<&[Token], Refusal>
+    ensures { Gives (λ rest. (tt, rest.now)) result ((grammar.loose_text except).read tokens.now) }
+{
+    let rest = piece(except, tokens)?;
+    pieces(rest)
+}
+
+#[tactic(auto, unfolding(crate::specs::Grammar::loose_text, crate::specs::Grammar::piece, crate::specs::Grammar::group, crate::specs::Grammar::in_parens, crate::specs::Grammar::mark, crate::specs::Grammar::loose_token))]
+fn begins_loose_text(except: Except, tokens: &[Token]) -> bool
+    ensures { result ≡ begins (grammar.loose_text except).starts tokens.now }
+{
+    begins_piece(except, tokens)
+}
+
+// ---- parts
+
+#[tactic(auto, unfolding(crate::specs::Grammar::no_value))]
+fn no_value(tokens: &[Token]) -> Result<(Part, &[Token]), Refusal>
+    ensures { Gives (λ x. (x.0, x.1.now)) result (grammar.no_value.read tokens.now) }
+{
+    let rest = loose_text(Except::Equals, tokens)?;
+    Ok((Part::Other, rest))
+}
+
+#[tactic(auto, unfolding(crate::specs::Grammar::source_value))]
+fn source_value(alloc: Global, tokens: &[Token]) -> Result<(Part, &[Token]), Refusal>
+    ensures { Gives (λ x. (x.0, x.1.now)) result (grammar.source_value.read tokens.now) }
+{
+    let rest = mark(Mark::Equals, tokens)?;
+    let (source, rest) = name(alloc, rest)?;
+    Ok((Part::Source(source), rest))
+}
+
+#[tactic(auto, unfolding(crate::specs::Grammar::record_value))]
+fn record_value(alloc: Global, tokens: &[Token]) -> Result<(Part, &[Token]), Refusal>
+    ensures { Gives (λ x. (x.0, x.1.now)) result (grammar.record_value.read tokens.now) }
+{
+    let rest = mark(Mark::Equals, tokens)?;
+    let (modes, rest) = modes(alloc, rest)?;
+    Ok((Part::Record(modes), rest))
+}
+
+#[tactic(auto, unfolding(crate::specs::Grammar::source_tail, crate::specs::Grammar::source_value, crate::specs::Grammar::mark))]
+fn source_tail(alloc: Global, tokens: &[Token]) -> Result<(Part, &[Token]), Refusal>
+    ensures { Gives (λ x. (x.0, x.1.now)) result (grammar.source_tail.read tokens.now) }
+{
+    if begins_mark(Mark::Equals, tokens) {
+        source_value(alloc, tokens)
+    } else {
+        no_value(tokens)
+    }
+}
+
+#[tactic(auto, unfolding(crate::specs::Grammar::record_tail, crate::specs::Grammar::record_value, crate::specs::Grammar::mark))]
+fn record_tail(alloc: Global, tokens: &[Token]) -> Result<(Part, &[Token]), Refusal>
+    ensures { Gives (λ x. (x.0, x.1.now)) result (grammar.record_tail.read tokens.now) }
+{
+    if begins_mark(Mark::Equals, tokens) {
+        record_value(alloc, tokens)
+    } else {
+        no_value(tokens)
+    }
+}
+
+/// Whether something that may be behind a key comes next.
+#[tactic(auto, unfolding(crate::specs::Grammar::source_tail, crate::specs::Grammar::source_value, crate::specs::Grammar::record_tail, crate::specs::Grammar::record_value, crate::specs::Grammar::no_value, crate::specs::Grammar::loose_text, crate::specs::Grammar::piece, crate::specs::Grammar::group, crate::specs::Grammar::in_parens, crate::specs::Grammar::mark, crate::specs::Grammar::loose_token))]
+fn begins_tail(tokens: &[Token]) -> bool
+    ensures source { result ≡ begins grammar.source_tail.starts tokens.now }
+    ensures record { result ≡ begins grammar.record_tail.starts tokens.now }
+{
+    begins_mark(Mark::Equals, tokens) || begins_loose_text(Except::Equals, tokens)
+}
+
+#[tactic(auto, unfolding(crate::specs::Grammar::source_word))]
+fn source_word(tokens: &[Token]) -> Result<&[Token], Refusal>
+    ensures { Gives (λ rest. (tt, rest.now)) result (grammar.source_word.read tokens.now) }
+{
+    match tokens {
+        [Token::Name(text), rest @ ..] if is_source(text.as_bytes()) => Ok(rest),
+        _ => Err(Refusal::At(tokens.len())),
+    }
+}
+
+#[tactic(auto, unfolding(crate::specs::Grammar::record_word))]
+fn record_word(tokens: &[Token]) -> Result<&[Token], Refusal>
+    ensures { Gives (λ rest. (tt, rest.now)) result (grammar.record_word.read tokens.now) }
+{
+    match tokens {
+        [Token::Name(text), rest @ ..] if is_record(text.as_bytes()) => Ok(rest),
+        _ => Err(Refusal::At(tokens.len())),
+    }
+}
+
+#[tactic(auto, unfolding(crate::specs::Grammar::source_part))]
+fn source_part(alloc: Global, tokens: &[Token]) -> Result<(Part, &[Token]), Refusal>
+    ensures { Gives (λ x. (x.0, x.1.now)) result (grammar.source_part.read tokens.now) }
+{
+    let rest = source_word(tokens)?;
+    if !begins_tail(rest) {
+        return Ok((Part::Other, rest));
+    }
+    source_tail(alloc, rest)
+}
+
+#[tactic(auto, unfolding(crate::specs::Grammar::record_part))]
+fn record_part(alloc: Global, tokens: &[Token]) -> Result<(Part, &[Token]), Refusal>
+    ensures { Gives (λ x. (x.0, x.1.now)) result (grammar.record_part.read tokens.now) }
+{
+    let rest = record_word(tokens)?;
+    if !begins_tail(rest) {
+        return Ok((Part::Other, rest));
+    }
+    record_tail(alloc, rest)
+}
+
+#[tactic(auto, unfolding(crate::specs::Grammar::other_part))]
+fn other_part(tokens: &[Token]) -> Result<(Part, &[Token]), Refusal>
+    ensures { Gives (λ x. (x.0, x.1.now)) result (grammar.other_part.read tokens.now) }
+{
+    let rest = loose_text(Except::Keys, tokens)?;
+    Ok((Part::Other, rest))
+}
+
+#[tactic(auto, unfolding(crate::specs::Grammar::source_part, crate::specs::Grammar::source_word))]
+fn begins_source(tokens: &[Token]) -> bool
+    ensures { result ≡ begins grammar.source_part.starts tokens.now }
+{
+    match tokens {
+        [Token::Name(text), ..] => is_source(text.as_bytes()),
+        _ => false,
+    }
+}
+
+#[tactic(auto, unfolding(crate::specs::Grammar::record_part, crate::specs::Grammar::record_word))]
+fn begins_record(tokens: &[Token]) -> bool
+    ensures { result ≡ begins grammar.record_part.starts tokens.now }
+{
+    match tokens {
+        [Token::Name(text), ..] => is_record(text.as_bytes()),
+        _ => false,
+    }
+}
+
+#[tactic(auto, unfolding(crate::specs::Grammar::record_or_other))]
+fn record_or_other(alloc: Global, tokens: &[Token]) -> Result<(Part, &[Token]), Refusal>
+    ensures { Gives (λ x. (x.0, x.1.now)) result (grammar.record_or_other.read tokens.now) }
+{
+    if begins_record(tokens) {
+        record_part(alloc, tokens)
+    } else {
+        other_part(tokens)
+    }
+}
+
+#[tactic(auto, unfolding(crate::specs::Grammar::any_part))]
+fn any_part(alloc: Global, tokens: &[Token]) -> Result<(Part, &[Token]), Refusal>
+    ensures { Gives (λ x. (x.0, x.1.now)) result (grammar.any_part.read tokens.now) }
+{
+    if begins_source(tokens) {
+        source_part(alloc, tokens)
+    } else {
+        record_or_other(alloc, tokens)
+    }
+}
+
+#[tactic(auto, unfolding(crate::specs::Grammar::any_part, crate::specs::Grammar::record_or_other, crate::specs::Grammar::other_part, crate::specs::Grammar::loose_text))]
+fn begins_part(tokens: &[Token]) -> bool
+    ensures { result ≡ begins grammar.any_part.starts tokens.now }
+{
+    begins_source(tokens) || (begins_record(tokens) || begins_loose_text(Except::Keys, tokens))
+}
+
+#[tactic(auto, unfolding(crate::specs::Grammar::part))]
+fn optional_part(alloc: Global, tokens: &[Token]) -> Result<(Option<Part>, &[Token]), Refusal>
+    ensures { Gives (λ x. (x.0, x.1.now)) result (grammar.part.read tokens.now) }
+{
+    if !begins_part(tokens) {
+        return Ok((None, tokens));
+    }
+    let (part, rest) = any_part(alloc, tokens)?;
+    Ok((Some(part), rest))
+}
+
+#[tactic(auto, unfolding(crate::specs::Grammar::next_part))]
+fn next_part(alloc: Global, tokens: &[Token]) -> Result<(Option<Part>, &[Token]), Refusal>
+    ensures { Gives (λ x. (x.0, x.1.now)) result (grammar.next_part.read tokens.now) }
+{
+    let rest = mark(Mark::Semi, tokens)?;
+    optional_part(alloc, rest)
+}
+
+#[tactic(auto, unfolding(crate::specs::Grammar::next_part, crate::specs::Grammar::mark))]
+fn begins_next_part(tokens: &[Token]) -> bool
+    ensures { result ≡ begins grammar.next_part.starts tokens.now }
+{
+    begins_mark(Mark::Semi, tokens)
+}
+
+fn next_parts(alloc: Global, tokens: &[Token]) -> Result<(Items<Option<Part>>, &[Token]), Refusal>
+    ensures { Gives (λ x. (x.0, x.1.now)) result ((many grammar.next_part).read tokens.now) }
+{
+    let mut parts = Items::new(alloc);
+    let mut rest = tokens;
+    'items: while begins_next_part(rest) {
+        let (next, after) = next_part(alloc, rest)?;
+        parts.push(next)?;
+        rest = after;
+    }
+    Ok((parts, rest))
+}
+
+// ---- the whole
+
+/// What a statistic's body says: its source and its modes, each as the first part that says it does.
+#[derive(Debug, Drop)]
+struct Said {
+    source: Option<Text>,
+    modes: Option<Items<RecordedMode>>,
+}
+
+/// What a part says in place of what the parts behind it say.
+fn over(part: Option<Part>, later: Said) -> Said
+    ensures { result ≡ grammar.over part later }
+{
+    match part {
+        Some(Part::Source(source)) => Said {
+            source: Some(source),
+            modes: later.modes,
+        },
+        Some(Part::Record(modes)) => Said {
+            source: later.source,
+            modes: Some(modes),
+        },
+        _ => later,
+    }
+}
+
+fn said_by_all(first: Option<Part>, others: Items<Option<Part>>) -> Said
+    ensures { result ≡ grammar.said_in (first ∷ others) }
+{
+    let mut others = others;
+    let mut said = Said {
+        source: None,
+        modes: None,
+    };
+    'parts: while let Some(part) = others.pop() {
+        said = over(part, said);
+    }
+    over(first, said)
+}
+
+#[tactic(auto, unfolding(crate::specs::Grammar::statistic_body))]
+fn statistic_body(alloc: Global, tokens: &[Token]) -> Result<(Said, &[Token]), Refusal>
+    ensures { Gives (λ x. (x.0, x.1.now)) result (grammar.statistic_body.read tokens.now) }
+{
+    let rest = mark(Mark::LeftParen, tokens)?;
+    let (first, rest) = optional_part(alloc, rest)?;
+    let (others, rest) = next_parts(alloc, rest)?;
+    let rest = mark(Mark::RightParen, rest)?;
+    Ok((said_by_all(first, others), rest))
+}
+
+#[tactic(auto, unfolding(crate::specs::Grammar::optional_body, crate::specs::Grammar::statistic_body, crate::specs::Grammar::mark))]
+fn optional_body(alloc: Global, tokens: &[Token]) -> Result<(Option<Said>, &[Token]), Refusal>
+    ensures { Gives (λ x. (x.0, x.1.now)) result (grammar.optional_body.read tokens.now) }
+{
+    if !begins_mark(Mark::LeftParen, tokens) {
+        return Ok((None, tokens));
+    }
+    let (said, rest) = statistic_body(alloc, tokens)?;
+    Ok((Some(said), rest))
+}
+
+fn statistic_from(
+    alloc: Global,
+    name: Text,
+    said: Option<Said>,
+) -> Result<SectionLine, AllocError>
+    ensures { IfOk result (λ line. line ≡ grammar.statistic_line name said) }
+{
+    let Said { source, modes } = match said {
+        Some(said) => said,
+        None => Said {
+            source: None,
+            modes: None,
+        },
+    };
+    let source = match source {
+        Some(source) => source,
+        None => name.copy(alloc)?,
+    };
+    let modes = match modes {
+        Some(modes) => modes,
+        None => Items::new(alloc),
+    };
+    Ok(SectionLine::Statistic(Statistic {
+        name,
+        source,
+        modes,
+    }))
+}
+
+#[tactic(auto, unfolding(crate::specs::Grammar::indexed_statistic))]
+fn indexed_statistic(
+    alloc: Global,
+    tokens: &[Token],
+) -> Result<(SectionLine, &[Token]), Refusal>
+    ensures { Gives (λ x. (x.0, x.1.now)) result (grammar.indexed_statistic.read tokens.now) }
+{
+    let (name, rest) = bracketed(alloc, tokens)?;
+    let (said, rest) = optional_body(alloc, rest)?;
+    Ok((statistic_from(alloc, name, said)?, rest))
+}
+
+#[tactic(auto, unfolding(crate::specs::Grammar::unnamed_statistic))]
+fn unnamed_statistic(tokens: &[Token]) -> Result<(SectionLine, &[Token]), Refusal>
+    ensures { Gives (λ x. (x.0, x.1.now)) result (grammar.unnamed_statistic.read tokens.now) }
+{
+    let (_, rest) = in_parens(tokens)?;
+    Ok((SectionLine::Ignored, rest))
+}
+
+#[tactic(auto, unfolding(crate::specs::Grammar::named_or_not, crate::specs::Grammar::indexed_statistic, crate::specs::Grammar::bracketed, crate::specs::Grammar::mark))]
+fn named_or_not(alloc: Global, tokens: &[Token]) -> Result<(SectionLine, &[Token]), Refusal>
+    ensures { Gives (λ x. (x.0, x.1.now)) result (grammar.named_or_not.read tokens.now) }
+{
+    if begins_mark(Mark::LeftBracket, tokens) {
+        indexed_statistic(alloc, tokens)
+    } else {
+        unnamed_statistic(tokens)
+    }
+}
+
+#[tactic(auto, unfolding(crate::specs::Grammar::statistic_tail, crate::specs::Grammar::named_or_not, crate::specs::Grammar::indexed_statistic, crate::specs::Grammar::unnamed_statistic, crate::specs::Grammar::bracketed, crate::specs::Grammar::in_parens, crate::specs::Grammar::mark))]
+fn statistic_tail(alloc: Global, tokens: &[Token]) -> Result<(SectionLine, &[Token]), Refusal>
+    ensures { Gives (λ x. (x.0, x.1.now)) result (grammar.statistic_tail.read tokens.now) }
+{
+    if !begins_mark(Mark::LeftBracket, tokens) && !begins_mark(Mark::LeftParen, tokens) {
+        return Ok((SectionLine::Ignored, tokens));
+    }
+    named_or_not(alloc, tokens)
+}
+
+/// The property name `statistic`.
+#[tactic(auto, unfolding(crate::specs::Grammar::statistic_word))]
+fn statistic_word(tokens: &[Token]) -> Result<&[Token], Refusal>
+    ensures { Gives (λ rest. (tt, rest.now)) result (grammar.statistic_word.read tokens.now) }
+{
+    match tokens {
+        [Token::Name(text), rest @ ..] if is_statistic(text.as_bytes()) => Ok(rest),
+        _ => Err(Refusal::At(tokens.len())),
+    }
+}
+
+fn is_statistic(text: &[u8]) -> bool
+    ensures { result ≡ grammar.is_statistic text.now }
+{
+    text == b"statistic".as_slice()
+}
+
+#[tactic(auto, unfolding(crate::specs::Grammar::statistic))]
+pub(crate) fn statistic(alloc: Global, tokens: &[Token]) -> Result<(SectionLine, &[Token]), Refusal>
+    ensures { Gives (λ x. (x.0, x.1.now)) result (grammar.statistic.read tokens.now) }
+{
+    let rest = statistic_word(tokens)?;
+    statistic_tail(alloc, rest)
+}
+
+#[tactic(auto, unfolding(crate::specs::Grammar::statistic, crate::specs::Grammar::statistic_word))]
+pub(crate) fn begins_statistic(tokens: &[Token]) -> bool
+    ensures { result ≡ begins grammar.statistic.starts tokens.now }
+{
+    match tokens {
+        [Token::Name(text), ..] => is_statistic(text.as_bytes()),
+        _ => false,
+    }
+}

@@ -1,0 +1,151 @@
+//! Types, and the whole of a file.
+
+ghost use Rattle.std.specs.Prelude.{◌≡◌};
+ghost use Rattle.ned_tokens.specs.Rule.{Gives, begins, many, all_read};
+ghost use Rattle.ned_syntax.specs.Grammar as grammar;
+
+use crate::ast::{NedFile, Submodule, TypeDeclaration, TypeKind};
+use crate::leaves::{begins_name, begins_word, mark, name, word};
+use crate::parameters::section;
+use ned_tokens::refusal::Refusal;
+use ned_tokens::token::{Keyword, Mark, Token};
+use sqlite_items::Items;
+use std::alloc::Global;
+
+#[tactic(auto, unfolding(crate::specs::Grammar::simple))]
+fn simple(alloc: Global, tokens: &[Token]) -> Result<(TypeDeclaration, &[Token]), Refusal>
+    ensures { Gives (λ x. (x.0, x.1.now)) result (grammar.simple.read tokens.now) }
+{
+    let rest = word(Keyword::Simple, tokens)?;
+    let (name, rest) = name(alloc, rest)?;
+    let rest = mark(Mark::Open, rest)?;
+    let (lines, rest) = section(alloc, rest)?;
+    let rest = mark(Mark::Close, rest)?;
+    Ok((
+        TypeDeclaration {
+            kind: TypeKind::Simple,
+            name,
+            lines,
+            submodules: Items::new(alloc),
+        },
+        rest,
+    ))
+}
+
+#[tactic(auto, unfolding(crate::specs::Grammar::submodule))]
+fn submodule(alloc: Global, tokens: &[Token]) -> Result<(Submodule, &[Token]), Refusal>
+    ensures { Gives (λ x. (x.0, x.1.now)) result (grammar.submodule.read tokens.now) }
+{
+    let (own, rest) = name(alloc, tokens)?;
+    let rest = mark(Mark::Colon, rest)?;
+    let (type_name, rest) = name(alloc, rest)?;
+    let rest = mark(Mark::Semi, rest)?;
+    Ok((
+        Submodule {
+            name: own,
+            type_name,
+        },
+        rest,
+    ))
+}
+
+#[tactic(auto, unfolding(crate::specs::Grammar::submodule, crate::specs::Grammar::name))]
+fn begins_submodule(tokens: &[Token]) -> bool
+    ensures { result ≡ begins grammar.submodule.starts tokens.now }
+{
+    begins_name(tokens)
+}
+
+fn submodule_list(alloc: Global, tokens: &[Token]) -> Result<(Items<Submodule>, &[Token]), Refusal>
+    ensures { Gives (λ x. (x.0, x.1.now)) result ((many grammar.submodule).read tokens.now) }
+{
+    let mut submodules = Items::new(alloc);
+    let mut rest = tokens;
+    'items: while begins_submodule(rest) {
+        let (next, after) = submodule(alloc, rest)?;
+        submodules.push(next)?;
+        rest = after;
+    }
+    Ok((submodules, rest))
+}
+
+#[tactic(auto, unfolding(crate::specs::Grammar::submodules, crate::specs::Grammar::word))]
+fn submodules(alloc: Global, tokens: &[Token]) -> Result<(Items<Submodule>, &[Token]), Refusal>
+    ensures { Gives (λ x. (x.0, x.1.now)) result (grammar.submodules.read tokens.now) }
+{
+    if !begins_word(Keyword::Submodules, tokens) {
+        return Ok((Items::new(alloc), tokens));
+    }
+    let rest = word(Keyword::Submodules, tokens)?;
+    let rest = mark(Mark::Colon, rest)?;
+    submodule_list(alloc, rest)
+}
+
+#[tactic(auto, unfolding(crate::specs::Grammar::network))]
+fn network(alloc: Global, tokens: &[Token]) -> Result<(TypeDeclaration, &[Token]), Refusal>
+    ensures { Gives (λ x. (x.0, x.1.now)) result (grammar.network.read tokens.now) }
+{
+    let rest = word(Keyword::Network, tokens)?;
+    let (name, rest) = name(alloc, rest)?;
+    let rest = mark(Mark::Open, rest)?;
+    let (submodules, rest) = submodules(alloc, rest)?;
+    let rest = mark(Mark::Close, rest)?;
+    Ok((
+        TypeDeclaration {
+            kind: TypeKind::Network,
+            name,
+            lines: Items::new(alloc),
+            submodules,
+        },
+        rest,
+    ))
+}
+
+#[tactic(auto, unfolding(crate::specs::Grammar::type_rule, crate::specs::Grammar::simple, crate::specs::Grammar::word))]
+fn type_declaration(
+    alloc: Global,
+    tokens: &[Token],
+) -> Result<(TypeDeclaration, &[Token]), Refusal>
+    ensures { Gives (λ x. (x.0, x.1.now)) result (grammar.type_rule.read tokens.now) }
+{
+    if begins_word(Keyword::Simple, tokens) {
+        simple(alloc, tokens)
+    } else {
+        network(alloc, tokens)
+    }
+}
+
+#[tactic(auto, unfolding(crate::specs::Grammar::type_rule, crate::specs::Grammar::simple, crate::specs::Grammar::network, crate::specs::Grammar::word))]
+fn begins_type(tokens: &[Token]) -> bool
+    ensures { result ≡ begins grammar.type_rule.starts tokens.now }
+{
+    begins_word(Keyword::Simple, tokens) || begins_word(Keyword::Network, tokens)
+}
+
+fn type_list(
+    alloc: Global,
+    tokens: &[Token],
+) -> Result<(Items<TypeDeclaration>, &[Token]), Refusal>
+    ensures { Gives (λ x. (x.0, x.1.now)) result ((many grammar.type_rule).read tokens.now) }
+{
+    let mut types = Items::new(alloc);
+    let mut rest = tokens;
+    'items: while begins_type(rest) {
+        let (next, after) = type_declaration(alloc, rest)?;
+        types.push(next)?;
+        rest = after;
+    }
+    Ok((types, rest))
+}
+
+/// A whole file.
+#[tactic(auto, unfolding(crate::specs::Grammar::file))]
+pub(crate) fn whole_file(alloc: Global, tokens: &[Token]) -> Result<NedFile, Refusal>
+    ensures { Gives (λ x. x) result (all_read grammar.file tokens.now) }
+{
+    let (types, rest) = type_list(alloc, tokens)?;
+    match rest {
+        [] => Ok(NedFile { types }),
+        _ => Err(Refusal::At(rest.len())),
+    }
+}

@@ -1,0 +1,10 @@
+pub mod Laws
+pub mod Many
+pub mod Whole
+pub mod Loop
+pub mod BalancedLaws
+pub mod RunLemmas
+pub mod QuantityLemmas
+pub mod LexLemmas
+pub mod LineLemmas
+pub mod BalancedLoop

@@ -1,0 +1,13 @@
+pub mod Runs
+pub mod Words
+pub mod Units
+pub mod Marks
+pub mod Digits
+pub mod Quantities
+pub mod Numbers
+pub mod Literals
+pub mod Lexing
+pub mod Lines
+pub mod Rule
+pub mod Balanced
+pub mod Meaning

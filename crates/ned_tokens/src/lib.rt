@@ -1,0 +1,17 @@
+//! The tokens of NED texts, rules over tokens, and the line that a refused text is given.
+#![tactic(auto)]
+
+mod digits;
+mod lexing;
+pub mod lines;
+mod literal;
+mod marks;
+mod numbers;
+mod quantity;
+pub mod refusal;
+mod runs;
+pub mod token;
+mod units;
+mod words;
+
+pub use units::unit_of;

@@ -1,0 +1,68 @@
+//! The stock modules as one type, so that a box of any of them is made in one place.
+
+ghost use Rattle.std.specs.Prelude.{◌↔◌, IsTrue, IsSome, IfSome};
+ghost use Rattle.module_api.specs.Meaning.{IsFresh};
+ghost use Rattle.stock_modules.specs.Stock.{stock};
+ghost use Rattle.stock_modules.specs.Modules.{module_of};
+
+use crate::tick::Tick;
+use module_api::call::Call;
+use module_api::reply::Reply;
+use module_api::simple_module::SimpleModule;
+use sim_values::NoMemory;
+use std::alloc::Global;
+
+/// A module that comes with the program.
+#[derive(Debug, Drop)]
+pub enum StockModule {
+    Tick(Tick),
+}
+
+impl StockModule {
+    /// A fresh module of that kind, or none where the stock catalogue does not know it.
+    #[tactic(auto, unfolding(crate::specs::Stock::stock))]
+    pub fn of_kind(kind: &[u8]) -> Option<StockModule>
+        ensures known { IsSome result ↔ IsTrue (stock.known kind.now) }
+        ensures fresh { IfSome result (λ m. IsFresh stock kind.now (module_of m)) }
+    {
+        if kind == "Tick".as_bytes() {
+            Some(StockModule::Tick(Tick::new()))
+        } else {
+            None
+        }
+    }
+}
+
+impl SimpleModule for StockModule {
+    ghost meaning = { module_of };
+
+    fn kind(&self) -> &str {
+        match self {
+            StockModule::Tick(tick) => tick.kind(),
+        }
+    }
+
+    fn stages(&self) -> u8 {
+        match self {
+            StockModule::Tick(tick) => tick.stages(),
+        }
+    }
+
+    fn initialize(&mut self, alloc: Global, call: &Call) -> Result<Reply, NoMemory> {
+        match self {
+            StockModule::Tick(tick) => tick.initialize(alloc, call),
+        }
+    }
+
+    fn handle_message(&mut self, alloc: Global, call: &Call) -> Result<Reply, NoMemory> {
+        match self {
+            StockModule::Tick(tick) => tick.handle_message(alloc, call),
+        }
+    }
+
+    fn finish(&mut self, alloc: Global, call: &Call) -> Result<Reply, NoMemory> {
+        match self {
+            StockModule::Tick(tick) => tick.finish(alloc, call),
+        }
+    }
+}

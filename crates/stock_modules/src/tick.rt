@@ -1,0 +1,255 @@
+//! A module that fires at equal gaps.
+
+ghost use Rattle.std.specs.Prelude.{◌≡◌, ◌∷◌, ◌++◌, ◌<◌, ◌^◌, IfOk, OnOk};
+ghost use Rattle.stock_modules.specs.Found.{given, whole_found};
+ghost use Rattle.stock_modules.specs.Tick.{next_number, pace_in, is_late, extra_found, firing_found, pace_reads, timer_reads, scheduled, fired};
+
+use crate::found::{Found, priority, time, whole};
+use crate::names::ParameterName;
+use crate::replies::{emit, failure, note, nothing, set_timer};
+use crate::timed::Told;
+use module_api::call::Call;
+use module_api::reply::{Action, Read, Reply};
+use module_api::simple_module::SimpleModule;
+use sim_time::SimTime;
+use sim_values::NoMemory;
+use sqlite_items::Items;
+use std::alloc::Global;
+use std::marker::Model;
+
+/// What a Tick needs in every call.
+#[derive(Clone, Copy, Debug)]
+pub struct Pace {
+    /// How often it fires.
+    pub count: i64,
+    /// The time from one firing to the next.
+    pub gap: SimTime,
+    /// The priority of its timer.
+    pub priority: i16,
+}
+
+/// What a Tick needs to fire.
+#[derive(Clone, Copy, Debug)]
+pub struct Firing {
+    pub pace: Pace,
+    /// What it emits besides, at the late firing alone.
+    pub extra: Option<i64>,
+}
+
+/// Looks for what every call needs.
+fn pace_in(call: &Call) -> Found<Pace>
+    ensures { result ≡ pace_in call.now }
+{
+    let count = whole(call, ParameterName::Count);
+    let gap = time(call, ParameterName::Gap);
+    let priority = priority(call, ParameterName::Priority);
+    match count.and(gap).and(priority) {
+        Found::Missing => Found::Missing,
+        Found::Wrong(name) => Found::Wrong(name),
+        Found::Is(((count, gap), priority)) => Found::Is(Pace {
+            count,
+            gap,
+            priority,
+        }),
+    }
+}
+
+/// Whether firing n reads `extra`.
+fn is_late(n: u64, late: Found<i64>) -> bool
+    requires { n < 2 ^ 63 }
+    ensures { result ≡ is_late n late }
+{
+    match late {
+        Found::Is(late) => late == n as i64,
+        _ => false,
+    }
+}
+
+/// What is emitted besides, where `extra` is read.
+fn extra(call: &Call, is_late: bool) -> Found<Option<i64>>
+    ensures { result ≡ extra_found is_late (whole_found ParameterName.Extra (given ParameterName.Extra call.now)) }
+{
+    if !is_late {
+        return Found::Is(None);
+    }
+    match whole(call, ParameterName::Extra) {
+        Found::Missing => Found::Missing,
+        Found::Wrong(name) => Found::Wrong(name),
+        Found::Is(value) => Found::Is(Some(value)),
+    }
+}
+
+/// Looks for what firing n needs.
+fn firing_in(call: &Call, late: Found<i64>, is_late: bool) -> Found<Firing>
+    ensures { result ≡ firing_found (pace_in call.now) late (extra_found is_late (whole_found ParameterName.Extra (given ParameterName.Extra call.now))) }
+{
+    match pace_in(call).and(late).and(extra(call, is_late)) {
+        Found::Missing => Found::Missing,
+        Found::Wrong(name) => Found::Wrong(name),
+        Found::Is(((pace, _), extra)) => Found::Is(Firing { pace, extra }),
+    }
+}
+
+/// The reads of every call.
+fn pace_reads(alloc: Global) -> Result<Items<Read>, NoMemory>
+    ensures { IfOk result (λ reads. reads ≡ pace_reads) }
+{
+    let mut reads = Items::new(alloc);
+    note(&mut reads, alloc, ParameterName::Count)?;
+    note(&mut reads, alloc, ParameterName::Gap)?;
+    note(&mut reads, alloc, ParameterName::Priority)?;
+    Ok(reads)
+}
+
+/// The reads of a firing.
+fn timer_reads(alloc: Global, is_late: bool) -> Result<Items<Read>, NoMemory>
+    ensures { IfOk result (λ reads. reads ≡ timer_reads is_late) }
+{
+    let mut reads = pace_reads(alloc)?;
+    note(&mut reads, alloc, ParameterName::Late)?;
+    if is_late {
+        note(&mut reads, alloc, ParameterName::Extra)?;
+    }
+    Ok(reads)
+}
+
+/// Sets the next timer, while n is below the count.
+fn schedule(actions: &mut Items<Action>, n: u64, pace: Pace) -> Result<(), NoMemory>
+    requires { n < 2 ^ 63 }
+    ensures { OnOk result (actions.new ≡ actions.old ++ scheduled n pace) }
+{
+    if (n as i64) < pace.count {
+        set_timer(actions, pace.gap, pace.priority)?;
+    }
+    Ok(())
+}
+
+/// The actions of firing n.
+fn fired(alloc: Global, n: u64, firing: Firing) -> Result<Items<Action>, NoMemory>
+    requires { n < 2 ^ 63 }
+    ensures { IfOk result (λ actions. actions ≡ fired n firing) }
+{
+    let mut actions = Items::new(alloc);
+    emit(&mut actions, alloc, "fired", n as i64)?;
+    if let Some(value) = firing.extra {
+        emit(&mut actions, alloc, "extra", value)?;
+    }
+    schedule(&mut actions, n, firing.pace)?;
+    Ok(actions)
+}
+
+/// The number after one more firing.
+fn next_number(n: u64) -> u64
+    requires { n < 2 ^ 63 }
+    ensures next { result ≡ next_number n }
+    ensures bounded { result < 2 ^ 63 }
+{
+    (n + 1).min(0x7fff_ffff_ffff_ffff)
+}
+
+/// A module that fires `count` times, `gap` apart, and emits at each firing how often it has fired. Contracts see it as
+/// that number.
+#[derive(Debug, Drop)]
+pub struct Tick {
+    n: u64,
+}
+
+impl Model for Tick {
+    ghost use Rattle.std.specs.Prelude.{ℕ, ◌<◌, ◌^◌};
+
+    ghost Value = { ℕ };
+
+    ghost view = { λ t. t.n };
+
+    ghost invariant = { λ t. t.n < 2 ^ 63 };
+
+    ghost inverse = { λ n. record { n = n } };
+}
+
+impl Tick {
+    /// A Tick that has not fired yet.
+    pub fn new() -> Tick
+        ensures { result ≡ 0 }
+    {
+        Tick { n: 0 }
+    }
+}
+
+impl SimpleModule for Tick {
+    ghost use Rattle.stock_modules.specs.Tick.{tick_module};
+
+    ghost meaning = { tick_module };
+
+    fn kind(&self) -> &str {
+        "Tick"
+    }
+
+    #[tactic(auto, unfolding(crate::specs::Tick::tick_naming))]
+    fn stages(&self) -> u8 {
+        1
+    }
+
+    fn initialize(&mut self, alloc: Global, call: &Call) -> Result<Reply, NoMemory> {
+        self.answer(alloc, call)
+    }
+
+    fn handle_message(&mut self, alloc: Global, call: &Call) -> Result<Reply, NoMemory> {
+        self.answer(alloc, call)
+    }
+
+    fn finish(&mut self, alloc: Global, call: &Call) -> Result<Reply, NoMemory> {
+        self.answer(alloc, call)
+    }
+}
+
+impl Tick {
+    ghost use Rattle.module_api.specs.Meaning.{Answered};
+    ghost use Rattle.stock_modules.specs.Tick.{started, timer_replied, state_of, tick_module};
+
+    /// Answers a call, whatever it is for.
+    #[tactic(auto, unfolding(crate::specs::Tick::tick_naming))]
+    fn answer(&mut self, alloc: Global, call: &Call) -> Result<Reply, NoMemory>
+        ensures { Answered (tick_module self.old) call.now result (tick_module self.new) }
+    {
+        match Told::of(call) {
+            Told::Start => self.start(alloc, call),
+            Told::Timer => self.fire(alloc, call),
+            Told::Other => Ok(nothing(alloc)),
+        }
+    }
+
+    /// Sets the first timer.
+    fn start(&self, alloc: Global, call: &Call) -> Result<Reply, NoMemory>
+        ensures { IfOk result (λ reply. record { reply = reply; state = state_of self.now } ≡ started (state_of self.now) call.now) }
+    {
+        let reads = pace_reads(alloc)?;
+        let mut actions = Items::new(alloc);
+        match pace_in(call) {
+            Found::Missing => {}
+            Found::Wrong(name) => actions = failure(alloc, name)?,
+            Found::Is(pace) => schedule(&mut actions, 0, pace)?,
+        }
+        Ok(Reply { reads, actions })
+    }
+
+    /// Fires once more, where the parameters allow it.
+    #[tactic(auto, using(crate::proofs::Numbers::number_rules))]
+    fn fire(&mut self, alloc: Global, call: &Call) -> Result<Reply, NoMemory>
+        ensures { IfOk result (λ reply. record { reply = reply; state = state_of self.new } ≡ timer_replied (state_of self.old) call.now) }
+    {
+        let n = next_number(self.n);
+        let late = whole(call, ParameterName::Late);
+        let is_late = is_late(n, late);
+        let reads = timer_reads(alloc, is_late)?;
+        let mut actions = Items::new(alloc);
+        match firing_in(call, late, is_late) {
+            Found::Missing => {}
+            Found::Wrong(name) => actions = failure(alloc, name)?,
+            Found::Is(firing) => {
+                actions = fired(alloc, n, firing)?;
+                self.n = n;
+            }
+        }
+        Ok(Reply { reads, actions })
+    }
+}
