@@ -1,1 +1,4 @@
 pub mod Entries
+pub mod Meaning
+pub mod Names
+pub mod Texts

@@ -2,4 +2,6 @@
 #![tactic(auto)]
 
 pub mod entries;
+pub mod error;
 pub mod lines;
+pub mod parse;

@@ -1,2 +1,4 @@
+pub mod Counts
+pub mod Ends
 pub mod Setup
 pub mod Sound

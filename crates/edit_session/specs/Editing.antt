@@ -1,0 +1,122 @@
+-- What a session keeps.
+use Rattle.std.specs.Prelude.{◌≡◌, ℕ, Bool, false, List, Option, Some, None, option_map, length, drop, slice_get}
+use Rattle.module_api.specs.Behaviour.{Behaviour}
+use Rattle.module_api.specs.Meaning.{Module, IsFresh}
+use Rattle.model_answers.specs.declared.model.Model.{Model}
+use Rattle.model_answers.specs.Records.{path_of}
+use Rattle.run_semantics.specs.declared.outcome.Fault.TheVariants.{UnknownClass}
+use Rattle.run_semantics.specs.declared.outcome.Outcome.{Outcome}
+use Rattle.run_semantics.specs.World.{World, HasRoom}
+use Rattle.run_semantics.specs.Perform.{Flow, On, Stopped, Broken}
+use Rattle.run_semantics.specs.Run.{Part, parts_of, prepared, ready, place_all, run_to}
+use Rattle.run_semantics.specs.Ending.{ending}
+use Rattle.kernel.specs.declared.request.Request.{Request}
+use Rattle.kernel.specs.Seats.{Seat, AreOfKinds, request_for, missing_of}
+use Rattle.edit_session.specs.declared.running.Phase.{Phase}
+use Rattle.edit_session.specs.declared.running.Phase.TheVariants.{Idle, Waiting, Declined}
+use Rattle.edit_session.specs.declared.session.Progress.{Progress}
+use Rattle.edit_session.specs.declared.session.Progress.TheVariants as progress
+use Rattle.edit_session.specs.declared.session.Report.{Report}
+
+-- a run that is done: its limit, and its outcome
+pub record Completed : Type 0 where
+  pub limit : ℕ
+  pub outcome : Outcome
+
+-- what callers see of a session: the model; the last run, where it is done; where a run stands that isn't, and how many
+-- boxes it holds
+pub record Editing : Type 0 where
+  pub model : Model
+  pub done : Option Completed
+  pub phase : Phase
+  pub held : ℕ
+
+-- ---- boxes that a run needs
+
+-- the box that a run needs next once it holds so many: setup makes the modules, and those are asked for by rising ids
+abbrev pub wanted_after : Flow → ℕ → Option Request
+wanted_after (On w) held = option_map (request_for w) (slice_get (parts_of w) held)
+wanted_after (Stopped w) held = None
+wanted_after (Broken w path f) held = None
+
+abbrev pub wanted_by : Model → ℕ → Option Request
+wanted_by m held = wanted_after (prepared m) held
+
+-- what a session waits for
+abbrev pub waited_for : Phase → Model → ℕ → Option Request
+waited_for Waiting m held = wanted_by m held
+waited_for Idle m held = None
+waited_for Declined m held = None
+
+abbrev pub wanted_of : Editing → Option Request
+wanted_of e = waited_for e.phase e.model e.held
+
+-- a run that waits goes on with its boxes; any other begins with none
+abbrev pub kept_boxes : Phase → ℕ → ℕ
+kept_boxes Waiting held = held
+kept_boxes Idle held = 0
+kept_boxes Declined held = 0
+
+-- ---- what it keeps
+
+-- a world that is being filled with boxes: all that is left to place leads where all leads
+pub record IsFilled (b : Behaviour) (m : Model) (w : World) : Type 0 where
+  pub base : World
+  pub prepared_is : prepared m ≡ On base
+  pub records : w.records ≡ base.records
+  pub next : w.next ≡ 0
+  pub flow : place_all b (drop (length w.modules) (parts_of w)) w ≡ ready b m
+
+-- a world where the next box was declined
+pub record IsDeclined (b : Behaviour) (m : Model) (w : World) : Type 0 where
+  pub part : Part
+  pub missing : slice_get (parts_of w) (length w.modules) ≡ Some part
+  pub flow : Broken w (path_of w.records part.id) UnknownClass ≡ ready b m
+
+-- where a run stands
+abbrev pub IsLive : Behaviour → Model → World → Phase → Type 0
+IsLive b m w Idle = Unit {0}
+IsLive b m w Waiting = IsFilled b m w
+IsLive b m w Declined = IsDeclined b m w
+
+-- a fresh run, stopped after at most n events, with its end
+abbrev pub whole_run : Behaviour → Model → ℕ → World → Outcome → Type 0
+whole_run b m n w outcome = ending b m (run_to b m n) ≡ record { world = w; outcome = outcome }
+
+-- the world is what the run that is done left
+abbrev pub IsLeft : Behaviour → Model → World → Option Completed → Type 0
+IsLeft b m w None = Unit {0}
+IsLeft b m w (Some done) = whole_run b m done.limit w done.outcome
+
+-- while a run waits, none is done
+abbrev pub IsUndone : Phase → Option Completed → Type 0
+IsUndone Idle done = Unit {0}
+IsUndone Waiting done = done ≡ None
+IsUndone Declined done = done ≡ None
+
+-- all that a session keeps
+pub record IsKept (b : Behaviour) (seats : List Seat) (w : World) (m : Model) (phase : Phase) (done : Option Completed) : Type 0 where
+  pub kinds : AreOfKinds b seats
+  pub live : IsLive b m w phase
+  pub left : IsLeft b m w done
+  pub undone : IsUndone phase done
+
+-- ---- premises and answers
+
+-- the box is for what is waited for
+abbrev pub IsFor : Behaviour → Option Request → Module → Type 0
+IsFor b None box = Unit {0}
+IsFor b (Some request) box = IsFresh b request.kind box
+
+-- the catalogue has no such kind
+abbrev pub IsUnknown : Behaviour → Option Request → Type 0
+IsUnknown b None = Unit {0}
+IsUnknown b (Some request) = b.known request.kind ≡ false
+
+abbrev pub IfDone : Progress → (Report → Type 0) → Type 0
+IfDone (progress.Want request) P = Unit {0}
+IfDone (progress.Done report) P = P report
+
+abbrev pub IfWant : Progress → (Request → Type 0) → Type 0
+IfWant (progress.Want request) P = P request
+IfWant (progress.Done report) P = Unit {0}

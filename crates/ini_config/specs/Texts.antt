@@ -1,0 +1,76 @@
+-- The parts of an ini text: its lines, its blanks, and what stands before a comment.
+use Rattle.std.specs.Prelude.{ℕ, zero, suc, Bool, true, false, ◌||◌, ◌&&◌, not, List, [], ◌∷◌, Option, Some, None, ◌==◌, if◌then◌else◌, option_map, unwrap_or}
+
+abbrev pub Bytes : Type 0
+Bytes = List ℕ
+
+-- ---- lines
+
+abbrev pub add_front : ℕ → List Bytes → List Bytes
+add_front b [] = (b ∷ []) ∷ []
+add_front b (line ∷ lines) = (b ∷ line) ∷ lines
+
+abbrev pub begins_with : ℕ → Bytes → Bool
+begins_with c [] = false
+begins_with c (b ∷ bs) = b == c
+
+-- The lines of a text: each ends with LF, and a CR directly before an LF is dropped. A last line without LF counts.
+unfoldable pub lines_of_ini : Bytes → List Bytes
+lines_of_ini [] = []
+lines_of_ini (b ∷ bs) = if b == 10 then [] ∷ lines_of_ini bs else (if b == 13 && begins_with 10 bs then lines_of_ini bs else add_front b (lines_of_ini bs))
+
+abbrev pub after_feed : Bytes → Option Bytes
+after_feed [] = None
+after_feed (b ∷ bs) = if b == 10 then Some bs else None
+
+-- what is behind the end of a line, where the text begins with one
+abbrev pub after_line_end : Bytes → Option Bytes
+after_line_end [] = None
+after_line_end (b ∷ bs) = if b == 10 then Some bs else (if b == 13 then after_feed bs else None)
+
+-- ---- blanks
+
+-- spaces and tabs
+abbrev pub is_blank : ℕ → Bool
+is_blank b = b == 32 || b == 9
+
+-- the text without the blanks at its front
+abbrev pub after_blanks : Bytes → Bytes
+after_blanks [] = []
+after_blanks (b ∷ bs) = if is_blank b then after_blanks bs else b ∷ bs
+
+abbrev pub unless_last_blank : ℕ → Bytes → Bytes
+unless_last_blank b [] = if is_blank b then [] else b ∷ []
+unless_last_blank b (c ∷ cs) = b ∷ c ∷ cs
+
+-- the text without the blanks at its end
+unfoldable pub before_blanks : Bytes → Bytes
+before_blanks [] = []
+before_blanks (b ∷ bs) = unless_last_blank b (before_blanks bs)
+
+-- ---- comments
+
+-- How many bytes a text literal still has, behind its first `"` or any byte of it:
+-- up to the first `"` that no `\` stands directly before. None where there is no such.
+unfoldable pub literal_rest : ℕ → Bytes → Option ℕ
+literal_rest before [] = None
+literal_rest before (b ∷ bs) = if b == 34 && not (before == 92) then Some 1 else option_map (λ n. suc n) (literal_rest b bs)
+
+-- how many bytes of a text literal follow this byte: none but behind a `"` that is closed
+abbrev pub literal_behind : ℕ → Bytes → ℕ
+literal_behind b bs = if b == 34 then unwrap_or (literal_rest 34 bs) 0 else 0
+
+-- what stands before the first `#` outside a text literal, where the first n bytes are in one
+unfoldable pub uncommented : ℕ → Bytes → Bytes
+uncommented n [] = []
+uncommented (suc n) (b ∷ bs) = b ∷ uncommented n bs
+uncommented zero (b ∷ bs) = if b == 35 then [] else b ∷ uncommented (literal_behind b bs) bs
+
+-- the value, of what is behind the `=`
+abbrev pub value_text : Bytes → Bytes
+value_text bytes = before_blanks (after_blanks (uncommented 0 bytes))
+
+-- whether `${` is in the text, behind this byte
+unfoldable pub holds_variable : ℕ → Bytes → Bool
+holds_variable before [] = false
+holds_variable before (b ∷ bs) = (before == 36 && b == 123) || holds_variable b bs

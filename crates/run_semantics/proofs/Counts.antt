@@ -1,0 +1,110 @@
+-- How many events a run has executed.
+use Rattle.std.proofs.Common.{◌≡◌, ℕ, zero, suc, ◌+◌, ◌≤◌, nat_lt, Bool, true, false, List, [], ◌∷◌, Option, Some, None, refl, sym, ◌∙◌, ap, arith, slice_get, if◌then◌else◌}
+use Rattle.module_api.specs.Behaviour.{Behaviour}
+use Rattle.module_api.specs.declared.call.Prompt.TheVariants as prompt
+use Rattle.model_answers.specs.declared.answer.Answer.{Answer}
+use Rattle.model_answers.specs.declared.answer.Answer.TheVariants as answer
+use Rattle.model_answers.specs.declared.answer.Built.{Built}
+use Rattle.model_answers.specs.declared.answer.Question.TheVariants.{Root, Build}
+use Rattle.model_answers.specs.declared.model.Model.{Model}
+use Rattle.model_answers.specs.Answering.{answer_of}
+use Rattle.run_semantics.specs.declared.pending.Pending.{Pending}
+use Rattle.run_semantics.specs.World.{World, empty, asked}
+use Rattle.run_semantics.specs.Perform.{Flow, On, Stopped, Broken, ◌>>=◌}
+use Rattle.run_semantics.specs.Event.{call_module, begun, event, message_of}
+use Rattle.run_semantics.specs.Run.{rooted, built, unless_many, root_asked, inside_asked, prepared, Part, parts_of, place, place_all, place_parts, ready, standing, most_stages, initialize, one_stage, stages_from, initialize_all, with_started, Stage, Running, Over, world_at, settled, start, picked, next_stage, after}
+use Rattle.run_semantics.proofs.Sound.{in_flow, call_keeps}
+
+pub then_count : (n : ℕ) (fl : Flow) (k : World → Flow) → (in_flow fl).count ≡ n → ((w : World) → w.count ≡ n → (in_flow (k w)).count ≡ n) → (in_flow (fl >>= k)).count ≡ n
+then_count n (On w) k e h = h w e
+then_count n (Stopped w) k e h = e
+then_count n (Broken w path f) k e h = e
+
+either_count : (n : ℕ) (c : Bool) (f g : Flow) → (in_flow f).count ≡ n → (in_flow g).count ≡ n → (in_flow (if c then f else g)).count ≡ n
+either_count n true f g e d = e
+either_count n false f g e d = d
+
+-- ---- setup
+
+root_count : (found : Answer) (w : World) → (in_flow (rooted found w)).count ≡ w.count
+root_count (answer.Root name) w = refl
+root_count (answer.Inside bs) w = refl
+root_count (answer.Value v) w = refl
+root_count (answer.Fault path f) w = refl
+root_count answer.Absent w = refl
+
+many_count : (parent : ℕ) (bs : List Built) (w : World) (one : Option Built) → (in_flow (unless_many parent bs w one)).count ≡ w.count
+many_count parent bs w (Some b) = refl
+many_count parent bs w None = refl
+
+built_count : (parent : ℕ) (found : Answer) (w : World) → (in_flow (built parent found w)).count ≡ w.count
+built_count parent (answer.Inside bs) w = many_count parent bs w (slice_get bs 65535)
+built_count parent (answer.Root name) w = refl
+built_count parent (answer.Value v) w = refl
+built_count parent (answer.Fault path f) w = refl
+built_count parent answer.Absent w = refl
+
+pub prepared_count : (m : Model) → (in_flow (prepared m)).count ≡ 0
+prepared_count m =
+    then_count 0 (root_asked m) (inside_asked m) (root_count (answer_of m [] Root) (asked Root empty))
+    (λ w e. built_count 1 (answer_of m w.records (Build 1)) (asked (Build 1) w) ∙ e)
+
+-- ---- boxes and initialization
+
+place_count : (b : Behaviour) (p : Part) (w : World) → (in_flow (place b p w)).count ≡ w.count
+place_count b p w = either_count w.count (b.known p.kind) _ _ refl refl
+
+place_all_count : (b : Behaviour) (n : ℕ) (ps : List Part) (w : World) → w.count ≡ n → (in_flow (place_all b ps w)).count ≡ n
+place_all_count b n [] w e = e
+place_all_count b n (p ∷ ps) w e = then_count n (place b p w) (place_all b ps) (place_count b p w ∙ e) (place_all_count b n ps)
+
+pub ready_count : (b : Behaviour) (m : Model) → (in_flow (ready b m)).count ≡ 0
+ready_count b m = then_count 0 (prepared m) (place_parts b) (prepared_count m) (λ w e. place_all_count b 0 (parts_of w) w e)
+
+initialize_count : (b : Behaviour) (m : Model) (stage : ℕ) (p : Part) (w : World) → (in_flow (initialize b m stage p w)).count ≡ w.count
+initialize_count b m stage p w =
+    either_count w.count (nat_lt stage (b.naming p.kind).stages) _ _ (call_keeps b m p.id (prompt.Initialize stage) w).count refl
+
+one_stage_count : (b : Behaviour) (m : Model) (stage n : ℕ) (ps : List Part) (w : World) → w.count ≡ n → (in_flow (one_stage b m stage ps w)).count ≡ n
+one_stage_count b m stage n [] w e = e
+one_stage_count b m stage n (p ∷ ps) w e =
+    then_count n (initialize b m stage p w) (one_stage b m stage ps) (initialize_count b m stage p w ∙ e) (one_stage_count b m stage n ps)
+
+stages_count : (b : Behaviour) (m : Model) (ps : List Part) (n stage left : ℕ) (w : World) → w.count ≡ n → (in_flow (stages_from b m ps stage left w)).count ≡ n
+stages_count b m ps n stage zero w e = e
+stages_count b m ps n stage (suc left) w e =
+    then_count n (one_stage b m stage ps w) (stages_from b m ps (suc stage) left) (one_stage_count b m stage n ps w e) (stages_count b m ps n (suc stage) left)
+
+initialize_all_count : (b : Behaviour) (m : Model) (w : World) → w.count ≡ 0 → (in_flow (initialize_all b m w)).count ≡ 0
+initialize_all_count b m w e = stages_count b m (standing w.modules) 0 0 (most_stages b (standing w.modules)) (with_started w) e
+
+pub settled_count : (fl : Flow) → (world_at (settled fl)).count ≡ (in_flow fl).count
+settled_count (On w) = refl
+settled_count (Stopped w) = refl
+settled_count (Broken w path f) = refl
+
+pub start_count : (b : Behaviour) (m : Model) → (world_at (start b m)).count ≡ 0
+start_count b m =
+    settled_count (ready b m >>= initialize_all b m) ∙ then_count 0 (ready b m) (initialize_all b m) (ready_count b m) (initialize_all_count b m)
+
+-- ---- events
+
+event_count : (b : Behaviour) (m : Model) (p : Pending) (rest : List Pending) (w : World) → (in_flow (event b m p rest w)).count ≡ w.count + 1
+event_count b m p rest w = (call_keeps b m p.id (prompt.Message (message_of p)) (begun p rest w)).count
+
+picked_count : (b : Behaviour) (m : Model) (w : World) (pending : List Pending) → (world_at (picked b m w pending)).count ≤ w.count + 1
+picked_count b m w [] = omega arith
+picked_count b m w (p ∷ rest) = omega (arith, settled_count (event b m p rest w), event_count b m p rest w)
+
+either_at_most : (n : ℕ) (c : Bool) (s t : Stage) → (world_at s).count ≤ n → (world_at t).count ≤ n → (world_at (if c then s else t)).count ≤ n
+either_at_most n true s t h k = h
+either_at_most n false s t h k = k
+
+next_count : (b : Behaviour) (m : Model) (s : Stage) → (world_at (next_stage b m s)).count ≤ (world_at s).count + 1
+next_count b m (Running w) = either_at_most (w.count + 1) w.ended _ _ (omega arith) (picked_count b m w w.pending)
+next_count b m (Over w outcome) = omega arith
+
+-- after n turns at most n events were executed
+pub count_at_most : (b : Behaviour) (m : Model) (n : ℕ) → (world_at (after b m n)).count ≤ n
+count_at_most b m zero = omega (arith, start_count b m)
+count_at_most b m (suc n) = omega (arith, next_count b m (after b m n), count_at_most b m n)

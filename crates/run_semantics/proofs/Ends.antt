@@ -1,0 +1,28 @@
+-- How runs end.
+use Rattle.std.proofs.Common.{◌≡◌, ℕ, zero, suc, ◌+◌, ◌≤◌, ◌<◌, refl, sym, ◌∙◌, ap, arith, subst, ⊎_elim}
+use Rattle.std.proofs.Math.Nat.{eq-or-lt_of_le}
+use Rattle.module_api.specs.Behaviour.{Behaviour}
+use Rattle.model_answers.specs.declared.model.Model.{Model}
+use Rattle.run_semantics.specs.declared.outcome.Outcome.{Outcome}
+use Rattle.run_semantics.specs.World.{World}
+use Rattle.run_semantics.specs.Run.{Stage, Running, Over, world_at, next_stage, after, stopped, run_to, Ran}
+use Rattle.run_semantics.proofs.Counts.{count_at_most}
+
+over_stays : (b : Behaviour) (m : Model) (w : World) (outcome : Outcome) (k n : ℕ) → k ≤ n → after b m k ≡ Over w outcome → after b m n ≡ Over w outcome
+over_stays b m w outcome k zero h e = let z : k ≡ zero = omega arith in subst (λ (n : ℕ). after b m n ≡ Over w outcome) z e
+over_stays b m w outcome k (suc n) h e =
+    ⊎_elim (λ (x : k ≡ suc n). subst (λ (i : ℕ). after b m i ≡ Over w outcome) x e) (λ (l : k < suc n). ap (next_stage b m) (over_stays b m w outcome k n (omega arith) e)) (eq-or-lt_of_le h)
+
+-- an end within the limit is the run's
+pub run_over : (b : Behaviour) (m : Model) (w : World) (outcome : Outcome) (k limit : ℕ) → k ≤ limit → Over w outcome ≡ after b m k → run_to b m limit ≡ record { world = w; outcome = outcome }
+run_over b m w outcome k limit h e = ap stopped (over_stays b m w outcome k limit h (sym e))
+
+-- one event on
+pub next_after : (b : Behaviour) (m : Model) (w : World) (s : Stage) (k : ℕ) → Running w ≡ after b m k → s ≡ next_stage b m (Running w) → s ≡ after b m (suc k)
+next_after b m w s k g e = e ∙ ap (next_stage b m) g
+
+pub count_going : (b : Behaviour) (m : Model) (w : World) (k : ℕ) → Running w ≡ after b m k → w.count ≤ k
+count_going b m w k e = omega (arith, count_at_most b m k, ap (λ (s : Stage). (world_at s).count) e)
+
+pub count_over : (b : Behaviour) (m : Model) (w : World) (outcome : Outcome) (k : ℕ) → Over w outcome ≡ after b m k → w.count ≤ k
+count_over b m w outcome k e = omega (arith, count_at_most b m k, ap (λ (s : Stage). (world_at s).count) e)
