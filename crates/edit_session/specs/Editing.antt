@@ -1,5 +1,5 @@
 -- What a session keeps.
-use Rattle.std.specs.Prelude.{◌≡◌, ℕ, Bool, false, List, Option, Some, None, option_map, length, drop, slice_get}
+use Rattle.std.specs.Prelude.{◌≡◌, ◌⊎◌, ℕ, Bool, false, List, Option, Some, None, option_map, length, drop, slice_get}
 use Rattle.module_api.specs.Behaviour.{Behaviour}
 use Rattle.module_api.specs.Meaning.{Module, IsFresh}
 use Rattle.model_answers.specs.declared.model.Model.{Model}
@@ -8,12 +8,16 @@ use Rattle.run_semantics.specs.declared.outcome.Fault.TheVariants.{UnknownClass}
 use Rattle.run_semantics.specs.declared.outcome.Outcome.{Outcome}
 use Rattle.run_semantics.specs.World.{World, HasRoom}
 use Rattle.run_semantics.specs.Perform.{Flow, On, Stopped, Broken}
-use Rattle.run_semantics.specs.Run.{Part, parts_of, prepared, ready, place_all, run_to}
+use Rattle.run_semantics.specs.Run.{Part, parts_of, prepared, ready, place_all, start, Over, run_to}
 use Rattle.run_semantics.specs.Ending.{ending}
 use Rattle.kernel.specs.declared.request.Request.{Request}
 use Rattle.kernel.specs.Seats.{Seat, AreOfKinds, request_for, missing_of}
 use Rattle.edit_session.specs.declared.running.Phase.{Phase}
 use Rattle.edit_session.specs.declared.running.Phase.TheVariants.{Idle, Waiting, Declined}
+use Rattle.edit_session.specs.declared.running.Advance.{Advance}
+use Rattle.edit_session.specs.declared.running.Advance.TheVariants as advance
+use Rattle.edit_session.specs.declared.running.Standing.{Standing}
+use Rattle.edit_session.specs.declared.running.Standing.TheVariants as standing
 use Rattle.edit_session.specs.declared.session.Progress.{Progress}
 use Rattle.edit_session.specs.declared.session.Progress.TheVariants as progress
 use Rattle.edit_session.specs.declared.session.Report.{Report}
@@ -100,6 +104,26 @@ pub record IsKept (b : Behaviour) (seats : List Seat) (w : World) (m : Model) (p
   pub live : IsLive b m w phase
   pub left : IsLeft b m w done
   pub undone : IsUndone phase done
+
+-- ---- how a run gets on
+
+-- where a run stands that has its boxes, waits for one, or can't begin
+abbrev pub Stands : Behaviour → Model → ℕ → World → Standing → Type 0
+Stands b m kept w (standing.Over outcome) = Over w outcome ≡ start b m
+Stands b m kept w (standing.Missing request) = IsFilled b m w × (missing_of w ≡ Some request) × (length w.modules ≡ kept)
+Stands b m kept w standing.Ready = (On w ≡ ready b m) × (w.next ≡ 0)
+
+-- what it waits for is what its model wants after so many boxes; it doesn't go on while there is such a box
+abbrev pub Wants : Model → ℕ → Phase → Standing → Type 0
+Wants m kept phase (standing.Missing request) = wanted_by m kept ≡ Some request
+Wants m kept phase _ = (phase ≡ Declined) ⊎ (wanted_by m kept ≡ None)
+
+-- where a run is after it was asked for: it waits with the boxes that it kept, or it is done
+abbrev pub Advances : Behaviour → Model → ℕ → ℕ → Phase → World → Advance → Type 0
+Advances b m limit kept phase w (advance.Waits request) =
+    IsFilled b m w × (length w.modules ≡ kept) × (wanted_by m kept ≡ Some request)
+Advances b m limit kept phase w (advance.Ends outcome) =
+    whole_run b m limit w outcome × ((phase ≡ Declined) ⊎ (wanted_by m kept ≡ None))
 
 -- ---- premises and answers
 

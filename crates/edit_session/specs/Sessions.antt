@@ -14,7 +14,10 @@ module _ {C X : Type 0} {Y : X → Type 0} where
   -- what callers see of it
   abbrev pub editing_of : ((v : X) → Y v → Module) → Session C X Y → Editing
   editing_of meaning s = record {
-    model = s.model; done = option_map completed_of s.done; phase = s.phase; held = length (seats_in meaning s.kernel)
+    model = s.model;
+    done = option_map completed_of s.done;
+    phase = s.phase;
+    held = length (seats_in meaning s.kernel);
   }
 
   -- what it keeps

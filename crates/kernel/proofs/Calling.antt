@@ -50,9 +50,6 @@ standing_served old new place call result lt serves =
 
 -- the state that is left stands where the old one stood
 module _ (b : Behaviour) (m : Model) (id place : ℕ) (p : Prompt) (core : World) (old new : List Seat) (before : Seat) (reply : Reply) (kind : IsOfKind b before.box) (at : slice_get old place ≡ Some before) (s : ServedAt old new place before (call_of m id p core) (Ok reply)) where
-
-
-
   told_reply : reply ≡ ((b.naming before.box.kind).reply before.box.state (call_of m id p core)).reply
   told_reply = s.answered.0 ∙ ap (λ n. (n.reply before.box.state (call_of m id p core)).reply) kind.named
 
@@ -62,8 +59,8 @@ module _ (b : Behaviour) (m : Model) (id place : ℕ) (p : Prompt) (core : World
   pub modules_after : map instance_of new ≡ slice_set (map instance_of old) place (record (instance_of before) { state = ((b.naming before.box.kind).reply before.box.state (call_of m id p core)).state })
   modules_after =
       let here : instance_of (record { id = before.id; box = s.after }) ≡ record (instance_of before) { state = ((b.naming before.box.kind).reply before.box.state (call_of m id p core)).state } =
-          ap (λ k. record { id = before.id; kind = k; state = s.after.state }) s.same.kind
-          ∙ ap (λ st. record { id = before.id; kind = before.box.kind; state = st }) left_state in
+      ap (λ k. record { id = before.id; kind = k; state = s.after.state }) s.same.kind
+      ∙ ap (λ st. record { id = before.id; kind = before.box.kind; state = st }) left_state in
       ap (map instance_of) s.seats ∙ map-set instance_of old place (record { id = before.id; box = s.after }) ∙ ap (slice_set (map instance_of old) place) here
 
   pub called_is_step : answered m id reply (world_of core new) ≡ called b m id p (world_of core old) place (slice_get (map instance_of old) place)

@@ -471,12 +471,7 @@ impl Core {
     }
 
     /// Creates the submodules of a module, where not too many would live.
-    fn create_few(
-        &mut self,
-        alloc: Global,
-        parent: u32,
-        inside: &[Built],
-    ) -> Result<Turn, NoMemory>
+    fn create_few(&mut self, alloc: Global, parent: u32, inside: &[Built]) -> Result<Turn, NoMemory>
         requires { length self.old.records + 65536 < 2 ^ 32 }
         ensures { IfOk result (λ turn. flow_of turn self.new ≡ unless_many parent inside.now self.old (slice_get inside.now 65535)) }
     {

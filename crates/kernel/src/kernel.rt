@@ -96,6 +96,8 @@ impl<C: Catalogue> Kernel<C> {
 
     /// Sets the network up anew, as the model answers. All boxes are dropped.
     pub fn setup(&mut self, alloc: Global, model: &Model) -> Result<Option<Outcome>, NoMemory>
+        requires { HasKinds C.behaviour (λ v. (⟦<dyn SimpleModule as SimpleModule>⟧ v).meaning) self.old }
+        ensures empty { seats_in (λ v. (⟦<dyn SimpleModule as SimpleModule>⟧ v).meaning) self.new ≡ [] }
         ensures kinds { HasKinds C.behaviour (λ v. (⟦<dyn SimpleModule as SimpleModule>⟧ v).meaning) self.new }
         ensures step { IfOk result (λ over. stage_of over (world_in (λ v. (⟦<dyn SimpleModule as SimpleModule>⟧ v).meaning) self.new) ≡ settled (prepared model.now)) }
     {
@@ -118,6 +120,16 @@ impl<C: Catalogue> Kernel<C> {
             path: path_of(alloc, records, id)?,
             id,
         }))
+    }
+
+    /// The id of the simple module that has no box yet, the least such id.
+    pub fn missing_id(&self) -> Option<u32>
+        ensures { result ≡ option_map (λ (p : Part). p.id) (missing_part (world_in (λ v. (⟦<dyn SimpleModule as SimpleModule>⟧ v).meaning) self.now)) }
+    {
+        match part_at(self.core.records(), self.boxes.len()) {
+            Some((id, _)) => Some(id),
+            None => None,
+        }
     }
 
     /// Keeps a box of the module of that id, or hands it back where memory runs out.
@@ -300,12 +312,7 @@ impl<C: Catalogue> Kernel<C> {
     // ---- the end
 
     /// Tells the module whose box stands at that place that the run is over.
-    fn call_last(
-        &mut self,
-        alloc: Global,
-        model: &Model,
-        id: u32,
-    ) -> Result<Turn, NoMemory>
+    fn call_last(&mut self, alloc: Global, model: &Model, id: u32) -> Result<Turn, NoMemory>
         requires room { (world_in (λ v. (⟦<dyn SimpleModule as SimpleModule>⟧ v).meaning) self.old).next + 1000 < 2 ^ 128 }
         requires kinds { HasKinds C.behaviour (λ v. (⟦<dyn SimpleModule as SimpleModule>⟧ v).meaning) self.old }
         ensures kinds { HasKinds C.behaviour (λ v. (⟦<dyn SimpleModule as SimpleModule>⟧ v).meaning) self.new }

@@ -3,15 +3,13 @@
 
 pub mod ast;
 pub mod error;
-pub mod parse;
-pub mod texts;
-
 mod leaves;
 mod literals;
 mod parameters;
+pub mod parse;
 mod properties;
 mod statistics;
-mod types;
-
 #[cfg(test)]
 mod tests;
+pub mod texts;
+mod types;

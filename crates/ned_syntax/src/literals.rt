@@ -72,10 +72,7 @@ fn literal(alloc: Global, tokens: &[Token]) -> Result<(Value, &[Token]), Refusal
 
 /// An expression: so far a literal.
 #[tactic(auto, unfolding(crate::specs::Grammar::expression))]
-pub(crate) fn expression(
-    alloc: Global,
-    tokens: &[Token],
-) -> Result<(Expression, &[Token]), Refusal>
+pub(crate) fn expression(alloc: Global, tokens: &[Token]) -> Result<(Expression, &[Token]), Refusal>
     ensures { Gives (λ x. (x.0, x.1.now)) result (grammar.expression.read tokens.now) }
 {
     let (literal, rest) = literal(alloc, tokens)?;
@@ -94,10 +91,7 @@ fn default_value(alloc: Global, tokens: &[Token]) -> Result<(ParameterValue, &[T
 }
 
 #[tactic(auto, unfolding(crate::specs::Grammar::value_rule, crate::specs::Grammar::default_value, crate::specs::Grammar::word))]
-pub(crate) fn value(
-    alloc: Global,
-    tokens: &[Token],
-) -> Result<(ParameterValue, &[Token]), Refusal>
+pub(crate) fn value(alloc: Global, tokens: &[Token]) -> Result<(ParameterValue, &[Token]), Refusal>
     ensures { Gives (λ x. (x.0, x.1.now)) result (grammar.value_rule.read tokens.now) }
 {
     if begins_word(Keyword::Default, tokens) {

@@ -223,11 +223,7 @@ fn begins_declaration(tokens: &[Token]) -> bool
         tokens,
         [
             Token::Word(
-                Keyword::Volatile
-                    | Keyword::Bool
-                    | Keyword::Int
-                    | Keyword::Text
-                    | Keyword::Double
+                Keyword::Volatile | Keyword::Bool | Keyword::Int | Keyword::Text | Keyword::Double
             ),
             ..
         ]

@@ -506,11 +506,7 @@ fn optional_body(alloc: Global, tokens: &[Token]) -> Result<(Option<Said>, &[Tok
     Ok((Some(said), rest))
 }
 
-fn statistic_from(
-    alloc: Global,
-    name: Text,
-    said: Option<Said>,
-) -> Result<SectionLine, AllocError>
+fn statistic_from(alloc: Global, name: Text, said: Option<Said>) -> Result<SectionLine, AllocError>
     ensures { IfOk result (λ line. line ≡ grammar.statistic_line name said) }
 {
     let Said { source, modes } = match said {
@@ -536,10 +532,7 @@ fn statistic_from(
 }
 
 #[tactic(auto, unfolding(crate::specs::Grammar::indexed_statistic))]
-fn indexed_statistic(
-    alloc: Global,
-    tokens: &[Token],
-) -> Result<(SectionLine, &[Token]), Refusal>
+fn indexed_statistic(alloc: Global, tokens: &[Token]) -> Result<(SectionLine, &[Token]), Refusal>
     ensures { Gives (λ x. (x.0, x.1.now)) result (grammar.indexed_statistic.read tokens.now) }
 {
     let (name, rest) = bracketed(alloc, tokens)?;

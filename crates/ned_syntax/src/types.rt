@@ -102,10 +102,7 @@ fn network(alloc: Global, tokens: &[Token]) -> Result<(TypeDeclaration, &[Token]
 }
 
 #[tactic(auto, unfolding(crate::specs::Grammar::type_rule, crate::specs::Grammar::simple, crate::specs::Grammar::word))]
-fn type_declaration(
-    alloc: Global,
-    tokens: &[Token],
-) -> Result<(TypeDeclaration, &[Token]), Refusal>
+fn type_declaration(alloc: Global, tokens: &[Token]) -> Result<(TypeDeclaration, &[Token]), Refusal>
     ensures { Gives (λ x. (x.0, x.1.now)) result (grammar.type_rule.read tokens.now) }
 {
     if begins_word(Keyword::Simple, tokens) {
@@ -122,10 +119,7 @@ fn begins_type(tokens: &[Token]) -> bool
     begins_word(Keyword::Simple, tokens) || begins_word(Keyword::Network, tokens)
 }
 
-fn type_list(
-    alloc: Global,
-    tokens: &[Token],
-) -> Result<(Items<TypeDeclaration>, &[Token]), Refusal>
+fn type_list(alloc: Global, tokens: &[Token]) -> Result<(Items<TypeDeclaration>, &[Token]), Refusal>
     ensures { Gives (λ x. (x.0, x.1.now)) result ((many grammar.type_rule).read tokens.now) }
 {
     let mut types = Items::new(alloc);

@@ -12,10 +12,10 @@ length-one_more rs r = omega (arith, length-append rs (r ∷ []))
 pub with_submodules-cons : (parent : ℕ) (b : Built) (bs : List Built) (w : World) → with_submodules parent bs (with_submodules parent (b ∷ []) w) ≡ with_submodules parent (b ∷ bs) w
 with_submodules-cons parent b bs w =
     let records : (w.records ++ record_under parent b ∷ []) ++ map (record_under parent) bs ≡ w.records ++ record_under parent b ∷ map (record_under parent) bs =
-        append_assoc w.records (record_under parent b ∷ []) (map (record_under parent) bs) in
+    append_assoc w.records (record_under parent b ∷ []) (map (record_under parent) bs) in
     let ids : ids_from (suc (length (w.records ++ record_under parent b ∷ []))) bs ≡ ids_from (suc (suc (length w.records))) bs =
-        ap (λ n. ids_from (suc n) bs) (length-one_more w.records (record_under parent b)) in
+    ap (λ n. ids_from (suc n) bs) (length-one_more w.records (record_under parent b)) in
     let live : (w.live ++ suc (length w.records) ∷ []) ++ ids_from (suc (length (w.records ++ record_under parent b ∷ []))) bs ≡ w.live ++ suc (length w.records) ∷ ids_from (suc (suc (length w.records))) bs =
-        ap (λ xs. (w.live ++ suc (length w.records) ∷ []) ++ xs) ids ∙ append_assoc w.live (suc (length w.records) ∷ []) (ids_from (suc (suc (length w.records))) bs) in
+    ap (λ xs. (w.live ++ suc (length w.records) ∷ []) ++ xs) ids ∙ append_assoc w.live (suc (length w.records) ∷ []) (ids_from (suc (suc (length w.records))) bs) in
     ap (λ (rs : List Record). record w { records = rs; live = (w.live ++ suc (length w.records) ∷ []) ++ ids_from (suc (length (w.records ++ record_under parent b ∷ []))) bs }) records
     ∙ ap (λ (ids : List ℕ). record w { records = w.records ++ record_under parent b ∷ map (record_under parent) bs; live = ids }) live

@@ -72,7 +72,7 @@ scheduled_at id s w time =
     if list_any (λ p. is_timer id s.timer p) w.pending then broken id fault.AlreadyScheduled w
     else On (record w {
       pending = inserted (record { time = time; priority = s.priority; number = w.next; id = id; what = Timer s.timer s.kind }) w.pending;
-      next = w.next + 1
+      next = w.next + 1;
     })
 
 abbrev pub scheduled : ℕ → Schedule → World → Option ℕ → Flow

@@ -28,8 +28,18 @@ pub record World : Type 0 where
 -- nothing stands, and nothing happened
 abbrev pub empty : World
 empty = record {
-  clock = 0; count = 0; records = []; live = []; modules = []; started = []; finished = []; pending = []; next = 0;
-  ended = false; emissions = []; questions = []
+  clock = 0;
+  count = 0;
+  records = [];
+  live = [];
+  modules = [];
+  started = [];
+  finished = [];
+  pending = [];
+  next = 0;
+  ended = false;
+  emissions = [];
+  questions = [];
 }
 
 -- a question is asked in the event that is executed

@@ -19,28 +19,23 @@ abbrev pub timer_set : ℕ → ℤ → Action
 timer_set delay priority =
     ScheduleAfter (record { timer = 0; delay = delay; priority = priority; kind = pos 0 })
 
--- what a module does with its parameters: the actions, and its state after them
-pub record Work : Type 0 where
-  pub actions : List Action
-  pub state : State
-
 -- THE RULE ON PARAMETERS: where one is missing nothing is done, where one is wrong the only action is a Fail with the
--- name of the first of them, and both leave the state. Else the work is done.
+-- name of the first of them, and both leave the state. Else these actions are done, and the next state is taken.
 
-abbrev pub actions_of : Found Work → List Action
+abbrev pub actions_of : Found (List Action) → List Action
 actions_of Missing = []
 actions_of (Wrong name) = Fail (text_of name) ∷ []
-actions_of (Is work) = work.actions
+actions_of (Is actions) = actions
 
-abbrev pub state_after : State → Found Work → State
-state_after state Missing = state
-state_after state (Wrong name) = state
-state_after state (Is work) = work.state
+abbrev pub state_after : State → State → Found (List Action) → State
+state_after state next Missing = state
+state_after state next (Wrong name) = state
+state_after state next (Is actions) = next
 
--- what is replied in this state after these reads
-abbrev pub worked : State → List Read → Found Work → Replied
-worked state reads found =
-    record { reply = record { reads = reads; actions = actions_of found }; state = state_after state found }
+-- what is replied in this state, with that one as the next, after these reads
+abbrev pub worked : State → State → List Read → Found (List Action) → Replied
+worked state next reads found =
+    record { reply = record { reads = reads; actions = actions_of found }; state = state_after state next found }
 
 -- these actions with no reads, and then this state
 abbrev pub done : List Action → State → Replied

@@ -97,13 +97,12 @@ fired n firing = Emit (codes "fired") (pos n) ∷ (extra_emitted firing.extra ++
 -- to initialization: the first timer
 abbrev pub started : State → Call → Replied
 started state call =
-    worked state pace_reads (found_map (λ pace. record { actions = scheduled 0 pace; state = state }) (pace_in call))
+    worked state state pace_reads (found_map (scheduled 0) (pace_in call))
 
 -- to timer n
 abbrev pub fired_at : ℕ → State → Call → Replied
 fired_at n state call =
-    worked state (timer_reads (is_late n (late_in call)))
-    (found_map (λ firing. record { actions = fired n firing; state = state_of n }) (firing_in n call))
+    worked state (state_of n) (timer_reads (is_late n (late_in call))) (found_map (fired n) (firing_in n call))
 
 -- to a timer of any number: n rises
 abbrev pub timer_replied : State → Call → Replied

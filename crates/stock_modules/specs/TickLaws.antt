@@ -1,17 +1,17 @@
 -- The laws of a Tick.
-use Rattle.std.proofs.Common.{◌≡◌, ◌∙◌, ◌<◌, ◌^◌, ℕ, ℤ, Bool, true, false, IsTrue, List, Option, refl, ap, sym, subst, lit<}
+use Rattle.std.proofs.Common.{◌≡◌, ◌∙◌, ℕ, ℤ, Bool, true, false, IsTrue, List, Option, refl, ap, sym, lit<}
 use Rattle.std.proofs.lemmas.Bool.{false≢true}
 use Rattle.sim_values.specs.declared.value.Value.{Value}
 use Rattle.module_api.specs.declared.call.Call.{Call}
 use Rattle.module_api.specs.declared.call.Gate.{Gate}
 use Rattle.module_api.specs.declared.call.Parameter.{Parameter}
+use Rattle.module_api.specs.declared.reply.Action.{Action}
 use Rattle.module_api.specs.Behaviour.{State, Replied}
 use Rattle.module_api.specs.Laws.{with_values, AgreesOn, law_of_reads, KeepsStates}
 use Rattle.stock_modules.specs.declared.names.ParameterName.TheVariants.{Count, Gap, Priority, Late, Extra}
 use Rattle.stock_modules.specs.declared.found.Found.{Found}
 use Rattle.stock_modules.specs.declared.found.Found.TheVariants.{Missing, Wrong, Is}
 use Rattle.stock_modules.specs.declared.tick.Pace.{Pace}
-use Rattle.stock_modules.specs.declared.tick.Firing.{Firing}
 use Rattle.module_api.specs.Values.{value_of}
 use Rattle.stock_modules.specs.Names.{text_of}
 use Rattle.stock_modules.specs.Found.{given, whole_found, time_found, priority_found, found_map}
@@ -26,13 +26,13 @@ extra_in call = whole_found Extra (given Extra call)
 -- the reply to initialization from what was found
 abbrev started_with : State → Found Pace → Replied
 started_with state pace =
-    worked state pace_reads (found_map (λ p. record { actions = scheduled 0 p; state = state }) pace)
+    worked state state pace_reads (found_map (scheduled 0) pace)
 
 -- the reply to timer n from what was found, where `extra` is read or not
 abbrev fired_with : Bool → ℕ → State → Found Pace → Found ℤ → Found ℤ → Replied
 fired_with wanted n state pace late extra =
-    worked state (timer_reads wanted)
-    (found_map (λ firing. record { actions = fired n firing; state = state_of n }) (firing_found pace late (extra_found wanted extra)))
+    worked state (state_of n) (timer_reads wanted)
+    (found_map (fired n) (firing_found pace late (extra_found wanted extra)))
 
 -- where `extra` is not read, it doesn't matter
 fired_with-extra : (wanted : Bool) (n : ℕ) (state : State) (pace : Found Pace) (late x y : Found ℤ) → (wanted ≡ true → x ≡ y) → fired_with wanted n state pace late x ≡ fired_with wanted n state pace late y
@@ -86,23 +86,20 @@ pub tick_reads : law_of_reads tick_naming
 unfolding tick_naming
 tick_reads = timed_reads started timer_replied started-agrees timer-agrees
 
-started-state : (pace : Found Pace) (state : State) → state_after state (found_map (λ p. record { actions = scheduled 0 p; state = state }) pace) ≡ state
-started-state Missing state = refl
-started-state (Wrong name) state = refl
-started-state (Is pace) state = refl
-
-fired-state : (firing : Found Firing) (n : ℕ) (state : State) → n < 2 ^ 63 → IsTrue (is_tick_state state) → IsTrue (is_tick_state (state_after state (found_map (λ f. record { actions = fired n f; state = state_of n }) firing)))
-fired-state Missing n state small h = h
-fired-state (Wrong name) n state small h = h
-fired-state (Is firing) n state small h = is_tick_state-state_of n small
+-- where both states are states, so is the one that is left
+state_after-keeps : (found : Found (List Action)) (state next : State) → IsTrue (is_tick_state state) → IsTrue (is_tick_state next) → IsTrue (is_tick_state (state_after state next found))
+state_after-keeps Missing state next h e = h
+state_after-keeps (Wrong name) state next h e = h
+state_after-keeps (Is actions) state next h e = e
 
 started-keeps : KeepsIn is_tick_state started
-started-keeps state call h =
-    subst (λ (s : State). IsTrue (is_tick_state s)) (sym (started-state (pace_in call) state)) h
+started-keeps state call h = state_after-keeps (found_map (scheduled 0) (pace_in call)) state state h h
 
 timer-keeps : KeepsIn is_tick_state timer_replied
 timer-keeps state call h =
-    fired-state (firing_in (next_number (number_of state)) call) (next_number (number_of state)) state (next_number-lt (number_of state)) h
+    let n = next_number (number_of state) in
+    state_after-keeps (found_map (fired n) (firing_in n call)) state (state_of n) h
+    (is_tick_state-state_of n (next_number-lt (number_of state)))
 
 -- A TICK'S STATES ARE STATES
 pub tick_states : KeepsStates tick_naming

@@ -1,8 +1,9 @@
 //! A module that fires at equal gaps.
 
 ghost use Rattle.std.specs.Prelude.{◌≡◌, ◌∷◌, ◌++◌, ◌<◌, ◌^◌, IfOk, OnOk};
-ghost use Rattle.stock_modules.specs.Found.{given, whole_found};
-ghost use Rattle.stock_modules.specs.Tick.{next_number, pace_in, is_late, extra_found, firing_found, pace_reads, timer_reads, scheduled, fired};
+ghost use Rattle.stock_modules.specs.Found.{given, whole_found, found_map};
+ghost use Rattle.stock_modules.specs.Replies.{actions_of, state_after};
+ghost use Rattle.stock_modules.specs.Tick.{next_number, pace_in, is_late, extra_found, firing_found, pace_reads, timer_reads, scheduled, fired, state_of};
 
 use crate::found::{Found, priority, time, whole};
 use crate::names::ParameterName;
@@ -138,6 +139,45 @@ fn fired(alloc: Global, n: u64, firing: Firing) -> Result<Items<Action>, NoMemor
     Ok(actions)
 }
 
+/// The actions of initialization, from what was found.
+fn start_actions(alloc: Global, pace: Found<Pace>) -> Result<Items<Action>, NoMemory>
+    ensures { IfOk result (λ actions. actions ≡ actions_of (found_map (scheduled 0) pace)) }
+{
+    let mut actions = Items::new(alloc);
+    match pace {
+        Found::Missing => {}
+        Found::Wrong(name) => actions = failure(alloc, name)?,
+        Found::Is(pace) => schedule(&mut actions, 0, pace)?,
+    }
+    Ok(actions)
+}
+
+/// The actions of firing n, from what was found.
+fn firing_actions(alloc: Global, n: u64, firing: Found<Firing>) -> Result<Items<Action>, NoMemory>
+    requires { n < 2 ^ 63 }
+    ensures { IfOk result (λ actions. actions ≡ actions_of (found_map (fired n) firing)) }
+{
+    match firing {
+        Found::Missing => Ok(Items::new(alloc)),
+        Found::Wrong(name) => failure(alloc, name),
+        Found::Is(firing) => fired(alloc, n, firing),
+    }
+}
+
+/// How often it has fired after firing n was due, from what was found.
+fn number_after(before: u64, n: u64, found: &Found<Firing>) -> u64
+    requires before { before < 2 ^ 63 }
+    requires next { n < 2 ^ 63 }
+    ensures state { state_of result ≡ state_after (state_of before) (state_of n) (found_map (fired n) found.now) }
+    ensures bounded { result < 2 ^ 63 }
+{
+    match found {
+        Found::Missing => before,
+        Found::Wrong(_) => before,
+        Found::Is(_) => n,
+    }
+}
+
 /// The number after one more firing.
 fn next_number(n: u64) -> u64
     requires { n < 2 ^ 63 }
@@ -204,7 +244,7 @@ impl SimpleModule for Tick {
 
 impl Tick {
     ghost use Rattle.module_api.specs.Meaning.{Answered};
-    ghost use Rattle.stock_modules.specs.Tick.{started, timer_replied, state_of, tick_module};
+    ghost use Rattle.stock_modules.specs.Tick.{started, timer_replied, tick_module};
 
     /// Answers a call, whatever it is for.
     #[tactic(auto, unfolding(crate::specs::Tick::tick_naming))]
@@ -223,12 +263,7 @@ impl Tick {
         ensures { IfOk result (λ reply. record { reply = reply; state = state_of self.now } ≡ started (state_of self.now) call.now) }
     {
         let reads = pace_reads(alloc)?;
-        let mut actions = Items::new(alloc);
-        match pace_in(call) {
-            Found::Missing => {}
-            Found::Wrong(name) => actions = failure(alloc, name)?,
-            Found::Is(pace) => schedule(&mut actions, 0, pace)?,
-        }
+        let actions = start_actions(alloc, pace_in(call))?;
         Ok(Reply { reads, actions })
     }
 
@@ -241,15 +276,10 @@ impl Tick {
         let late = whole(call, ParameterName::Late);
         let is_late = is_late(n, late);
         let reads = timer_reads(alloc, is_late)?;
-        let mut actions = Items::new(alloc);
-        match firing_in(call, late, is_late) {
-            Found::Missing => {}
-            Found::Wrong(name) => actions = failure(alloc, name)?,
-            Found::Is(firing) => {
-                actions = fired(alloc, n, firing)?;
-                self.n = n;
-            }
-        }
+        let firing = firing_in(call, late, is_late);
+        let after = number_after(self.n, n, &firing);
+        let actions = firing_actions(alloc, n, firing)?;
+        self.n = after;
         Ok(Reply { reads, actions })
     }
 }

@@ -16,7 +16,7 @@ pub returns-in_default-clause-step : goal.returns-in_default-clause-step
 returns-in_default-clause-step g c =
     sym (stops c.in_ok-turn.turn (world_in (λ v. (g.dyn-1.0.entry v).1.meaning) c.initialize.new.self) (one_stage g.C.Catalogue.behaviour c.args.model.now c.args.stage (drop (c.loop-place.place + 1) (standing (world_in (λ v. (g.dyn-1.0.entry v).1.meaning) c.args.self.now).modules))) c.in_default.not-GoOn)
     ∙ stage_step g.C.Catalogue.behaviour c.args.model.now c.args.stage c.loop-place.place (standing (world_in (λ v. (g.dyn-1.0.entry v).1.meaning) c.args.self.now).modules) _ (world_in (λ v. (g.dyn-1.0.entry v).1.meaning) c.loop-place.self) (flow_of c.in_ok-turn.turn (world_in (λ v. (g.dyn-1.0.entry v).1.meaning) c.initialize.new.self)) _
-      c.loop-place.invariant.standing (omega (arith, c.loop-place-test.true, c.len-place-end.ensures, length-standing (seats_in (λ v. (g.dyn-1.0.entry v).1.meaning) c.args.self.now), length-map c.args.self.now.boxes (seat_of (λ v. (g.dyn-1.0.entry v).1.meaning)))) c.in_ok-turn.ensures.step c.loop-place.invariant.flow
+    c.loop-place.invariant.standing (omega (arith, c.loop-place-test.true, c.len-place-end.ensures, length-standing (seats_in (λ v. (g.dyn-1.0.entry v).1.meaning) c.args.self.now), length-map c.args.self.now.boxes (seat_of (λ v. (g.dyn-1.0.entry v).1.meaning)))) c.in_ok-turn.ensures.step c.loop-place.invariant.flow
 
 pub loop-place-preserved : goal.loop-place-preserved
 loop-place-preserved g c = record {

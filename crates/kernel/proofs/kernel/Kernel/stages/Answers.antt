@@ -15,7 +15,7 @@ pub returns-in_default-clause-step : goal.returns-in_default-clause-step
 returns-in_default-clause-step g c =
     sym (stops c.in_ok-turn.turn (world_in (λ v. (g.dyn-1.0.entry v).1.meaning) c.one_stage.new.self) (stages_from g.C.Catalogue.behaviour c.args.model.now (standing (world_in (λ v. (g.dyn-1.0.entry v).1.meaning) c.args.self.now).modules) (c.loop-stage.stage + 1) (c.args.most - (c.loop-stage.stage + 1))) c.in_default.not-GoOn)
     ∙ stages_on g.C.Catalogue.behaviour c.args.model.now (standing (world_in (λ v. (g.dyn-1.0.entry v).1.meaning) c.args.self.now).modules) (standing (world_in (λ v. (g.dyn-1.0.entry v).1.meaning) c.loop-stage.self).modules) c.loop-stage.stage c.args.most (world_in (λ v. (g.dyn-1.0.entry v).1.meaning) c.loop-stage.self) (flow_of c.in_ok-turn.turn (world_in (λ v. (g.dyn-1.0.entry v).1.meaning) c.one_stage.new.self)) _
-      c.loop-stage.invariant.standing (omega arith) c.in_ok-turn.ensures.step c.loop-stage.invariant.flow
+    c.loop-stage.invariant.standing (omega arith) c.in_ok-turn.ensures.step c.loop-stage.invariant.flow
 
 pub loop-stage-preserved : goal.loop-stage-preserved
 loop-stage-preserved g c = record {

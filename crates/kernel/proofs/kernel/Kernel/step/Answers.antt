@@ -8,6 +8,6 @@ use Rattle.kernel.proofs.kernel.Kernel.step.Goals as goal
 pub returns-clause-room : goal.returns-clause-room
 returns-clause-room g c =
     let kept = call_leaves g.C.Catalogue.behaviour c.args.model.now c.in-Some.event.id (Message c.message_of.result) c.in_ok-turn.turn
-        (world_in (λ v. (g.dyn-1.0.entry v).1.meaning) (record c.args.self.now { core = c.begin.new.self }))
-        (world_in (λ v. (g.dyn-1.0.entry v).1.meaning) c.call_module.new.self) c.in_ok-turn.ensures.step in
+    (world_in (λ v. (g.dyn-1.0.entry v).1.meaning) (record c.args.self.now { core = c.begin.new.self }))
+    (world_in (λ v. (g.dyn-1.0.entry v).1.meaning) c.call_module.new.self) c.in_ok-turn.ensures.step in
     omega (arith, kept.next, kept.count, ap (λ (w : World). w.next) c.in-Some.ensures.1, ap (λ (w : World). w.count) c.in-Some.ensures.1, c.requires.room)

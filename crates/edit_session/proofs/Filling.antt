@@ -1,0 +1,156 @@
+-- A run that gets its boxes, one after the other.
+use Rattle.std.proofs.Common.{◌≡◌, ◌⊎◌, ℕ, zero, suc, ◌+◌, ◌≤◌, ◌<◌, Bool, true, false, List, [], ◌∷◌, ◌++◌, drop, Option, Some, None, option_map, refl, sym, ap, ◌∙◌, subst, inl, inr, arith, slice_get, length, map, if◌then◌else◌}
+use Rattle.module_api.specs.Behaviour.{Behaviour}
+use Rattle.module_api.specs.Meaning.{Module, IsOfKind, IsFresh}
+use Rattle.model_answers.specs.declared.answer.Answer.{Answer}
+use Rattle.model_answers.specs.declared.answer.Answer.TheVariants as answer
+use Rattle.model_answers.specs.declared.answer.Built.{Built}
+use Rattle.model_answers.specs.declared.answer.Question.TheVariants.{Root, Build}
+use Rattle.model_answers.specs.declared.model.Model.{Model}
+use Rattle.model_answers.specs.declared.record.Record.{Record}
+use Rattle.model_answers.specs.Answering.{answer_of}
+use Rattle.model_answers.specs.Records.{path_of}
+use Rattle.run_semantics.specs.declared.outcome.Fault.TheVariants.{UnknownClass}
+use Rattle.run_semantics.specs.declared.outcome.Outcome.{Outcome}
+use Rattle.run_semantics.specs.declared.outcome.Outcome.TheVariants as outcomes
+use Rattle.run_semantics.specs.declared.traces.Instance.{Instance}
+use Rattle.run_semantics.specs.World.{World, empty, asked}
+use Rattle.run_semantics.specs.Perform.{Flow, On, Stopped, Broken, ◌>>=◌}
+use Rattle.run_semantics.specs.Run.{Part, parts_from, parts_of, rooted, built, unless_many, root_asked, inside_asked, prepared, place_parts, ready, placed, place, place_all, initialize_all, start, Stage, Running, Over, settled, is_fault, after, run_to, Ran}
+use Rattle.run_semantics.specs.Ending.{ending}
+use Rattle.run_semantics.proofs.Ends.{run_over}
+use Rattle.kernel.specs.declared.request.Request.{Request}
+use Rattle.kernel.specs.Seats.{request_for, missing_part, missing_of}
+use Rattle.edit_session.specs.declared.running.Phase.{Phase}
+use Rattle.edit_session.specs.declared.running.Phase.TheVariants.{Idle, Waiting, Declined}
+use Rattle.edit_session.specs.Editing.{wanted_after, wanted_by, kept_boxes, IsFilled, IsDeclined, whole_run}
+
+-- ---- setup goes on, or ends in a fault
+
+-- it isn't stopped, and a world in which it goes on has no insertion yet
+abbrev pub GoesOn : Flow → Type 0
+GoesOn (On w) = w.next ≡ 0
+GoesOn (Stopped w) = ⊥
+GoesOn (Broken w path f) = Unit {0}
+
+root_goes : (found : Answer) → GoesOn (rooted found (asked Root empty))
+root_goes (answer.Root name) = refl
+root_goes (answer.Inside bs) = tt
+root_goes (answer.Value v) = tt
+root_goes (answer.Fault path f) = tt
+root_goes answer.Absent = tt
+
+many_goes : (parent : ℕ) (bs : List Built) (w : World) (one : Option Built) → w.next ≡ 0 → GoesOn (unless_many parent bs w one)
+many_goes parent bs w (Some b) e = tt
+many_goes parent bs w None e = e
+
+built_goes : (parent : ℕ) (found : Answer) (w : World) → w.next ≡ 0 → GoesOn (built parent found w)
+built_goes parent (answer.Inside bs) w e = many_goes parent bs w (slice_get bs 65535) e
+built_goes parent (answer.Root name) w e = tt
+built_goes parent (answer.Value v) w e = tt
+built_goes parent (answer.Fault path f) w e = tt
+built_goes parent answer.Absent w e = tt
+
+then_goes : (fl : Flow) (k : World → Flow) → GoesOn fl → ((w : World) → w.next ≡ 0 → GoesOn (k w)) → GoesOn (fl >>= k)
+then_goes (On w) k h g = g w h
+then_goes (Stopped w) k h g = h
+then_goes (Broken w path f) k h g = tt
+
+prepared_goes : (m : Model) → GoesOn (prepared m)
+prepared_goes m = then_goes (root_asked m) (inside_asked m) (root_goes (answer_of m [] Root)) (λ w e. built_goes 1 (answer_of m w.records (Build 1)) (asked (Build 1) w) e)
+
+running_on : (fl : Flow) (w : World) → GoesOn fl → Running w ≡ settled fl → (fl ≡ On w) × (w.next ≡ 0)
+running_on (On v) w h e = let s : v ≡ w = cc in (ap On s, ap (λ (u : World). u.next) (sym s) ∙ h)
+running_on (Stopped v) w h e = absurd h
+running_on (Broken v path f) w h e = cc
+
+-- set up, without a box
+pub filled_first : (b : Behaviour) (m : Model) (w : World) → w.modules ≡ [] → Running w ≡ settled (prepared m) → IsFilled b m w
+filled_first b m w none e =
+    let r = running_on (prepared m) w (prepared_goes m) e in
+    record {
+      base = w;
+      prepared_is = r.0;
+      records = refl;
+      next = r.1;
+      flow = ap (λ (ms : List Instance). place_all b (drop (length ms) (parts_of w)) w) none ∙ sym (ap (λ (fl : Flow). fl >>= place_parts b) r.0);
+    }
+
+over_broken : (fl : Flow) (k : World → Flow) (w : World) (outcome : Outcome) → Over w outcome ≡ settled fl → Over w outcome ≡ settled (fl >>= k)
+over_broken (On v) k w outcome e = cc
+over_broken (Stopped v) k w outcome e = cc
+over_broken (Broken v path f) k w outcome e = e
+
+over_wants_none : (fl : Flow) (held : ℕ) (w : World) (outcome : Outcome) → Over w outcome ≡ settled fl → wanted_after fl held ≡ None
+over_wants_none (On v) held w outcome e = cc
+over_wants_none (Stopped v) held w outcome e = cc
+over_wants_none (Broken v path f) held w outcome e = refl
+
+over_is_fault : (fl : Flow) (w : World) (outcome : Outcome) → Over w outcome ≡ settled fl → is_fault outcome ≡ true
+over_is_fault (On v) w outcome e = cc
+over_is_fault (Stopped v) w outcome e = cc
+over_is_fault (Broken v path f) w outcome e = let s : outcome ≡ outcomes.Fault v.count path f = cc in rw s refl
+
+-- a fault in setup is the start's
+pub start_over : (b : Behaviour) (m : Model) (w : World) (outcome : Outcome) → Over w outcome ≡ settled (prepared m) → Over w outcome ≡ start b m
+start_over b m w outcome e = over_broken (ready b m) (initialize_all b m) w outcome (over_broken (prepared m) (place_parts b) w outcome e)
+
+pub setup_wants_none : (m : Model) (held : ℕ) (w : World) (outcome : Outcome) → Over w outcome ≡ settled (prepared m) → wanted_by m held ≡ None
+setup_wants_none m held w outcome e = over_wants_none (prepared m) held w outcome e
+
+-- ---- what is wanted
+
+wanted_at : (fl : Flow) (base w : World) → fl ≡ On base → w.records ≡ base.records → missing_of w ≡ wanted_after fl (length w.modules)
+wanted_at fl base w e r =
+    ap (λ (rs : List Record). option_map (λ (p : Part). record { kind = p.kind; path = path_of rs p.id; id = p.id }) (slice_get (parts_from 1 rs) (length w.modules))) r
+    ∙ sym (ap (λ (f : Flow). wanted_after f (length w.modules)) e)
+
+pub filled_wants : (b : Behaviour) (m : Model) (w : World) → IsFilled b m w → missing_of w ≡ wanted_by m (length w.modules)
+filled_wants b m w filled = wanted_at (prepared m) filled.base w filled.prepared_is filled.records
+
+none_part : {A B : Type 0} (f : A → B) (o : Option A) → option_map f o ≡ None → o ≡ None
+none_part f None e = refl
+none_part f (Some p) e = cc
+
+some_part : {A B : Type 0} (f : A → B) (o : Option A) (y : B) → option_map f o ≡ Some y → (x : A) × (o ≡ Some x) × (y ≡ f x)
+some_part f None y e = cc
+some_part f (Some x) y e = (x, refl, cc)
+
+drop_none : (ps : List Part) (n : ℕ) → slice_get ps n ≡ None → drop n ps ≡ []
+drop_none [] zero e = refl
+drop_none [] (suc n) e = refl
+drop_none (p ∷ ps) zero e = cc
+drop_none (p ∷ ps) (suc n) e = drop_none ps n e
+
+-- all boxes are there
+pub filled_ready : (b : Behaviour) (m : Model) (w : World) → IsFilled b m w → missing_of w ≡ None → On w ≡ ready b m
+filled_ready b m w filled e =
+    ap (λ (ps : List Part). place_all b ps w) (sym (drop_none (parts_of w) (length w.modules) (none_part (request_for w) (missing_part w) e)))
+    ∙ filled.flow
+
+-- ---- one more box
+
+drop_get : (ps : List Part) (n : ℕ) (p : Part) → slice_get ps n ≡ Some p → drop n ps ≡ p ∷ drop (suc n) ps
+drop_get [] n p e = cc
+drop_get (q ∷ ps) zero p e = let a : q ≡ p = cc in ap (λ r. r ∷ ps) a
+drop_get (q ∷ ps) (suc n) p e = drop_get ps n p e
+
+length_more : (is : List Instance) (i : Instance) → length (is ++ i ∷ []) ≡ suc (length is)
+length_more [] i = refl
+length_more (j ∷ is) i = ap suc (length_more is i)
+
+known_place : (b : Behaviour) (p : Part) (w : World) (c : Bool) → b.known p.kind ≡ c → c ≡ true → place b p w ≡ On (placed p (b.naming p.kind).initial w)
+known_place b p w c e d = rw (e ∙ d) refl
+
+unknown_place : (b : Behaviour) (p : Part) (w : World) → b.known p.kind ≡ false → place b p w ≡ Broken w (path_of w.records p.id) UnknownClass
+unknown_place b p w e = rw e refl
+
+-- ---- a run that can't begin
+
+ended : (b : Behaviour) (m : Model) (w : World) (outcome : Outcome) → is_fault outcome ≡ true → ending b m (record { world = w; outcome = outcome }) ≡ record { world = w; outcome = outcome }
+ended b m w outcome t = rw t refl
+
+pub whole_over : (b : Behaviour) (m : Model) (limit : ℕ) (w : World) (outcome : Outcome) → Over w outcome ≡ start b m → whole_run b m limit w outcome
+whole_over b m limit w outcome e =
+    ap (ending b m) (run_over b m w outcome zero limit (omega arith) e)
+    ∙ ended b m w outcome (over_is_fault (ready b m >>= initialize_all b m) w outcome e)
