@@ -154,3 +154,48 @@ pub whole_over : (b : Behaviour) (m : Model) (limit : ℕ) (w : World) (outcome 
 whole_over b m limit w outcome e =
     ap (ending b m) (run_over b m w outcome zero limit (omega arith) e)
     ∙ ended b m w outcome (over_is_fault (ready b m >>= initialize_all b m) w outcome e)
+
+-- ---- a box is supplied, or there is none
+
+-- the part that a request is for
+requested : (w : World) (r : Request) → missing_of w ≡ Some r → (p : Part) × (missing_part w ≡ Some p) × (r ≡ request_for w p)
+requested w r e = some_part (request_for w) (missing_part w) r e
+
+-- one more box
+pub filled_next : (b : Behaviour) (m : Model) (w u : World) (r : Request) (box : Module) → IsFilled b m w → missing_of w ≡ Some r → IsFresh b r.kind box → u ≡ placed (record { id = r.id; kind = box.kind }) box.state w → IsFilled b m u
+filled_next b m w u r box filled wanted fresh e =
+    let q = requested w r wanted in
+    let kind : r.kind ≡ q.0.kind = ap (λ (x : Request). x.kind) q.2 in
+    let id : r.id ≡ q.0.id = ap (λ (x : Request). x.id) q.2 in
+    let here : placed (record { id = r.id; kind = box.kind }) box.state w ≡ placed q.0 (b.naming q.0.kind).initial w =
+        ap (λ i. placed (record { id = i; kind = box.kind }) box.state w) id
+        ∙ ap (λ k. placed (record { id = q.0.id; kind = k }) box.state w) (fresh.kind ∙ kind)
+        ∙ ap (λ s. placed q.0 s w) (fresh.initial ∙ ap (λ k. (b.naming k).initial) kind) in
+    let known : b.known q.0.kind ≡ true = ap b.known (sym (fresh.kind ∙ kind)) ∙ fresh.of_kind.known in
+    let now : u ≡ placed q.0 (b.naming q.0.kind).initial w = e ∙ here in
+    let more : length (placed q.0 (b.naming q.0.kind).initial w).modules ≡ suc (length w.modules) = length_more w.modules _ in
+    subst (IsFilled b m) (sym now) (record {
+      base = filled.base;
+      prepared_is = filled.prepared_is;
+      records = filled.records;
+      next = filled.next;
+      flow =
+          ap (λ n. place_all b (drop n (parts_of w)) (placed q.0 (b.naming q.0.kind).initial w)) more
+          ∙ sym (ap (λ (fl : Flow). fl >>= place_all b (drop (suc (length w.modules)) (parts_of w))) (known_place b q.0 w true known refl))
+          ∙ ap (λ (ps : List Part). place_all b ps w) (sym (drop_get (parts_of w) (length w.modules) q.0 q.1))
+          ∙ filled.flow;
+    })
+
+-- there is none
+pub filled_declined : (b : Behaviour) (m : Model) (w : World) (r : Request) → IsFilled b m w → missing_of w ≡ Some r → b.known r.kind ≡ false → IsDeclined b m w
+filled_declined b m w r filled wanted unknown =
+    let q = requested w r wanted in
+    let none : b.known q.0.kind ≡ false = ap (λ (x : Request). b.known x.kind) (sym q.2) ∙ unknown in
+    record {
+      part = q.0;
+      missing = q.1;
+      flow =
+          sym (ap (λ (fl : Flow). fl >>= place_all b (drop (suc (length w.modules)) (parts_of w))) (unknown_place b q.0 w none))
+          ∙ ap (λ (ps : List Part). place_all b ps w) (sym (drop_get (parts_of w) (length w.modules) q.0 q.1))
+          ∙ filled.flow;
+    }

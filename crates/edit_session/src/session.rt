@@ -1,23 +1,24 @@
 //! A session.
 
-ghost use Rattle.std.specs.Prelude.{◌≡◌, ℕ, ◌+◌, Some, None, OnOk, OnErr, IfOk, IfErr, ◌⊎◌};
+ghost use Rattle.std.specs.Prelude.{◌≡◌, ◌↔◌, ◌+◌, Some, None, IsSome, OnOk, OnErr, IfOk, IfErr, ◌⊎◌, option_map, option_copied};
 ghost use Rattle.run_semantics.specs.Run.{run_to};
 ghost use Rattle.run_semantics.specs.Ending.{ending};
 ghost use Rattle.kernel.specs.Kernels.{world_in, seats_in, HasKinds};
-ghost use Rattle.edit_session.specs.Editing.{IfDone, IfWant, wanted_by, kept_boxes};
+ghost use Rattle.edit_session.specs.Editing.{Completed, IfDone, IfWant, IsFor, IsUnknown, wanted_by, wanted_of, kept_boxes};
+ghost use Rattle.kernel.specs.declared.request.Request.{Request};
 ghost use Rattle.edit_session.specs.Sessions.{editing_of, IsSound};
 
 use crate::running::{Advance, Phase, carry_on};
 use kernel::kernel::Kernel;
 use kernel::request::Request;
 use model_answers::model::Model;
-use model_answers::record::path_of;
 use module_api::catalogue::Catalogue;
 use module_api::simple_module::SimpleModule;
 use module_tree::Tree;
-use run_semantics::outcome::{Fault, Outcome};
+use run_semantics::outcome::Outcome;
 use sim_values::NoMemory;
-use std::alloc::{AllocFailed, Global};
+use std::alloc::Global;
+use thiserror::Error;
 
 /// A run that is done.
 #[derive(Drop)]
@@ -42,6 +43,29 @@ pub enum Progress {
     /// It waits for a box.
     Want(Request),
     Done(Report),
+}
+
+/// No box is waited for.
+#[derive(Clone, Copy, Debug, PartialEq, Eq, Error)]
+#[error("NotWanted")]
+pub struct NotWanted;
+
+/// Why a box was handed back.
+#[derive(Clone, Copy, Debug, PartialEq, Eq, Error)]
+pub enum SupplyReason {
+    /// No box is waited for.
+    #[error("NotWanted")]
+    NotWanted,
+    /// Memory ran out; the run waits still.
+    #[error("NoMemory")]
+    NoMemory,
+}
+
+/// A box that was handed back.
+#[derive(Drop)]
+pub struct SupplyFault {
+    pub held: Box<dyn SimpleModule>,
+    pub reason: SupplyReason,
 }
 
 /// One model, and its runs.
@@ -80,28 +104,24 @@ impl<C: Catalogue> Session<C> {
         // THE HEADLINE: a run that is done is a fresh run of the session's model.
         ensures outcome { let editing = editing_of (λ v. (⟦<dyn SimpleModule as SimpleModule>⟧ v).meaning) self.old in
             IfOk result (λ progress. IfDone progress (λ report.
-            report.outcome ≡ (ending C.behaviour editing.model (run_to C.behaviour editing.model limit)).outcome)) }
+                report.outcome ≡ (ending C.behaviour editing.model (run_to C.behaviour editing.model limit)).outcome)) }
         ensures report { let editing = editing_of (λ v. (⟦<dyn SimpleModule as SimpleModule>⟧ v).meaning) self.old in
             IfOk result (λ progress. IfDone progress (λ report. (report.started_from ≡ None)
-            × (report.executed ≡ (ending C.behaviour editing.model (run_to C.behaviour editing.model limit)).world.count))) }
+                × (report.executed ≡ (ending C.behaviour editing.model (run_to C.behaviour editing.model limit)).world.count))) }
         ensures done { IfOk result (λ progress. IfDone progress (λ report.
             (editing_of (λ v. (⟦<dyn SimpleModule as SimpleModule>⟧ v).meaning) self.new).done ≡ Some (record { limit = limit; outcome = report.outcome }))) }
 
         // It waits exactly while a box is missing that isn't declined.
         ensures want { let editing = editing_of (λ v. (⟦<dyn SimpleModule as SimpleModule>⟧ v).meaning) self.old in
             IfOk result (λ progress. IfWant progress (λ request.
-            wanted_by editing.model (kept_boxes editing.phase editing.held) ≡ Some request)) }
+                wanted_by editing.model (kept_boxes editing.phase editing.held) ≡ Some request)) }
         ensures waits { let editing = editing_of (λ v. (⟦<dyn SimpleModule as SimpleModule>⟧ v).meaning) self.old in
             IfOk result (λ progress. IfWant progress (λ request.
-            editing_of (λ v. (⟦<dyn SimpleModule as SimpleModule>⟧ v).meaning) self.new ≡ record {
-              model = editing.model;
-              done = None;
-              phase = Phase.Waiting;
-              held = kept_boxes editing.phase editing.held;
-            })) }
+                editing_of (λ v. (⟦<dyn SimpleModule as SimpleModule>⟧ v).meaning) self.new ≡ record { model = editing.model; done = None; phase = Phase.Waiting;
+                    held = kept_boxes editing.phase editing.held })) }
         ensures needs_none { let editing = editing_of (λ v. (⟦<dyn SimpleModule as SimpleModule>⟧ v).meaning) self.old in
             IfOk result (λ progress. IfDone progress (λ report.
-            (editing.phase ≡ Phase.Declined) ⊎ (wanted_by editing.model (kept_boxes editing.phase editing.held) ≡ None))) }
+                (editing.phase ≡ Phase.Declined) ⊎ (wanted_by editing.model (kept_boxes editing.phase editing.held) ≡ None))) }
 
         // After want of memory no run waits, and none is done.
         ensures memory { OnErr result (((editing_of (λ v. (⟦<dyn SimpleModule as SimpleModule>⟧ v).meaning) self.new).done ≡ None) × ((editing_of (λ v. (⟦<dyn SimpleModule as SimpleModule>⟧ v).meaning) self.new).phase ≡ Phase.Idle)) }
@@ -119,6 +139,72 @@ impl<C: Catalogue> Session<C> {
                 self.done = Some(Done { limit, outcome });
                 Ok(Progress::Done(report))
             }
+        }
+    }
+
+    /// Gives the module that the run waits for its box, or hands the box back: where no run waits for
+    /// one, or where memory runs out, and then the run waits still.
+    pub fn supply(&mut self, held: Box<dyn SimpleModule>) -> Result<(), SupplyFault>
+        requires wanted { IsFor C.behaviour (wanted_of (editing_of (λ v. (⟦<dyn SimpleModule as SimpleModule>⟧ v).meaning) self.old)) (meaning held) }
+        requires sound { IsSound C.behaviour (λ v. (⟦<dyn SimpleModule as SimpleModule>⟧ v).meaning) self.old }
+        ensures sound { IsSound C.behaviour (λ v. (⟦<dyn SimpleModule as SimpleModule>⟧ v).meaning) self.new }
+        ensures ok { let editing = editing_of (λ v. (⟦<dyn SimpleModule as SimpleModule>⟧ v).meaning) self.old in
+            OnOk result ((IsSome (wanted_of editing)) × (editing_of (λ v. (⟦<dyn SimpleModule as SimpleModule>⟧ v).meaning) self.new ≡ record editing { held = editing.held + 1 })) }
+        ensures err { IfErr result (λ fault. (fault.held ≡ held) × (editing_of (λ v. (⟦<dyn SimpleModule as SimpleModule>⟧ v).meaning) self.new ≡ editing_of (λ v. (⟦<dyn SimpleModule as SimpleModule>⟧ v).meaning) self.old)
+            × (fault.reason ≡ SupplyReason.NotWanted ↔ wanted_of (editing_of (λ v. (⟦<dyn SimpleModule as SimpleModule>⟧ v).meaning) self.old) ≡ None)) }
+    {
+        match self.wanted_id() {
+            None => Err(SupplyFault {
+                held,
+                reason: SupplyReason::NotWanted,
+            }),
+            Some(id) => match self.kernel.supply(id, held) {
+                Ok(()) => Ok(()),
+                Err(failed) => Err(SupplyFault {
+                    held: failed.value,
+                    reason: SupplyReason::NoMemory,
+                }),
+            },
+        }
+    }
+
+    /// Says that there is no box for the module that the run waits for: its start then has the fault
+    /// UnknownClass, without a further question.
+    pub fn decline(&mut self) -> Result<(), NotWanted>
+        requires unknown { IsUnknown C.behaviour (wanted_of (editing_of (λ v. (⟦<dyn SimpleModule as SimpleModule>⟧ v).meaning) self.old)) }
+        requires sound { IsSound C.behaviour (λ v. (⟦<dyn SimpleModule as SimpleModule>⟧ v).meaning) self.old }
+        ensures sound { IsSound C.behaviour (λ v. (⟦<dyn SimpleModule as SimpleModule>⟧ v).meaning) self.new }
+        ensures ok { let editing = editing_of (λ v. (⟦<dyn SimpleModule as SimpleModule>⟧ v).meaning) self.old in
+            OnOk result ((IsSome (wanted_of editing)) × (editing_of (λ v. (⟦<dyn SimpleModule as SimpleModule>⟧ v).meaning) self.new ≡ record editing { phase = Phase.Declined })) }
+        ensures err { OnErr result ((wanted_of (editing_of (λ v. (⟦<dyn SimpleModule as SimpleModule>⟧ v).meaning) self.old) ≡ None) × (editing_of (λ v. (⟦<dyn SimpleModule as SimpleModule>⟧ v).meaning) self.new ≡ editing_of (λ v. (⟦<dyn SimpleModule as SimpleModule>⟧ v).meaning) self.old)) }
+    {
+        match self.wanted_id() {
+            None => Err(NotWanted),
+            Some(_) => {
+                self.phase = Phase::Declined;
+                Ok(())
+            }
+        }
+    }
+
+    /// The id of the module whose box is waited for.
+    fn wanted_id(&self) -> Option<u32>
+        requires sound { IsSound C.behaviour (λ v. (⟦<dyn SimpleModule as SimpleModule>⟧ v).meaning) self.now }
+        ensures { result ≡ option_map (λ (r : Request). r.id) (wanted_of (editing_of (λ v. (⟦<dyn SimpleModule as SimpleModule>⟧ v).meaning) self.now)) }
+    {
+        match self.phase {
+            Phase::Waiting => self.kernel.missing_id(),
+            _ => None,
+        }
+    }
+
+    /// How the last run ended, where one is done.
+    pub fn outcome(&self) -> Option<&Outcome>
+        ensures { option_copied result ≡ option_map (λ (d : Completed). d.outcome) (editing_of (λ v. (⟦<dyn SimpleModule as SimpleModule>⟧ v).meaning) self.now).done }
+    {
+        match &self.done {
+            Some(done) => Some(&done.outcome),
+            None => None,
         }
     }
 }

@@ -1,5 +1,5 @@
 -- What an ini text means.
-use Rattle.std.specs.Prelude.{◌≡◌, ◌≢◌, ℕ, suc, ◌+◌, ◌-◌, ◌<◌, ◌≤◌, ◌^◌, Bool, true, false, ◌||◌, ◌&&◌, not, List, [], ◌∷◌, ◌++◌, length, take, drop, Option, Some, None, Result, Ok, Err, ◌==◌, ◌⊎◌, position, codes, nat_lt}
+use Rattle.std.specs.Prelude.{◌≡◌, ◌≢◌, ℕ, suc, ◌+◌, ◌-◌, ◌<◌, ◌≤◌, ◌^◌, Bool, true, false, ◌||◌, ◌&&◌, not, List, [], ◌∷◌, ◌++◌, length, take, drop, Option, Some, None, Result, Ok, Err, ◌==◌, ◌⊎◌, position, codes, nat_lt, slice_index}
 use Rattle.std.specs.List.{list_all}
 use Rattle.std.specs.Str.{is_utf8}
 use Rattle.ned_syntax.specs.NedText.{IsExpressionText}
@@ -36,7 +36,7 @@ abbrev pub any_path : Bytes
 any_path = codes "**."
 
 -- ASCII, and no blank
-abbrev pub is_key_byte : ℕ → Bool
+unfoldable pub is_key_byte : ℕ → Bool
 is_key_byte b = nat_lt b 128 && not (is_blank b)
 
 abbrev pub is_key : Bytes → Bool
@@ -44,11 +44,10 @@ is_key [] = false
 is_key (b ∷ bs) = list_all is_key_byte (b ∷ bs)
 
 -- the last byte is this one
-abbrev pub ends_with : ℕ → Bytes → Bool
-ends_with c [] = false
-ends_with c (b ∷ []) = b == c
-ends_with c (b ∷ d ∷ bs) = ends_with c (d ∷ bs)
+unfoldable pub ends_with : ℕ → Bytes → Bool
+ends_with c bytes = nat_lt 0 (length bytes) && slice_index bytes (length bytes - 1) == c
 
+-- UTF-8, not empty, without `${`, and not ending with `\`
 abbrev pub is_value : Bytes → Bool
 is_value [] = false
 is_value (b ∷ bs) = is_utf8 (b ∷ bs) && not (ends_with 92 (b ∷ bs)) && not (holds_variable 0 (b ∷ bs))
@@ -68,20 +67,21 @@ abbrev pub begins_entry : Bytes → Bool
 begins_entry [] = false
 begins_entry (b ∷ bs) = not (is_blank b) && not (b == 35)
 
--- The line is a key, the first `=`, and a value. Blanks round the `=` and at the end of the value belong to neither,
+-- The text is a key, the first `=`, and a value. Blanks round the `=` and at the end of the value belong to neither,
 -- and a comment behind the value doesn't.
-pub record IsEntry (bytes : Bytes) (e : Entry) : Type 0 where
-  -- it begins at the first byte
-  pub begins : begins_entry bytes ≡ true
+pub record IsParted (bytes key text : Bytes) : Type 0 where
   pub at : ℕ
   pub first : position (λ b. b == 61) bytes ≡ Some at
-  pub key : e.key ≡ before_blanks (take at bytes)
-  pub value : e.value ≡ value_text (drop (suc at) bytes)
-  -- ASCII without blanks, not empty
-  pub proper_key : is_key e.key ≡ true
-  -- UTF-8, not empty, without `${`, and not ending with `\`
-  pub proper_value : is_value e.value ≡ true
-  pub meaning : IsEntryMeaning e.key e.value e.meaning
+  pub before : key ≡ before_blanks (take at bytes)
+  pub behind : text ≡ value_text (drop (at + 1) bytes)
+  pub proper_key : is_key key ≡ true
+  pub proper_value : is_value text ≡ true
+
+-- The line is a key and a value that say this. It begins at the first byte.
+pub record IsEntry (bytes : Bytes) (e : Entry) : Type 0 where
+  pub begins : begins_entry bytes ≡ true
+  pub parted : IsParted bytes e.key e.value
+  pub says : IsEntryMeaning e.key e.value e.meaning
 
 -- ---- lines
 
@@ -99,9 +99,9 @@ IsLine bytes (line.Entry entry) = IsEntry bytes entry
 -- ---- texts
 
 -- an entry stands in a section
-abbrev pub MayStand : Bool → LineMeaning → Type 0
-MayStand inside (line.Entry entry) = inside ≡ true
-MayStand inside _ = Unit {0}
+abbrev pub may_stand : Bool → LineMeaning → Bool
+may_stand inside (line.Entry entry) = inside
+may_stand inside _ = true
 
 abbrev pub opens : LineMeaning → Bool
 opens (line.Section name) = true
@@ -111,7 +111,7 @@ opens _ = false
 pub record IsIniLine (inside : Bool) (bytes : Bytes) (read : IniLine) : Type 0 where
   pub text : read.text ≡ bytes
   pub means : IsLine bytes read.meaning
-  pub stands : MayStand inside read.meaning
+  pub stands : may_stand inside read.meaning ≡ true
 
 -- a line for each line; `inside` says whether a section stands before
 abbrev pub AreLines : Bool → List Bytes → List IniLine → Type 0
@@ -121,15 +121,15 @@ AreLines inside (bytes ∷ more) [] = ⊥
 AreLines inside (bytes ∷ more) (read ∷ reads) = IsIniLine inside bytes read × AreLines (inside || opens read.meaning) more reads
 
 -- THE MEANING of an ini text: it is at most 1 MiB long, and each line means what is read of it.
-pub record IsIniText (bytes : Bytes) (lines : List IniLine) : Type 0 where
+pub record IsIniText (bytes : Bytes) (reads : List IniLine) : Type 0 where
   pub small : length bytes ≤ max_length
-  pub means : AreLines false (lines_of_ini bytes) lines
+  pub lines : AreLines false (lines_of_ini bytes) reads
 
 -- The line of this number is the first that means nothing, where the first has number n.
 abbrev pub FirstBadOf : ℕ → ℕ → Bool → List Bytes → Type 0
 FirstBadOf bad n inside [] = ⊥
 FirstBadOf bad n inside (bytes ∷ more) = ((bad ≡ n) × ((read : IniLine) → IsIniLine inside bytes read → ⊥))
-    ⊎ ((read : IniLine) × IsIniLine inside bytes read × FirstBadOf bad (suc n) (inside || opens read.meaning) more)
+  ⊎ ((read : IniLine) × IsIniLine inside bytes read × FirstBadOf bad (suc n) (inside || opens read.meaning) more)
 
 -- The number, from 1, of the first line that means nothing, or is an entry before the first section.
 abbrev pub FirstBad : ℕ → Bytes → Type 0
@@ -141,6 +141,13 @@ FirstBad bad bytes = FirstBadOf bad 1 false (lines_of_ini bytes)
 abbrev pub Tells : {X : Type 0} → (X → Type 0) → Option X → Type 0
 Tells P (Some x) = P x × ((y : _) → P y → y ≡ x)
 Tells P None = (y : _) → P y → ⊥
+
+-- What was read of the lines of a text, or why it was refused.
+abbrev pub Settles : List Bytes → Result (List IniLine) IniError → Type 0
+Settles bytes (Ok reads) = Tells (AreLines false bytes) (Some reads)
+Settles bytes (Err errors.NoMemory) = Unit {0}
+Settles bytes (Err errors.TooLarge) = ⊥
+Settles bytes (Err (errors.IniSyntax bad)) = FirstBadOf bad 1 false bytes × Tells (AreLines false bytes) None
 
 -- this value, or want of memory
 abbrev pub Answers : {X : Type 0} → X → Result X IniError → Type 0

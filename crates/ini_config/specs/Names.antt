@@ -7,10 +7,10 @@ use Rattle.ini_config.specs.Texts.{Bytes}
 abbrev pub is_letter : ℕ → Bool
 is_letter b = (nat_le 97 b && nat_le b 122) || (nat_le 65 b && nat_le b 90)
 
-abbrev pub begins_name : ℕ → Bool
+unfoldable pub begins_name : ℕ → Bool
 begins_name b = is_letter b || b == 95
 
-abbrev pub goes_on_name : ℕ → Bool
+unfoldable pub goes_on_name : ℕ → Bool
 goes_on_name b = begins_name b || (nat_le 48 b && nat_le b 57)
 
 -- NED's reserved words (OMNeT++ Simulation Manual, "Reserved Words"): of types and their heads, of sections, of members, of expressions

@@ -50,11 +50,15 @@ before_blanks (b ∷ bs) = unless_last_blank b (before_blanks bs)
 
 -- ---- comments
 
+-- a `"` that no `\` stands directly before, of a byte behind this one
+abbrev pub ends_literal : ℕ → ℕ → Bool
+ends_literal before b = b == 34 && not (before == 92)
+
 -- How many bytes a text literal still has, behind its first `"` or any byte of it:
 -- up to the first `"` that no `\` stands directly before. None where there is no such.
 unfoldable pub literal_rest : ℕ → Bytes → Option ℕ
 literal_rest before [] = None
-literal_rest before (b ∷ bs) = if b == 34 && not (before == 92) then Some 1 else option_map (λ n. suc n) (literal_rest b bs)
+literal_rest before (b ∷ bs) = if ends_literal before b then Some 1 else option_map (λ n. suc n) (literal_rest b bs)
 
 -- how many bytes of a text literal follow this byte: none but behind a `"` that is closed
 abbrev pub literal_behind : ℕ → Bytes → ℕ
@@ -65,6 +69,11 @@ unfoldable pub uncommented : ℕ → Bytes → Bytes
 uncommented n [] = []
 uncommented (suc n) (b ∷ bs) = b ∷ uncommented n bs
 uncommented zero (b ∷ bs) = if b == 35 then [] else b ∷ uncommented (literal_behind b bs) bs
+
+-- what stands before the first `#`
+unfoldable pub before_hash : Bytes → Bytes
+before_hash [] = []
+before_hash (b ∷ bs) = if b == 35 then [] else b ∷ before_hash bs
 
 -- the value, of what is behind the `=`
 abbrev pub value_text : Bytes → Bytes

@@ -4,4 +4,9 @@
 pub mod entries;
 pub mod error;
 pub mod lines;
+mod names;
 pub mod parse;
+mod pieces;
+
+#[cfg(test)]
+mod tests;

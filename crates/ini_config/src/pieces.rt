@@ -1,0 +1,144 @@
+//! The pieces of an ini text: its lines, its blanks, and what stands before a comment.
+
+ghost use Rattle.std.specs.Prelude.{◌≡◌, ◌+◌, ◌<◌, ◌≤◌, ◌∷◌, length, take, option_map, IfSome};
+ghost use Rattle.ini_config.specs.Texts as texts;
+
+/// What is behind the end of a line, where the text begins with one.
+fn after_line_end(bytes: &[u8]) -> Option<&[u8]>
+    ensures { option_map (λ rest. rest.now) result ≡ texts.after_line_end bytes.now }
+{
+    match bytes {
+        [b'\n', rest @ ..] => Some(rest),
+        [b'\r', b'\n', rest @ ..] => Some(rest),
+        _ => None,
+    }
+}
+
+/// The first line, without its end, and what is behind that.
+pub(crate) fn first_line(bytes: &[u8]) -> (&[u8], &[u8])
+    requires { 0 < length bytes.now }
+    ensures lines { texts.lines_of_ini bytes.now ≡ result.0.now ∷ texts.lines_of_ini result.1.now }
+    ensures shorter { length result.1.now < length bytes.now }
+{
+    let mut end = 0;
+    'bytes: while end < bytes.len() {
+        let (line, rest) = bytes.split_at(end);
+        if let Some(after) = after_line_end(rest) {
+            return (line, after);
+        }
+        end += 1;
+    }
+    (bytes, &[])
+}
+
+pub(crate) fn is_blank(byte: u8) -> bool
+    ensures { result ≡ texts.is_blank byte }
+{
+    byte == b' ' || byte == b'\t'
+}
+
+/// The text without the blanks at its front.
+pub(crate) fn after_blanks(bytes: &[u8]) -> &[u8]
+    ensures { result.now ≡ texts.after_blanks bytes.now }
+{
+    let mut rest = bytes;
+    'blanks: while let [b, after @ ..] = rest {
+        if !is_blank(*b) {
+            return rest;
+        }
+        rest = after;
+    }
+    rest
+}
+
+/// The text without the blanks at its end.
+pub(crate) fn before_blanks(bytes: &[u8]) -> &[u8]
+    ensures { result.now ≡ texts.before_blanks bytes.now }
+{
+    let mut end = bytes.len();
+    'blanks: while end > 0 && is_blank(bytes[end - 1]) {
+        end -= 1;
+    }
+    &bytes[..end]
+}
+
+/// Whether the byte ends a text literal, behind this one.
+fn ends_literal(before: u8, byte: u8) -> bool
+    ensures { result ≡ texts.ends_literal before byte }
+{
+    byte == b'"' && before != b'\\'
+}
+
+/// How many bytes a text literal still has, behind its first `"`.
+fn literal_rest(bytes: &[u8]) -> Option<usize>
+    ensures value { result ≡ texts.literal_rest 34 bytes.now }
+    ensures within { IfSome result (λ n. n ≤ length bytes.now) }
+{
+    let mut before = b'"';
+    for (at, b) in bytes.iter().enumerate() {
+        if ends_literal(before, *b) {
+            return Some(at + 1);
+        }
+        before = *b;
+    }
+    None
+}
+
+/// The length of what stands before the first `#`.
+fn plain_length(bytes: &[u8]) -> usize
+    ensures within { result ≤ length bytes.now }
+    ensures text { take result bytes.now ≡ texts.before_hash bytes.now }
+{
+    let mut end = 0;
+    'bytes: while end < bytes.len() && bytes[end] != b'#' {
+        end += 1;
+    }
+    end
+}
+
+/// The length of what stands before the first `#` outside a text literal.
+fn uncommented_length(bytes: &[u8]) -> usize
+    ensures within { result ≤ length bytes.now }
+    ensures text { take result bytes.now ≡ texts.uncommented 0 bytes.now }
+{
+    let mut end = 0;
+    'bytes: while end < bytes.len() {
+        let byte = bytes[end];
+        if byte == b'#' {
+            return end;
+        }
+        end += 1;
+        if byte == b'"' {
+            let (_, rest) = bytes.split_at(end);
+            // Where this literal isn't closed, no later one is.
+            let Some(length) = literal_rest(rest) else {
+                return end + plain_length(rest);
+            };
+            end += length;
+        }
+    }
+    end
+}
+
+/// The value, of what is behind the `=`.
+pub(crate) fn value_text(bytes: &[u8]) -> &[u8]
+    ensures { result.now ≡ texts.value_text bytes.now }
+{
+    let end = uncommented_length(bytes);
+    before_blanks(after_blanks(&bytes[..end]))
+}
+
+/// Whether `${` is in the text.
+#[tactic(auto, unfolding(crate::specs::Texts::holds_variable))]
+pub(crate) fn holds_variable(bytes: &[u8]) -> bool
+    ensures { result ≡ texts.holds_variable 0 bytes.now }
+{
+    let mut before = 0;
+    for b in bytes {
+        if before == b'$' && *b == b'{' {
+            return true;
+        }
+        before = *b;
+    }
+    false
+}
