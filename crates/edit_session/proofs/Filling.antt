@@ -20,10 +20,10 @@ use Rattle.run_semantics.specs.Run.{Part, parts_from, parts_of, rooted, built, u
 use Rattle.run_semantics.specs.Ending.{ending}
 use Rattle.run_semantics.proofs.Ends.{run_over}
 use Rattle.kernel.specs.declared.request.Request.{Request}
-use Rattle.kernel.specs.Seats.{request_for, missing_part, missing_of}
+use Rattle.kernel.specs.Seats.{Seat, AreOfKinds, instance_of, request_for, missing_part, missing_of}
 use Rattle.edit_session.specs.declared.running.Phase.{Phase}
 use Rattle.edit_session.specs.declared.running.Phase.TheVariants.{Idle, Waiting, Declined}
-use Rattle.edit_session.specs.Editing.{wanted_after, wanted_by, kept_boxes, IsFilled, IsDeclined, whole_run}
+use Rattle.edit_session.specs.Editing.{Completed, IsKept, IsLeft, IsFor, IsUnknown, waited_for, wanted_after, wanted_by, kept_boxes, IsFilled, IsDeclined, whole_run}
 
 -- ---- setup goes on, or ends in a fault
 
@@ -199,3 +199,43 @@ filled_declined b m w r filled wanted unknown =
           ∙ ap (λ (ps : List Part). place_all b ps w) (sym (drop_get (parts_of w) (length w.modules) q.0 q.1))
           ∙ filled.flow;
     }
+
+-- ---- what a session keeps, after an answer
+
+instances_length : (ss : List Seat) → length ss ≡ length (map instance_of ss)
+instances_length [] = refl
+instances_length (s ∷ ss) = ap suc (instances_length ss)
+
+-- the request, where the world waits for its box
+waited : (b : Behaviour) (m : Model) (w : World) (ss : List Seat) (r : Request) → w.modules ≡ map instance_of ss → IsFilled b m w → wanted_by m (length ss) ≡ Some r → missing_of w ≡ Some r
+waited b m w ss r e filled wanted =
+    let n : length w.modules ≡ length ss = ap length e ∙ sym (instances_length ss) in
+    filled_wants b m w filled ∙ ap (wanted_by m) n ∙ wanted
+
+request_of : (o : Option Request) (id : ℕ) → option_map (λ (r : Request). r.id) o ≡ Some id → (r : Request) × (o ≡ Some r) × (id ≡ r.id)
+request_of o id e = some_part (λ (r : Request). r.id) o id e
+
+pub kept_declined : (b : Behaviour) (ss : List Seat) (w : World) (m : Model) (phase : Phase) (done : Option Completed) (id : ℕ) → w.modules ≡ map instance_of ss → IsKept b ss w m phase done → option_map (λ (r : Request). r.id) (waited_for phase m (length ss)) ≡ Some id → IsUnknown b (waited_for phase m (length ss)) → IsKept b ss w m Declined done
+kept_declined b ss w m Waiting done id e kept some unknown =
+    let q = request_of (wanted_by m (length ss)) id some in
+    record {
+      kinds = kept.kinds;
+      live = filled_declined b m w q.0 kept.live (waited b m w ss q.0 e kept.live q.1) (subst (IsUnknown b) q.1 unknown);
+      left = kept.left;
+      undone = kept.undone;
+    }
+kept_declined b ss w m Idle done id e kept some unknown = cc
+kept_declined b ss w m Declined done id e kept some unknown = cc
+
+pub kept_supplied : (b : Behaviour) (ss ts : List Seat) (w u : World) (m : Model) (phase : Phase) (done : Option Completed) (id : ℕ) (box : Module) → w.modules ≡ map instance_of ss → IsKept b ss w m phase done → option_map (λ (r : Request). r.id) (waited_for phase m (length ss)) ≡ Some id → IsFor b (waited_for phase m (length ss)) box → AreOfKinds b ts → u ≡ placed (record { id = id; kind = box.kind }) box.state w → IsKept b ts u m phase done
+kept_supplied b ss ts w u m Waiting done id box e kept some for_it kinds now =
+    let q = request_of (wanted_by m (length ss)) id some in
+    let placed_is : u ≡ placed (record { id = q.0.id; kind = box.kind }) box.state w = now ∙ ap (λ i. placed (record { id = i; kind = box.kind }) box.state w) q.2 in
+    record {
+      kinds = kinds;
+      live = filled_next b m w u q.0 box kept.live (waited b m w ss q.0 e kept.live q.1) (subst (λ o. IsFor b o box) q.1 for_it) placed_is;
+      left = subst (IsLeft b m u) (sym kept.undone) tt;
+      undone = kept.undone;
+    }
+kept_supplied b ss ts w u m Idle done id box e kept some for_it kinds now = cc
+kept_supplied b ss ts w u m Declined done id box e kept some for_it kinds now = cc
