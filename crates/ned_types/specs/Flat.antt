@@ -1,10 +1,12 @@
 -- What a type is when it stands alone.
-use Rattle.std.specs.Prelude.{ℕ, Bool, List, [], ◌∷◌, Option, Some, None, if◌then◌else◌}
+use Rattle.std.specs.Prelude.{ℕ, Bool, false, List, [], ◌∷◌, ◌++◌, Option, Some, None, option_to_list, if◌then◌else◌}
+use Rattle.std.specs.List.{list_any}
 use Rattle.std.specs.Str.{bytes_eq}
 use Rattle.ned_syntax.specs.declared.ast.Declaration.{Declaration}
 use Rattle.ned_syntax.specs.declared.ast.ParameterValue.{ParameterValue}
 use Rattle.ned_syntax.specs.declared.ast.SectionLine.{SectionLine}
 use Rattle.ned_syntax.specs.declared.ast.SectionLine.TheVariants as line
+use Rattle.ned_syntax.specs.declared.ast.Statistic.{Statistic}
 use Rattle.ned_syntax.specs.declared.ast.Submodule.{Submodule}
 use Rattle.ned_syntax.specs.declared.ast.TypeDeclaration.{TypeDeclaration}
 use Rattle.ned_types.specs.Types.{gives, value_in}
@@ -43,3 +45,38 @@ class_of t = named_or (class_in t.lines) t.name
 abbrev pub submodule_named : List ℕ → List Submodule → Option Submodule
 submodule_named name [] = None
 submodule_named name (s ∷ ss) = if bytes_eq s.name name then Some s else submodule_named name ss
+
+-- ---- statistics
+
+abbrev pub declares_statistic : List ℕ → SectionLine → Bool
+declares_statistic name (line.Statistic s) = bytes_eq s.name name
+declares_statistic name _ = false
+
+-- whether one of the lines declares a statistic of that name
+abbrev pub is_statistic_declared : List ℕ → List SectionLine → Bool
+is_statistic_declared name lines = list_any (λ l. declares_statistic name l) lines
+
+abbrev pub statistic_named : List ℕ → SectionLine → Option Statistic
+statistic_named name (line.Statistic s) = if bytes_eq s.name name then Some s else None
+statistic_named name _ = None
+
+-- the statistic of that name as the last line that declares it has it
+abbrev pub last_statistic : List ℕ → List SectionLine → Option Statistic
+last_statistic name [] = None
+last_statistic name (l ∷ ls) = or_else (last_statistic name ls) (statistic_named name l)
+
+-- the statistic that has its place at a line, with the lines before and after it: the first line of a name gives the
+-- place, and the last one the statistic
+abbrev pub statistic_at : List SectionLine → SectionLine → List SectionLine → Option Statistic
+statistic_at before (line.Statistic s) after =
+    if is_statistic_declared s.name before then None else or_else (last_statistic s.name after) (Some s)
+statistic_at before _ after = None
+
+abbrev pub statistics_after : List SectionLine → List SectionLine → List Statistic
+statistics_after before [] = []
+statistics_after before (l ∷ ls) = option_to_list (statistic_at before l ls) ++ statistics_after (before ++ l ∷ []) ls
+
+-- the statistics that lines declare, in the order of the first line of each name; a later line of a name stands in the
+-- place of an earlier one
+abbrev pub statistics_of : List SectionLine → List Statistic
+statistics_of lines = statistics_after [] lines

@@ -1,11 +1,15 @@
 //! What a type is when it stands alone.
 
-ghost use Rattle.std.specs.Prelude.{◌≡◌};
+ghost use Rattle.std.specs.Prelude.{◌≡◌, IfOk};
 ghost use Rattle.std.specs.Option.{option_copied, option_map};
-ghost use Rattle.ned_types.specs.Flat.{last_value, declaration_named, class_in, class_of, submodule_named};
+ghost use Rattle.ned_types.specs.Flat.{declares_statistic, last_value, declaration_named, class_in, class_of, submodule_named, is_statistic_declared, statistic_named, last_statistic, statistic_at, statistics_of};
 
 use crate::faults::{gives, value_in};
-use ned_syntax::ast::{Declaration, ParameterValue, SectionLine, Submodule, TypeDeclaration};
+use ned_syntax::ast::{
+    Declaration, ParameterValue, SectionLine, Statistic, Submodule, TypeDeclaration,
+};
+use sqlite_items::Items;
+use std::alloc::{AllocError, Global};
 
 /// The value that the lines give the parameter: a later one stands in the place of an earlier one.
 pub fn last_value<'a>(name: &[u8], lines: &'a [SectionLine]) -> Option<&'a ParameterValue>
@@ -67,4 +71,96 @@ pub fn submodule_named<'a>(name: &[u8], submodules: &'a [Submodule]) -> Option<&
         }
     }
     None
+}
+
+/// The statistic of that name that the line declares.
+fn statistic_named<'a>(name: &[u8], line: &'a SectionLine) -> Option<&'a Statistic>
+    ensures { option_copied result ≡ statistic_named name.now line.now }
+{
+    match line {
+        SectionLine::Statistic(statistic) => {
+            if statistic.name.is(name) {
+                Some(statistic)
+            } else {
+                None
+            }
+        }
+        _ => None,
+    }
+}
+
+/// Whether one of the lines declares a statistic of that name.
+fn is_statistic_declared(name: &[u8], lines: &[SectionLine]) -> bool
+    ensures { result ≡ is_statistic_declared name.now lines.now }
+{
+    lines.iter().any(|line| declares_statistic(name, line))
+}
+
+/// Whether the line declares a statistic of that name.
+fn declares_statistic(name: &[u8], line: &SectionLine) -> bool
+    ensures { result ≡ declares_statistic name.now line.now }
+{
+    match line {
+        SectionLine::Statistic(statistic) => statistic.name.is(name),
+        _ => false,
+    }
+}
+
+/// The statistic of that name, as the last line that declares it has it.
+fn last_statistic<'a>(name: &[u8], lines: &'a [SectionLine]) -> Option<&'a Statistic>
+    ensures { option_copied result ≡ last_statistic name.now lines.now }
+{
+    let mut found = None;
+    for line in lines {
+        if let Some(statistic) = statistic_named(name, line) {
+            found = Some(statistic);
+        }
+    }
+    found
+}
+
+/// The statistic that has its place at a line, with the lines before and after it.
+fn statistic_at<'a>(
+    before: &[SectionLine],
+    line: &'a SectionLine,
+    after: &'a [SectionLine],
+) -> Option<&'a Statistic>
+    ensures { option_copied result ≡ statistic_at before.now line.now after.now }
+{
+    let SectionLine::Statistic(first) = line else {
+        return None;
+    };
+    let name = first.name.as_bytes();
+    if is_statistic_declared(name, before) {
+        return None;
+    }
+    match last_statistic(name, after) {
+        Some(last) => Some(last),
+        None => Some(first),
+    }
+}
+
+/// An equal statistic.
+fn copy_of(alloc: Global, statistic: &Statistic) -> Result<Statistic, AllocError>
+    ensures { IfOk result (λ copy. copy ≡ statistic.now) }
+{
+    Ok(Statistic {
+        name: statistic.name.copy(alloc)?,
+        source: statistic.source.copy(alloc)?,
+        modes: Items::from_slice(alloc, statistic.modes.as_slice())?,
+    })
+}
+
+/// The statistics that the lines declare, in the order of the first line of each name, each as the
+/// last line of its name has it.
+pub fn statistics_of(alloc: Global, lines: &[SectionLine]) -> Result<Items<Statistic>, AllocError>
+    ensures { IfOk result (λ statistics. statistics ≡ statistics_of lines.now) }
+{
+    let mut statistics = Items::new(alloc);
+    for (at, line) in lines.iter().enumerate() {
+        if let Some(statistic) = statistic_at(&lines[..at], line, &lines[at + 1..]) {
+            statistics.push(copy_of(alloc, statistic)?)?;
+        }
+    }
+    Ok(statistics)
 }

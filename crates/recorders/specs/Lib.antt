@@ -1,0 +1,3 @@
+pub mod Modes
+pub mod Hearing
+pub mod Vectors

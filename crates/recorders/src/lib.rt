@@ -1,0 +1,7 @@
+//! What a run records.
+#![tactic(auto)]
+
+pub mod hearing;
+pub mod modes;
+pub mod vector_line;
+pub mod vectors;

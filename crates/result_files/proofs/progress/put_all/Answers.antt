@@ -1,0 +1,14 @@
+use Rattle.std.proofs.Common.{◌≡◌, ◌+◌, ◌-◌, ◌++◌, length, take, drop, ap, add-zero, ◌∙◌, arith, length-drop}
+use Rattle.std.proofs.lemmas.List.{take_rest}
+use Rattle.result_files.proofs.TextLemmas.{sent_more, failures_after_some}
+use Rattle.result_files.proofs.progress.put_all.Goals as goal
+
+pub loop-sent-preserved : goal.loop-sent-preserved
+loop-sent-preserved g c =
+    let rest = take_rest c.args.piece.now c.loop-sent.sent in
+    let none = failures_after_some c.in-Ok.taken (take (length c.args.piece.now - c.loop-sent.sent) (drop c.loop-sent.sent c.args.piece.now)) (g.O.Out.failures c.loop-sent.out) c.if-taken-gt0.true in
+    record {
+      within = omega (arith, c.in-Ok.ensures.within, ap length rest, length-drop c.loop-sent.sent c.args.piece.now);
+      content = sent_more (g.O.Out.content c.args.out.now) (g.O.Out.content c.loop-sent.out) (g.O.Out.content c.write.new.self) c.args.piece.now c.loop-sent.sent c.in-Ok.taken c.loop-sent.invariant.content c.in-Ok.ensures.taken;
+      failures = c.in-Ok.ensures.counted ∙ none ∙ c.loop-sent.invariant.failures;
+    }

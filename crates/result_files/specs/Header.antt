@@ -1,0 +1,60 @@
+-- The header of a result file.
+use Rattle.std.specs.Prelude.{ℕ, ◌==◌, nat_le, Bool, not, ◌&&◌, ◌||◌, List, [], ◌∷◌, ◌++◌, codes, unwrap_or, if◌then◌else◌}
+use Rattle.std.specs.List.{list_all, flat_map, after_last}
+use Rattle.ini_config.specs.declared.lines.Entry.{Entry}
+use Rattle.ini_config.specs.Entries.{network_entry}
+use Rattle.model_answers.specs.declared.model.Model.{Model}
+use Rattle.model_answers.specs.Models.{entries_in}
+
+-- whether a byte is `"` or `\`
+abbrev pub is_quoting : ℕ → Bool
+is_quoting c = c == 34 || c == 92
+
+-- whether a byte is a visible ASCII character, and neither `"` nor `\`
+abbrev pub is_plain : ℕ → Bool
+is_plain c = (nat_le 33 c && nat_le c 126) && not (is_quoting c)
+
+abbrev pub escaped : ℕ → List ℕ
+escaped c = if is_quoting c then 92 ∷ c ∷ [] else c ∷ []
+
+-- a value in a result file: as it is where all its bytes are plain, else between `"`, with `\` before each `"` and `\`
+abbrev pub value_text : List ℕ → List ℕ
+value_text value = if list_all is_plain value then value else 34 ∷ (flat_map escaped value ++ 34 ∷ [])
+
+-- a line that gives a value to a key
+unfoldable pub item_line : List ℕ → List ℕ → List ℕ → List ℕ
+item_line word key value = word ++ 32 ∷ (key ++ 32 ∷ (value_text value ++ 10 ∷ []))
+
+abbrev pub config_line : Entry → List ℕ
+config_line e = item_line (codes "config") e.key e.value
+
+-- a line for each entry of the configuration, in their order
+abbrev pub config_lines : List Entry → List ℕ
+config_lines entries = flat_map config_line entries
+
+-- the lines that name the run with the number 0 of a configuration
+abbrev pub run_lines : List ℕ → List ℕ
+run_lines config = codes "version 3\nrun " ++ (config ++ codes "-0\n")
+
+-- the lines of the run's attributes
+abbrev pub attribute_lines : List ℕ → List ℕ → List ℕ
+attribute_lines config network =
+    item_line (codes "attr") (codes "configname") config
+    ++ (item_line (codes "attr") (codes "network") network ++ item_line (codes "attr") (codes "runnumber") (codes "0"))
+
+-- the header of the run with the number 0 of a configuration: an empty line ends it
+abbrev pub header_text : List ℕ → List ℕ → List Entry → List ℕ
+header_text config network entries =
+    run_lines config ++ (attribute_lines config network ++ (config_lines entries ++ 10 ∷ []))
+
+-- what stands behind the last dot of a name, or all of it
+abbrev pub last_name : List ℕ → List ℕ
+last_name name = after_last (λ c. c == 46) name
+
+-- the name of the network without that of its package
+abbrev pub network_name : Model → List ℕ
+network_name m = last_name (unwrap_or (network_entry (entries_in m)) [])
+
+-- THE HEADER of the result files of a run of that model
+abbrev pub header_of : Model → List ℕ
+header_of m = header_text m.config (network_name m) (entries_in m)

@@ -1,0 +1,175 @@
+//! The header of a result file.
+
+ghost use Rattle.std.specs.Prelude.{◌≡◌, [], ◌++◌, IfOk, OnOk};
+ghost use Rattle.std.specs.List.{flat_map, list_all};
+ghost use Rattle.ini_config.specs.Entries.{entries_of, with_entry};
+ghost use Rattle.result_files.specs.Header.{is_quoting, is_plain, escaped, value_text, item_line, run_lines, attribute_lines, config_lines, header_text, last_name, network_name, header_of};
+
+use ini_config::entries::network_entry;
+use ini_config::lines::{IniLine, LineMeaning};
+use model_answers::model::Model;
+use sim_values::text::Text;
+use std::alloc::{AllocError, Global};
+
+/// Whether a byte is `"` or `\`.
+fn is_quoting(byte: u8) -> bool
+    ensures { result ≡ is_quoting byte }
+{
+    byte == b'"' || byte == b'\\'
+}
+
+/// Whether a byte is a visible ASCII character, and neither `"` nor `\`.
+fn is_plain(byte: u8) -> bool
+    ensures { result ≡ is_plain byte }
+{
+    (b'!' <= byte && byte <= b'~') && !is_quoting(byte)
+}
+
+/// Adds a byte of a value between quotes.
+fn push_escaped(header: &mut Vec<u8>, byte: u8) -> Result<(), AllocError>
+    ensures { OnOk result (header.new.items ≡ header.old.items ++ escaped byte) }
+{
+    if is_quoting(byte) {
+        header.push(b'\\')?;
+    }
+    header.push(byte)?;
+    Ok(())
+}
+
+/// Adds the bytes of a value between quotes.
+fn push_all_escaped(header: &mut Vec<u8>, value: &[u8]) -> Result<(), AllocError>
+    ensures { OnOk result (header.new.items ≡ header.old.items ++ flat_map escaped value.now) }
+{
+    for byte in value {
+        push_escaped(header, *byte)?;
+    }
+    Ok(())
+}
+
+/// Whether all bytes of a value are plain.
+fn is_all_plain(value: &[u8]) -> bool
+    ensures { result ≡ list_all is_plain value.now }
+{
+    value.iter().all(|byte| is_plain(*byte))
+}
+
+/// Adds a value: as it is where all its bytes are plain, else between quotes.
+fn push_value(header: &mut Vec<u8>, value: &[u8]) -> Result<(), AllocError>
+    ensures { OnOk result (header.new.items ≡ header.old.items ++ value_text value.now) }
+{
+    if is_all_plain(value) {
+        return header.extend_from_slice(value);
+    }
+    header.push(b'"')?;
+    push_all_escaped(header, value)?;
+    header.push(b'"')?;
+    Ok(())
+}
+
+/// Adds a line that gives a value to a key.
+#[tactic(auto, unfolding(crate::specs::Header::item_line))]
+fn push_item(
+    header: &mut Vec<u8>,
+    word: &[u8],
+    key: &[u8],
+    value: &[u8],
+) -> Result<(), AllocError>
+    ensures { OnOk result (header.new.items ≡ header.old.items ++ item_line word.now key.now value.now) }
+{
+    header.extend_from_slice(word)?;
+    header.push(b' ')?;
+    header.extend_from_slice(key)?;
+    header.push(b' ')?;
+    push_value(header, value)?;
+    header.push(b'\n')?;
+    Ok(())
+}
+
+/// Adds the line of an entry of the configuration.
+fn push_entry(header: &mut Vec<u8>, line: &LineMeaning) -> Result<(), AllocError>
+    ensures { OnOk result (header.new.items ≡ header.old.items ++ config_lines (with_entry line.now [])) }
+{
+    match line {
+        LineMeaning::Entry(entry) => {
+            push_item(header, b"config", entry.key.as_bytes(), entry.value.as_bytes())
+        }
+        _ => Ok(()),
+    }
+}
+
+/// Adds the lines of all entries of the configuration.
+fn push_entries(header: &mut Vec<u8>, lines: &[IniLine]) -> Result<(), AllocError>
+    ensures { OnOk result (header.new.items ≡ header.old.items ++ config_lines (entries_of lines.now)) }
+{
+    for line in lines {
+        push_entry(header, &line.meaning)?;
+    }
+    Ok(())
+}
+
+/// What stands behind the last dot of a name, or all of it.
+fn last_name(name: &[u8]) -> &[u8]
+    ensures { result.now ≡ last_name name.now }
+{
+    let mut start = name.len();
+    while start > 0 && name[start - 1] != b'.' {
+        start -= 1;
+    }
+    &name[start..]
+}
+
+/// The name of the network without that of its package.
+fn network_name(model: &Model) -> &[u8]
+    ensures { result.now ≡ network_name model.now }
+{
+    match network_entry(model.ini.lines()) {
+        Some(name) => last_name(name),
+        None => last_name(b""),
+    }
+}
+
+/// Adds the lines that name the run with the number 0 of a configuration.
+fn push_run(header: &mut Vec<u8>, config: &[u8]) -> Result<(), AllocError>
+    ensures { OnOk result (header.new.items ≡ header.old.items ++ run_lines config.now) }
+{
+    header.extend_from_slice(b"version 3\nrun ")?;
+    header.extend_from_slice(config)?;
+    header.extend_from_slice(b"-0\n")
+}
+
+/// Adds the lines of the run's attributes.
+fn push_attributes(
+    header: &mut Vec<u8>,
+    config: &[u8],
+    network: &[u8],
+) -> Result<(), AllocError>
+    ensures { OnOk result (header.new.items ≡ header.old.items ++ attribute_lines config.now network.now) }
+{
+    push_item(header, b"attr", b"configname", config)?;
+    push_item(header, b"attr", b"network", network)?;
+    push_item(header, b"attr", b"runnumber", b"0")
+}
+
+/// The header of the run with the number 0 of a configuration of that name, network and lines.
+pub(crate) fn header_text(
+    alloc: Global,
+    config: &[u8],
+    network: &[u8],
+    lines: &[IniLine],
+) -> Result<Text, AllocError>
+    ensures { IfOk result (λ header. header ≡ header_text config.now network.now (entries_of lines.now)) }
+{
+    let mut header = Vec::new(alloc);
+    push_run(&mut header, config)?;
+    push_attributes(&mut header, config, network)?;
+    push_entries(&mut header, lines)?;
+    header.push(b'\n')?;
+    Ok(Text::from_vec(header))
+}
+
+/// The header of the result files of a run of the model.
+pub fn header(alloc: Global, model: &Model) -> Result<Text, AllocError>
+    ensures { IfOk result (λ header. header ≡ header_of model.now) }
+{
+    header_text(alloc, model.config.as_bytes(), network_name(model), model.ini.lines())
+}

@@ -1,0 +1,11 @@
+//! The bytes of a result file.
+#![tactic(auto)]
+
+pub mod header;
+mod lines;
+mod progress;
+pub mod vector_file;
+pub mod writer;
+
+#[cfg(test)]
+mod tests;

@@ -1,0 +1,121 @@
+//! The lines of the vector file.
+
+ghost use Rattle.std.specs.Prelude.{◌≡◌, ◌+◌, ◌*◌, ◌^◌, ◌≤◌, ◌<◌, length};
+ghost use Rattle.result_files.specs.Written.{Adds, written_in};
+ghost use Rattle.result_files.specs.VectorText.{vector_line, vector_lines, data_line, heard_line, heard_lines, data_lines};
+
+use crate::progress::{Progress, put, put_field, put_number, put_signed, put_time};
+use crate::writer::Out;
+use model_answers::record::Record;
+use recorders::hearing::hears;
+use recorders::vector_line::VectorLine;
+use run_semantics::traces::Emission;
+
+/// Writes the line that declares a vector of that number.
+fn put_vector_line<O: Out>(
+    out: &mut O,
+    progress: Progress,
+    number: u64,
+    vector: &VectorLine,
+) -> Progress
+    requires { written_in progress < 2 ^ 125 }
+    ensures adds { Adds progress (O.content out.old) (O.failures out.old) result (O.content out.new) (O.failures out.new) (vector_line number vector.now) }
+    ensures short { written_in result ≤ written_in progress + 2 ^ 65 }
+{
+    let progress = put(out, progress, b"vector ");
+    let progress = put_number(out, progress, number, b' ');
+    let progress = put_field(out, progress, vector.path.as_bytes(), b' ');
+    let progress = put_field(out, progress, vector.statistic.as_bytes(), b':');
+    put(out, progress, b"vector ETV\n")
+}
+
+/// Writes the lines that declare the vectors, numbered from 0.
+pub fn put_vector_lines<O: Out>(
+    out: &mut O,
+    progress: Progress,
+    vectors: &[VectorLine],
+) -> Progress
+    requires { written_in progress < 2 ^ 65 }
+    ensures adds { Adds progress (O.content out.old) (O.failures out.old) result (O.content out.new) (O.failures out.new) (vector_lines 0 vectors.now) }
+    ensures short { written_in result ≤ written_in progress + 2 ^ 122 }
+{
+    let mut progress = progress;
+    for (number, vector) in vectors.iter().enumerate() {
+        progress = put_vector_line(out, progress, number as u64, vector);
+    }
+    progress
+}
+
+/// Writes the line of a value in the vector of that number.
+fn put_data_line<O: Out>(
+    out: &mut O,
+    progress: Progress,
+    number: u64,
+    emission: &Emission,
+) -> Progress
+    requires { written_in progress < 2 ^ 125 }
+    ensures adds { Adds progress (O.content out.old) (O.failures out.old) result (O.content out.new) (O.failures out.new) (data_line number emission.now) }
+    ensures short { written_in result ≤ written_in progress + 256 }
+{
+    let progress = put_number(out, progress, number, b'\t');
+    let progress = put_number(out, progress, emission.event, b'\t');
+    let progress = put_time(out, progress, emission.time, b'\t');
+    put_signed(out, progress, emission.value, b'\n')
+}
+
+/// Writes the line of a value in the vector of that number, where it hears it.
+fn put_heard_line<O: Out>(
+    out: &mut O,
+    progress: Progress,
+    records: &[Record],
+    emission: &Emission,
+    number: u64,
+    vector: &VectorLine,
+) -> Progress
+    requires { written_in progress < 2 ^ 125 }
+    ensures adds { Adds progress (O.content out.old) (O.failures out.old) result (O.content out.new) (O.failures out.new) (heard_line records.now emission.now number vector.now) }
+    ensures short { written_in result ≤ written_in progress + 256 }
+{
+    if hears(records, vector, emission) {
+        put_data_line(out, progress, number, emission)
+    } else {
+        progress
+    }
+}
+
+/// Writes the lines of a value, one for each vector that hears it.
+fn put_heard_lines<O: Out>(
+    out: &mut O,
+    progress: Progress,
+    records: &[Record],
+    emission: &Emission,
+    vectors: &[VectorLine],
+) -> Progress
+    requires { written_in progress < 2 ^ 124 }
+    ensures adds { Adds progress (O.content out.old) (O.failures out.old) result (O.content out.new) (O.failures out.new) (heard_lines records.now emission.now 0 vectors.now) }
+    ensures short { written_in result ≤ written_in progress + 2 ^ 65 }
+{
+    let mut progress = progress;
+    for (number, vector) in vectors.iter().enumerate() {
+        progress = put_heard_line(out, progress, records, emission, number as u64, vector);
+    }
+    progress
+}
+
+/// Writes the lines of all values, in the order of their emission.
+pub fn put_data_lines<O: Out>(
+    out: &mut O,
+    progress: Progress,
+    records: &[Record],
+    vectors: &[VectorLine],
+    emissions: &[Emission],
+) -> Progress
+    requires { written_in progress < 2 ^ 123 }
+    ensures { Adds progress (O.content out.old) (O.failures out.old) result (O.content out.new) (O.failures out.new) (data_lines records.now vectors.now emissions.now) }
+{
+    let mut progress = progress;
+    for emission in emissions {
+        progress = put_heard_lines(out, progress, records, emission, vectors);
+    }
+    progress
+}
