@@ -94,9 +94,9 @@ IsLeft b m w (Some done) = whole_run b m done.limit w done.outcome
 
 -- while a run waits, none is done
 abbrev pub IsUndone : Phase → Option Completed → Type 0
-IsUndone Idle done = Unit {0}
-IsUndone Waiting done = done ≡ None
-IsUndone Declined done = done ≡ None
+IsUndone Idle last = Unit {0}
+IsUndone Waiting last = last ≡ None
+IsUndone Declined last = last ≡ None
 
 -- all that a session keeps
 pub record IsKept (b : Behaviour) (seats : List Seat) (w : World) (m : Model) (phase : Phase) (done : Option Completed) : Type 0 where

@@ -1,9 +1,10 @@
 //! The model that texts make.
 
-ghost use Rattle.std.specs.Prelude.{◌≡◌, ℕ, ◌<◌, ◌++◌, List, ∃, ⊥, codes, length, IfOk, IfErr};
+ghost use Rattle.std.specs.Prelude.{◌≡◌, ◌++◌, [], ◌∷◌, None, OnOk, IfOk, IfErr};
 ghost use Rattle.ini_config.specs.Meaning.{IsIniText};
 ghost use Rattle.ned_syntax.specs.NedText.{IsNedFile};
-ghost use Rattle.edit_session.specs.Models.{AreNedFiles, IsModelOf, Refuses, holds_large, is_too_large};
+ghost use Rattle.ned_types.specs.Types.{types_of, fault_of};
+ghost use Rattle.edit_session.specs.Models.{AreNedFiles, IsModelOf, RefusesFile, RefusesFiles, RefusesIni, RefusesTypes, Refuses, is_large, is_too_large};
 
 use ini_config::error::IniError;
 use ini_config::lines::IniText;
@@ -13,7 +14,6 @@ use ned_syntax::error::NedError;
 use ned_syntax::parse::parse_ned;
 use ned_syntax::texts::NedTexts;
 use ned_types::table::{TypeFault, TypeTable};
-use sim_values::NoMemory;
 use sim_values::text::Text;
 use std::alloc::{AllocError, Global};
 use thiserror::Error;
@@ -68,6 +68,86 @@ impl From<AllocError> for BeginFault {
     }
 }
 
+/// Whether a text is longer than what is read.
+fn is_large(bytes: &[u8]) -> bool
+    ensures { result ≡ is_large bytes.now }
+{
+    bytes.len() > MAX_TEXT
+}
+
+/// Whether the texts are too many, or one is too long.
+fn is_too_large(texts: &NedTexts, ini: &[u8]) -> bool
+    ensures { result ≡ is_too_large texts.now ini.now }
+{
+    texts.len() > MAX_FILES
+        || texts.as_slice().iter().any(|text| is_large(text.as_bytes()))
+        || is_large(ini)
+}
+
+/// What a NED text declares, which is the file of that number.
+fn file_of(alloc: Global, number: usize, bytes: &[u8]) -> Result<NedFile, BeginFault>
+    ensures accepted { IfOk result (λ file. IsNedFile bytes.now file) }
+    ensures refused { IfErr result (λ fault. RefusesFile number bytes.now fault) }
+{
+    match parse_ned(alloc, bytes) {
+        Ok(file) => Ok(file),
+        Err(NedError::NedSyntax(line)) => Err(BeginFault::NedSyntax(number, line)),
+        Err(NedError::TooLarge) => Err(BeginFault::TooLarge),
+        Err(NedError::NoMemory) => Err(BeginFault::NoMemory),
+    }
+}
+
+/// Adds a file at the end.
+fn push_file(files: &mut Vec<NedFile>, file: NedFile) -> Result<(), BeginFault>
+    ensures ok { OnOk result (files.new.items ≡ files.old.items ++ file ∷ []) }
+    ensures err { IfErr result (λ fault. fault ≡ BeginFault.NoMemory) }
+{
+    match files.push(file) {
+        Ok(()) => Ok(()),
+        Err(_) => Err(BeginFault::NoMemory),
+    }
+}
+
+/// What the NED texts declare.
+fn files_of(alloc: Global, texts: &NedTexts) -> Result<Vec<NedFile>, BeginFault>
+    ensures accepted { IfOk result (λ files. AreNedFiles texts.now files.items) }
+    ensures refused { IfErr result (λ fault. RefusesFiles texts.now fault) }
+{
+    let mut files = Vec::new(alloc);
+    for (number, text) in texts.as_slice().iter().enumerate() {
+        let file = file_of(alloc, number, text.as_bytes())?;
+        push_file(&mut files, file)?;
+    }
+    Ok(files)
+}
+
+/// The lines of the ini text.
+fn lines_of(alloc: Global, bytes: &[u8]) -> Result<IniText, BeginFault>
+    ensures accepted { IfOk result (λ lines. IsIniText bytes.now lines) }
+    ensures refused { IfErr result (λ fault. RefusesIni bytes.now fault) }
+{
+    match IniText::parse(alloc, bytes) {
+        Ok(lines) => Ok(lines),
+        Err(IniError::IniSyntax(line)) => Err(BeginFault::IniSyntax(line)),
+        Err(IniError::TooLarge) => Err(BeginFault::TooLarge),
+        Err(IniError::NoMemory) => Err(BeginFault::NoMemory),
+    }
+}
+
+/// The types that the files declare.
+fn table_of(alloc: Global, files: Vec<NedFile>) -> Result<TypeTable, BeginFault>
+    ensures accepted { IfOk result (λ table. (table ≡ types_of files.items) × (fault_of (types_of files.items) ≡ None)) }
+    ensures refused { IfErr result (λ fault. RefusesTypes (types_of files.items) fault) }
+{
+    match TypeTable::build(alloc, files) {
+        Ok(table) => Ok(table),
+        Err(TypeFault::DuplicateType) => Err(BeginFault::DuplicateType),
+        Err(TypeFault::UnknownType) => Err(BeginFault::UnknownType),
+        Err(TypeFault::KindClash) => Err(BeginFault::KindClash),
+        Err(TypeFault::NoMemory) => Err(BeginFault::NoMemory),
+    }
+}
+
 /// The model that these texts make, or why they make none.
 pub fn model_of(
     alloc: Global,
@@ -82,15 +162,16 @@ pub fn model_of(
         return Err(BeginFault::TooLarge);
     }
     let files = files_of(alloc, texts)?;
-    let lines = ini_of(alloc, ini)?;
-    let types = types_of(alloc, files)?;
+    let lines = lines_of(alloc, ini)?;
+    let types = table_of(alloc, files)?;
     if config != b"General".as_slice() {
         return Err(BeginFault::NoSuchConfig);
     }
+    let config = Text::from_bytes(alloc, config)?;
     let model = Model {
         types,
         ini: lines,
-        config: Text::from_bytes(alloc, config)?,
+        config,
     };
     if model.network().is_none() {
         return Err(BeginFault::NoSuchNetwork);

@@ -1,5 +1,6 @@
 //! A session: one model, and its runs.
 #![tactic(auto)]
 
+pub mod begin;
 pub mod running;
 pub mod session;

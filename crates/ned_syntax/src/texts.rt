@@ -67,4 +67,11 @@ impl NedTexts {
             None => None,
         }
     }
+
+    /// The texts, in order.
+    pub fn as_slice(&self) -> &[Text]
+        ensures { result.now ≡ self.now }
+    {
+        self.texts.as_slice()
+    }
 }

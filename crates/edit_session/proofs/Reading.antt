@@ -1,0 +1,46 @@
+-- The files of a model, one after the other.
+use Rattle.std.proofs.Common.{◌≡◌, ℕ, zero, suc, ◌+◌, ◌<◌, Bool, true, false, ◌||◌, List, [], ◌∷◌, ◌++◌, Option, Some, None, refl, sym, ap, ◌∙◌, subst, arith, length, take, slice_get}
+use Rattle.std.specs.List.{list_any}
+use Rattle.ned_syntax.specs.declared.ast.NedFile.{NedFile}
+use Rattle.ned_syntax.specs.NedText.{IsNedFile}
+use Rattle.edit_session.specs.declared.begin.BeginFault.{BeginFault}
+use Rattle.edit_session.specs.declared.begin.BeginFault.TheVariants as fault
+use Rattle.edit_session.specs.Models.{AreNedFiles, IsBlamed, RefusesFile, RefusesFiles, is_large}
+
+large_here : (ts : List (List ℕ)) (t : List ℕ) (o : Bool) → o ≡ true → (o || list_any is_large ts) ≡ true
+large_here ts t true e = refl
+large_here ts t false e = cc
+
+large_later : (ts : List (List ℕ)) (o : Bool) → list_any is_large ts ≡ true → (o || list_any is_large ts) ≡ true
+large_later ts true e = refl
+large_later ts false e = e
+
+holds_large : (ts : List (List ℕ)) (n : ℕ) (t : List ℕ) → slice_get ts n ≡ Some t → is_large t ≡ true → list_any is_large ts ≡ true
+holds_large [] n t e large = cc
+holds_large (u ∷ ts) zero t e large = let same : u ≡ t = cc in large_here ts t (is_large u) (ap is_large same ∙ large)
+holds_large (u ∷ ts) (suc n) t e large = large_later ts (is_large u) (holds_large ts n t e large)
+
+-- the file that was refused comes after files that are read
+pub blames : (ts : List (List ℕ)) (n : ℕ) (t : List ℕ) (before : List NedFile) (f : BeginFault) → AreNedFiles (take n ts) before → slice_get ts n ≡ Some t → RefusesFile n t f → RefusesFiles ts f
+blames ts n t before (fault.NedSyntax at line) declared here is = record {
+    text = t;
+    here = ap (slice_get ts) is.0 ∙ here;
+    blamed = is.1;
+    before = before;
+    declared = subst (λ k. AreNedFiles (take k ts) before) (sym is.0) declared;
+  }
+blames ts n t before fault.TooLarge declared here is = holds_large ts n t here is
+blames ts n t before fault.NoMemory declared here is = tt
+blames ts n t before (fault.IniSyntax line) declared here is = absurd is
+blames ts n t before fault.DuplicateType declared here is = absurd is
+blames ts n t before fault.UnknownType declared here is = absurd is
+blames ts n t before fault.KindClash declared here is = absurd is
+blames ts n t before fault.NoSuchConfig declared here is = absurd is
+blames ts n t before fault.NoSuchNetwork declared here is = absurd is
+
+-- one more file
+pub one_more : (ts : List (List ℕ)) (t : List ℕ) (fs : List NedFile) (f : NedFile) → AreNedFiles ts fs → IsNedFile t f → AreNedFiles (ts ++ t ∷ []) (fs ++ f ∷ [])
+one_more [] t [] f are is = (is, tt)
+one_more [] t (g ∷ fs) f are is = absurd are
+one_more (u ∷ ts) t [] f are is = absurd are
+one_more (u ∷ ts) t (g ∷ fs) f are is = (are.0, one_more ts t fs f are.1 is)

@@ -1,0 +1,134 @@
+-- The model that texts make, and why texts make none.
+use Rattle.std.specs.Prelude.{◌≡◌, ℕ, ◌<◌, Bool, true, false, ◌||◌, List, [], ◌∷◌, Option, Some, None, IsSome, codes, length, nat_lt, slice_get, take}
+use Rattle.std.specs.List.{list_any}
+use Rattle.ini_config.specs.declared.lines.IniLine.{IniLine}
+use Rattle.ini_config.specs.Meaning.{IsIniText, FirstBad}
+use Rattle.model_answers.specs.declared.model.Model.{Model}
+use Rattle.model_answers.specs.Models.{network_of}
+use Rattle.ned_tokens.specs.Meaning.{MayBlame, max_length}
+use Rattle.ned_syntax.specs.declared.ast.NedFile.{NedFile}
+use Rattle.ned_syntax.specs.declared.ast.TypeDeclaration.{TypeDeclaration}
+use Rattle.ned_syntax.specs.Grammar.{file}
+use Rattle.ned_syntax.specs.NedText.{IsNedFile}
+use Rattle.ned_types.specs.declared.table.TypeFault.{TypeFault}
+use Rattle.ned_types.specs.declared.table.TypeFault.TheVariants as types
+use Rattle.ned_types.specs.Types.{types_of, fault_of}
+use Rattle.edit_session.specs.declared.begin.BeginFault.{BeginFault}
+use Rattle.edit_session.specs.declared.begin.BeginFault.TheVariants as fault
+
+-- ---- size
+
+abbrev pub is_large : List ℕ → Bool
+is_large bytes = nat_lt max_length (length bytes)
+
+-- there are more than 256 NED texts, or a text is longer than 1 MiB
+abbrev pub is_too_large : List (List ℕ) → List ℕ → Bool
+is_too_large texts ini = (nat_lt 256 (length texts) || list_any is_large texts) || is_large ini
+
+-- ---- the model
+
+-- a file for each text, which declares what the text says
+abbrev pub AreNedFiles : List (List ℕ) → List NedFile → Type 0
+AreNedFiles [] [] = Unit {0}
+AreNedFiles [] (f ∷ fs) = ⊥
+AreNedFiles (t ∷ ts) [] = ⊥
+AreNedFiles (t ∷ ts) (f ∷ fs) = IsNedFile t f × AreNedFiles ts fs
+
+-- the name of the only configuration
+abbrev pub general : List ℕ
+general = codes "General"
+
+-- The texts are read, and their types go together.
+pub record AreRead (texts : List (List ℕ)) (ini : List ℕ) : Type 0 where
+  pub small : is_too_large texts ini ≡ false
+  pub files : List NedFile
+  pub declared : AreNedFiles texts files
+  pub lines : List IniLine
+  pub said : IsIniText ini lines
+  pub together : fault_of (types_of files) ≡ None
+
+-- The model has what the texts say.
+pub record IsReadAs (texts : List (List ℕ)) (ini config : List ℕ) (m : Model) : Type 0 where
+  pub read : AreRead texts ini
+  pub types : m.types ≡ types_of read.files
+  pub lines : m.ini ≡ read.lines
+  pub selected : m.config ≡ config
+  pub exists : config ≡ general
+
+-- THE MODEL of these texts and that configuration
+pub record IsModelOf (texts : List (List ℕ)) (ini config : List ℕ) (m : Model) : Type 0 where
+  pub read : IsReadAs texts ini config m
+  pub network : IsSome (network_of m)
+
+-- ---- refusals
+
+-- of the file of that number
+abbrev pub RefusesFile : ℕ → List ℕ → BeginFault → Type 0
+RefusesFile number bytes (fault.NedSyntax at line) = (at ≡ number) × MayBlame file bytes line
+RefusesFile number bytes fault.TooLarge = is_large bytes ≡ true
+RefusesFile number bytes fault.NoMemory = Unit {0}
+RefusesFile number bytes _ = ⊥
+
+-- The text of that number is no NED file, and those before it are.
+pub record IsBlamed (texts : List (List ℕ)) (at line : ℕ) : Type 0 where
+  pub text : List ℕ
+  pub here : slice_get texts at ≡ Some text
+  pub blamed : MayBlame file text line
+  pub before : List NedFile
+  pub declared : AreNedFiles (take at texts) before
+
+abbrev pub RefusesFiles : List (List ℕ) → BeginFault → Type 0
+RefusesFiles texts (fault.NedSyntax at line) = IsBlamed texts at line
+RefusesFiles texts fault.TooLarge = list_any is_large texts ≡ true
+RefusesFiles texts fault.NoMemory = Unit {0}
+RefusesFiles texts _ = ⊥
+
+abbrev pub RefusesIni : List ℕ → BeginFault → Type 0
+RefusesIni bytes (fault.IniSyntax line) = FirstBad line bytes
+RefusesIni bytes fault.TooLarge = is_large bytes ≡ true
+RefusesIni bytes fault.NoMemory = Unit {0}
+RefusesIni bytes _ = ⊥
+
+abbrev pub RefusesTypes : List TypeDeclaration → BeginFault → Type 0
+RefusesTypes declared fault.DuplicateType = fault_of declared ≡ Some types.DuplicateType
+RefusesTypes declared fault.UnknownType = fault_of declared ≡ Some types.UnknownType
+RefusesTypes declared fault.KindClash = fault_of declared ≡ Some types.KindClash
+RefusesTypes declared fault.NoMemory = Unit {0}
+RefusesTypes declared _ = ⊥
+
+-- The NED texts are read, and the ini text's first bad line is this one.
+pub record IsIniBlamed (texts : List (List ℕ)) (ini : List ℕ) (line : ℕ) : Type 0 where
+  pub files : List NedFile
+  pub declared : AreNedFiles texts files
+  pub blamed : FirstBad line ini
+
+-- The texts are read, and their types don't go together.
+pub record AreApart (texts : List (List ℕ)) (ini : List ℕ) (why : TypeFault) : Type 0 where
+  pub files : List NedFile
+  pub declared : AreNedFiles texts files
+  pub lines : List IniLine
+  pub said : IsIniText ini lines
+  pub apart : fault_of (types_of files) ≡ Some why
+
+-- The texts are read, and the ini text has no configuration of that name.
+pub record IsNotSelected (texts : List (List ℕ)) (ini config : List ℕ) : Type 0 where
+  pub read : AreRead texts ini
+  pub other : config ≡ general → ⊥
+
+-- There is a model but for its network.
+pub record HasNoNetwork (texts : List (List ℕ)) (ini config : List ℕ) : Type 0 where
+  pub model : Model
+  pub read : IsReadAs texts ini config model
+  pub none : network_of model ≡ None
+
+-- Each refusal but want of memory has its reason, and no reason that comes before it.
+abbrev pub Refuses : List (List ℕ) → List ℕ → List ℕ → BeginFault → Type 0
+Refuses texts ini config fault.TooLarge = is_too_large texts ini ≡ true
+Refuses texts ini config (fault.NedSyntax at line) = (is_too_large texts ini ≡ false) × IsBlamed texts at line
+Refuses texts ini config (fault.IniSyntax line) = (is_too_large texts ini ≡ false) × IsIniBlamed texts ini line
+Refuses texts ini config fault.DuplicateType = (is_too_large texts ini ≡ false) × AreApart texts ini types.DuplicateType
+Refuses texts ini config fault.UnknownType = (is_too_large texts ini ≡ false) × AreApart texts ini types.UnknownType
+Refuses texts ini config fault.KindClash = (is_too_large texts ini ≡ false) × AreApart texts ini types.KindClash
+Refuses texts ini config fault.NoSuchConfig = IsNotSelected texts ini config
+Refuses texts ini config fault.NoSuchNetwork = HasNoNetwork texts ini config
+Refuses texts ini config fault.NoMemory = Unit {0}
