@@ -1,5 +1,5 @@
 -- Each rule of the grammar keeps the laws.
-use Rattle.std.proofs.Common.{◌≡◌, ℕ, Bool, true, false, cond, not, ◌||◌, List, [], ◌∷◌, Option, Some, None, ◌⊎◌, inl, inr, refl, sym, ap, subst, ◌∙◌}
+use Rattle.std.proofs.Common.{◌≡◌, ℕ, Bool, true, false, cond, not, ◌||◌, List, ◌∷◌, Option, Some, None, refl, ap}
 use Rattle.std.specs.Prelude.{is_some, codes}
 use Rattle.std.specs.Str.{bytes_eq}
 use Rattle.std.proofs.lemmas.Slice.Eq.{bytes_eq-Decides}
@@ -9,7 +9,7 @@ use Rattle.ned_tokens.specs.declared.token.Mark.{Mark}
 use Rattle.ned_tokens.specs.declared.token.Mark.TheVariants as m
 use Rattle.ned_tokens.specs.declared.token.Token.{Token}
 use Rattle.ned_tokens.specs.declared.token.Token.TheVariants as token
-use Rattle.ned_tokens.specs.Rule.{Rule, ◌⊗◌, ◌▷◌, ◌◁◌, made, optional, many}
+use Rattle.ned_tokens.specs.Rule.{◌⊗◌, ◌▷◌, made, optional, many}
 use Rattle.ned_tokens.specs.Balanced.{balanced}
 use Rattle.ned_syntax.specs.declared.ast.ParameterValue.TheVariants as given
 use Rattle.ned_syntax.specs.declared.ast.SectionLine.TheVariants as lines
@@ -17,22 +17,22 @@ use Rattle.ned_syntax.specs.declared.properties.PropertyName.{PropertyName}
 use Rattle.ned_syntax.specs.declared.properties.PropertyName.TheVariants as names
 use Rattle.ned_syntax.specs.declared.statistics.Except.{Except}
 use Rattle.ned_syntax.specs.declared.statistics.Except.TheVariants as except_is
-use Rattle.ned_syntax.specs.Grammar.{word, mark, name, in_parens, plain_literal, number, negative_literal, literal, expression, default_value, value_rule, property_name, bracketed, index, body, property, mode_word, question, mode_rule, next_mode, modes, group, loose_token, piece, pieces, loose_text, no_value, source_value, record_value, source_tail, record_tail, source_word, record_word, source_part, record_part, other_part, record_or_other, any_part, part, next_part, statistic_body, optional_body, indexed_statistic, unnamed_statistic, named_or_not, statistic_tail, statistic_word, statistic, plain_name, plain_line, property_text, property_line, valued, tail, parameter_word, volatile, any_declaration, declaration, assignment, assigned_or_said, any_line, section_line, heading, section, simple, submodule, submodules, network, type_rule, file, is_word, is_mark, name_of, turn_of, literal_of, number_of, property_name_of, mode_of, loose_of, source_of, record_of, statistic_of, plain_name_of, parameter_word_of, is_measured, is_source, is_record, is_statistic, plain_of}
-use Rattle.ned_tokens.proofs.Laws.{Lawful, Apart, token-lawful, such_that-lawful, either-lawful, optional-lawful, then, before, after, mapped}
+use Rattle.ned_syntax.specs.Grammar.{said_in, word, mark, name, in_parens, plain_literal, number, negative_literal, literal, expression, default_value, value_rule, property_name, bracketed, index, body, property, mode_word, question, mode_rule, next_mode, modes, group, loose_token, piece, pieces, loose_text, no_value, source_value, record_value, source_tail, record_tail, source_word, record_word, source_part, record_part, other_part, record_or_other, any_part, part, next_part, statistic_body, optional_body, indexed_statistic, unnamed_statistic, named_or_not, statistic_tail, statistic_word, statistic, plain_name, plain_line, property_text, property_line, valued, tail, parameter_word, volatile, any_declaration, declaration, assignment, assigned_or_said, any_line, section_line, heading, section, simple, submodule, submodules, network, type_rule, file, is_word, is_mark, name_of, turn_of, literal_of, number_of, property_name_of, mode_of, loose_of, source_of, record_of, statistic_of, plain_name_of, parameter_word_of, is_measured, is_source, is_record, is_statistic, plain_of}
+use Rattle.ned_tokens.proofs.Laws.{Lawful, token-lawful, such_that-lawful, either-lawful, optional-lawful, then, before, after, mapped}
 use Rattle.ned_tokens.proofs.Many.{many-lawful}
 use Rattle.ned_tokens.proofs.BalancedLaws.{balanced-lawful}
 
 -- ---- tokens
 
-word-lawful : (k : Keyword) → Lawful (word k)
+pub word-lawful : (k : Keyword) → Lawful (word k)
 unfolding word
 word-lawful k = token-lawful (is_word k)
 
-mark-lawful : (k : Mark) → Lawful (mark k)
+pub mark-lawful : (k : Mark) → Lawful (mark k)
 unfolding mark
 mark-lawful k = token-lawful (is_mark k)
 
-name-lawful : Lawful name
+pub name-lawful : Lawful name
 unfolding name
 name-lawful = token-lawful name_of
 
@@ -42,21 +42,21 @@ text_ends (token.Mark m.RightParen) e = refl
 text_ends (token.Mark _) e = absurd cc
 text_ends _ e = absurd cc
 
-in_parens-lawful : Lawful in_parens
+pub in_parens-lawful : Lawful in_parens
 unfolding in_parens mark
 in_parens-lawful = before (mark-lawful m.LeftParen) (after (balanced-lawful turn_of) (mark-lawful m.RightParen) text_ends) (λ t e. refl)
 
 -- ---- values
 
-plain_literal-lawful : Lawful plain_literal
+pub plain_literal-lawful : Lawful plain_literal
 unfolding plain_literal
 plain_literal-lawful = token-lawful literal_of
 
-number-lawful : Lawful number
+pub number-lawful : Lawful number
 unfolding number
 number-lawful = token-lawful number_of
 
-negative_literal-lawful : Lawful negative_literal
+pub negative_literal-lawful : Lawful negative_literal
 unfolding negative_literal mark
 negative_literal-lawful = mapped (before (mark-lawful m.Minus) number-lawful (λ t e. refl))
 
@@ -65,7 +65,7 @@ unfolding word mark name in_parens plain_literal number negative_literal literal
 minus_apart (token.Mark _) e = absurd cc
 minus_apart _ e = refl
 
-literal-lawful : Lawful literal
+pub literal-lawful : Lawful literal
 unfolding literal negative_literal plain_literal mark
 literal-lawful = either-lawful negative_literal plain_literal negative_literal-lawful plain_literal-lawful refl refl minus_apart
 
@@ -73,7 +73,7 @@ pub expression-lawful : Lawful expression
 unfolding expression
 expression-lawful = mapped literal-lawful
 
-default_value-lawful : Lawful default_value
+pub default_value-lawful : Lawful default_value
 unfolding default_value word mark expression literal negative_literal plain_literal number
 default_value-lawful = mapped (before (word-lawful k.Default) (before (mark-lawful m.LeftParen) (after expression-lawful (mark-lawful m.RightParen) (λ t e. refl)) (λ t e. refl)) (λ t e. refl))
 
@@ -84,25 +84,25 @@ default_apart (token.Word k.False) e = refl
 default_apart (token.Word _) e = absurd cc
 default_apart _ e = refl
 
-value-lawful : Lawful value_rule
+pub value-lawful : Lawful value_rule
 unfolding value_rule default_value expression literal negative_literal plain_literal word mark
 value-lawful = either-lawful default_value (made given.Fixed expression) default_value-lawful (mapped expression-lawful) refl refl default_apart
 
 -- ---- properties
 
-property_name-lawful : Lawful property_name
+pub property_name-lawful : Lawful property_name
 unfolding property_name
 property_name-lawful = token-lawful property_name_of
 
-bracketed-lawful : Lawful bracketed
+pub bracketed-lawful : Lawful bracketed
 unfolding bracketed mark name
 bracketed-lawful = before (mark-lawful m.LeftBracket) (after name-lawful (mark-lawful m.RightBracket) (λ t e. refl)) (λ t e. refl)
 
-index-lawful : Lawful index
+pub index-lawful : Lawful index
 unfolding index bracketed mark
 index-lawful = optional-lawful bracketed bracketed-lawful refl
 
-body-lawful : Lawful body
+pub body-lawful : Lawful body
 unfolding body in_parens mark
 body-lawful = optional-lawful in_parens in_parens-lawful refl
 
@@ -122,15 +122,15 @@ property-full = refl
 
 -- ---- statistics
 
-mode_word-lawful : Lawful mode_word
+pub mode_word-lawful : Lawful mode_word
 unfolding mode_word
 mode_word-lawful = token-lawful mode_of
 
-question-lawful : Lawful question
+pub question-lawful : Lawful question
 unfolding question mark
 question-lawful = mapped (optional-lawful (mark m.Question) (mark-lawful m.Question) refl)
 
-mode-lawful : Lawful mode_rule
+pub mode-lawful : Lawful mode_rule
 unfolding mode_rule mode_word
 mode-lawful = mapped (then mode_word-lawful question-lawful (λ t e. refl))
 
@@ -154,15 +154,15 @@ modes_apart (token.Mark m.Comma) e = refl
 modes_apart (token.Mark _) e = absurd cc
 modes_apart _ e = absurd cc
 
-modes-lawful : Lawful modes
+pub modes-lawful : Lawful modes
 unfolding modes
 modes-lawful = mapped (then mode-lawful (many-lawful next_mode next_mode-lawful next_mode-full next_modes_apart) modes_apart)
 
-group-lawful : Lawful group
+pub group-lawful : Lawful group
 unfolding group
 group-lawful = mapped in_parens-lawful
 
-loose_token-lawful : (x : Except) → Lawful (loose_token x)
+pub loose_token-lawful : (x : Except) → Lawful (loose_token x)
 unfolding loose_token
 loose_token-lawful x = token-lawful (loose_of x)
 
@@ -180,23 +180,23 @@ pub piece-full : (x : Except) → (piece x).empty ≡ false
 unfolding word mark name in_parens plain_literal number negative_literal literal expression default_value value_rule property_name bracketed index body property mode_word question mode_rule next_mode modes group loose_token piece pieces loose_text no_value source_value record_value source_tail record_tail source_word record_word source_part record_part other_part record_or_other any_part part next_part statistic_body optional_body indexed_statistic unnamed_statistic named_or_not statistic_tail statistic_word statistic plain_name plain_line property_text property_line valued tail parameter_word volatile any_declaration declaration assignment assigned_or_said any_line section_line heading section simple submodule submodules network type_rule file
 piece-full x = refl
 
-pieces-lawful : Lawful pieces
+pub pieces-lawful : Lawful pieces
 unfolding pieces piece group loose_token in_parens mark
 pieces-lawful = mapped (many-lawful (piece except_is.Nothing) (piece-lawful except_is.Nothing) (piece-full except_is.Nothing) (λ t e. refl))
 
-loose_text-lawful : (x : Except) → Lawful (loose_text x)
+pub loose_text-lawful : (x : Except) → Lawful (loose_text x)
 unfolding loose_text piece group loose_token in_parens mark
 loose_text-lawful x = before (piece-lawful x) pieces-lawful (λ t e. refl)
 
-no_value-lawful : Lawful no_value
+pub no_value-lawful : Lawful no_value
 unfolding no_value
 no_value-lawful = mapped (loose_text-lawful except_is.Equals)
 
-source_value-lawful : Lawful source_value
+pub source_value-lawful : Lawful source_value
 unfolding source_value mark
 source_value-lawful = mapped (before (mark-lawful m.Equals) name-lawful (λ t e. refl))
 
-record_value-lawful : Lawful record_value
+pub record_value-lawful : Lawful record_value
 unfolding record_value mark
 record_value-lawful = mapped (before (mark-lawful m.Equals) modes-lawful (λ t e. refl))
 
@@ -206,11 +206,11 @@ source_value_apart (token.Mark m.Equals) e = absurd cc
 source_value_apart (token.Mark _) e = refl
 source_value_apart _ e = refl
 
-source_tail-lawful : Lawful source_tail
+pub source_tail-lawful : Lawful source_tail
 unfolding source_tail source_value no_value loose_text piece group loose_token in_parens mark
 source_tail-lawful = either-lawful source_value no_value source_value-lawful no_value-lawful refl refl source_value_apart
 
-source_part-lawful : Lawful source_part
+pub source_part-lawful : Lawful source_part
 unfolding source_part source_word source_tail source_value no_value loose_text piece group loose_token in_parens mark
 source_part-lawful = mapped (before (token-lawful source_of) (optional-lawful source_tail source_tail-lawful refl) (λ t e. refl))
 
@@ -220,15 +220,15 @@ record_value_apart (token.Mark m.Equals) e = absurd cc
 record_value_apart (token.Mark _) e = refl
 record_value_apart _ e = refl
 
-record_tail-lawful : Lawful record_tail
+pub record_tail-lawful : Lawful record_tail
 unfolding record_tail record_value no_value loose_text piece group loose_token in_parens mark
 record_tail-lawful = either-lawful record_value no_value record_value-lawful no_value-lawful refl refl record_value_apart
 
-record_part-lawful : Lawful record_part
+pub record_part-lawful : Lawful record_part
 unfolding record_part record_word record_tail record_value no_value loose_text piece group loose_token in_parens mark
 record_part-lawful = mapped (before (token-lawful record_of) (optional-lawful record_tail record_tail-lawful refl) (λ t e. refl))
 
-other_part-lawful : Lawful other_part
+pub other_part-lawful : Lawful other_part
 unfolding other_part
 other_part-lawful = mapped (loose_text-lawful except_is.Keys)
 
@@ -243,7 +243,7 @@ unfolding word mark name in_parens plain_literal number negative_literal literal
 record_apart (token.Name text) e = record_name (is_source text) (is_record text) e
 record_apart _ e = refl
 
-record_or_other-lawful : Lawful record_or_other
+pub record_or_other-lawful : Lawful record_or_other
 unfolding record_or_other record_part record_word other_part loose_text piece group loose_token in_parens mark
 record_or_other-lawful = either-lawful record_part other_part record_part-lawful other_part-lawful refl refl record_apart
 
@@ -261,11 +261,11 @@ unfolding word mark name in_parens plain_literal number negative_literal literal
 source_apart (token.Name text) e = source_name (is_source text) (is_record text) (record_no_source text) e
 source_apart _ e = refl
 
-any_part-lawful : Lawful any_part
+pub any_part-lawful : Lawful any_part
 unfolding any_part source_part source_word record_or_other record_part record_word other_part loose_text piece group loose_token in_parens mark
 any_part-lawful = either-lawful source_part record_or_other source_part-lawful record_or_other-lawful refl refl source_apart
 
-part-lawful : Lawful part
+pub part-lawful : Lawful part
 unfolding part any_part source_part source_word record_or_other record_part record_word other_part loose_text piece group loose_token in_parens mark
 part-lawful = optional-lawful any_part any_part-lawful refl
 
@@ -295,19 +295,19 @@ body_ends (token.Mark m.RightParen) e = refl
 body_ends (token.Mark _) e = absurd cc
 body_ends _ e = absurd cc
 
-statistic_body-lawful : Lawful statistic_body
+pub statistic_body-lawful : Lawful statistic_body
 unfolding statistic_body mark
 statistic_body-lawful = before (mark-lawful m.LeftParen) (after (mapped (then part-lawful (many-lawful next_part next_part-lawful next_part-full next_parts_apart) parts_apart)) (mark-lawful m.RightParen) body_ends) (λ t e. refl)
 
-optional_body-lawful : Lawful optional_body
+pub optional_body-lawful : Lawful optional_body
 unfolding optional_body statistic_body mark
 optional_body-lawful = optional-lawful statistic_body statistic_body-lawful refl
 
-indexed_statistic-lawful : Lawful indexed_statistic
+pub indexed_statistic-lawful : Lawful indexed_statistic
 unfolding indexed_statistic bracketed mark name
 indexed_statistic-lawful = mapped (then bracketed-lawful optional_body-lawful (λ t e. refl))
 
-unnamed_statistic-lawful : Lawful unnamed_statistic
+pub unnamed_statistic-lawful : Lawful unnamed_statistic
 unfolding unnamed_statistic
 unnamed_statistic-lawful = mapped in_parens-lawful
 
@@ -317,25 +317,25 @@ named_apart (token.Mark m.LeftParen) e = refl
 named_apart (token.Mark _) e = absurd cc
 named_apart _ e = absurd cc
 
-named_or_not-lawful : Lawful named_or_not
+pub named_or_not-lawful : Lawful named_or_not
 unfolding named_or_not indexed_statistic unnamed_statistic bracketed in_parens mark
 named_or_not-lawful = either-lawful indexed_statistic unnamed_statistic indexed_statistic-lawful unnamed_statistic-lawful refl refl named_apart
 
-statistic_tail-lawful : Lawful statistic_tail
+pub statistic_tail-lawful : Lawful statistic_tail
 unfolding statistic_tail named_or_not indexed_statistic unnamed_statistic bracketed in_parens mark
 statistic_tail-lawful = mapped (optional-lawful named_or_not named_or_not-lawful refl)
 
-statistic-lawful : Lawful statistic
+pub statistic-lawful : Lawful statistic
 unfolding statistic statistic_word
 statistic-lawful = before (token-lawful statistic_of) statistic_tail-lawful (λ t e. refl)
 
 -- ---- the lines of a parameter section
 
-plain_name-lawful : Lawful plain_name
+pub plain_name-lawful : Lawful plain_name
 unfolding plain_name
 plain_name-lawful = token-lawful plain_name_of
 
-plain_line-lawful : Lawful plain_line
+pub plain_line-lawful : Lawful plain_line
 unfolding plain_line plain_name
 plain_line-lawful = mapped (then plain_name-lawful (then index-lawful body-lawful index_apart) (λ t e. refl))
 
@@ -348,11 +348,11 @@ unfolding word mark name in_parens plain_literal number negative_literal literal
 statistic_apart (token.Name text) e = statistic_name (is_statistic text) (cond (bytes_eq text (codes "unit")) names.Unit (cond (bytes_eq text (codes "class")) names.Class names.Other)) e
 statistic_apart _ e = refl
 
-property_text-lawful : Lawful property_text
+pub property_text-lawful : Lawful property_text
 unfolding property_text statistic statistic_word plain_line plain_name
 property_text-lawful = either-lawful statistic plain_line statistic-lawful plain_line-lawful refl refl statistic_apart
 
-property_line-lawful : Lawful property_line
+pub property_line-lawful : Lawful property_line
 unfolding property_line mark
 property_line-lawful = before (mark-lawful m.At) property_text-lawful (λ t e. refl)
 
@@ -362,7 +362,7 @@ properties_apart (token.Mark m.At) e = refl
 properties_apart (token.Mark _) e = absurd cc
 properties_apart _ e = absurd cc
 
-properties-lawful : Lawful (many property)
+pub properties-lawful : Lawful (many property)
 unfolding property
 properties-lawful = many-lawful property property-lawful property-full properties_apart
 
@@ -372,7 +372,7 @@ value_apart (token.Mark m.At) e = refl
 value_apart (token.Mark _) e = absurd cc
 value_apart _ e = absurd cc
 
-valued-lawful : Lawful valued
+pub valued-lawful : Lawful valued
 unfolding valued mark
 valued-lawful = mapped (then (before (mark-lawful m.Equals) value-lawful (λ t e. refl)) properties-lawful value_apart)
 
@@ -382,15 +382,15 @@ tail_apart (token.Mark m.Equals) e = refl
 tail_apart (token.Mark _) e = absurd cc
 tail_apart _ e = absurd cc
 
-tail-lawful : Lawful tail
+pub tail-lawful : Lawful tail
 unfolding tail valued mark
 tail-lawful = mapped (then properties-lawful (optional-lawful valued valued-lawful refl) tail_apart)
 
-parameter_word-lawful : Lawful parameter_word
+pub parameter_word-lawful : Lawful parameter_word
 unfolding parameter_word
 parameter_word-lawful = token-lawful parameter_word_of
 
-volatile-lawful : Lawful volatile
+pub volatile-lawful : Lawful volatile
 unfolding volatile word
 volatile-lawful = mapped (optional-lawful (word k.Volatile) (word-lawful k.Volatile) refl)
 
@@ -400,15 +400,15 @@ volatile_apart (token.Word k.Volatile) e = absurd cc
 volatile_apart (token.Word _) e = refl
 volatile_apart _ e = absurd cc
 
-any_declaration-lawful : Lawful any_declaration
+pub any_declaration-lawful : Lawful any_declaration
 unfolding any_declaration parameter_word name
 any_declaration-lawful = mapped (before volatile-lawful (then parameter_word-lawful (then name-lawful tail-lawful (λ t e. refl)) (λ t e. refl)) volatile_apart)
 
-declaration-lawful : Lawful declaration
+pub declaration-lawful : Lawful declaration
 unfolding declaration
 declaration-lawful = such_that-lawful is_measured any_declaration any_declaration-lawful
 
-assignment-lawful : Lawful assignment
+pub assignment-lawful : Lawful assignment
 unfolding assignment name
 assignment-lawful = mapped (then name-lawful tail-lawful (λ t e. refl))
 
@@ -417,7 +417,7 @@ unfolding word mark name in_parens plain_literal number negative_literal literal
 assignment_apart (token.Name text) e = absurd cc
 assignment_apart _ e = refl
 
-assigned_or_said-lawful : Lawful assigned_or_said
+pub assigned_or_said-lawful : Lawful assigned_or_said
 unfolding assigned_or_said assignment name property_line mark
 assigned_or_said-lawful = either-lawful (made lines.Assignment assignment) property_line (mapped assignment-lawful) property_line-lawful refl refl assignment_apart
 
@@ -426,7 +426,7 @@ unfolding word mark name in_parens plain_literal number negative_literal literal
 declaration_apart (token.Word _) e = absurd cc
 declaration_apart _ e = refl
 
-any_line-lawful : Lawful any_line
+pub any_line-lawful : Lawful any_line
 unfolding any_line declaration any_declaration volatile parameter_word word assigned_or_said assignment name property_line mark
 any_line-lawful = either-lawful (made lines.Declaration declaration) assigned_or_said (mapped declaration-lawful) assigned_or_said-lawful refl refl declaration_apart
 
@@ -444,7 +444,7 @@ pub section_line-full : section_line.empty ≡ false
 unfolding word mark name in_parens plain_literal number negative_literal literal expression default_value value_rule property_name bracketed index body property mode_word question mode_rule next_mode modes group loose_token piece pieces loose_text no_value source_value record_value source_tail record_tail source_word record_word source_part record_part other_part record_or_other any_part part next_part statistic_body optional_body indexed_statistic unnamed_statistic named_or_not statistic_tail statistic_word statistic plain_name plain_line property_text property_line valued tail parameter_word volatile any_declaration declaration assignment assigned_or_said any_line section_line heading section simple submodule submodules network type_rule file
 section_line-full = refl
 
-heading-lawful : Lawful heading
+pub heading-lawful : Lawful heading
 unfolding heading word mark
 heading-lawful = mapped (optional-lawful (word k.Parameters ▷ mark m.Colon) (before (word-lawful k.Parameters) (mark-lawful m.Colon) (λ t e. refl)) refl)
 
@@ -458,7 +458,7 @@ lines_apart : (t : Token) → (section_line).starts t ≡ true → (section_line
 unfolding word mark name in_parens plain_literal number negative_literal literal expression default_value value_rule property_name bracketed index body property mode_word question mode_rule next_mode modes group loose_token piece pieces loose_text no_value source_value record_value source_tail record_tail source_word record_word source_part record_part other_part record_or_other any_part part next_part statistic_body optional_body indexed_statistic unnamed_statistic named_or_not statistic_tail statistic_word statistic plain_name plain_line property_text property_line valued tail parameter_word volatile any_declaration declaration assignment assigned_or_said any_line section_line heading section simple submodule submodules network type_rule file
 lines_apart t e = refl
 
-section-lawful : Lawful section
+pub section-lawful : Lawful section
 unfolding section
 section-lawful = before heading-lawful (many-lawful section_line section_line-lawful section_line-full lines_apart) heading_apart
 
@@ -470,7 +470,7 @@ section_ends (token.Mark m.Close) e = refl
 section_ends (token.Mark _) e = absurd cc
 section_ends _ e = absurd cc
 
-simple-lawful : Lawful simple
+pub simple-lawful : Lawful simple
 unfolding simple word mark name
 simple-lawful = mapped (before (word-lawful k.Simple) (then name-lawful (before (mark-lawful m.Open) (after section-lawful (mark-lawful m.Close) section_ends) (λ t e. refl)) (λ t e. refl)) (λ t e. refl))
 
@@ -486,7 +486,7 @@ submodules_apart : (t : Token) → (submodule).starts t ≡ true → (submodule)
 unfolding word mark name in_parens plain_literal number negative_literal literal expression default_value value_rule property_name bracketed index body property mode_word question mode_rule next_mode modes group loose_token piece pieces loose_text no_value source_value record_value source_tail record_tail source_word record_word source_part record_part other_part record_or_other any_part part next_part statistic_body optional_body indexed_statistic unnamed_statistic named_or_not statistic_tail statistic_word statistic plain_name plain_line property_text property_line valued tail parameter_word volatile any_declaration declaration assignment assigned_or_said any_line section_line heading section simple submodule submodules network type_rule file
 submodules_apart t e = refl
 
-submodules-lawful : Lawful submodules
+pub submodules-lawful : Lawful submodules
 unfolding submodules word mark
 submodules-lawful = mapped (optional-lawful (word k.Submodules ▷ (mark m.Colon ▷ many submodule)) (before (word-lawful k.Submodules) (before (mark-lawful m.Colon) (many-lawful submodule submodule-lawful submodule-full submodules_apart) (λ t e. refl)) (λ t e. refl)) refl)
 
@@ -496,7 +496,7 @@ submodules_end (token.Mark m.Close) e = refl
 submodules_end (token.Mark _) e = absurd cc
 submodules_end _ e = absurd cc
 
-network-lawful : Lawful network
+pub network-lawful : Lawful network
 unfolding network word mark name
 network-lawful = mapped (before (word-lawful k.Network) (then name-lawful (before (mark-lawful m.Open) (after submodules-lawful (mark-lawful m.Close) submodules_end) (λ t e. refl)) (λ t e. refl)) (λ t e. refl))
 
@@ -521,3 +521,22 @@ types_apart t e = refl
 pub file-lawful : Lawful file
 unfolding file
 file-lawful = mapped (many-lawful type_rule type-lawful type-full types_apart)
+
+pub source_word-lawful : Lawful source_word
+unfolding source_word
+source_word-lawful = token-lawful source_of
+
+pub record_word-lawful : Lawful record_word
+unfolding record_word
+record_word-lawful = token-lawful record_of
+
+pub statistic_word-lawful : Lawful statistic_word
+unfolding statistic_word
+statistic_word-lawful = token-lawful statistic_of
+
+pub parts-lawful : Lawful (made (λ p. said_in (p.0 ∷ p.1)) (part ⊗ many next_part))
+parts-lawful = mapped (then part-lawful (many-lawful next_part next_part-lawful next_part-full next_parts_apart) parts_apart)
+
+pub given_value-lawful : Lawful (mark m.Equals ▷ value_rule)
+unfolding mark
+given_value-lawful = before (mark-lawful m.Equals) value-lawful (λ t e. refl)

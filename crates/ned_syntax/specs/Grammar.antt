@@ -29,7 +29,6 @@ use Rattle.ned_syntax.specs.declared.ast.Assignment.{Assignment}
 use Rattle.ned_syntax.specs.declared.ast.Mode.{Mode}
 use Rattle.ned_syntax.specs.declared.ast.Mode.TheVariants as modes_are
 use Rattle.ned_syntax.specs.declared.ast.RecordedMode.{RecordedMode}
-use Rattle.ned_syntax.specs.declared.ast.Statistic.{Statistic}
 use Rattle.ned_syntax.specs.declared.ast.SectionLine.{SectionLine}
 use Rattle.ned_syntax.specs.declared.ast.SectionLine.TheVariants as lines
 use Rattle.ned_syntax.specs.declared.ast.Submodule.{Submodule}

@@ -3,6 +3,7 @@
 
 pub mod ast;
 pub mod error;
+pub mod laws;
 mod leaves;
 mod literals;
 mod parameters;

@@ -2,7 +2,7 @@
 
 ghost use Rattle.std.specs.Prelude.{◌≡◌, ◌<◌, length, IfOk, IfErr, Err};
 ghost use Rattle.ned_tokens.specs.Meaning.{max_length};
-ghost use Rattle.ned_syntax.specs.NedText.{IsNedFile, IsExpressionText, Answers, ExplainsFile, ExplainsExpression};
+ghost use Rattle.ned_syntax.specs.NedText.{IsNedFile, IsExpressionText, Answers, ExplainsFile, ExplainsExpression, NamesFirstOfFile, NamesFirstOfExpression};
 ghost use Rattle.ned_syntax.specs.declared.ast.NedFile.{NedFile};
 ghost use Rattle.ned_syntax.specs.declared.ast.Expression.{Expression};
 
@@ -25,6 +25,8 @@ pub fn parse_ned(alloc: Global, bytes: &[u8]) -> Result<NedFile, NedError>
     ensures complete { (file : NedFile) → IsNedFile bytes.now file → Answers file result }
     // Each refusal has its reason.
     ensures explained { IfErr result (λ e. ExplainsFile bytes.now e) }
+    // A line that is named is that of the first token that can't go on.
+    ensures first { IfErr result (λ e. NamesFirstOfFile bytes.now e) }
     ensures large { max_length < length bytes.now → result ≡ Err NedError.TooLarge }
 {
     if bytes.len() > MAX_LENGTH {
@@ -50,6 +52,8 @@ pub fn parse_expression(alloc: Global, bytes: &[u8]) -> Result<Expression, NedEr
     ensures complete { (expression : Expression) → IsExpressionText bytes.now expression → Answers expression result }
     // Each refusal has its reason.
     ensures explained { IfErr result (λ e. ExplainsExpression bytes.now e) }
+    // A line that is named is that of the first token that can't go on.
+    ensures first { IfErr result (λ e. NamesFirstOfExpression bytes.now e) }
     ensures large { max_length < length bytes.now → result ≡ Err NedError.TooLarge }
 {
     if bytes.len() > MAX_LENGTH {

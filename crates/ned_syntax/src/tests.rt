@@ -1,7 +1,8 @@
-use crate::ast::{NedFile, SectionLine};
+use crate::ast::{Expression, Mode, NedFile, ParameterValue, ParameterWord, SectionLine, TypeKind};
 use crate::error::NedError;
 use crate::parse::{parse_expression, parse_ned};
 use crate::texts::NedTexts;
+use sim_values::value::{Dimension, Value};
 use std::test::*;
 
 /// The line that a text is refused at; 0 where it is read.
@@ -226,4 +227,81 @@ fn blames_the_line(rt: HostRuntime) {
     for (text, line) in table.iter() {
         assert_eq!(rt; line_of(parse_ned(rt.alloc(), text)), *line, "{text:?}");
     }
+}
+
+// A text of all parts of the language, its declarations found by hand.
+#[test]
+fn reads_the_declarations(rt: HostRuntime) -> Result<(), Fail> {
+    let text =
+        b"simple Tick { parameters: int count;\n  double gap @unit(s) = default(1s); int priority = default(0);\n  int late = default(0); int extra = default(0);\n  @statistic[fired](record=count,max,vector);\n  @statistic[extra](record=last); }\nnetwork N { submodules: t: Tick; }\n".as_slice();
+    let file = parse_ned(rt.alloc(), text)?;
+    assert_eq!(rt; file.types.len(), 2);
+    let tick = file.types.get(0).ok_or("Tick")?;
+    assert_eq!(rt; tick.kind, TypeKind::Simple);
+    assert!(rt; tick.name.is(b"Tick"));
+    assert_eq!(rt; tick.lines.len(), 7);
+    assert_eq!(rt; tick.submodules.len(), 0);
+    let Some(SectionLine::Declaration(gap)) = tick.lines.get(1) else {
+        return Err("gap".into());
+    };
+    assert!(rt; gap.name.is(b"gap"));
+    assert_eq!(rt; gap.word, ParameterWord::Double);
+    assert_eq!(rt; gap.unit, Some(Dimension::Time));
+    assert!(rt; is_default_of(&gap.value, 1_000_000_000_000));
+    let Some(SectionLine::Statistic(fired)) = tick.lines.get(5) else {
+        return Err("fired".into());
+    };
+    assert!(rt; fired.name.is(b"fired") && fired.source.is(b"fired"));
+    let modes = [Mode::Count, Mode::Max, Mode::Vector];
+    assert_eq!(rt; fired.modes.len(), 3);
+    for (found, mode) in fired.modes.as_slice().iter().zip(modes.iter()) {
+        assert!(rt; found.mode == *mode && !found.optional);
+    }
+    let network = file.types.get(1).ok_or("N")?;
+    assert_eq!(rt; network.kind, TypeKind::Network);
+    let submodule = network.submodules.get(0).ok_or("t")?;
+    assert!(rt; submodule.name.is(b"t") && submodule.type_name.is(b"Tick"));
+    Ok(())
+}
+
+/// Whether an expression is this many ps.
+fn is_time(expression: &Expression, amount: i64) -> bool {
+    let Expression::Literal(value) = expression;
+    match value {
+        Value::Quantity(Dimension::Time, found) => *found == amount,
+        _ => false,
+    }
+}
+
+/// Whether a value is a default of this many ps.
+fn is_default_of(value: &Option<ParameterValue>, amount: i64) -> bool {
+    let Some(value) = value else {
+        return false;
+    };
+    match value {
+        ParameterValue::Default(expression) => is_time(expression, amount),
+        ParameterValue::Fixed(_) => false,
+    }
+}
+
+// Expressions, and the texts of a model.
+#[test]
+fn reads_expressions(rt: HostRuntime) -> Result<(), Fail> {
+    let read = parse_expression(rt.alloc(), b"-0x10".as_slice())?;
+    assert!(rt; matches!(read, Expression::Literal(Value::Whole(-16))));
+    assert_eq!(rt;
+        parse_expression(rt.alloc(), b"".as_slice()).err(),
+        Some(NedError::NedSyntax(1))
+    );
+    assert_eq!(rt;
+        parse_expression(rt.alloc(), b"1\n2".as_slice()).err(),
+        Some(NedError::NedSyntax(2))
+    );
+    let mut texts = NedTexts::new(rt.alloc());
+    texts.push(b"simple A {}".as_slice())?;
+    texts.push(b"".as_slice())?;
+    assert_eq!(rt; texts.len(), 2);
+    assert_eq!(rt; texts.get(0), Some(b"simple A {}".as_slice()));
+    assert_eq!(rt; texts.get(2), None);
+    Ok(())
 }

@@ -1,8 +1,8 @@
 -- Reading balanced tokens, as a loop does.
-use Rattle.std.proofs.Common.{◌≡◌, ℕ, zero, suc, ◌+◌, ◌-◌, ◌<◌, ◌≤◌, true, false, List, [], ◌∷◌, ◌++◌, length, take, drop, get_or, Option, Some, None, Ok, Err, refl, sym, ap, ◌∙◌, arith, append_assoc, add-one, drop-cons, length-drop, take_all}
+use Rattle.std.proofs.Common.{◌≡◌, ℕ, zero, suc, ◌+◌, ◌-◌, ◌<◌, ◌≤◌, true, false, List, [], ◌∷◌, ◌++◌, length, take, drop, get_or, Some, None, Ok, Err, refl, sym, ap, ◌∙◌, arith, append_assoc, add-one, drop-cons, length-drop, take_all}
 use Rattle.std.proofs.lemmas.List.{append-nil, take_more, nil_from_length}
 use Rattle.ned_tokens.specs.declared.token.Token.{Token}
-use Rattle.ned_tokens.specs.Rule.{Reading, ◌>>=◌}
+use Rattle.ned_tokens.specs.Rule.{Reading}
 use Rattle.ned_tokens.specs.Balanced.{Turn, opens, closes, stays, bars, with_token, read_turn, balanced_read, depth_behind, is_closes}
 use Rattle.ned_tokens.proofs.Loop.{with_front}
 

@@ -1,15 +1,14 @@
 -- The tokens of a line: each takes a byte at least.
-use Rattle.std.proofs.Common.{◌≡◌, ℕ, zero, suc, ◌+◌, ◌-◌, ◌<◌, ◌≤◌, Bool, true, false, cond, eqb, ◌&&◌, ◌||◌, List, [], ◌∷◌, ◌++◌, length, drop, Option, Some, None, refl, sym, ap, ◌∙◌, arith, length-drop}
+use Rattle.std.proofs.Common.{◌≡◌, ℕ, zero, suc, ◌<◌, ◌≤◌, Bool, true, false, cond, eqb, ◌&&◌, ◌||◌, List, [], ◌∷◌, length, Option, Some, None, refl, sym, ap, arith, length-drop}
 use Rattle.ned_tokens.specs.declared.token.Token.{Token}
-use Rattle.ned_tokens.specs.declared.token.Token.TheVariants as token
 use Rattle.ned_tokens.specs.declared.token.Mark.{Mark}
 use Rattle.ned_tokens.specs.declared.runs.Class.TheVariants as class
-use Rattle.ned_tokens.specs.Runs.{Bytes, is_in, is_letter, is_digit, run, behind, begins}
+use Rattle.ned_tokens.specs.Runs.{Bytes, is_in, is_letter, is_digit, behind}
 use Rattle.ned_tokens.specs.Marks.{mark_of, marked, mark_at}
-use Rattle.ned_tokens.specs.Quantities.{begins_quantity, quantity_at}
-use Rattle.ned_tokens.specs.Numbers.{number_of, behind_prefix, number_from, number_at}
+use Rattle.ned_tokens.specs.Quantities.{begins_quantity}
+use Rattle.ned_tokens.specs.Numbers.{behind_prefix, number_from, number_at}
 use Rattle.ned_tokens.specs.Literals.{literal_token, with_byte, escaped, literal_from}
-use Rattle.ned_tokens.specs.Lexing.{word_at, token_at, is_slash_next, token_of, next, one_more, scan, scanned, ends_open, is_open, numbered_by}
+use Rattle.ned_tokens.specs.Lexing.{word_at, token_at, is_slash_next, token_of, next, one_more, scan, scanned}
 use Rattle.ned_tokens.proofs.RunLemmas.{behind_length, behind_shorter}
 use Rattle.ned_tokens.proofs.QuantityLemmas.{quantity_length}
 

@@ -8,3 +8,6 @@ pub mod QuantityLemmas
 pub mod LexLemmas
 pub mod LineLemmas
 pub mod BalancedLoop
+pub mod ViableLaws
+pub mod AmountLaws
+pub mod BlankLemmas

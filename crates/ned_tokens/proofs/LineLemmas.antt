@@ -6,9 +6,9 @@ use Rattle.std.proofs.Math.Seq.{get_or-append_right}
 use Rattle.ned_tokens.specs.declared.token.Token.{Token}
 use Rattle.ned_tokens.specs.Runs.{Bytes}
 use Rattle.ned_tokens.specs.Lexing.{line_tokens, ends_open, numbered_by}
-use Rattle.ned_tokens.specs.Lines.{add_front, lines_of, tokens_of_lines, numbers_of_lines, tokens_of, line_numbers, last_line, blamed_line, through_line}
+use Rattle.ned_tokens.specs.Lines.{add_front, lines_of, inside_behind, tokens_of_lines, numbers_of_lines, tokens_of, line_numbers, last_line, blamed_line, through_line}
 use Rattle.ned_tokens.specs.Rule.{Rule, all_read}
-use Rattle.ned_tokens.specs.Meaning.{Means, NoneBegins, MayBlame}
+use Rattle.ned_tokens.specs.Meaning.{NoneBegins, MayBlame}
 use Rattle.ned_tokens.proofs.Laws.{Lawful}
 use Rattle.ned_tokens.proofs.Whole.{Blocked, all_blocked}
 
@@ -39,7 +39,7 @@ ended_some : (a : Bytes) → 0 < length (lines_of (a ++ 10 ∷ []))
 ended_some [] = lines_some 10 []
 ended_some (b ∷ a) = lines_some b (a ++ 10 ∷ [])
 
-lines-append : (a q : Bytes) → lines_of (a ++ 10 ∷ q) ≡ lines_of (a ++ 10 ∷ []) ++ lines_of q
+pub lines-append : (a q : Bytes) → lines_of (a ++ 10 ∷ q) ≡ lines_of (a ++ 10 ∷ []) ++ lines_of q
 unfolding lines_of
 lines-append [] q = refl
 lines-append (b ∷ a) q = go (eqb b 10) (lines-append a q)
@@ -50,17 +50,12 @@ lines-append (b ∷ a) q = go (eqb b 10) (lines-append a q)
 
 -- ---- the tokens of lines, one after the other
 
--- whether the line behind these begins inside a text in quotes
-abbrev after_lines : Bool → List Bytes → Bool
-after_lines inside [] = inside
-after_lines inside (line ∷ lines) = after_lines (ends_open false (line_tokens inside line)) lines
-
-tokens-append : (inside : Bool) (xs ys : List Bytes) → tokens_of_lines inside (xs ++ ys) ≡ tokens_of_lines inside xs ++ tokens_of_lines (after_lines inside xs) ys
+pub tokens-append : (inside : Bool) (xs ys : List Bytes) → tokens_of_lines inside (xs ++ ys) ≡ tokens_of_lines inside xs ++ tokens_of_lines (inside_behind inside xs) ys
 unfolding tokens_of_lines
 tokens-append inside [] ys = refl
 tokens-append inside (x ∷ xs) ys =
     let next = ends_open false (line_tokens inside x) in
-    ap (λ (l : List Token). line_tokens inside x ++ l) (tokens-append next xs ys) ∙ sym (append_assoc (line_tokens inside x) (tokens_of_lines next xs) (tokens_of_lines (after_lines next xs) ys))
+    ap (λ (l : List Token). line_tokens inside x ++ l) (tokens-append next xs ys) ∙ sym (append_assoc (line_tokens inside x) (tokens_of_lines next xs) (tokens_of_lines (inside_behind next xs) ys))
 
 -- what ends with this line's end
 pub record EndsAt (line : ℕ) (bytes : Bytes) : Type 0 where
@@ -196,7 +191,7 @@ module _ {X : Type 0} (r : Rule X) (bytes : Bytes) (n : ℕ) (b : Blocked r (tok
   within = omega (arith, ap length b.parts, length-append b.front (b.bad ∷ b.more))
 
   none_begins : (l : ℕ) → l ≡ line → EndsAt l bytes → NoneBegins r (through_line l bytes)
-  none_begins l is s more x means = b.none (inside.0 ++ tokens_of_lines (after_lines false (lines_of (s.front ++ 10 ∷ []))) (lines_of more)) x (subst (λ (ts : List Token). r.Is ts x) spelled means.spells)
+  none_begins l is s more x means = b.none (inside.0 ++ tokens_of_lines (inside_behind false (lines_of (s.front ++ 10 ∷ []))) (lines_of more)) x (subst (λ (ts : List Token). r.Is ts x) spelled means.spells)
     where
       lines_are : lines_of bytes ≡ lines_of (s.front ++ 10 ∷ []) ++ lines_of s.rest
       lines_are = ap lines_of s.parts ∙ lines-append s.front s.rest
@@ -207,20 +202,20 @@ module _ {X : Type 0} (r : Rule X) (bytes : Bytes) (n : ℕ) (b : Blocked r (tok
           let above = number_above 1 false (lines_of (s.front ++ 10 ∷ [])) (lines_of s.rest) place le (omega (arith, within, ap (λ (ls : List Bytes). length (tokens_of_lines false ls)) lines_are)) in
           absurd (omega (arith, above, s.count, is, ap (λ (ls : List Bytes). get_or (numbers_of_lines 1 false ls) place 0) lines_are))
 
-      tokens_are : tokens_of_lines false (lines_of (s.front ++ 10 ∷ [])) ++ tokens_of_lines (after_lines false (lines_of (s.front ++ 10 ∷ []))) (lines_of s.rest) ≡ b.front ++ b.bad ∷ b.more
+      tokens_are : tokens_of_lines false (lines_of (s.front ++ 10 ∷ [])) ++ tokens_of_lines (inside_behind false (lines_of (s.front ++ 10 ∷ []))) (lines_of s.rest) ≡ b.front ++ b.bad ∷ b.more
       tokens_are = sym (tokens-append false (lines_of (s.front ++ 10 ∷ [])) (lines_of s.rest)) ∙ ap (tokens_of_lines false) (sym lines_are) ∙ b.parts
 
       inside : (rest : List Token) × (tokens_of_lines false (lines_of (s.front ++ 10 ∷ [])) ≡ b.front ++ b.bad ∷ rest)
-      inside = front_in (tokens_of_lines false (lines_of (s.front ++ 10 ∷ []))) (tokens_of_lines (after_lines false (lines_of (s.front ++ 10 ∷ []))) (lines_of s.rest)) b.front b.more b.bad tokens_are (before (cases_lt place (length (tokens_of_lines false (lines_of (s.front ++ 10 ∷ []))))))
+      inside = front_in (tokens_of_lines false (lines_of (s.front ++ 10 ∷ []))) (tokens_of_lines (inside_behind false (lines_of (s.front ++ 10 ∷ []))) (lines_of s.rest)) b.front b.more b.bad tokens_are (before (cases_lt place (length (tokens_of_lines false (lines_of (s.front ++ 10 ∷ []))))))
 
-      spelled : tokens_of (through_line l bytes ++ more) ≡ b.front ++ b.bad ∷ (inside.0 ++ tokens_of_lines (after_lines false (lines_of (s.front ++ 10 ∷ []))) (lines_of more))
+      spelled : tokens_of (through_line l bytes ++ more) ≡ b.front ++ b.bad ∷ (inside.0 ++ tokens_of_lines (inside_behind false (lines_of (s.front ++ 10 ∷ []))) (lines_of more))
       spelled =
           ap (λ (bs : Bytes). tokens_of (bs ++ more)) s.through
           ∙ ap tokens_of (append_assoc s.front (10 ∷ []) more)
           ∙ ap (tokens_of_lines false) (lines-append s.front more)
           ∙ tokens-append false (lines_of (s.front ++ 10 ∷ [])) (lines_of more)
-          ∙ ap (λ (ts : List Token). ts ++ tokens_of_lines (after_lines false (lines_of (s.front ++ 10 ∷ []))) (lines_of more)) inside.1
-          ∙ append_assoc b.front (b.bad ∷ inside.0) (tokens_of_lines (after_lines false (lines_of (s.front ++ 10 ∷ []))) (lines_of more))
+          ∙ ap (λ (ts : List Token). ts ++ tokens_of_lines (inside_behind false (lines_of (s.front ++ 10 ∷ []))) (lines_of more)) inside.1
+          ∙ append_assoc b.front (b.bad ∷ inside.0) (tokens_of_lines (inside_behind false (lines_of (s.front ++ 10 ∷ []))) (lines_of more))
 
   upper : line < 1 + length (lines_of bytes)
   upper = number_below 1 false (lines_of bytes) place within

@@ -1,13 +1,12 @@
 -- Quantities in a row, and digits behind the point.
-use Rattle.std.proofs.Common.{◌≡◌, ℕ, zero, suc, ◌+◌, ◌-◌, ◌*◌, ◌%◌, ◌/◌, ◌<◌, ◌≤◌, Bool, true, false, cond, List, [], ◌∷◌, length, drop, get_or, Option, Some, None, refl, sym, ap, ◌∙◌, arith, add-one, drop-cons, eqb}
+use Rattle.std.proofs.Common.{◌≡◌, ℕ, zero, suc, ◌+◌, ◌*◌, ◌%◌, ◌/◌, ◌<◌, ◌≤◌, Bool, true, false, cond, [], ◌∷◌, length, drop, get_or, Option, Some, None, refl, sym, ap, ◌∙◌, arith, add-one, drop-cons, eqb}
 use Rattle.std.proofs.lemmas.Bool.{eqb-true}
 use Rattle.std.proofs.Math.Nat.{mul-le-mul_left}
 use Rattle.sim_values.specs.declared.value.Dimension.{Dimension}
 use Rattle.ned_tokens.specs.declared.runs.Class.TheVariants as class
 use Rattle.ned_tokens.specs.Runs.{Bytes, run, behind, begins}
 use Rattle.ned_tokens.specs.Digits.{digit_of}
-use Rattle.ned_tokens.specs.Quantities.{and_then, begins_fraction, rest_of, fraction_at, tenth, part_of, piece_at, added, pieces_from, row_from, row_token, quantity_token, quantity_at}
-use Rattle.ned_tokens.specs.declared.token.Token.{Token}
+use Rattle.ned_tokens.specs.Quantities.{begins_fraction, rest_of, fraction_at, tenth, part_of, piece_at, added, pieces_from, row_from, row_token, quantity_token, quantity_at}
 use Rattle.ned_tokens.proofs.RunLemmas.{behind_length, behind_shorter}
 
 rest_length : (bs : Bytes) → length (rest_of bs) ≤ length bs

@@ -11,3 +11,5 @@ pub mod Lines
 pub mod Rule
 pub mod Balanced
 pub mod Meaning
+pub mod Viable
+pub mod Blank

@@ -1,5 +1,5 @@
 -- The lines of a text, its tokens, and the line that it is refused at.
-use Rattle.std.specs.Prelude.{ℕ, zero, suc, ◌+◌, ◌-◌, Bool, true, false, List, [], ◌∷◌, ◌++◌, length, ◌==◌, if◌then◌else◌, slice_index}
+use Rattle.std.specs.Prelude.{ℕ, zero, suc, ◌+◌, ◌-◌, Bool, false, List, [], ◌∷◌, ◌++◌, length, ◌==◌, if◌then◌else◌, slice_index}
 use Rattle.ned_tokens.specs.declared.token.Token.{Token}
 use Rattle.ned_tokens.specs.Runs.{Bytes}
 use Rattle.ned_tokens.specs.Lexing.{line_tokens, ends_open, numbered_by}
@@ -17,6 +17,11 @@ lines_of (b ∷ bs) = if b == 10 then [] ∷ lines_of bs else add_front b (lines
 unfoldable pub tokens_of_lines : Bool → List Bytes → List Token
 tokens_of_lines inside [] = []
 tokens_of_lines inside (line ∷ lines) = line_tokens inside line ++ tokens_of_lines (ends_open false (line_tokens inside line)) lines
+
+-- whether the line behind these begins inside a text in quotes
+abbrev pub inside_behind : Bool → List Bytes → Bool
+inside_behind inside [] = inside
+inside_behind inside (line ∷ lines) = inside_behind (ends_open false (line_tokens inside line)) lines
 
 -- the number of each token's line, from this number on
 unfoldable pub numbers_of_lines : ℕ → Bool → List Bytes → List ℕ

@@ -1,5 +1,5 @@
 -- Marks: the longest that the bytes begin with.
-use Rattle.std.specs.Prelude.{ℕ, ◌&&◌, List, Option, Some, None, if◌then◌else◌, ◌==◌, drop, slice_index, option_map}
+use Rattle.std.specs.Prelude.{ℕ, ◌&&◌, Option, Some, None, if◌then◌else◌, ◌==◌, drop, slice_index, option_map}
 use Rattle.ned_tokens.specs.declared.token.Mark.{Mark}
 use Rattle.ned_tokens.specs.declared.token.Mark.TheVariants as m
 use Rattle.ned_tokens.specs.declared.token.Token.{Token}

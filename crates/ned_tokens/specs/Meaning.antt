@@ -1,5 +1,5 @@
 -- What a text means by a rule, and which line may be named where it means nothing.
-use Rattle.std.specs.Prelude.{◌≡◌, ℕ, ◌≤◌, ◌^◌, List, ◌++◌, length, ◌⊎◌}
+use Rattle.std.specs.Prelude.{◌≡◌, ℕ, ◌≤◌, ◌^◌, ◌++◌, length, ◌⊎◌}
 use Rattle.ned_tokens.specs.Runs.{Bytes}
 use Rattle.ned_tokens.specs.Rule.{Rule}
 use Rattle.ned_tokens.specs.Lines.{tokens_of, last_line, through_line}

@@ -1,5 +1,5 @@
 -- Numbers: decimal digits, or `0x` and hexadecimal digits, from 0 to 2^63 - 1.
-use Rattle.std.specs.Prelude.{ℕ, Bool, true, false, ◌&&◌, List, [], ◌∷◌, Option, Some, None, ◌==◌, if◌then◌else◌, drop, slice_index}
+use Rattle.std.specs.Prelude.{ℕ, ◌&&◌, [], ◌∷◌, Option, Some, None, ◌==◌, if◌then◌else◌}
 use Rattle.ned_tokens.specs.declared.runs.Class.{Class}
 use Rattle.ned_tokens.specs.declared.runs.Class.TheVariants as class
 use Rattle.ned_tokens.specs.declared.token.Token.{Token}

@@ -1,7 +1,7 @@
 -- Quantities: digits, perhaps a point and digits, and directly behind them a unit. Several in a row, parted by nothing or by
 -- spaces and tabs, are summed (OMNeT++ Simulation Manual, "Quantities with Units").
 use denote.Enum.Bare.{sameb}
-use Rattle.std.specs.Prelude.{ℕ, zero, suc, ◌+◌, ◌*◌, ◌/◌, ◌%◌, Bool, true, false, ◌&&◌, ◌||◌, List, [], ◌∷◌, length, Option, Some, None, ◌==◌, if◌then◌else◌, option_map}
+use Rattle.std.specs.Prelude.{◌≡◌, ◌↔◌, ℕ, zero, suc, ◌+◌, ◌*◌, ◌/◌, ◌%◌, ◌^◌, Bool, false, ◌&&◌, ◌||◌, [], ◌∷◌, length, Option, Some, None, ◌==◌, if◌then◌else◌, option_map}
 use Rattle.sim_values.specs.declared.value.Dimension.{Dimension}
 use Rattle.sim_values.specs.contracts.value.Dimension as dimensions
 use Rattle.ned_tokens.specs.declared.runs.Class.TheVariants as class
@@ -87,3 +87,8 @@ row_token r = (quantity_token r.0, r.1)
 -- the quantities in a row with which the bytes begin, as one token, and what is behind them
 unfoldable pub quantity_at : Bytes → Token × Bytes
 quantity_at bs = row_token (row_from (piece_at bs).0 (piece_at bs).1)
+
+-- The digits behind the point, of a unit of so many, say the whole number p exactly where p, ten times as much for each digit, is
+-- the number that the digits spell times the unit.
+abbrev pub PartIsExact : ℕ → Bytes → Type 0
+PartIsExact factor ds = (p : ℕ) → (part_of factor ds ≡ Some p) ↔ (p * 10 ^ length ds ≡ value_of class.Digit ds * factor)

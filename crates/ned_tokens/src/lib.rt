@@ -1,6 +1,8 @@
 //! The tokens of NED texts, rules over tokens, and the line that a refused text is given.
 #![tactic(auto)]
 
+pub mod amounts;
+pub mod blank;
 mod digits;
 mod lexing;
 pub mod lines;

@@ -64,9 +64,7 @@ fn is_type_named(name: &[u8], types: &[TypeDeclaration]) -> bool
 fn has_unknown(types: &[TypeDeclaration]) -> bool
     ensures { result ≡ has_unknown types.now }
 {
-    types
-        .iter()
-        .any(|declared| names_unknown(types, declared.submodules.as_slice()))
+    types.iter().any(|declared| names_unknown(types, declared.submodules.as_slice()))
 }
 
 /// Whether the type of one of these submodules isn't there.

@@ -1,5 +1,5 @@
 -- The lines of the first of some vectors or values, and those of the others.
-use Rattle.std.proofs.Common.{◌≡◌, ℕ, ◌+◌, ◌<◌, List, ◌∷◌, ◌++◌, length, drop, get_or, sym, ap, ◌∙◌}
+use Rattle.std.proofs.Common.{◌≡◌, ℕ, ◌+◌, ◌<◌, List, ◌++◌, length, drop, get_or, sym, ap, ◌∙◌}
 use Rattle.std.proofs.lemmas.List.{drop_more}
 use Rattle.model_answers.specs.declared.record.Record.{Record}
 use Rattle.recorders.specs.declared.vector_line.VectorLine.{VectorLine}

@@ -1,8 +1,7 @@
 -- Pieces of a text, one after another.
-use Rattle.std.proofs.Common.{◌≡◌, ℕ, ◌+◌, ◌≤◌, ◌<◌, List, [], ◌∷◌, ◌++◌, Result, Ok, Err, length, take, refl, sym, subst, ap, ◌∙◌, arith, append_assoc, length-append, add-zero}
+use Rattle.std.proofs.Common.{◌≡◌, ℕ, ◌+◌, ◌≤◌, List, [], ◌++◌, Err, length, take, refl, sym, subst, ap, ◌∙◌, arith, append_assoc, length-append}
 use Rattle.std.proofs.Math.Seq.{take-append-add}
 use Rattle.std.proofs.lemmas.List.{take-append-le, append-nil}
-use Rattle.result_files.specs.declared.writer.Device.{Device}
 use Rattle.result_files.specs.declared.progress.Progress.{Progress}
 use Rattle.result_files.specs.declared.progress.Progress.TheVariants.{Whole, Short}
 use Rattle.result_files.specs.Taken.{one_more}
@@ -11,10 +10,13 @@ use Rattle.result_files.specs.Written.{IsPiece, Adds, IsWritten, written_in}
 piece_then : (p q r : Progress) (c d e : List ℕ) (f g h : ℕ) (a b : List ℕ) → IsPiece p c f q d g a → IsPiece q d g r e h b → IsPiece p c f r e h (a ++ b)
 piece_then (Whole n) (Whole m) (Whole k) c d e f g h a b x y =
     (omega (arith, x.0, y.0, length-append a b), y.1 ∙ ap (λ (xs : List ℕ). xs ++ b) x.1 ∙ append_assoc c a b, y.2 ∙ x.2)
-piece_then (Whole n) (Whole m) (Short k) c d e f g h a b x y =
-    (length a + y.0, omega (arith, y.1, length-append a b), omega (arith, x.0, y.2),
-     y.3 ∙ ap (λ (xs : List ℕ). xs ++ take y.0 b) x.1 ∙ append_assoc c a (take y.0 b) ∙ ap (λ (xs : List ℕ). c ++ xs) (sym (take-append-add a b y.0)),
-     y.4 ∙ ap one_more x.2)
+piece_then (Whole n) (Whole m) (Short k) c d e f g h a b x y = (
+  length a + y.0,
+  omega (arith, y.1, length-append a b),
+  omega (arith, x.0, y.2),
+  y.3 ∙ ap (λ (xs : List ℕ). xs ++ take y.0 b) x.1 ∙ append_assoc c a (take y.0 b) ∙ ap (λ (xs : List ℕ). c ++ xs) (sym (take-append-add a b y.0)),
+  y.4 ∙ ap one_more x.2,
+)
 piece_then (Whole n) (Short m) (Short k) c d e f g h a b x y =
     let le : x.0 ≤ length a = omega (arith, x.1) in
     (x.0, omega (arith, x.1, length-append a b), omega (arith, x.2, y.0), y.1 ∙ x.3 ∙ ap (λ (xs : List ℕ). c ++ xs) (sym (take-append-le x.0 a b le)), y.2 ∙ x.4)

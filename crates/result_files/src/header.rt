@@ -68,12 +68,7 @@ fn push_value(header: &mut Vec<u8>, value: &[u8]) -> Result<(), AllocError>
 
 /// Adds a line that gives a value to a key.
 #[tactic(auto, unfolding(crate::specs::Header::item_line))]
-fn push_item(
-    header: &mut Vec<u8>,
-    word: &[u8],
-    key: &[u8],
-    value: &[u8],
-) -> Result<(), AllocError>
+fn push_item(header: &mut Vec<u8>, word: &[u8], key: &[u8], value: &[u8]) -> Result<(), AllocError>
     ensures { OnOk result (header.new.items ≡ header.old.items ++ item_line word.now key.now value.now) }
 {
     header.extend_from_slice(word)?;
@@ -91,7 +86,12 @@ fn push_entry(header: &mut Vec<u8>, line: &LineMeaning) -> Result<(), AllocError
 {
     match line {
         LineMeaning::Entry(entry) => {
-            push_item(header, b"config", entry.key.as_bytes(), entry.value.as_bytes())
+            push_item(
+                header,
+                b"config",
+                entry.key.as_bytes(),
+                entry.value.as_bytes(),
+            )
         }
         _ => Ok(()),
     }
@@ -138,11 +138,7 @@ fn push_run(header: &mut Vec<u8>, config: &[u8]) -> Result<(), AllocError>
 }
 
 /// Adds the lines of the run's attributes.
-fn push_attributes(
-    header: &mut Vec<u8>,
-    config: &[u8],
-    network: &[u8],
-) -> Result<(), AllocError>
+fn push_attributes(header: &mut Vec<u8>, config: &[u8], network: &[u8]) -> Result<(), AllocError>
     ensures { OnOk result (header.new.items ≡ header.old.items ++ attribute_lines config.now network.now) }
 {
     push_item(header, b"attr", b"configname", config)?;
@@ -171,5 +167,10 @@ pub(crate) fn header_text(
 pub fn header(alloc: Global, model: &Model) -> Result<Text, AllocError>
     ensures { IfOk result (λ header. header ≡ header_of model.now) }
 {
-    header_text(alloc, model.config.as_bytes(), network_name(model), model.ini.lines())
+    header_text(
+        alloc,
+        model.config.as_bytes(),
+        network_name(model),
+        model.ini.lines(),
+    )
 }

@@ -4,8 +4,7 @@
 pub mod header;
 mod lines;
 mod progress;
-pub mod vector_file;
-pub mod writer;
-
 #[cfg(test)]
 mod tests;
+pub mod vector_file;
+pub mod writer;

@@ -30,11 +30,7 @@ fn put_vector_line<O: Out>(
 }
 
 /// Writes the lines that declare the vectors, numbered from 0.
-pub fn put_vector_lines<O: Out>(
-    out: &mut O,
-    progress: Progress,
-    vectors: &[VectorLine],
-) -> Progress
+pub fn put_vector_lines<O: Out>(out: &mut O, progress: Progress, vectors: &[VectorLine]) -> Progress
     requires { written_in progress < 2 ^ 65 }
     ensures adds { Adds progress (O.content out.old) (O.failures out.old) result (O.content out.new) (O.failures out.new) (vector_lines 0 vectors.now) }
     ensures short { written_in result ≤ written_in progress + 2 ^ 122 }

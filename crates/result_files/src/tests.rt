@@ -40,7 +40,11 @@ fn option_line(alloc: Global, key: &str, value: &str) -> Result<IniLine, AllocEr
     let key = Text::from_str(alloc, key)?;
     let value = Text::from_str(alloc, value)?;
     let meaning = EntryMeaning::Network(Text::empty(alloc));
-    let meaning = LineMeaning::Entry(Entry { key, value, meaning });
+    let meaning = LineMeaning::Entry(Entry {
+        key,
+        value,
+        meaning,
+    });
     let text = Text::empty(alloc);
     Ok(IniLine { text, meaning })
 }
@@ -76,11 +80,20 @@ fn devices(rt: HostRuntime) -> Result<(), Fail> {
     ] {
         let taken = Vec::new(alloc);
         let failures = 0;
-        let mut shelf = Shelf { taken, room, step, failures };
+        let mut shelf = Shelf {
+            taken,
+            room,
+            step,
+            failures,
+        };
         let answer = write_vectors(&mut shelf, &file, &[], std::slice::from_ref(&emission));
         assert_eq!(rt; answer, want, "{room} {step}");
         let count = room.min(TEXT.len());
-        assert_eq!(rt; shelf.taken.as_slice(), &TEXT.as_bytes()[..count], "{room} {step}");
+        assert_eq!(rt;
+            shelf.taken.as_slice(),
+            &TEXT.as_bytes()[..count],
+            "{room} {step}"
+        );
     }
     Ok(())
 }
@@ -91,10 +104,11 @@ fn headers(rt: HostRuntime) -> Result<(), Fail> {
     let lines = vec![in alloc;
         option_line(alloc, "network", "N")?,
         option_line(alloc, "**.count", "3")?,
-        option_line(alloc, "**.name", "a\"b \\")?
+        option_line(alloc, "**.name", "a\"b \\")?,
     ]?;
     let header = header_text(alloc, b"General", b"N", lines.as_slice())?;
-    let want = "version 3\nrun General-0\nattr configname General\nattr network N\nattr runnumber 0\nconfig network N\nconfig **.count 3\nconfig **.name \"a\\\"b \\\\\"\n\n";
+    let want =
+        "version 3\nrun General-0\nattr configname General\nattr network N\nattr runnumber 0\nconfig network N\nconfig **.count 3\nconfig **.name \"a\\\"b \\\\\"\n\n";
     assert_eq!(rt; header.as_bytes(), want.as_bytes());
     Ok(())
 }

@@ -1,4 +1,4 @@
-use Rattle.std.proofs.Common.{◌≡◌, List, length, Ok, Err, sym, ap, subst, ◌∙◌, arith}
+use Rattle.std.proofs.Common.{◌≡◌, List, length, Err, sym, ap, subst, ◌∙◌, arith}
 use Rattle.ned_tokens.specs.declared.token.Token.{Token}
 use Rattle.ned_tokens.specs.Rule.{all_read}
 use Rattle.ned_tokens.specs.Lines.{tokens_of}
@@ -6,7 +6,9 @@ use Rattle.ned_tokens.proofs.Laws.{ok_is}
 use Rattle.ned_tokens.proofs.Whole.{all_took, all_whole}
 use Rattle.ned_tokens.proofs.LineLemmas.{Blames, blamed}
 use Rattle.ned_syntax.specs.Grammar.{expression}
+use Rattle.ned_tokens.proofs.ViableLaws.{first_bad}
 use Rattle.ned_syntax.proofs.GrammarLaws.{expression-lawful}
+use Rattle.ned_syntax.proofs.ViableGrammar.{expression_on}
 use Rattle.ned_syntax.proofs.parse.parse_expression.Goals as goal
 use Rattle.ned_syntax.proofs.parse.parse_expression.Goals.{In-Err-At}
 
@@ -36,3 +38,6 @@ returns-clause-complete c = λ meaning means.
 
 pub returns-clause-explained : goal.returns-clause-explained
 returns-clause-explained c = rw c.blamed_line.ensures (blames (goal.at.returns-clause-explained c).In-Err-At).may
+
+pub returns-clause-first : goal.returns-clause-first
+returns-clause-first c = (c.in-Err-At.left, first_bad expression expression-lawful expression_on (tokens_of c.args.bytes.now) c.in-Err-At.left (fault (goal.at.returns-clause-first c).In-Err-At), c.blamed_line.ensures)

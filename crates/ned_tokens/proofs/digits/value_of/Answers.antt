@@ -1,5 +1,4 @@
-use Rattle.std.proofs.Common.{◌≡◌, ◌+◌, ◌*◌, ◌<◌, ◌≤◌, ◌^◌, get_or, arith}
-use Rattle.ned_tokens.specs.Digits.{digit_of}
+use Rattle.std.proofs.Common.{◌*◌, ◌<◌, ◌^◌, arith}
 use Rattle.ned_tokens.proofs.RunLemmas.{value_stops}
 use Rattle.ned_tokens.proofs.digits.value_of.Goals as goal
 

@@ -1,6 +1,6 @@
 use Rattle.std.proofs.Common.{refl, ◌≡◌, ◌++◌, List, Some, None, ap, sym, ◌∙◌, append_assoc}
 use Rattle.std.proofs.lemmas.List.{append-nil}
-use Rattle.ned_tokens.specs.Lexing.{next, numbered_by, ends_open, scanned}
+use Rattle.ned_tokens.specs.Lexing.{next, numbered_by, ends_open}
 use Rattle.ned_tokens.specs.declared.token.Token.{Token}
 use Rattle.ned_tokens.proofs.LexLemmas.{scanned-some, scanned-none, next_shorter}
 use Rattle.ned_tokens.proofs.lexing.scan.Goals as goal

@@ -1,4 +1,4 @@
-use Rattle.std.proofs.Common.{◌≤◌, ◌-◌, arith}
+use Rattle.std.proofs.Common.{◌-◌, arith}
 use Rattle.ned_tokens.proofs.QuantityLemmas.{part_stops, part_more, part_small}
 use Rattle.ned_tokens.proofs.quantity.part_of.Goals as goal
 

@@ -7,8 +7,8 @@ use Rattle.result_files.proofs.header.last_name.Goals.{then-loop-start-test+else
 pub returns : goal.returns
 returns c =
     let at : 0 < c.loop-start.start → get_or c.args.name.now (c.loop-start.start - 1) 0 ≡ 46 =
-      elim c.loop-start-test.branch [
-        | then-loop-start-test+else-name-start-ne46 w ↦ λ pos. w.if-name-start-ne46.false
-        | else-loop-start-test w ↦ λ pos. absurd (omega arith)
-      ] in
+    elim c.loop-start-test.branch [
+      | then-loop-start-test+else-name-start-ne46 w ↦ λ pos. w.if-name-start-ne46.false
+      | else-loop-start-test w ↦ λ pos. absurd (omega arith)
+    ] in
     take_rest c.args.name.now c.loop-start.start ∙ last_name_is c.args.name.now c.loop-start.start c.loop-start.invariant.within c.loop-start.invariant.past at

@@ -1,4 +1,4 @@
-use Rattle.std.proofs.Common.{◌≡◌, ◌+◌, ◌-◌, ◌++◌, length, take, drop, ap, add-zero, ◌∙◌, arith, length-drop}
+use Rattle.std.proofs.Common.{◌-◌, length, take, drop, ap, ◌∙◌, arith, length-drop}
 use Rattle.std.proofs.lemmas.List.{take_rest}
 use Rattle.result_files.proofs.TextLemmas.{sent_more, failures_after_some}
 use Rattle.result_files.proofs.progress.put_all.Goals as goal

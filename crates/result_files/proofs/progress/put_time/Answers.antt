@@ -1,4 +1,4 @@
-use Rattle.std.proofs.Common.{◌≡◌, ◌<◌, ◌^◌, length, ap, ◌∙◌, arith}
+use Rattle.std.proofs.Common.{◌<◌, ◌^◌, length, ap, ◌∙◌, arith}
 use Rattle.result_files.proofs.TextLemmas.{length_text_of_time}
 use Rattle.result_files.proofs.progress.put_time.Goals as goal
 

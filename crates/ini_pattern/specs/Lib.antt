@@ -1,0 +1,5 @@
+pub mod Matches
+pub mod PatternOf
+pub mod Fault
+pub mod Reading
+pub mod Laws

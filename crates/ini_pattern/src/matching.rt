@@ -1,0 +1,373 @@
+//! Names against the pieces of a pattern, with no memory.
+
+ghost use Rattle.std.specs.Prelude.{◌≡◌, ◌↔◌, [], ◌∷◌, ◌++◌, IsTrue, MatchOption, position, true, Some, None, option_and_then};
+ghost use Rattle.std.specs.List.{list_all};
+ghost use Rattle.std.specs.Option.{option_map};
+ghost use Rattle.std.specs.Str.{chars};
+ghost use Rattle.ini_pattern.specs.Matches.{in_ranges, Covers, Matches};
+ghost use Rattle.ini_pattern.specs.Reading.{is_number_in, is_any_path, is_any_name, is_fixed, left_by, left_by_all, IsLongestRest, HasNoRest, IsLongestAnywhere, HasNoRestAnywhere, StarLeaves, MatchesEnd, IsEnd, is_no_name, is_steady, Slides, CannotSlide};
+
+use crate::piece::{CharRange, Piece};
+use crate::reading::{after_char, digit_run, first_char, same_text};
+
+/// Whether a character is in one of the ranges.
+fn in_ranges(ranges: &[CharRange], c: char) -> bool
+    ensures { result ≡ in_ranges ranges.now c }
+{
+    ranges
+        .iter()
+        .any(|range| range.first <= c && c <= range.last)
+}
+
+/// What is left of a name that begins with a number between bounds.
+fn left_by_number(name: &str, low: u64, high: Option<u64>) -> Option<&str>
+    ensures { option_map (λ rest. chars rest.now) result ≡ left_by (Piece.Number low high) (chars name.now) }
+{
+    let (digits, rest) = digit_run(name);
+    if digits.count == 0 || digits.count > 18 || digits.value < low {
+        return None;
+    }
+    match high {
+        Some(most) if digits.value > most => None,
+        _ => Some(rest),
+    }
+}
+
+/// What a piece that is no star leaves of a name.
+fn left_by<'a>(piece: &Piece, name: &'a str) -> Option<&'a str>
+    ensures { option_map (λ rest. chars rest.now) result ≡ left_by piece.now (chars name.now) }
+{
+    match piece {
+        Piece::AnyPath | Piece::AnyName => None,
+        Piece::AnyChar => {
+            let (c, rest) = first_char(name)?;
+            if c != '.' { Some(rest) } else { None }
+        }
+        Piece::Char(wanted) => after_char(name, *wanted),
+        Piece::Set { negated, ranges } => {
+            let (c, rest) = first_char(name)?;
+            if in_ranges(ranges.as_slice(), c) != *negated {
+                Some(rest)
+            } else {
+                None
+            }
+        }
+        Piece::Number { low, high } => left_by_number(name, *low, *high),
+    }
+}
+
+/// What pieces that are no stars leave of a name.
+fn left_by_all<'a>(pieces: &[Piece], name: &'a str) -> Option<&'a str>
+    ensures { option_map (λ rest. chars rest.now) result ≡ left_by_all pieces.now (chars name.now) }
+{
+    let mut rest = name;
+    for piece in pieces {
+        let Some(left) = left_by(piece, rest) else {
+            return None;
+        };
+        rest = left;
+    }
+    Some(rest)
+}
+
+/// Whether a piece is `**`.
+fn is_any_path(piece: &Piece) -> bool
+    ensures { result ≡ is_any_path piece.now }
+{
+    matches!(piece, Piece::AnyPath)
+}
+
+/// Whether a piece is `*`.
+fn is_any_name(piece: &Piece) -> bool
+    ensures { result ≡ is_any_name piece.now }
+{
+    matches!(piece, Piece::AnyName)
+}
+
+/// Whether no piece is a star.
+fn are_fixed(pieces: &[Piece]) -> bool
+    ensures { result ≡ list_all is_fixed pieces.now }
+{
+    pieces
+        .iter()
+        .all(|piece| !is_any_path(piece) && !is_any_name(piece))
+}
+
+/// Whether a text is left at the end of a name by characters of which none is a dot, if dots are not
+/// allowed.
+fn star_leaves(dots: bool, name: &str, rest: &str) -> bool
+    ensures { IsTrue result ↔ StarLeaves dots (chars name.now) (chars rest.now) }
+{
+    let mut here = name;
+    loop {
+        if same_text(here, rest) {
+            return true;
+        }
+        match first_char(here) {
+            None => return false,
+            Some((c, behind)) => {
+                if !dots && c == '.' {
+                    return false;
+                }
+                here = behind;
+            }
+        }
+    }
+}
+
+/// Whether a piece leaves this rest of a name.
+fn piece_leaves(piece: &Piece, name: &str, rest: &str) -> bool
+    ensures { IsTrue result ↔ Covers (piece.now ∷ []) (chars name.now) (chars rest.now) }
+{
+    if is_any_path(piece) {
+        return star_leaves(true, name, rest);
+    }
+    if is_any_name(piece) {
+        return star_leaves(false, name, rest);
+    }
+    match left_by(piece, name) {
+        Some(left) => same_text(left, rest),
+        None => false,
+    }
+}
+
+/// Whether pieces that are no stars leave this rest of a name.
+fn fixed_leave(pieces: &[Piece], name: &str, rest: &str) -> bool
+    requires { IsTrue (list_all is_fixed pieces.now) }
+    ensures { IsTrue result ↔ Covers pieces.now (chars name.now) (chars rest.now) }
+{
+    match left_by_all(pieces, name) {
+        Some(left) => same_text(left, rest),
+        None => false,
+    }
+}
+
+/// Whether any pieces leave this rest of a name. It halves the pieces, so it goes no deeper than
+/// the number of halvings of a length.
+fn leave(pieces: &[Piece], name: &str, rest: &str) -> bool
+    ensures { IsTrue result ↔ Covers pieces.now (chars name.now) (chars rest.now) }
+{
+    if are_fixed(pieces) {
+        return fixed_leave(pieces, name, rest);
+    }
+    if pieces.len() < 2 {
+        return match pieces {
+            [piece] => piece_leaves(piece, name, rest),
+            _ => same_text(name, rest),
+        };
+    }
+    let (front, back) = pieces.split_at(pieces.len() / 2);
+    let mut middle = name;
+    loop {
+        if leave(front, name, middle) && leave(back, middle, rest) {
+            return true;
+        }
+        match first_char(middle) {
+            None => return false,
+            Some((_, behind)) => middle = behind,
+        }
+    }
+}
+
+/// Whether this rest may be left, where it has to be nothing if the pieces have to go to the end.
+fn may_stop(rest: &str, to_end: bool) -> bool
+    ensures { IsTrue result ↔ IsEnd to_end (chars rest.now) }
+{
+    !to_end || first_char(rest).is_none()
+}
+
+/// The longest rest that pieces can leave of a name, found by trying each.
+fn searched_rest<'a>(pieces: &[Piece], name: &'a str, to_end: bool) -> Option<&'a str>
+    ensures { MatchOption result (HasNoRest pieces.now to_end (chars name.now))
+        (λ rest. IsLongestRest pieces.now to_end (chars name.now) (chars rest.now)) }
+{
+    let mut rest = name;
+    loop {
+        if may_stop(rest, to_end) && leave(pieces, name, rest) {
+            return Some(rest);
+        }
+        match first_char(rest) {
+            None => return None,
+            Some((_, behind)) => rest = behind,
+        }
+    }
+}
+
+/// Whether a piece is no `**`, and takes as many dots of any name.
+fn is_steady(piece: &Piece) -> bool
+    ensures { result ≡ is_steady piece.now }
+{
+    match piece {
+        Piece::AnyPath => false,
+        Piece::Set { negated, ranges } => in_ranges(ranges.as_slice(), '.') == *negated,
+        _ => true,
+    }
+}
+
+/// Whether all pieces are so.
+fn are_steady(pieces: &[Piece]) -> bool
+    ensures { result ≡ list_all is_steady pieces.now }
+{
+    pieces.iter().all(is_steady)
+}
+
+/// The place of the first `*`.
+fn any_name_at(pieces: &[Piece]) -> Option<usize>
+    ensures { result ≡ position is_any_name pieces.now }
+{
+    pieces.iter().position(is_any_name)
+}
+
+/// The pieces before the first `*`, and those behind it.
+fn around_name(pieces: &[Piece]) -> Option<(&[Piece], &[Piece])>
+    ensures { MatchOption result (IsTrue (list_all is_no_name pieces.now))
+        (λ parts. IsTrue (list_all is_no_name parts.0.now)
+        × (pieces.now ≡ parts.0.now ++ (Piece.AnyName ∷ parts.1.now))) }
+{
+    let Some(at) = any_name_at(pieces) else {
+        return None;
+    };
+    Some((&pieces[..at], &pieces[at + 1..]))
+}
+
+/// What pieces that are no stars leave of a name, where that may be left.
+fn fixed_rest<'a>(pieces: &[Piece], name: &'a str, to_end: bool) -> Option<&'a str>
+    requires { IsTrue (list_all is_fixed pieces.now) }
+    ensures { MatchOption result (HasNoRest pieces.now to_end (chars name.now))
+        (λ rest. Covers pieces.now (chars name.now) (chars rest.now) × IsEnd to_end (chars rest.now)) }
+{
+    let Some(rest) = left_by_all(pieces, name) else {
+        return None;
+    };
+    if may_stop(rest, to_end) {
+        Some(rest)
+    } else {
+        None
+    }
+}
+
+/// What pieces that are no stars leave at the first place behind a `*`, where that may be left.
+fn slide<'a>(pieces: &[Piece], name: &'a str, to_end: bool) -> Option<&'a str>
+    requires { IsTrue (list_all is_fixed pieces.now) }
+    ensures { MatchOption result (CannotSlide pieces.now to_end (chars name.now))
+        (λ rest. Slides pieces.now to_end (chars name.now) (chars rest.now)) }
+{
+    let mut here = name;
+    loop {
+        if let Some(rest) = fixed_rest(pieces, here, to_end) {
+            return Some(rest);
+        }
+        match first_char(here) {
+            None => return None,
+            Some((c, behind)) => {
+                if c == '.' {
+                    return None;
+                }
+                here = behind;
+            }
+        }
+    }
+}
+
+/// The longest rest that steady pieces can leave of a name. Only the last `*` is tried again: the
+/// pieces before it took as few characters as they can, and as many dots as ever.
+fn steady_rest<'a>(pieces: &[Piece], name: &'a str, to_end: bool) -> Option<&'a str>
+    requires { IsTrue (list_all is_steady pieces.now) }
+    ensures { MatchOption result (HasNoRest pieces.now to_end (chars name.now))
+        (λ rest. IsLongestRest pieces.now to_end (chars name.now) (chars rest.now)) }
+{
+    let Some((first, behind)) = around_name(pieces) else {
+        return fixed_rest(pieces, name, to_end);
+    };
+    let Some(begin) = fixed_rest(first, name, false) else {
+        return None;
+    };
+    let mut left = behind;
+    let mut here = begin;
+    while let Some((front, back)) = around_name(left) {
+        let Some(rest) = slide(front, here, false) else {
+            return None;
+        };
+        here = rest;
+        left = back;
+    }
+    slide(left, here, to_end)
+}
+
+/// The longest rest that pieces can leave of a name, where the rest has to be nothing if they have
+/// to go to the end.
+fn longest_rest<'a>(pieces: &[Piece], name: &'a str, to_end: bool) -> Option<&'a str>
+    ensures { MatchOption result (HasNoRest pieces.now to_end (chars name.now))
+        (λ rest. IsLongestRest pieces.now to_end (chars name.now) (chars rest.now)) }
+{
+    if are_steady(pieces) {
+        steady_rest(pieces, name, to_end)
+    } else {
+        searched_rest(pieces, name, to_end)
+    }
+}
+
+/// The longest rest that pieces can leave of any end of a name, as above.
+fn longest_anywhere<'a>(pieces: &[Piece], name: &'a str, to_end: bool) -> Option<&'a str>
+    ensures { MatchOption result (HasNoRestAnywhere pieces.now to_end (chars name.now))
+        (λ rest. IsLongestAnywhere pieces.now to_end (chars name.now) (chars rest.now)) }
+{
+    let mut from = name;
+    loop {
+        if let Some(rest) = longest_rest(pieces, from, to_end) {
+            return Some(rest);
+        }
+        match first_char(from) {
+            None => return None,
+            Some((_, behind)) => from = behind,
+        }
+    }
+}
+
+/// The place of the first `**`.
+fn any_path_at(pieces: &[Piece]) -> Option<usize>
+    ensures { result ≡ position is_any_path pieces.now }
+{
+    pieces.iter().position(is_any_path)
+}
+
+/// The pieces before the first `**`, and those behind it.
+fn around_path(pieces: &[Piece]) -> Option<(&[Piece], &[Piece])>
+    ensures { MatchOption result (position is_any_path pieces.now ≡ None)
+        (λ parts. pieces.now ≡ parts.0.now ++ (Piece.AnyPath ∷ parts.1.now)) }
+{
+    let Some(at) = any_path_at(pieces) else {
+        return None;
+    };
+    Some((&pieces[..at], &pieces[at + 1..]))
+}
+
+/// Whether pieces match an end of a name.
+fn matches_end(pieces: &[Piece], name: &str) -> bool
+    ensures { IsTrue result ↔ MatchesEnd pieces.now (chars name.now) }
+{
+    let mut left = pieces;
+    let mut rest = name;
+    while let Some((front, back)) = around_path(left) {
+        let Some(behind) = longest_anywhere(front, rest, false) else {
+            return false;
+        };
+        rest = behind;
+        left = back;
+    }
+    longest_anywhere(left, rest, true).is_some()
+}
+
+/// Whether pieces match a name. Only the last `**` is tried again: the pieces before it need not
+/// be, since they left the longest rest that they can.
+pub(crate) fn matches_pieces(pieces: &[Piece], name: &str) -> bool
+    ensures { IsTrue result ↔ Matches pieces.now (chars name.now) }
+{
+    let Some((front, back)) = around_path(pieces) else {
+        return longest_rest(pieces, name, true).is_some();
+    };
+    let Some(rest) = longest_rest(front, name, false) else {
+        return false;
+    };
+    matches_end(back, rest)
+}

@@ -1,0 +1,409 @@
+-- The tokens before the first that can't go on begin some spelling of each rule.
+use Rattle.std.proofs.Common.{◌≡◌, ℕ, true, List, [], ◌∷◌, ◌++◌, Option, Some, None, refl, sym, ap, ◌∙◌, append_assoc}
+use Rattle.std.proofs.lemmas.List.{append-nil}
+use Rattle.std.specs.Prelude.{codes, is_some, pos}
+use Rattle.sim_values.specs.declared.value.Value.TheVariants as values
+use Rattle.sim_values.specs.declared.value.Dimension.TheVariants as dimension
+use Rattle.ned_tokens.specs.declared.token.Keyword.{Keyword}
+use Rattle.ned_tokens.specs.declared.token.Keyword.TheVariants as k
+use Rattle.ned_tokens.specs.declared.token.Mark.{Mark}
+use Rattle.ned_tokens.specs.declared.token.Mark.TheVariants as m
+use Rattle.ned_tokens.specs.declared.token.Token.{Token}
+use Rattle.ned_tokens.specs.declared.token.Token.TheVariants as token
+use Rattle.ned_tokens.specs.Rule.{◌⊗◌, ◌▷◌, made, such_that, optional, many}
+use Rattle.ned_tokens.specs.Balanced.{balanced_read}
+use Rattle.ned_tokens.specs.Viable.{CanGoOn}
+use Rattle.ned_syntax.specs.declared.ast.ParameterValue.TheVariants as given
+use Rattle.ned_syntax.specs.declared.ast.ParameterWord.TheVariants as words
+use Rattle.ned_syntax.specs.declared.ast.Mode.TheVariants as modes_are
+use Rattle.ned_syntax.specs.declared.ast.SectionLine.TheVariants as lines
+use Rattle.ned_syntax.specs.declared.ast.Declaration.{Declaration}
+use Rattle.ned_syntax.specs.declared.ast.ParameterWord.{ParameterWord}
+use Rattle.ned_syntax.specs.declared.parameters.Valued.{Valued}
+use Rattle.ned_syntax.specs.declared.parameters.Tail.{Tail}
+use Rattle.ned_tokens.specs.Words.{or_else}
+use Rattle.ned_tokens.specs.Units.{unit_of, time_unit}
+use Rattle.ned_tokens.proofs.Whole.{all_took}
+use Rattle.ned_syntax.specs.declared.properties.PropertyName.TheVariants as names
+use Rattle.ned_syntax.specs.declared.properties.Effect.{Effect}
+use Rattle.ned_syntax.specs.declared.properties.Effect.TheVariants as effects
+use Rattle.ned_syntax.specs.declared.statistics.Except.{Except}
+use Rattle.ned_syntax.specs.declared.statistics.Except.TheVariants as except_is
+use Rattle.ned_syntax.specs.Grammar.{word, mark, name, in_parens, plain_literal, number, negative_literal, literal, expression, default_value, value_rule, property_name, bracketed, index, body, property, mode_word, question, mode_rule, next_mode, modes, group, loose_token, piece, pieces, loose_text, no_value, source_value, record_value, source_tail, record_tail, source_word, record_word, source_part, record_part, other_part, record_or_other, any_part, part, next_part, statistic_body, optional_body, indexed_statistic, unnamed_statistic, named_or_not, statistic_tail, statistic_word, statistic, plain_name, plain_line, property_text, property_line, valued, tail, parameter_word, volatile, any_declaration, declaration, assignment, assigned_or_said, any_line, section_line, heading, section, simple, submodule, submodules, network, type_rule, file, is_word, is_mark, name_of, turn_of, literal_of, number_of, property_name_of, mode_of, loose_of, source_of, record_of, statistic_of, plain_name_of, parameter_word_of, is_measured, first_unit, unit_behind, declared}
+use Rattle.ned_tokens.proofs.ViableLaws.{Viable, token-viable, such_that-viable, either-viable, optional-viable, many-viable, balanced-viable, then_on, before_on, after_on, mapped_on}
+use Rattle.ned_tokens.proofs.BalancedLaws.{balanced-lawful}
+use Rattle.ned_syntax.proofs.GrammarLaws as laws
+
+word_on : (k : Keyword) → is_word k (token.Word k) ≡ Some tt → Viable (word k)
+unfolding word
+word_on k e = token-viable (is_word k) (token.Word k) tt e
+
+mark_on : (k : Mark) → is_mark k (token.Mark k) ≡ Some tt → Viable (mark k)
+unfolding mark
+mark_on k e = token-viable (is_mark k) (token.Mark k) tt e
+
+abbrev letter : List ℕ
+letter = 97 ∷ []
+
+name_on : Viable name
+unfolding name
+name_on = token-viable name_of (token.Name letter) letter refl
+
+in_parens_on : Viable in_parens
+unfolding in_parens
+in_parens_on = before_on (laws.mark-lawful m.LeftParen) (mark_on m.LeftParen refl) (after_on (balanced-lawful turn_of) (balanced-viable turn_of (token.Mark m.RightParen) refl) (mark_on m.RightParen refl))
+
+plain_literal_on : Viable plain_literal
+unfolding plain_literal
+plain_literal_on = token-viable literal_of (token.Number 0) (values.Whole (pos 0)) refl
+
+number_on : Viable number
+unfolding number
+number_on = token-viable number_of (token.Number 0) 0 refl
+
+negative_literal_on : Viable negative_literal
+unfolding negative_literal
+negative_literal_on = mapped_on (before_on (laws.mark-lawful m.Minus) (mark_on m.Minus refl) number_on)
+
+literal_on : Viable literal
+unfolding literal
+literal_on = either-viable negative_literal plain_literal negative_literal_on plain_literal_on
+
+pub expression_on : Viable expression
+unfolding expression
+expression_on = mapped_on literal_on
+
+default_value_on : Viable default_value
+unfolding default_value
+default_value_on = mapped_on (before_on (laws.word-lawful k.Default) (word_on k.Default refl) (before_on (laws.mark-lawful m.LeftParen) (mark_on m.LeftParen refl) (after_on laws.expression-lawful expression_on (mark_on m.RightParen refl))))
+
+value_on : Viable value_rule
+unfolding value_rule
+value_on = either-viable default_value (made given.Fixed expression) default_value_on (mapped_on expression_on)
+
+property_name_on : Viable property_name
+unfolding property_name
+property_name_on = token-viable property_name_of (token.Name letter) names.Other refl
+
+bracketed_on : Viable bracketed
+unfolding bracketed
+bracketed_on = before_on (laws.mark-lawful m.LeftBracket) (mark_on m.LeftBracket refl) (after_on laws.name-lawful name_on (mark_on m.RightBracket refl))
+
+index_on : Viable index
+unfolding index
+index_on = optional-viable bracketed bracketed_on
+
+body_on : Viable body
+unfolding body
+body_on = optional-viable in_parens in_parens_on
+
+property_on : Viable property
+unfolding property
+property_on = before_on (laws.mark-lawful m.At) (mark_on m.At refl) (mapped_on (then_on laws.property_name-lawful property_name_on (then_on laws.index-lawful index_on body_on)))
+
+mode_word_on : Viable mode_word
+unfolding mode_word
+mode_word_on = token-viable mode_of (token.Name (codes "count")) modes_are.Count refl
+
+question_on : Viable question
+unfolding question
+question_on = mapped_on (optional-viable (mark m.Question) (mark_on m.Question refl))
+
+mode_on : Viable mode_rule
+unfolding mode_rule
+mode_on = mapped_on (then_on laws.mode_word-lawful mode_word_on question_on)
+
+next_mode_on : Viable next_mode
+unfolding next_mode
+next_mode_on = before_on (laws.mark-lawful m.Comma) (mark_on m.Comma refl) mode_on
+
+modes_on : Viable modes
+unfolding modes
+modes_on = mapped_on (then_on laws.mode-lawful mode_on (many-viable next_mode laws.next_mode-lawful laws.next_mode-full next_mode_on))
+
+group_on : Viable group
+unfolding group
+group_on = mapped_on in_parens_on
+
+loose_token_on : (x : Except) → Viable (loose_token x)
+unfolding loose_token
+loose_token_on except_is.Nothing = token-viable (loose_of except_is.Nothing) (token.Mark m.Colon) tt refl
+loose_token_on except_is.Equals = token-viable (loose_of except_is.Equals) (token.Mark m.Colon) tt refl
+loose_token_on except_is.Keys = token-viable (loose_of except_is.Keys) (token.Mark m.Colon) tt refl
+
+piece_on : (x : Except) → Viable (piece x)
+unfolding piece
+piece_on x = either-viable group (loose_token x) group_on (loose_token_on x)
+
+pieces_on : Viable pieces
+unfolding pieces
+pieces_on = mapped_on (many-viable (piece except_is.Nothing) (laws.piece-lawful except_is.Nothing) (laws.piece-full except_is.Nothing) (piece_on except_is.Nothing))
+
+loose_text_on : (x : Except) → Viable (loose_text x)
+unfolding loose_text
+loose_text_on x = before_on (laws.piece-lawful x) (piece_on x) pieces_on
+
+no_value_on : Viable no_value
+unfolding no_value
+no_value_on = mapped_on (loose_text_on except_is.Equals)
+
+source_value_on : Viable source_value
+unfolding source_value
+source_value_on = mapped_on (before_on (laws.mark-lawful m.Equals) (mark_on m.Equals refl) name_on)
+
+record_value_on : Viable record_value
+unfolding record_value
+record_value_on = mapped_on (before_on (laws.mark-lawful m.Equals) (mark_on m.Equals refl) modes_on)
+
+source_tail_on : Viable source_tail
+unfolding source_tail
+source_tail_on = either-viable source_value no_value source_value_on no_value_on
+
+source_word_on : Viable source_word
+unfolding source_word
+source_word_on = token-viable source_of (token.Name (codes "source")) tt refl
+
+source_part_on : Viable source_part
+unfolding source_part
+source_part_on = mapped_on (before_on laws.source_word-lawful source_word_on (optional-viable source_tail source_tail_on))
+
+record_tail_on : Viable record_tail
+unfolding record_tail
+record_tail_on = either-viable record_value no_value record_value_on no_value_on
+
+record_word_on : Viable record_word
+unfolding record_word
+record_word_on = token-viable record_of (token.Name (codes "record")) tt refl
+
+record_part_on : Viable record_part
+unfolding record_part
+record_part_on = mapped_on (before_on laws.record_word-lawful record_word_on (optional-viable record_tail record_tail_on))
+
+other_part_on : Viable other_part
+unfolding other_part
+other_part_on = mapped_on (loose_text_on except_is.Keys)
+
+record_or_other_on : Viable record_or_other
+unfolding record_or_other
+record_or_other_on = either-viable record_part other_part record_part_on other_part_on
+
+any_part_on : Viable any_part
+unfolding any_part
+any_part_on = either-viable source_part record_or_other source_part_on record_or_other_on
+
+part_on : Viable part
+unfolding part
+part_on = optional-viable any_part any_part_on
+
+next_part_on : Viable next_part
+unfolding next_part
+next_part_on = before_on (laws.mark-lawful m.Semi) (mark_on m.Semi refl) part_on
+
+statistic_body_on : Viable statistic_body
+unfolding statistic_body
+statistic_body_on = before_on (laws.mark-lawful m.LeftParen) (mark_on m.LeftParen refl) (after_on laws.parts-lawful (mapped_on (then_on laws.part-lawful part_on (many-viable next_part laws.next_part-lawful laws.next_part-full next_part_on))) (mark_on m.RightParen refl))
+
+optional_body_on : Viable optional_body
+unfolding optional_body
+optional_body_on = optional-viable statistic_body statistic_body_on
+
+indexed_statistic_on : Viable indexed_statistic
+unfolding indexed_statistic
+indexed_statistic_on = mapped_on (then_on laws.bracketed-lawful bracketed_on optional_body_on)
+
+unnamed_statistic_on : Viable unnamed_statistic
+unfolding unnamed_statistic
+unnamed_statistic_on = mapped_on in_parens_on
+
+named_or_not_on : Viable named_or_not
+unfolding named_or_not
+named_or_not_on = either-viable indexed_statistic unnamed_statistic indexed_statistic_on unnamed_statistic_on
+
+statistic_tail_on : Viable statistic_tail
+unfolding statistic_tail
+statistic_tail_on = mapped_on (optional-viable named_or_not named_or_not_on)
+
+statistic_word_on : Viable statistic_word
+unfolding statistic_word
+statistic_word_on = token-viable statistic_of (token.Name (codes "statistic")) tt refl
+
+statistic_on : Viable statistic
+unfolding statistic
+statistic_on = before_on laws.statistic_word-lawful statistic_word_on statistic_tail_on
+
+plain_name_on : Viable plain_name
+unfolding plain_name
+plain_name_on = token-viable plain_name_of (token.Name letter) names.Other refl
+
+plain_line_on : Viable plain_line
+unfolding plain_line
+plain_line_on = mapped_on (then_on laws.plain_name-lawful plain_name_on (then_on laws.index-lawful index_on body_on))
+
+property_text_on : Viable property_text
+unfolding property_text
+property_text_on = either-viable statistic plain_line statistic_on plain_line_on
+
+property_line_on : Viable property_line
+unfolding property_line
+property_line_on = before_on (laws.mark-lawful m.At) (mark_on m.At refl) property_text_on
+
+properties_on : Viable (many property)
+unfolding property
+properties_on = many-viable property laws.property-lawful laws.property-full property_on
+
+valued_on : Viable valued
+unfolding valued
+valued_on = mapped_on (then_on laws.given_value-lawful (before_on (laws.mark-lawful m.Equals) (mark_on m.Equals refl) value_on) properties_on)
+
+tail_on : Viable tail
+unfolding tail
+tail_on = mapped_on (then_on laws.properties-lawful properties_on (optional-viable valued valued_on))
+
+parameter_word_on : Viable parameter_word
+unfolding parameter_word
+parameter_word_on = token-viable parameter_word_of (token.Word k.Int) words.Int refl
+
+volatile_on : Viable volatile
+unfolding volatile
+volatile_on = mapped_on (optional-viable (word k.Volatile) (word_on k.Volatile refl))
+
+any_declaration_on : Viable any_declaration
+unfolding any_declaration
+any_declaration_on = mapped_on (before_on laws.volatile-lawful volatile_on (then_on laws.parameter_word-lawful parameter_word_on (then_on laws.name-lawful name_on tail_on)))
+
+-- `@unit(s)`
+abbrev unit_tokens : List Token
+unit_tokens = token.Mark m.At ∷ token.Name (codes "unit") ∷ token.Mark m.LeftParen ∷ token.Name (codes "s") ∷ token.Mark m.RightParen ∷ []
+
+abbrev seconds : Effect
+seconds = effects.Unit dimension.Time
+
+unit_is : property.Is unit_tokens seconds
+unfolding property property_name index bracketed body in_parens balanced_read mark name unit_of time_unit
+unit_is = all_took property laws.property-lawful unit_tokens seconds refl
+
+-- ---- one property more at the end of a declaration
+
+more_properties : (es : List Effect) (front : List Token) → (many property).Is front es → (many property).Is (front ++ unit_tokens) (es ++ seconds ∷ [])
+more_properties [] front is = (unit_tokens, [], ap (λ (l : List Token). l ++ unit_tokens) is ∙ sym (append-nil unit_tokens), unit_is, refl)
+more_properties (e ∷ es) front is = (is.0, is.1 ++ unit_tokens, ap (λ (l : List Token). l ++ unit_tokens) is.2 ∙ append_assoc is.0 is.1 unit_tokens, is.3, more_properties es is.1 is.4)
+
+abbrev more_behind : Valued → Valued
+more_behind v = record { value = v.value; behind = v.behind ++ seconds ∷ [] }
+
+more_valued : (v : Valued) (front : List Token) → valued.Is front v → valued.Is (front ++ unit_tokens) (more_behind v)
+unfolding valued
+more_valued v front is =
+    let p = is.0 in
+    let pair = is.1 in
+    ((p.0, p.1 ++ seconds ∷ []), (pair.0, pair.1 ++ unit_tokens, ap (λ (l : List Token). l ++ unit_tokens) pair.2 ∙ append_assoc pair.0 pair.1 unit_tokens, pair.3, more_properties p.1 pair.1 pair.4), ap more_behind is.2)
+
+abbrev more_tail : List Effect → Option Valued → Tail
+more_tail before None = record { before = before ++ seconds ∷ []; valued = None }
+more_tail before (Some v) = record { before = before; valued = Some (more_behind v) }
+
+more_parts : (before : List Effect) (o : Option Valued) (front f g : List Token) → front ≡ f ++ g → (many property).Is f before → (optional valued).Is g o → tail.Is (front ++ unit_tokens) (more_tail before o)
+unfolding tail
+more_parts before None front f g e is none =
+    let whole : front ≡ f = e ∙ ap (λ (l : List Token). f ++ l) none ∙ append-nil f in
+    ((before ++ seconds ∷ [], None), (f ++ unit_tokens, [], ap (λ (l : List Token). l ++ unit_tokens) whole ∙ sym (append-nil (f ++ unit_tokens)), more_properties before f is, refl), refl)
+more_parts before (Some v) front f g e is some = ((before, Some (more_behind v)), (f, g ++ unit_tokens, ap (λ (l : List Token). l ++ unit_tokens) e ∙ append_assoc f g unit_tokens, is, more_valued v g some), refl)
+
+-- a unit is found
+unit_found : (es : List Effect) → is_some (first_unit (es ++ seconds ∷ [])) ≡ true
+unit_found [] = refl
+unit_found (effects.Unit d ∷ es) = refl
+unit_found (effects.Class c ∷ es) = unit_found es
+unit_found (effects.Other ∷ es) = unit_found es
+
+found_first : {X : Type 0} (a b : Option X) → is_some a ≡ true → is_some (or_else a b) ≡ true
+found_first None b e = absurd cc
+found_first (Some x) b e = refl
+
+found_second : {X : Type 0} (a b : Option X) → is_some b ≡ true → is_some (or_else a b) ≡ true
+found_second None b e = e
+found_second (Some x) b e = refl
+
+tail_found : (before : List Effect) (o : Option Valued) → is_some (or_else (first_unit (more_tail before o).before) (unit_behind (more_tail before o).valued)) ≡ true
+tail_found before None = found_first (first_unit (before ++ seconds ∷ [])) None (unit_found before)
+tail_found before (Some v) = found_second (first_unit before) (first_unit (v.behind ++ seconds ∷ [])) (unit_found v.behind)
+
+measured_now : (w : ParameterWord) (text : List ℕ) (before : List Effect) (o : Option Valued) → is_measured (declared w text (more_tail before o)) ≡ true
+measured_now words.Double text before o = tail_found before o
+measured_now words.Int text before o = refl
+measured_now words.Bool text before o = refl
+measured_now words.Text text before o = refl
+
+with_tail : (w : ParameterWord) (text : List ℕ) (before : List Effect) (o : Option Valued) (front vs ws ns ts f g : List Token) → front ≡ vs ++ (ws ++ (ns ++ ts)) → volatile.Is vs tt → parameter_word.Is ws w → name.Is ns text → ts ≡ f ++ g → (many property).Is f before → (optional valued).Is g o → CanGoOn (such_that is_measured any_declaration) front
+unfolding any_declaration
+with_tail w text before o front vs ws ns ts f g e iv iw iname et is io =
+    let t = more_tail before o in
+    let more = more_parts before o ts f g et is io in
+    let named : (name ⊗ tail).Is (ns ++ (ts ++ unit_tokens)) (text, t) = (ns, ts ++ unit_tokens, refl, iname, more) in
+    let worded : (parameter_word ⊗ (name ⊗ tail)).Is (ws ++ (ns ++ (ts ++ unit_tokens))) (w, (text, t)) = (ws, ns ++ (ts ++ unit_tokens), refl, iw, named) in
+    let tokens : front ++ unit_tokens ≡ vs ++ (ws ++ (ns ++ (ts ++ unit_tokens))) = ap (λ (l : List Token). l ++ unit_tokens) e ∙ simp append_assoc in
+    (unit_tokens, declared w text t, (((w, (text, t)), ((tt, (w, (text, t))), (vs, ws ++ (ns ++ (ts ++ unit_tokens)), tokens, iv, worded), refl), refl), measured_now w text before o))
+
+with_unit : (front : List Token) (d : Declaration) → any_declaration.Is front d → CanGoOn (such_that is_measured any_declaration) front
+unfolding any_declaration tail
+with_unit front d is =
+    let lasts = is.1 in
+    let whole = lasts.1 in
+    let worded = whole.4 in
+    let named = worded.4 in
+    let tailed = named.4 in
+    let parts = tailed.1 in
+    let x = lasts.0.1 in
+    with_tail x.0 x.1.0 tailed.0.0 tailed.0.1 front whole.0 worded.0 named.0 named.1 parts.0 parts.1 (whole.2 ∙ ap (λ (l : List Token). whole.0 ++ l) (worded.2 ∙ ap (λ (l : List Token). worded.0 ++ l) named.2)) whole.3 worded.3 named.3 parts.2 parts.3 parts.4
+
+declaration_on : Viable declaration
+unfolding declaration
+declaration_on = such_that-viable is_measured any_declaration laws.any_declaration-lawful any_declaration_on with_unit
+
+assignment_on : Viable assignment
+unfolding assignment
+assignment_on = mapped_on (then_on laws.name-lawful name_on tail_on)
+
+assigned_or_said_on : Viable assigned_or_said
+unfolding assigned_or_said
+assigned_or_said_on = either-viable (made lines.Assignment assignment) property_line (mapped_on assignment_on) property_line_on
+
+any_line_on : Viable any_line
+unfolding any_line
+any_line_on = either-viable (made lines.Declaration declaration) assigned_or_said (mapped_on declaration_on) assigned_or_said_on
+
+section_line_on : Viable section_line
+unfolding section_line
+section_line_on = after_on laws.any_line-lawful any_line_on (mark_on m.Semi refl)
+
+heading_on : Viable heading
+unfolding heading
+heading_on = mapped_on (optional-viable (word k.Parameters ▷ mark m.Colon) (before_on (laws.word-lawful k.Parameters) (word_on k.Parameters refl) (mark_on m.Colon refl)))
+
+section_on : Viable section
+unfolding section
+section_on = before_on laws.heading-lawful heading_on (many-viable section_line laws.section_line-lawful laws.section_line-full section_line_on)
+
+simple_on : Viable simple
+unfolding simple
+simple_on = mapped_on (before_on (laws.word-lawful k.Simple) (word_on k.Simple refl) (then_on laws.name-lawful name_on (before_on (laws.mark-lawful m.Open) (mark_on m.Open refl) (after_on laws.section-lawful section_on (mark_on m.Close refl)))))
+
+submodule_on : Viable submodule
+unfolding submodule
+submodule_on = mapped_on (then_on laws.name-lawful name_on (before_on (laws.mark-lawful m.Colon) (mark_on m.Colon refl) (after_on laws.name-lawful name_on (mark_on m.Semi refl))))
+
+submodules_on : Viable submodules
+unfolding submodules
+submodules_on = mapped_on (optional-viable (word k.Submodules ▷ (mark m.Colon ▷ many submodule)) (before_on (laws.word-lawful k.Submodules) (word_on k.Submodules refl) (before_on (laws.mark-lawful m.Colon) (mark_on m.Colon refl) (many-viable submodule laws.submodule-lawful laws.submodule-full submodule_on))))
+
+network_on : Viable network
+unfolding network
+network_on = mapped_on (before_on (laws.word-lawful k.Network) (word_on k.Network refl) (then_on laws.name-lawful name_on (before_on (laws.mark-lawful m.Open) (mark_on m.Open refl) (after_on laws.submodules-lawful submodules_on (mark_on m.Close refl)))))
+
+type_on : Viable type_rule
+unfolding type_rule
+type_on = either-viable simple network simple_on network_on
+
+pub file_on : Viable file
+unfolding file
+file_on = mapped_on (many-viable type_rule laws.type-lawful laws.type-full type_on)
