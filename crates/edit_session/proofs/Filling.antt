@@ -168,9 +168,9 @@ filled_next b m w u r box filled wanted fresh e =
     let kind : r.kind ≡ q.0.kind = ap (λ (x : Request). x.kind) q.2 in
     let id : r.id ≡ q.0.id = ap (λ (x : Request). x.id) q.2 in
     let here : placed (record { id = r.id; kind = box.kind }) box.state w ≡ placed q.0 (b.naming q.0.kind).initial w =
-        ap (λ i. placed (record { id = i; kind = box.kind }) box.state w) id
-        ∙ ap (λ k. placed (record { id = q.0.id; kind = k }) box.state w) (fresh.kind ∙ kind)
-        ∙ ap (λ s. placed q.0 s w) (fresh.initial ∙ ap (λ k. (b.naming k).initial) kind) in
+    ap (λ i. placed (record { id = i; kind = box.kind }) box.state w) id
+    ∙ ap (λ k. placed (record { id = q.0.id; kind = k }) box.state w) (fresh.kind ∙ kind)
+    ∙ ap (λ s. placed q.0 s w) (fresh.initial ∙ ap (λ k. (b.naming k).initial) kind) in
     let known : b.known q.0.kind ≡ true = ap b.known (sym (fresh.kind ∙ kind)) ∙ fresh.of_kind.known in
     let now : u ≡ placed q.0 (b.naming q.0.kind).initial w = e ∙ here in
     let more : length (placed q.0 (b.naming q.0.kind).initial w).modules ≡ suc (length w.modules) = length_more w.modules _ in
@@ -216,7 +216,7 @@ request_of : (o : Option Request) (id : ℕ) → option_map (λ (r : Request). r
 request_of o id e = some_part (λ (r : Request). r.id) o id e
 
 pub kept_declined : (b : Behaviour) (ss : List Seat) (w : World) (m : Model) (phase : Phase) (done : Option Completed) (id : ℕ) → w.modules ≡ map instance_of ss → IsKept b ss w m phase done → option_map (λ (r : Request). r.id) (waited_for phase m (length ss)) ≡ Some id → IsUnknown b (waited_for phase m (length ss)) → IsKept b ss w m Declined done
-kept_declined b ss w m Waiting done id e kept some unknown =
+kept_declined b ss w m Waiting last id e kept some unknown =
     let q = request_of (wanted_by m (length ss)) id some in
     record {
       kinds = kept.kinds;
@@ -224,8 +224,8 @@ kept_declined b ss w m Waiting done id e kept some unknown =
       left = kept.left;
       undone = kept.undone;
     }
-kept_declined b ss w m Idle done id e kept some unknown = cc
-kept_declined b ss w m Declined done id e kept some unknown = cc
+kept_declined b ss w m Idle last id e kept some unknown = cc
+kept_declined b ss w m Declined last id e kept some unknown = cc
 
 pub kept_supplied : (b : Behaviour) (ss ts : List Seat) (w u : World) (m : Model) (phase : Phase) (done : Option Completed) (id : ℕ) (box : Module) → w.modules ≡ map instance_of ss → IsKept b ss w m phase done → option_map (λ (r : Request). r.id) (waited_for phase m (length ss)) ≡ Some id → IsFor b (waited_for phase m (length ss)) box → AreOfKinds b ts → u ≡ placed (record { id = id; kind = box.kind }) box.state w → IsKept b ts u m phase done
 kept_supplied b ss ts w u m Waiting done id box e kept some for_it kinds now =
@@ -237,5 +237,5 @@ kept_supplied b ss ts w u m Waiting done id box e kept some for_it kinds now =
       left = subst (IsLeft b m u) (sym kept.undone) tt;
       undone = kept.undone;
     }
-kept_supplied b ss ts w u m Idle done id box e kept some for_it kinds now = cc
-kept_supplied b ss ts w u m Declined done id box e kept some for_it kinds now = cc
+kept_supplied b ss ts w u m Idle last id box e kept some for_it kinds now = cc
+kept_supplied b ss ts w u m Declined last id box e kept some for_it kinds now = cc

@@ -1,6 +1,7 @@
 -- The files of a model, one after the other.
-use Rattle.std.proofs.Common.{◌≡◌, ℕ, zero, suc, ◌+◌, ◌<◌, Bool, true, false, ◌||◌, List, [], ◌∷◌, ◌++◌, Option, Some, None, refl, sym, ap, ◌∙◌, subst, arith, length, take, slice_get}
+use Rattle.std.proofs.Common.{◌≡◌, ℕ, zero, suc, ◌+◌, ◌<◌, Bool, true, false, ◌||◌, List, [], ◌∷◌, ◌++◌, Option, Some, None, is_some, IsSome, Bor, refl, sym, ap, ◌∙◌, subst, arith, length, take, slice_get}
 use Rattle.std.specs.List.{list_any}
+use Rattle.std.specs.Option.{option_copied}
 use Rattle.ned_syntax.specs.declared.ast.NedFile.{NedFile}
 use Rattle.ned_syntax.specs.NedText.{IsNedFile}
 use Rattle.edit_session.specs.declared.begin.BeginFault.{BeginFault}
@@ -23,12 +24,12 @@ holds_large (u ∷ ts) (suc n) t e large = large_later ts (is_large u) (holds_la
 -- the file that was refused comes after files that are read
 pub blames : (ts : List (List ℕ)) (n : ℕ) (t : List ℕ) (before : List NedFile) (f : BeginFault) → AreNedFiles (take n ts) before → slice_get ts n ≡ Some t → RefusesFile n t f → RefusesFiles ts f
 blames ts n t before (fault.NedSyntax at line) declared here is = record {
-    text = t;
-    here = ap (slice_get ts) is.0 ∙ here;
-    blamed = is.1;
-    before = before;
-    declared = subst (λ k. AreNedFiles (take k ts) before) (sym is.0) declared;
-  }
+  text = t;
+  here = ap (slice_get ts) is.0 ∙ here;
+  blamed = is.1;
+  before = before;
+  declared = subst (λ k. AreNedFiles (take k ts) before) (sym is.0) declared;
+}
 blames ts n t before fault.TooLarge declared here is = holds_large ts n t here is
 blames ts n t before fault.NoMemory declared here is = tt
 blames ts n t before (fault.IniSyntax line) declared here is = absurd is
@@ -44,3 +45,13 @@ one_more [] t [] f are is = (is, tt)
 one_more [] t (g ∷ fs) f are is = absurd are
 one_more (u ∷ ts) t [] f are is = absurd are
 one_more (u ∷ ts) t (g ∷ fs) f are is = (are.0, one_more ts t fs f are.1 is)
+
+-- ---- an answer by a test
+
+pub none_copied : {T : Type 0} (o : Option (Bor T)) → is_some o ≡ false → option_copied o ≡ None
+none_copied None e = refl
+none_copied (Some x) e = cc
+
+pub some_copied : {T : Type 0} (o : Option (Bor T)) → is_some o ≡ true → IsSome (option_copied o)
+some_copied None e = cc
+some_copied (Some x) e = refl

@@ -10,6 +10,8 @@ use Rattle.run_semantics.specs.World.{World, HasRoom}
 use Rattle.run_semantics.specs.Perform.{Flow, On, Stopped, Broken}
 use Rattle.run_semantics.specs.Run.{Part, parts_of, prepared, ready, place_all, start, Over, run_to}
 use Rattle.run_semantics.specs.Ending.{ending}
+use Rattle.result_files.specs.declared.vector_file.VectorFile.{VectorFile}
+use Rattle.result_files.specs.VectorText.{vector_file_of}
 use Rattle.kernel.specs.declared.request.Request.{Request}
 use Rattle.kernel.specs.Seats.{Seat, AreOfKinds, request_for, missing_of}
 use Rattle.edit_session.specs.declared.running.Phase.{Phase}
@@ -22,10 +24,17 @@ use Rattle.edit_session.specs.declared.session.Progress.{Progress}
 use Rattle.edit_session.specs.declared.session.Progress.TheVariants as progress
 use Rattle.edit_session.specs.declared.session.Report.{Report}
 
--- a run that is done: its limit, and its outcome
+-- a run that is done: its limit, its outcome, and what its vector file says before the first value
 pub record Completed : Type 0 where
   pub limit : ℕ
   pub outcome : Outcome
+  pub file : VectorFile
+
+-- a fresh run of the model to that limit, with its ending
+abbrev pub completed : Behaviour → Model → ℕ → Completed
+completed b m limit =
+    let ran = ending b m (run_to b m limit) in
+    record { limit = limit; outcome = ran.outcome; file = vector_file_of m ran.world.records ran.world.emissions }
 
 -- what callers see of a session: the model; the last run, where it is done; where a run stands that isn't, and how many
 -- boxes it holds
@@ -90,7 +99,8 @@ whole_run b m n w outcome = ending b m (run_to b m n) ≡ record { world = w; ou
 -- the world is what the run that is done left
 abbrev pub IsLeft : Behaviour → Model → World → Option Completed → Type 0
 IsLeft b m w None = Unit {0}
-IsLeft b m w (Some done) = whole_run b m done.limit w done.outcome
+IsLeft b m w (Some done) =
+    whole_run b m done.limit w done.outcome × (done.file ≡ vector_file_of m w.records w.emissions)
 
 -- while a run waits, none is done
 abbrev pub IsUndone : Phase → Option Completed → Type 0

@@ -1,10 +1,11 @@
 //! The model that texts make.
 
-ghost use Rattle.std.specs.Prelude.{◌≡◌, ◌++◌, [], ◌∷◌, None, OnOk, IfOk, IfErr};
+ghost use Rattle.std.specs.Prelude.{◌≡◌, ◌↔◌, ◌++◌, [], ◌∷◌, None, IsTrue, OnOk, IfOk, IfErr};
+ghost use Rattle.std.specs.List.{list_any};
 ghost use Rattle.ini_config.specs.Meaning.{IsIniText};
 ghost use Rattle.ned_syntax.specs.NedText.{IsNedFile};
 ghost use Rattle.ned_types.specs.Types.{types_of, fault_of};
-ghost use Rattle.edit_session.specs.Models.{AreNedFiles, IsModelOf, RefusesFile, RefusesFiles, RefusesIni, RefusesTypes, Refuses, is_large, is_too_large};
+ghost use Rattle.edit_session.specs.Models.{AreNedFiles, IsModelOf, RefusesFile, RefusesFiles, RefusesIni, RefusesTypes, Refuses, general, is_large, is_too_large};
 
 use ini_config::error::IniError;
 use ini_config::lines::IniText;
@@ -75,13 +76,25 @@ fn is_large(bytes: &[u8]) -> bool
     bytes.len() > MAX_TEXT
 }
 
+/// Whether one of the texts is longer than what is read.
+fn holds_large(texts: &[Text]) -> bool
+    ensures { result ≡ list_any is_large texts.now }
+{
+    texts.iter().any(|text| is_large(text.as_bytes()))
+}
+
 /// Whether the texts are too many, or one is too long.
 fn is_too_large(texts: &NedTexts, ini: &[u8]) -> bool
     ensures { result ≡ is_too_large texts.now ini.now }
 {
-    texts.len() > MAX_FILES
-        || texts.as_slice().iter().any(|text| is_large(text.as_bytes()))
-        || is_large(ini)
+    texts.len() > MAX_FILES || holds_large(texts.as_slice()) || is_large(ini)
+}
+
+/// Whether this is the name of the only configuration.
+fn is_general(config: &[u8]) -> bool
+    ensures { IsTrue result ↔ (config.now ≡ general) }
+{
+    config == b"General".as_slice()
 }
 
 /// What a NED text declares, which is the file of that number.
@@ -164,7 +177,7 @@ pub fn model_of(
     let files = files_of(alloc, texts)?;
     let lines = lines_of(alloc, ini)?;
     let types = table_of(alloc, files)?;
-    if config != b"General".as_slice() {
+    if !is_general(config) {
         return Err(BeginFault::NoSuchConfig);
     }
     let config = Text::from_bytes(alloc, config)?;

@@ -100,11 +100,7 @@ fn declined<C: Catalogue>(
 {
     let _model = model;
     let request = kernel.missing(alloc)?.unwrap();
-    Ok(Standing::Over(Outcome::Fault(
-        kernel.count(),
-        request.path,
-        Fault::UnknownClass,
-    )))
+    Ok(Standing::Over(Outcome::Fault(kernel.count(), request.path, Fault::UnknownClass)))
 }
 
 /// Where a run stands that is asked for: one that waits goes on, any other is set up.

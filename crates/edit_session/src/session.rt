@@ -4,18 +4,28 @@ ghost use Rattle.std.specs.Prelude.{◌≡◌, ◌↔◌, ◌+◌, Some, None, I
 ghost use Rattle.run_semantics.specs.Run.{run_to};
 ghost use Rattle.run_semantics.specs.Ending.{ending};
 ghost use Rattle.kernel.specs.Kernels.{world_in, seats_in, HasKinds};
-ghost use Rattle.edit_session.specs.Editing.{Completed, IfDone, IfWant, IsFor, IsUnknown, wanted_by, wanted_of, kept_boxes};
+ghost use Rattle.model_answers.specs.declared.model.Model.{Model};
+ghost use Rattle.result_files.specs.VectorText.{vector_text};
+ghost use Rattle.edit_session.specs.Models.{IsModelOf, Refuses};
+ghost use Rattle.edit_session.specs.Files.{FileWritten, TextWritten};
+ghost use Rattle.edit_session.specs.Editing.{Completed, completed, IfDone, IfWant, IsFor, IsUnknown, wanted_by, wanted_of, kept_boxes};
 ghost use Rattle.kernel.specs.declared.request.Request.{Request};
 ghost use Rattle.edit_session.specs.Sessions.{editing_of, IsSound};
 
+use crate::begin::{BeginFault, model_of};
 use crate::running::{Advance, Phase, carry_on};
 use kernel::kernel::Kernel;
 use kernel::request::Request;
 use model_answers::model::Model;
+use model_answers::record::Record;
 use module_api::catalogue::Catalogue;
 use module_api::simple_module::SimpleModule;
 use module_tree::Tree;
+use ned_syntax::texts::NedTexts;
+use result_files::vector_file::{VectorFile, prepare, write_vectors};
+use result_files::writer::Out;
 use run_semantics::outcome::Outcome;
+use run_semantics::traces::Emission;
 use sim_values::NoMemory;
 use std::alloc::Global;
 use thiserror::Error;
@@ -25,6 +35,8 @@ use thiserror::Error;
 pub struct Done {
     pub limit: u64,
     pub outcome: Outcome,
+    /// What its vector file says before the first value.
+    pub file: VectorFile,
 }
 
 /// What a run that is done tells.
@@ -61,6 +73,17 @@ pub enum SupplyReason {
     NoMemory,
 }
 
+/// Why the vector file isn't written.
+#[derive(Clone, Copy, Debug, PartialEq, Eq, Error)]
+pub enum FileFault {
+    /// No run is done.
+    #[error("NotDone")]
+    NotDone,
+    /// The device failed or took nothing, after so many bytes of the text.
+    #[error("Device({0})")]
+    Device(u128),
+}
+
 /// A box that was handed back.
 #[derive(Drop)]
 pub struct SupplyFault {
@@ -79,6 +102,22 @@ pub struct Session<C: Catalogue> {
 }
 
 impl<C: Catalogue> Session<C> {
+    /// A session of the model that these texts make, or why they make none.
+    pub fn begin(
+        alloc: Global,
+        texts: &NedTexts,
+        ini: &[u8],
+        config: &[u8],
+    ) -> Result<Session<C>, BeginFault>
+        ensures sound { IfOk result (λ session. IsSound C.behaviour (λ v. (⟦<dyn SimpleModule as SimpleModule>⟧ v).meaning) session) }
+        ensures editing { IfOk result (λ session. (model : Model) × IsModelOf texts.now ini.now config.now model
+            × (editing_of (λ v. (⟦<dyn SimpleModule as SimpleModule>⟧ v).meaning) session ≡ record { model = model; done = None; phase = Phase.Idle; held = 0 })) }
+        ensures refused { IfErr result (λ fault. Refuses texts.now ini.now config.now fault) }
+    {
+        let model = model_of(alloc, texts, ini, config)?;
+        Ok(Session::of_model(alloc, model))
+    }
+
     /// A session of this model, which no call but an accepted edit changes.
     pub fn of_model(alloc: Global, model: Model) -> Session<C>
         ensures sound { IsSound C.behaviour (λ v. (⟦<dyn SimpleModule as SimpleModule>⟧ v).meaning) result }
@@ -104,24 +143,29 @@ impl<C: Catalogue> Session<C> {
         // THE HEADLINE: a run that is done is a fresh run of the session's model.
         ensures outcome { let editing = editing_of (λ v. (⟦<dyn SimpleModule as SimpleModule>⟧ v).meaning) self.old in
             IfOk result (λ progress. IfDone progress (λ report.
-                report.outcome ≡ (ending C.behaviour editing.model (run_to C.behaviour editing.model limit)).outcome)) }
+            report.outcome ≡ (ending C.behaviour editing.model (run_to C.behaviour editing.model limit)).outcome)) }
         ensures report { let editing = editing_of (λ v. (⟦<dyn SimpleModule as SimpleModule>⟧ v).meaning) self.old in
             IfOk result (λ progress. IfDone progress (λ report. (report.started_from ≡ None)
-                × (report.executed ≡ (ending C.behaviour editing.model (run_to C.behaviour editing.model limit)).world.count))) }
-        ensures done { IfOk result (λ progress. IfDone progress (λ report.
-            (editing_of (λ v. (⟦<dyn SimpleModule as SimpleModule>⟧ v).meaning) self.new).done ≡ Some (record { limit = limit; outcome = report.outcome }))) }
+            × (report.executed ≡ (ending C.behaviour editing.model (run_to C.behaviour editing.model limit)).world.count))) }
+        ensures done { let editing = editing_of (λ v. (⟦<dyn SimpleModule as SimpleModule>⟧ v).meaning) self.old in
+            IfOk result (λ progress. IfDone progress (λ report.
+            (editing_of (λ v. (⟦<dyn SimpleModule as SimpleModule>⟧ v).meaning) self.new).done ≡ Some (completed C.behaviour editing.model limit))) }
 
         // It waits exactly while a box is missing that isn't declined.
         ensures want { let editing = editing_of (λ v. (⟦<dyn SimpleModule as SimpleModule>⟧ v).meaning) self.old in
             IfOk result (λ progress. IfWant progress (λ request.
-                wanted_by editing.model (kept_boxes editing.phase editing.held) ≡ Some request)) }
+            wanted_by editing.model (kept_boxes editing.phase editing.held) ≡ Some request)) }
         ensures waits { let editing = editing_of (λ v. (⟦<dyn SimpleModule as SimpleModule>⟧ v).meaning) self.old in
             IfOk result (λ progress. IfWant progress (λ request.
-                editing_of (λ v. (⟦<dyn SimpleModule as SimpleModule>⟧ v).meaning) self.new ≡ record { model = editing.model; done = None; phase = Phase.Waiting;
-                    held = kept_boxes editing.phase editing.held })) }
+            editing_of (λ v. (⟦<dyn SimpleModule as SimpleModule>⟧ v).meaning) self.new ≡ record {
+              model = editing.model;
+              done = None;
+              phase = Phase.Waiting;
+              held = kept_boxes editing.phase editing.held;
+            })) }
         ensures needs_none { let editing = editing_of (λ v. (⟦<dyn SimpleModule as SimpleModule>⟧ v).meaning) self.old in
             IfOk result (λ progress. IfDone progress (λ report.
-                (editing.phase ≡ Phase.Declined) ⊎ (wanted_by editing.model (kept_boxes editing.phase editing.held) ≡ None))) }
+            (editing.phase ≡ Phase.Declined) ⊎ (wanted_by editing.model (kept_boxes editing.phase editing.held) ≡ None))) }
 
         // After want of memory no run waits, and none is done.
         ensures memory { OnErr result (((editing_of (λ v. (⟦<dyn SimpleModule as SimpleModule>⟧ v).meaning) self.new).done ≡ None) × ((editing_of (λ v. (⟦<dyn SimpleModule as SimpleModule>⟧ v).meaning) self.new).phase ≡ Phase.Idle)) }
@@ -136,7 +180,17 @@ impl<C: Catalogue> Session<C> {
             }
             Advance::Ends(outcome) => {
                 let report = report_of(self.alloc, &outcome, self.kernel.count())?;
-                self.done = Some(Done { limit, outcome });
+                let file = prepare(
+                    self.alloc,
+                    &self.model,
+                    self.kernel.records(),
+                    self.kernel.emissions(),
+                )?;
+                self.done = Some(Done {
+                    limit,
+                    outcome,
+                    file,
+                });
                 Ok(Progress::Done(report))
             }
         }
@@ -198,6 +252,23 @@ impl<C: Catalogue> Session<C> {
         }
     }
 
+    /// Writes the vector file of the last run, which takes no memory.
+    pub fn vectors<O: Out>(&self, out: &mut O) -> Result<(), FileFault>
+        requires sound { IsSound C.behaviour (λ v. (⟦<dyn SimpleModule as SimpleModule>⟧ v).meaning) self.now }
+        ensures written { FileWritten C.behaviour (editing_of (λ v. (⟦<dyn SimpleModule as SimpleModule>⟧ v).meaning) self.now).model (editing_of (λ v. (⟦<dyn SimpleModule as SimpleModule>⟧ v).meaning) self.now).done
+            (O.content out.old) (O.failures out.old) (O.content out.new) (O.failures out.new) result }
+    {
+        match &self.done {
+            None => Err(FileFault::NotDone),
+            Some(done) => write_done(
+                out,
+                &done.file,
+                self.kernel.records(),
+                self.kernel.emissions(),
+            ),
+        }
+    }
+
     /// How the last run ended, where one is done.
     pub fn outcome(&self) -> Option<&Outcome>
         ensures { option_copied result ≡ option_map (λ (d : Completed). d.outcome) (editing_of (λ v. (⟦<dyn SimpleModule as SimpleModule>⟧ v).meaning) self.now).done }
@@ -206,6 +277,22 @@ impl<C: Catalogue> Session<C> {
             Some(done) => Some(&done.outcome),
             None => None,
         }
+    }
+}
+
+/// Writes the vector file of a run that is done.
+fn write_done<O: Out>(
+    out: &mut O,
+    file: &VectorFile,
+    records: &[Record],
+    emissions: &[Emission],
+) -> Result<(), FileFault>
+    ensures { TextWritten (O.content out.old) (O.failures out.old) (O.content out.new) (O.failures out.new)
+        (vector_text file.now.header file.now.vectors records.now emissions.now) result }
+{
+    match write_vectors(out, file, records, emissions) {
+        Ok(()) => Ok(()),
+        Err(device) => Err(FileFault::Device(device.written)),
     }
 }
 

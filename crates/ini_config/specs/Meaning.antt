@@ -129,7 +129,7 @@ pub record IsIniText (bytes : Bytes) (reads : List IniLine) : Type 0 where
 abbrev pub FirstBadOf : ℕ → ℕ → Bool → List Bytes → Type 0
 FirstBadOf bad n inside [] = ⊥
 FirstBadOf bad n inside (bytes ∷ more) = ((bad ≡ n) × ((read : IniLine) → IsIniLine inside bytes read → ⊥))
-  ⊎ ((read : IniLine) × IsIniLine inside bytes read × FirstBadOf bad (suc n) (inside || opens read.meaning) more)
+    ⊎ ((read : IniLine) × IsIniLine inside bytes read × FirstBadOf bad (suc n) (inside || opens read.meaning) more)
 
 -- The number, from 1, of the first line that means nothing, or is an entry before the first section.
 abbrev pub FirstBad : ℕ → Bytes → Type 0

@@ -7,6 +7,5 @@ pub mod lines;
 mod names;
 pub mod parse;
 mod pieces;
-
 #[cfg(test)]
 mod tests;

@@ -12,7 +12,9 @@ use crate::lines::{
     Entry, EntryMeaning, EntryValue, IniLine, IniText, LineMeaning, ParameterEntry,
 };
 use crate::names::is_name;
-use crate::pieces::{after_blanks, before_blanks, first_line, holds_variable, is_blank, value_text};
+use crate::pieces::{
+    after_blanks, before_blanks, first_line, holds_variable, is_blank, value_text,
+};
 use ned_syntax::error::NedError;
 use ned_syntax::parse::parse_expression;
 use sim_values::text::Text;
@@ -107,10 +109,7 @@ fn parameter_meaning(
         return Ok(None);
     };
     let name = Text::from_bytes(alloc, name)?;
-    Ok(Some(EntryMeaning::Parameter(ParameterEntry {
-        name,
-        value,
-    })))
+    Ok(Some(EntryMeaning::Parameter(ParameterEntry { name, value })))
 }
 
 /// What an entry says.

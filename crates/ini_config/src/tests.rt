@@ -6,9 +6,9 @@ use crate::lines::{EntryMeaning, EntryValue, IniText, LineMeaning};
 use crate::parse::MAX_LENGTH;
 use crate::pieces::value_text;
 use ned_syntax::ast::Expression;
+use sim_values::value::Value;
 use std::alloc::Global;
 use std::process::Abort;
-use sim_values::value::Value;
 use std::test::Fail;
 
 /// The number of the line that is refused, 0 where the text is read.
@@ -46,7 +46,10 @@ fn lines_and_sections(rt: HostRuntime) {
         (b"network = N\n", 1),
         (b"# c\n\nnetwork = N\n[General]\n", 3),
         (b"[General]\nnetwork = N\n\nx\n", 4),
-        (b"[General]\r\nnetwork = N\r\n**.count = 3\r\n[Config A]\r\nx\r\n", 4),
+        (
+            b"[General]\r\nnetwork = N\r\n**.count = 3\r\n[Config A]\r\nx\r\n",
+            4,
+        ),
         (b"x\ny", 1),
     ];
     for (text, line) in rows {
@@ -149,7 +152,12 @@ fn lengths(rt: HostRuntime) -> Result<(), Fail> {
     let mut text = vec![in rt.alloc(); b' '; MAX_LENGTH]?;
     assert!(rt; IniText::parse(rt.alloc(), text.as_slice()).is_ok());
     text.push(b' ')?;
-    assert!(rt; matches!(IniText::parse(rt.alloc(), text.as_slice()), Err(IniError::TooLarge)));
+    assert!(rt;
+        matches!(
+            IniText::parse(rt.alloc(), text.as_slice()),
+            Err(IniError::TooLarge)
+        )
+    );
     Ok(())
 }
 
@@ -168,7 +176,12 @@ fn entries(rt: HostRuntime) -> Result<(), Fail> {
     let text = IniText::parse(rt.alloc(), b"[General]\nnetwork = N # c\r\n**.count =\t3")?;
     assert_eq!(rt; network_entry(text.lines()), Some(b"N".as_slice()));
     let found = first_match(b"count", text.lines()).ok_or("no value")?;
-    assert!(rt; matches!(found, EntryValue::Given(Expression::Literal(Value::Whole(3)))));
+    assert!(rt;
+        matches!(
+            found,
+            EntryValue::Given(Expression::Literal(Value::Whole(3)))
+        )
+    );
     let [section, network, count] = text.lines() else {
         panic!(rt; "not three lines");
     };

@@ -58,12 +58,7 @@ fn push_own_name(path: &mut Vec<u8>, name: &[u8], index: Option<u32>) -> Result<
 }
 
 /// Adds the path of the module of that id, with at most so many names.
-fn push_path(
-    path: &mut Vec<u8>,
-    depth: u32,
-    records: &[Record],
-    id: u32,
-) -> Result<(), AllocError>
+fn push_path(path: &mut Vec<u8>, depth: u32, records: &[Record], id: u32) -> Result<(), AllocError>
     ensures { OnOk result (path.new.items ≡ path.old.items ++ path_up depth records.now id) }
 {
     if depth == 0 {

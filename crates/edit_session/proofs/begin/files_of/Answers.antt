@@ -20,5 +20,5 @@ loop-number-preserved c =
     let n = c.loop-number.number in
     let next : n + 1 ≡ suc n = omega arith in
     let taken : take (n + 1) texts ≡ take n texts ++ c.text-item.result ∷ [] =
-        ap (λ k. take k texts) next ∙ take-suc texts n c.text-item.result c.loop-number-test.true ∙ ap (λ t. take n texts ++ t ∷ []) (sym c.text-item.is) in
+    ap (λ k. take k texts) next ∙ take-suc texts n c.text-item.result c.loop-number-test.true ∙ ap (λ t. take n texts ++ t ∷ []) (sym c.text-item.is) in
     rw (taken, c.in_ok-push_file.ensures.ok) (one_more (take n texts) c.text-item.result c.loop-number.files.items c.in_ok-file.file c.loop-number.invariant (subst (λ t. IsNedFile t c.in_ok-file.file) c.as_bytes.ensures c.in_ok-file.ensures.accepted))

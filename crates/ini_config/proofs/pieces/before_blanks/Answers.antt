@@ -12,6 +12,6 @@ blanks-preserved c = record {
 pub returns : goal.returns
 returns c =
     elim c.blanks-test.branch [
-      then-blanks-test+else-is_blank w ↦ keep_at c.args.bytes.now c.blanks.end w.blanks-test.true c.blanks.invariant.within (sym w.is_blank.ensures ∙ w.if-is_blank.false) ∙ c.blanks.invariant.same
-    | else-blanks-test w ↦ trim_none c.args.bytes.now c.blanks.end w.blanks-test.false ∙ c.blanks.invariant.same
+      | then-blanks-test+else-is_blank w ↦ keep_at c.args.bytes.now c.blanks.end w.blanks-test.true c.blanks.invariant.within (sym w.is_blank.ensures ∙ w.if-is_blank.false) ∙ c.blanks.invariant.same
+      | else-blanks-test w ↦ trim_none c.args.bytes.now c.blanks.end w.blanks-test.false ∙ c.blanks.invariant.same
     ]
