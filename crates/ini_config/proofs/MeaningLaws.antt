@@ -1,18 +1,21 @@
 -- Laws of what lines mean.
-use Rattle.std.proofs.Common.{◌≡◌, ℕ, suc, ◌+◌, ◌≤◌, Bool, true, false, cond, not, eqb, arith, ◌&&◌, ◌||◌, List, [], ◌∷◌, ◌++◌, length, take, drop, Option, Some, None, Result, Ok, Err, IfOk, MatchOption, MatchResult, refl, sym, ap, subst, ◌∙◌, inl, inr, append_assoc}
+use Rattle.std.proofs.Common.{◌≡◌, ℕ, suc, ◌+◌, ◌≤◌, Bool, true, false, cond, not, eqb, arith, ◌&&◌, ◌||◌, List, [], ◌∷◌, ◌++◌, length, take, drop, get_or, Some, None, Result, Ok, Err, MatchResult, refl, sym, ap, subst, ◌∙◌, inl, inr, append_assoc}
 use Rattle.std.specs.Prelude.{position, is_ok, codes}
 use Rattle.std.specs.Str.{IsUtf8, is_utf8, bytes_eq}
 use Rattle.std.proofs.lemmas.Str.{IsUtf8-from_is_utf8, is_utf8-from_IsUtf8}
 use Rattle.std.proofs.lemmas.List.{append-nil}
 use Rattle.ini_config.specs.declared.lines.Entry.{Entry}
 use Rattle.ini_config.specs.declared.lines.EntryMeaning.{EntryMeaning}
+use Rattle.ini_config.specs.declared.lines.EntryMeaning.TheVariants as meaning
+use Rattle.ini_config.specs.declared.lines.EntryValue.{EntryValue}
+use Rattle.ini_config.specs.declared.lines.EntryValue.TheVariants as value
 use Rattle.ini_config.specs.declared.lines.IniLine.{IniLine}
 use Rattle.ini_config.specs.declared.lines.LineMeaning.{LineMeaning}
 use Rattle.ini_config.specs.declared.lines.LineMeaning.TheVariants as line
-use Rattle.ini_config.specs.declared.error.IniError.{IniError}
 use Rattle.ini_config.specs.declared.error.IniError.TheVariants as errors
 use Rattle.ini_config.specs.Texts.{Bytes, lines_of_ini, before_blanks, value_text, is_blank, after_blanks}
-use Rattle.ini_config.specs.Meaning.{is_key, is_value, begins_entry, IsParted, IsEntry, IsEntryMeaning, IsLine, IsIniLine, AreLines, FirstBadOf, Tells, Settles, may_stand, opens}
+use Rattle.ned_syntax.proofs.OneExpression.{one_expression}
+use Rattle.ini_config.specs.Meaning.{IsIniText, IsEntryValue, any_path, word_network, is_key, is_value, begins_entry, IsParted, IsEntry, IsEntryMeaning, IsLine, IsIniLine, AreLines, FirstBadOf, Tells, Settles, opens}
 
 pub text_tested : {S E : Type 0} (P : S → Type 0) (Q : E → Type 0) (bytes : Bytes) (r : Result S E) → MatchResult r (λ s. P s × IsUtf8 bytes) (λ e. ¬ (IsUtf8 bytes) × Q e) → is_ok r ≡ is_utf8 bytes
 text_tested P Q bytes (Ok s) h = sym (is_utf8-from_IsUtf8 bytes h.1)
@@ -120,30 +123,107 @@ read_all bytes (b ∷ bs) front number inside h r = absurd (omega (arith, h))
 
 -- ---- lines
 
--- a line that begins as an entry, and is no section, is an entry
-pub only_entry : (bytes : Bytes) → begins_entry bytes ≡ true → bytes_eq bytes (codes "[General]") ≡ false → (m : LineMeaning) → IsLine bytes m → (e : Entry) × (m ≡ line.Entry e) × IsEntry bytes e
-only_entry [] begins other m is = absurd cc
-only_entry (b ∷ bs) begins other line.Blank is = absurd (go (is_blank b) begins is)
+pub blank_begins : (bytes : Bytes) → after_blanks bytes ≡ [] → begins_entry bytes ≡ true → ⊥
+blank_begins [] e h = absurd cc
+blank_begins (b ∷ bs) e h = go (is_blank b) h e
   where
     go : (t : Bool) → (not t && not (eqb b 35)) ≡ true → cond t (after_blanks bs) (b ∷ bs) ≡ [] → ⊥
     go true h e = absurd cc
     go false h e = absurd cc
-only_entry (b ∷ bs) begins other line.Comment is = absurd (go (is_blank b) (eqb b 35) refl begins is.1)
+
+pub comment_begins : (bytes rest : Bytes) → after_blanks bytes ≡ 35 ∷ rest → begins_entry bytes ≡ true → ⊥
+comment_begins [] rest e h = absurd cc
+comment_begins (b ∷ bs) rest e h = go (is_blank b) (eqb b 35) refl h e
   where
-    go : (t u : Bool) → eqb b 35 ≡ u → (not t && not u) ≡ true → cond t (after_blanks bs) (b ∷ bs) ≡ 35 ∷ is.0 → ⊥
+    go : (t u : Bool) → eqb b 35 ≡ u → (not t && not u) ≡ true → cond t (after_blanks bs) (b ∷ bs) ≡ 35 ∷ rest → ⊥
     go true u f h e = absurd cc
     go false true f h e = absurd cc
     go false false f h e = let same : b ≡ 35 = cc in let found : eqb b 35 ≡ true = rw same refl in absurd cc
-only_entry (b ∷ bs) begins other (line.Section name) is =
-    let same : b ∷ bs ≡ codes "[General]" = is.1 ∙ ap (λ (l : Bytes). 91 ∷ (l ++ 93 ∷ [])) is.0 in
-    let found : bytes_eq (b ∷ bs) (codes "[General]") ≡ true = ap (λ (l : Bytes). bytes_eq l (codes "[General]")) same in
-    absurd cc
-only_entry (b ∷ bs) begins other (line.Entry e) is = (e, refl, is)
+
+section_text : (bytes name : Bytes) → IsLine bytes (line.Section name) → bytes ≡ codes "[General]"
+section_text bytes name is = is.1 ∙ ap (λ (l : Bytes). 91 ∷ (l ++ 93 ∷ [])) is.0
+
+section_begins : (bytes name : Bytes) → IsLine bytes (line.Section name) → begins_entry bytes ≡ true
+section_begins bytes name is = ap begins_entry (section_text bytes name is)
+
+section_no_entry : (bytes name : Bytes) (e : Entry) → IsLine bytes (line.Section name) → IsEntry bytes e → ⊥
+section_no_entry bytes name e is entry = not_parted bytes e.key e.value (ap (λ (l : Bytes). position (λ b. eqb b 61) l) (section_text bytes name is)) entry.parted
 
 -- a line that begins as an entry, and is neither a section nor an entry
 pub no_line : (bytes : Bytes) → begins_entry bytes ≡ true → bytes_eq bytes (codes "[General]") ≡ false → ((e : Entry) → IsEntry bytes e → ⊥) → (m : LineMeaning) → IsLine bytes m → ⊥
-no_line bytes begins other none m is = let found = only_entry bytes begins other m is in none found.0 found.2
+no_line bytes begins other none line.Blank is = blank_begins bytes is begins
+no_line bytes begins other none line.Comment is = comment_begins bytes is.0 is.1 begins
+no_line bytes begins other none (line.Section name) is =
+    let found : bytes_eq bytes (codes "[General]") ≡ true = ap (λ (l : Bytes). bytes_eq l (codes "[General]")) (section_text bytes name is) in
+    absurd cc
+no_line bytes begins other none (line.Entry e) is = none e is
 
--- the line of the only entry
-pub one_line : (bytes : Bytes) (e : Entry) → begins_entry bytes ≡ true → bytes_eq bytes (codes "[General]") ≡ false → ((f : Entry) → IsEntry bytes f → f ≡ e) → (m : LineMeaning) → IsLine bytes m → m ≡ line.Entry e
-one_line bytes e begins other only m is = let found = only_entry bytes begins other m is in found.1 ∙ ap line.Entry (only found.0 found.2)
+-- an entry means nothing else
+pub is_entry : (bytes : Bytes) (e : Entry) → Tells (IsEntry bytes) (Some e) → Tells (IsLine bytes) (Some (line.Entry e))
+is_entry bytes e t = (t.0, only)
+  where
+    only : (m : LineMeaning) → IsLine bytes m → m ≡ line.Entry e
+    only line.Blank is = absurd (blank_begins bytes is t.0.begins)
+    only line.Comment is = absurd (comment_begins bytes is.0 is.1 t.0.begins)
+    only (line.Section name) is = absurd (section_no_entry bytes name e is t.0)
+    only (line.Entry f) is = ap line.Entry (t.1 f is)
+
+-- ---- a text has at most one meaning
+
+value_same : (text : Bytes) (v w : EntryValue) → IsEntryValue text v → IsEntryValue text w → v ≡ w
+value_same text value.Default value.Default p q = refl
+value_same text value.Default (value.Given f) p q = absurd (q.0 p)
+value_same text (value.Given e) value.Default p q = absurd (p.0 q)
+value_same text (value.Given e) (value.Given f) p q = ap value.Given (one_expression text e f p.1 q.1)
+
+other_key : (name : Bytes) → word_network ≡ any_path ++ name → ⊥
+other_key name e = let first : 110 ≡ 42 = ap (λ (l : Bytes). get_or l 0 0) e in omega (arith, first)
+
+meaning_same : (key text : Bytes) (m n : EntryMeaning) → IsEntryMeaning key text m → IsEntryMeaning key text n → m ≡ n
+meaning_same key text (meaning.Network a) (meaning.Network b) p q = ap meaning.Network (p.1 ∙ sym q.1)
+meaning_same key text (meaning.Network a) (meaning.Parameter b) p q = absurd (other_key b.name (sym p.0 ∙ q.0))
+meaning_same key text (meaning.Parameter a) (meaning.Network b) p q = absurd (other_key a.name (sym q.0 ∙ p.0))
+meaning_same key text (meaning.Parameter a) (meaning.Parameter b) p q =
+    let e : any_path ++ a.name ≡ any_path ++ b.name = sym p.0 ∙ q.0 in
+    let names : a.name ≡ b.name = ap (drop 3) e in
+    made a.name b.name a.value b.value names (value_same text a.value b.value p.2 q.2)
+  where
+    made : (k l : Bytes) (v w : EntryValue) → k ≡ l → v ≡ w → meaning.Parameter (record { name = k; value = v }) ≡ meaning.Parameter (record { name = l; value = w })
+    made k l v w p q = cc
+
+line_same : (bytes : Bytes) (m n : LineMeaning) → IsLine bytes m → IsLine bytes n → m ≡ n
+line_same bytes line.Blank line.Blank p q = refl
+line_same bytes line.Blank line.Comment p q = let r = q.1 in absurd cc
+line_same bytes line.Blank (line.Section b) p q = absurd (blank_begins bytes p (section_begins bytes b q))
+line_same bytes line.Blank (line.Entry f) p q = absurd (blank_begins bytes p q.begins)
+line_same bytes line.Comment line.Blank p q = let r = p.1 in absurd cc
+line_same bytes line.Comment line.Comment p q = refl
+line_same bytes line.Comment (line.Section b) p q = absurd (comment_begins bytes p.0 p.1 (section_begins bytes b q))
+line_same bytes line.Comment (line.Entry f) p q = absurd (comment_begins bytes p.0 p.1 q.begins)
+line_same bytes (line.Section a) line.Blank p q = absurd (blank_begins bytes q (section_begins bytes a p))
+line_same bytes (line.Section a) line.Comment p q = absurd (comment_begins bytes q.0 q.1 (section_begins bytes a p))
+line_same bytes (line.Section a) (line.Section b) p q = ap line.Section (p.0 ∙ sym q.0)
+line_same bytes (line.Section a) (line.Entry f) p q = absurd (section_no_entry bytes a f p q)
+line_same bytes (line.Entry e) line.Blank p q = absurd (blank_begins bytes q p.begins)
+line_same bytes (line.Entry e) line.Comment p q = absurd (comment_begins bytes q.0 q.1 p.begins)
+line_same bytes (line.Entry e) (line.Section b) p q = absurd (section_no_entry bytes b e q p)
+line_same bytes (line.Entry e) (line.Entry f) p q = ap line.Entry (one_entry bytes f e q.parted (λ m is. meaning_same f.key f.value m f.meaning is q.says) p)
+
+lines_same : (inside : Bool) (bytes : List Bytes) (xs ys : List IniLine) → AreLines inside bytes xs → AreLines inside bytes ys → xs ≡ ys
+lines_same inside [] [] [] p q = refl
+lines_same inside [] (x ∷ xs) ys p q = absurd p
+lines_same inside [] [] (y ∷ ys) p q = absurd q
+lines_same inside (b ∷ bs) [] ys p q = absurd p
+lines_same inside (b ∷ bs) (x ∷ xs) [] p q = absurd q
+lines_same inside (b ∷ bs) (x ∷ xs) (y ∷ ys) p q =
+    let means : x.meaning ≡ y.meaning = line_same b x.meaning y.meaning p.0.means q.0.means in
+    let head : x ≡ y = made x.text y.text x.meaning y.meaning (p.0.text ∙ sym q.0.text) means in
+    let more : AreLines (inside || opens y.meaning) bs xs = subst (λ (m : LineMeaning). AreLines (inside || opens m) bs xs) means p.1 in
+    let tail : xs ≡ ys = lines_same (inside || opens y.meaning) bs xs ys more q.1 in
+    cc
+  where
+    made : (k l : Bytes) (v w : LineMeaning) → k ≡ l → v ≡ w → ◌≡◌ {A = IniLine} (record { text = k; meaning = v }) (record { text = l; meaning = w })
+    made k l v w p q = cc
+
+pub text_same : (bytes : Bytes) (first second : List IniLine) → IsIniText bytes first → IsIniText bytes second → first ≡ second
+text_same bytes first second p q = lines_same false (lines_of_ini bytes) first second p.lines q.lines

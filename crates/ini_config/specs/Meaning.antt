@@ -125,6 +125,10 @@ pub record IsIniText (bytes : Bytes) (reads : List IniLine) : Type 0 where
   pub small : length bytes ≤ max_length
   pub lines : AreLines false (lines_of_ini bytes) reads
 
+-- a text has at most one meaning
+abbrev pub HasOneMeaning : Bytes → Type 0
+HasOneMeaning bytes = (first second : List IniLine) → IsIniText bytes first → IsIniText bytes second → first ≡ second
+
 -- The line of this number is the first that means nothing, where the first has number n.
 abbrev pub FirstBadOf : ℕ → ℕ → Bool → List Bytes → Type 0
 FirstBadOf bad n inside [] = ⊥

@@ -1,5 +1,5 @@
 -- The parts of an ini text: its lines, its blanks, and what stands before a comment.
-use Rattle.std.specs.Prelude.{ℕ, zero, suc, Bool, true, false, ◌||◌, ◌&&◌, not, List, [], ◌∷◌, Option, Some, None, ◌==◌, if◌then◌else◌, option_map, unwrap_or}
+use Rattle.std.specs.Prelude.{ℕ, zero, suc, Bool, false, ◌||◌, ◌&&◌, not, List, [], ◌∷◌, Option, Some, None, ◌==◌, if◌then◌else◌, option_map, unwrap_or}
 
 abbrev pub Bytes : Type 0
 Bytes = List ℕ

@@ -3,6 +3,7 @@
 
 pub mod entries;
 pub mod error;
+pub mod laws;
 pub mod lines;
 mod names;
 pub mod parse;

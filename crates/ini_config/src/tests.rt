@@ -206,3 +206,40 @@ fn entries(rt: HostRuntime) -> Result<(), Fail> {
     assert_eq!(rt; parameter.name.as_bytes(), b"count".as_slice());
     Ok(())
 }
+
+
+#[test]
+fn literals(rt: HostRuntime) {
+    let rows: [(&[u8], usize); 24] = [
+        (b"[General]\n**.t = \"a # b\" # c", 0),
+        (b"[General]\n**.t = \"default\" # the text\\", 0),
+        (b"[General]\n**.t = \"\xc3\xa9\"", 0),
+        (b"[General]\n**.t = \"a\\\"# b\" # c", 0),
+        (b"[General]\n**.t = \"$\"", 0),
+        (b"[General]\n**.count = -3", 0),
+        (b"[General]\n**.count = - 3 # c", 0),
+        (b"[General]\n**.count = 0x10", 0),
+        (b"[General]\n**.count = 9223372036854775807", 0),
+        (b"[General]\n**.gap = 5ps", 0),
+        (b"[General]\n**.gap = 0.5ns", 0),
+        (b"[General]\n**.gap = 1s 500ms", 0),
+        (b"[General]\n**.count = 3 // c", 0),
+        // A `\"` without end is no text literal, so the `#` ends the value.
+        (b"[General]\n**.count = 3 // it\"s # y\\", 0),
+        (b"[General]\n**.count = 3 // it\"s\" # y\\", 0),
+        // No `#` stands outside the text literal, so the `\\` ends the value.
+        (b"[General]\n**.count = 3 // \"# y\" \\", 2),
+        // The ini text's literal ends at the last `\"`.
+        (b"[General]\n**.t = \"a\\\\\" # c\"", 2),
+        (b"[General]\n**.t = \"a\\\"", 2),
+        (b"[General]\n**.t = \"a", 2),
+        (b"[General]\n**.count = 9223372036854775808", 2),
+        (b"[General]\n**.gap = 0.5ps", 2),
+        (b"[General]\n**.gap = 1s 500", 2),
+        (b"[General]\n**.gap = 1parsec", 2),
+        (b"[General]\n**.t = 'a'", 2),
+    ];
+    for (text, line) in rows {
+        assert_eq!(rt; refused_line(&rt, rt.alloc(), text), line);
+    }
+}

@@ -1,4 +1,4 @@
-use Rattle.std.proofs.Common.{◌≡◌, ◌∙◌}
+use Rattle.std.proofs.Common.{◌∙◌}
 use Rattle.ini_config.proofs.MeaningLaws.{text_tested}
 use Rattle.ini_config.proofs.parse.is_text.Goals as goal
 

@@ -1,4 +1,4 @@
-use Rattle.std.proofs.Common.{◌≡◌, ◌-◌, ◌<◌, false, true, sym, ap, ◌∙◌, arith}
+use Rattle.std.proofs.Common.{sym, ◌∙◌, arith}
 use Rattle.ini_config.proofs.PieceLaws.{trim_at, keep_at, trim_none}
 use Rattle.ini_config.proofs.pieces.before_blanks.Goals as goal
 use Rattle.ini_config.proofs.pieces.before_blanks.Goals.{then-blanks-test+else-is_blank, else-blanks-test}

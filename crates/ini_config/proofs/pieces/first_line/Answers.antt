@@ -1,4 +1,4 @@
-use Rattle.std.proofs.Common.{◌≡◌, Some, None, Option, List, ℕ, option_map, sym, ap, refl, ◌∙◌, arith}
+use Rattle.std.proofs.Common.{◌≡◌, Some, None, sym, ap, ◌∙◌, arith}
 use Rattle.ini_config.specs.Texts.{after_line_end}
 use Rattle.ini_config.proofs.PieceLaws.{join_nil, join_step, join_ends, join_all}
 use Rattle.ini_config.proofs.pieces.first_line.Goals as goal

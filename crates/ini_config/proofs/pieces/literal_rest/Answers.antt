@@ -1,4 +1,4 @@
-use Rattle.std.proofs.Common.{◌≡◌, ◌<◌, ◌≤◌, Some, None, Option, ℕ, true, false, sym, ap, ◌∙◌, arith, length}
+use Rattle.std.proofs.Common.{sym, ◌∙◌, arith}
 use Rattle.ini_config.proofs.PieceLaws.{literal_step_at, literal_ends_at, literal_none_at}
 use Rattle.ini_config.proofs.pieces.literal_rest.Goals as goal
 

@@ -1,4 +1,4 @@
-use Rattle.std.proofs.Common.{◌≡◌, ◌<◌, ◌≤◌, eqb, get_or, true, false, sym, ◌∙◌, arith, length}
+use Rattle.std.proofs.Common.{◌≡◌, eqb, get_or, true, false, sym, ◌∙◌, arith}
 use Rattle.std.proofs.lemmas.Bool.Decides.{nat_tests}
 use Rattle.ini_config.proofs.PieceLaws.{hash_step, hash_ends, hash_all}
 use Rattle.ini_config.proofs.pieces.plain_length.Goals as goal

@@ -1,6 +1,6 @@
-use Rattle.std.proofs.Common.{◌≡◌, ◌+◌, ◌<◌, ◌≤◌, eqb, get_or, drop, Some, None, true, false, sym, ap, ◌∙◌, arith, length}
+use Rattle.std.proofs.Common.{◌≡◌, ◌+◌, eqb, get_or, drop, Some, None, true, false, sym, ap, ◌∙◌, arith}
 use Rattle.std.proofs.lemmas.Bool.Decides.{nat_tests}
-use Rattle.ini_config.specs.Texts.{literal_rest, before_hash}
+use Rattle.ini_config.specs.Texts.{literal_rest}
 use Rattle.ini_config.proofs.PieceLaws.{plain_step, comment_ends, comment_all, quote_step, quote_ends}
 use Rattle.ini_config.proofs.pieces.uncommented_length.Goals as goal
 
