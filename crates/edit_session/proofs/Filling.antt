@@ -228,7 +228,7 @@ kept_declined b ss w m Idle last id e kept some unknown = cc
 kept_declined b ss w m Declined last id e kept some unknown = cc
 
 pub kept_supplied : (b : Behaviour) (ss ts : List Seat) (w u : World) (m : Model) (phase : Phase) (done : Option Completed) (id : ℕ) (box : Module) → w.modules ≡ map instance_of ss → IsKept b ss w m phase done → option_map (λ (r : Request). r.id) (waited_for phase m (length ss)) ≡ Some id → IsFor b (waited_for phase m (length ss)) box → AreOfKinds b ts → u ≡ placed (record { id = id; kind = box.kind }) box.state w → IsKept b ts u m phase done
-kept_supplied b ss ts w u m Waiting done id box e kept some for_it kinds now =
+kept_supplied b ss ts w u m Waiting last id box e kept some for_it kinds now =
     let q = request_of (wanted_by m (length ss)) id some in
     let placed_is : u ≡ placed (record { id = q.0.id; kind = box.kind }) box.state w = now ∙ ap (λ i. placed (record { id = i; kind = box.kind }) box.state w) q.2 in
     record {

@@ -27,6 +27,7 @@ blames ts n t before (fault.NedSyntax at line) declared here is = record {
   text = t;
   here = ap (slice_get ts) is.0 ∙ here;
   blamed = is.1;
+  none = is.2;
   before = before;
   declared = subst (λ k. AreNedFiles (take k ts) before) (sym is.0) declared;
 }

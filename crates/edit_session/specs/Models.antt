@@ -1,11 +1,12 @@
 -- The model that texts make, and why texts make none.
-use Rattle.std.specs.Prelude.{◌≡◌, ℕ, ◌<◌, Bool, true, false, ◌||◌, List, [], ◌∷◌, Option, Some, None, IsSome, codes, length, nat_lt, slice_get, take}
+use Rattle.std.specs.Prelude.{◌≡◌, ℕ, Bool, true, false, ◌||◌, List, [], ◌∷◌, Some, None, IsSome, codes, length, nat_lt, slice_get, take}
 use Rattle.std.specs.List.{list_any}
 use Rattle.ini_config.specs.declared.lines.IniLine.{IniLine}
 use Rattle.ini_config.specs.Meaning.{IsIniText, FirstBad}
 use Rattle.model_answers.specs.declared.model.Model.{Model}
 use Rattle.model_answers.specs.Models.{network_of}
-use Rattle.ned_tokens.specs.Meaning.{MayBlame, max_length}
+use Rattle.ned_tokens.specs.Meaning.{max_length}
+use Rattle.ned_tokens.specs.Viable.{IsFirstBadLine}
 use Rattle.ned_syntax.specs.declared.ast.NedFile.{NedFile}
 use Rattle.ned_syntax.specs.declared.ast.TypeDeclaration.{TypeDeclaration}
 use Rattle.ned_syntax.specs.Grammar.{file}
@@ -64,16 +65,18 @@ pub record IsModelOf (texts : List (List ℕ)) (ini config : List ℕ) (m : Mode
 
 -- of the file of that number
 abbrev pub RefusesFile : ℕ → List ℕ → BeginFault → Type 0
-RefusesFile number bytes (fault.NedSyntax at line) = (at ≡ number) × MayBlame file bytes line
+RefusesFile number bytes (fault.NedSyntax at line) =
+    (at ≡ number) × IsFirstBadLine file bytes line × ((declared : NedFile) → IsNedFile bytes declared → ⊥)
 RefusesFile number bytes fault.TooLarge = is_large bytes ≡ true
 RefusesFile number bytes fault.NoMemory = Unit {0}
 RefusesFile number bytes _ = ⊥
 
--- The text of that number is no NED file, and those before it are.
+-- The text of that number is no NED file, and this is its first line that can't go on; those before it are NED files.
 pub record IsBlamed (texts : List (List ℕ)) (at line : ℕ) : Type 0 where
   pub text : List ℕ
   pub here : slice_get texts at ≡ Some text
-  pub blamed : MayBlame file text line
+  pub blamed : IsFirstBadLine file text line
+  pub none : (declared : NedFile) → IsNedFile text declared → ⊥
   pub before : List NedFile
   pub declared : AreNedFiles (take at texts) before
 

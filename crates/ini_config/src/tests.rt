@@ -207,7 +207,6 @@ fn entries(rt: HostRuntime) -> Result<(), Fail> {
     Ok(())
 }
 
-
 #[test]
 fn literals(rt: HostRuntime) {
     let rows: [(&[u8], usize); 24] = [
