@@ -1,0 +1,54 @@
+-- What the desk answers, and what it keeps.
+use Rattle.std.specs.Prelude.{◌≡◌, ℕ, List, Option, Some, None, codes}
+use Rattle.module_api.specs.Behaviour.{Behaviour}
+use Rattle.module_api.specs.Meaning.{Module}
+use Rattle.model_answers.specs.declared.model.Model.{Model}
+use Rattle.run_semantics.specs.Run.{run_to}
+use Rattle.run_semantics.specs.Ending.{ending}
+use Rattle.kernel.specs.declared.request.Request.{Request}
+use Rattle.edit_session.specs.Editing.{Editing}
+use Rattle.edit_session.specs.Sessions.{editing_of, IsSound}
+use Rattle.desk.specs.Answers.{done_text}
+use Rattle.desk.specs.Commands.{command_of}
+use Rattle.desk.specs.declared.commands.Command.{Command}
+use Rattle.desk.specs.declared.commands.Command.TheVariants as command
+use Rattle.desk.specs.declared.desk.Desk.{Desk}
+use Rattle.desk.specs.declared.desk.DeskTurn.{DeskTurn}
+use Rattle.desk.specs.declared.desk.DeskTurn.TheVariants as turn
+
+module _ {C X : Type 0} {Y : X → Type 0} where
+  -- what callers see of its session
+  abbrev pub editing_at : ((v : X) → Y v → Module) → Desk C X Y → Editing
+  editing_at meaning d = editing_of meaning d.session
+
+  -- the limit of the last run
+  abbrev pub limit_at : Desk C X Y → ℕ
+  limit_at d = d.limit
+
+  -- what it keeps
+  abbrev pub IsSettled : Behaviour → ((v : X) → Y v → Module) → Desk C X Y → Type 0
+  IsSettled b meaning d = IsSound b meaning d.session
+
+-- THE ANSWER TO `run N`: that of a fresh run of the model
+abbrev pub run_answer : Behaviour → Model → ℕ → List ℕ
+run_answer b m limit =
+    let ran = ending b m (run_to b m limit) in
+    done_text ran.outcome None ran.world.count
+
+-- a run's text is that of a fresh run, or it waits for a box
+abbrev pub AnswersRun : Behaviour → Model → ℕ → DeskTurn → Type 0
+AnswersRun b m limit (turn.Text text) = text ≡ run_answer b m limit
+AnswersRun b m limit (turn.Want request) = Unit {0}
+
+-- The answer to a command
+abbrev pub AnswersCommand : Behaviour → Model → Command → DeskTurn → Type 0
+AnswersCommand b m (command.Run limit) answer = AnswersRun b m limit answer
+AnswersCommand b m command.Unknown answer = answer ≡ turn.Text (codes "refused Command")
+AnswersCommand b m command.TooLarge answer = answer ≡ turn.Text (codes "refused TooLarge")
+
+abbrev pub AnswersLine : Behaviour → Model → List ℕ → DeskTurn → Type 0
+AnswersLine b m line answer = AnswersCommand b m (command_of line) answer
+
+abbrev pub IfWanting : DeskTurn → (Request → Type 0) → Type 0
+IfWanting (turn.Text text) P = Unit {0}
+IfWanting (turn.Want request) P = P request

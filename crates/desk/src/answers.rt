@@ -1,0 +1,101 @@
+//! The texts of answers.
+
+ghost use Rattle.std.specs.Prelude.{◌≡◌, ◌++◌, IfOk, OnOk};
+ghost use Rattle.std.specs.Fmt.{decimal};
+ghost use Rattle.desk.specs.Answers.{done_text, fault_detail, fault_name, outcome_text, start_text};
+
+use edit_session::session::Report;
+use itoa::Buffer as Digits;
+use run_semantics::outcome::{Fault, Outcome};
+use sim_values::text::Text;
+use std::alloc::{AllocError, Global};
+
+/// The name of a fault.
+fn fault_name(fault: &Fault) -> &'static [u8]
+    ensures { result.now ≡ fault_name fault.now }
+{
+    match fault {
+        Fault::UnknownType => b"UnknownType",
+        Fault::Unassigned => b"Unassigned",
+        Fault::Mismatch => b"Mismatch",
+        Fault::TooManyModules => b"TooManyModules",
+        Fault::UnknownClass => b"UnknownClass",
+        Fault::NoParameter => b"NoParameter",
+        Fault::NoGate => b"NoGate",
+        Fault::TooManyActions => b"TooManyActions",
+        Fault::NotInFinish => b"NotInFinish",
+        Fault::TimeOverflow => b"TimeOverflow",
+        Fault::AlreadyScheduled => b"AlreadyScheduled",
+        Fault::ModuleFailed(_) => b"ModuleFailed",
+    }
+}
+
+/// Adds bytes at the end.
+fn push(text: &mut Vec<u8>, bytes: &[u8]) -> Result<(), AllocError>
+    ensures { OnOk result (text.new.items ≡ text.old.items ++ bytes.now) }
+{
+    text.extend_from_slice(bytes)
+}
+
+/// Adds the decimal digits of a number.
+fn push_number(text: &mut Vec<u8>, number: u64) -> Result<(), AllocError>
+    ensures { OnOk result (text.new.items ≡ text.old.items ++ decimal number) }
+{
+    let mut digits = Digits::new();
+    push(text, digits.format(number).as_bytes())
+}
+
+/// Adds what a module said that failed.
+fn push_detail(text: &mut Vec<u8>, fault: &Fault) -> Result<(), AllocError>
+    ensures { OnOk result (text.new.items ≡ text.old.items ++ fault_detail fault.now) }
+{
+    if let Fault::ModuleFailed(said) = fault {
+        push(text, b": ")?;
+        push(text, said.as_bytes())?;
+    }
+    Ok(())
+}
+
+/// Adds how a run ended.
+fn push_outcome(text: &mut Vec<u8>, outcome: &Outcome) -> Result<(), AllocError>
+    ensures { OnOk result (text.new.items ≡ text.old.items ++ outcome_text outcome.now) }
+{
+    match outcome {
+        Outcome::Ended => push(text, b"ended"),
+        Outcome::EventLimit => push(text, b"event-limit"),
+        Outcome::NoMoreEvents => push(text, b"no-more-events"),
+        Outcome::Fault(event, path, fault) => {
+            push(text, b"fault ")?;
+            push_number(text, *event)?;
+            push(text, b" ")?;
+            push(text, path.as_bytes())?;
+            push(text, b" ")?;
+            push(text, fault_name(fault))?;
+            push_detail(text, fault)
+        }
+    }
+}
+
+/// Adds where a run began.
+fn push_start(text: &mut Vec<u8>, from: Option<u64>) -> Result<(), AllocError>
+    ensures { OnOk result (text.new.items ≡ text.old.items ++ start_text from) }
+{
+    match from {
+        None => push(text, b"start"),
+        Some(event) => push_number(text, event),
+    }
+}
+
+/// The answer of a run that is done.
+pub fn done_text(alloc: Global, report: &Report) -> Result<Text, AllocError>
+    ensures { IfOk result (λ text. text ≡ done_text report.now.outcome report.now.started_from report.now.executed) }
+{
+    let mut text = Vec::new(alloc);
+    push(&mut text, b"done ")?;
+    push_outcome(&mut text, &report.outcome)?;
+    push(&mut text, b" from ")?;
+    push_start(&mut text, report.started_from)?;
+    push(&mut text, b" executed ")?;
+    push_number(&mut text, report.executed)?;
+    Ok(Text::from_vec(text))
+}

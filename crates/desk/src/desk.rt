@@ -1,0 +1,136 @@
+//! The desk.
+
+ghost use Rattle.std.specs.Prelude.{◌≡◌, ◌↔◌, ◌+◌, Some, None, IsSome, OnOk, OnErr, IfOk, IfErr, option_map, option_copied};
+ghost use Rattle.edit_session.specs.Editing.{Completed, IsFor, IsUnknown, wanted_of};
+ghost use Rattle.edit_session.specs.Files.{FileWritten};
+ghost use Rattle.edit_session.specs.Sessions.{editing_of, IsSound};
+ghost use Rattle.edit_session.specs.declared.running.Phase.{Phase};
+ghost use Rattle.edit_session.specs.declared.session.SupplyReason.{SupplyReason};
+ghost use Rattle.desk.specs.Turns.{editing_at, limit_at, IsSettled, AnswersRun, AnswersLine, IfWanting};
+
+use crate::answers::done_text;
+use crate::commands::{Command, command_of};
+use edit_session::session::{FileFault, NotWanted, Progress, Session, SupplyFault};
+use kernel::request::Request;
+use module_api::catalogue::Catalogue;
+use module_api::simple_module::SimpleModule;
+use result_files::writer::Out;
+use run_semantics::outcome::Outcome;
+use sim_values::NoMemory;
+use sim_values::text::Text;
+use std::alloc::Global;
+
+/// What the desk answers.
+#[derive(Debug, Drop)]
+pub enum DeskTurn {
+    Text(Text),
+    /// A run waits for a box. Supply it or decline it, and then go on.
+    Want(Request),
+}
+
+/// A session that takes lines of text.
+#[derive(Drop)]
+pub struct Desk<C: Catalogue> {
+    alloc: Global,
+    session: Session<C>,
+    /// The limit of the last run.
+    limit: u64,
+}
+
+impl<C: Catalogue> Desk<C> {
+    /// The desk of a session.
+    pub fn of_session(alloc: Global, session: Session<C>) -> Desk<C>
+        requires sound { IsSound C.behaviour (λ v. (⟦<dyn SimpleModule as SimpleModule>⟧ v).meaning) session }
+        ensures sound { IsSettled C.behaviour (λ v. (⟦<dyn SimpleModule as SimpleModule>⟧ v).meaning) result }
+        ensures editing { editing_at (λ v. (⟦<dyn SimpleModule as SimpleModule>⟧ v).meaning) result ≡ editing_of (λ v. (⟦<dyn SimpleModule as SimpleModule>⟧ v).meaning) session }
+    {
+        Desk {
+            alloc,
+            session,
+            limit: 0,
+        }
+    }
+
+    /// Answers a command line. Where memory runs out the line has no answer.
+    pub fn line(&mut self, line: &[u8]) -> Result<DeskTurn, NoMemory>
+        requires sound { IsSettled C.behaviour (λ v. (⟦<dyn SimpleModule as SimpleModule>⟧ v).meaning) self.old }
+        ensures sound { IsSettled C.behaviour (λ v. (⟦<dyn SimpleModule as SimpleModule>⟧ v).meaning) self.new }
+        ensures model { (editing_at (λ v. (⟦<dyn SimpleModule as SimpleModule>⟧ v).meaning) self.new).model ≡ (editing_at (λ v. (⟦<dyn SimpleModule as SimpleModule>⟧ v).meaning) self.old).model }
+        ensures answer { IfOk result (λ turn. AnswersLine C.behaviour (editing_at (λ v. (⟦<dyn SimpleModule as SimpleModule>⟧ v).meaning) self.old).model line.now turn) }
+        ensures waits { IfOk result (λ turn. IfWanting turn (λ request. wanted_of (editing_at (λ v. (⟦<dyn SimpleModule as SimpleModule>⟧ v).meaning) self.new) ≡ Some request)) }
+    {
+        match command_of(line) {
+            Command::Run(limit) => {
+                self.limit = limit;
+                self.go_on()
+            }
+            Command::Unknown => Ok(DeskTurn::Text(Text::from_bytes(
+                self.alloc,
+                b"refused Command",
+            )?)),
+            Command::TooLarge => Ok(DeskTurn::Text(Text::from_bytes(
+                self.alloc,
+                b"refused TooLarge",
+            )?)),
+        }
+    }
+
+    /// Goes on with the last run.
+    pub fn go_on(&mut self) -> Result<DeskTurn, NoMemory>
+        requires sound { IsSettled C.behaviour (λ v. (⟦<dyn SimpleModule as SimpleModule>⟧ v).meaning) self.old }
+        ensures sound { IsSettled C.behaviour (λ v. (⟦<dyn SimpleModule as SimpleModule>⟧ v).meaning) self.new }
+        ensures model { (editing_at (λ v. (⟦<dyn SimpleModule as SimpleModule>⟧ v).meaning) self.new).model ≡ (editing_at (λ v. (⟦<dyn SimpleModule as SimpleModule>⟧ v).meaning) self.old).model }
+        ensures limit { limit_at self.new ≡ limit_at self.old }
+        ensures answer { IfOk result (λ turn. AnswersRun C.behaviour (editing_at (λ v. (⟦<dyn SimpleModule as SimpleModule>⟧ v).meaning) self.old).model (limit_at self.old) turn) }
+        ensures waits { IfOk result (λ turn. IfWanting turn (λ request. wanted_of (editing_at (λ v. (⟦<dyn SimpleModule as SimpleModule>⟧ v).meaning) self.new) ≡ Some request)) }
+    {
+        match self.session.run(self.limit)? {
+            Progress::Want(request) => Ok(DeskTurn::Want(request)),
+            Progress::Done(report) => Ok(DeskTurn::Text(done_text(self.alloc, &report)?)),
+        }
+    }
+
+    /// Gives the module that the run waits for its box, or hands the box back.
+    pub fn supply(&mut self, held: Box<dyn SimpleModule>) -> Result<(), SupplyFault>
+        requires wanted { IsFor C.behaviour (wanted_of (editing_at (λ v. (⟦<dyn SimpleModule as SimpleModule>⟧ v).meaning) self.old)) (meaning held) }
+        requires sound { IsSettled C.behaviour (λ v. (⟦<dyn SimpleModule as SimpleModule>⟧ v).meaning) self.old }
+        ensures sound { IsSettled C.behaviour (λ v. (⟦<dyn SimpleModule as SimpleModule>⟧ v).meaning) self.new }
+        ensures ok { let editing = editing_at (λ v. (⟦<dyn SimpleModule as SimpleModule>⟧ v).meaning) self.old in
+            OnOk result ((IsSome (wanted_of editing)) × (editing_at (λ v. (⟦<dyn SimpleModule as SimpleModule>⟧ v).meaning) self.new ≡ record editing { held = editing.held + 1 })) }
+        ensures err { IfErr result (λ fault. (fault.held ≡ held) × (editing_at (λ v. (⟦<dyn SimpleModule as SimpleModule>⟧ v).meaning) self.new ≡ editing_at (λ v. (⟦<dyn SimpleModule as SimpleModule>⟧ v).meaning) self.old)
+            × (fault.reason ≡ SupplyReason.NotWanted ↔ wanted_of (editing_at (λ v. (⟦<dyn SimpleModule as SimpleModule>⟧ v).meaning) self.old) ≡ None)) }
+        ensures limit { limit_at self.new ≡ limit_at self.old }
+    {
+        self.session.supply(held)
+    }
+
+    /// Says that there is no box for the module that the run waits for.
+    pub fn decline(&mut self) -> Result<(), NotWanted>
+        requires unknown { IsUnknown C.behaviour (wanted_of (editing_at (λ v. (⟦<dyn SimpleModule as SimpleModule>⟧ v).meaning) self.old)) }
+        requires sound { IsSettled C.behaviour (λ v. (⟦<dyn SimpleModule as SimpleModule>⟧ v).meaning) self.old }
+        ensures sound { IsSettled C.behaviour (λ v. (⟦<dyn SimpleModule as SimpleModule>⟧ v).meaning) self.new }
+        ensures ok { let editing = editing_at (λ v. (⟦<dyn SimpleModule as SimpleModule>⟧ v).meaning) self.old in
+            OnOk result ((IsSome (wanted_of editing)) × (editing_at (λ v. (⟦<dyn SimpleModule as SimpleModule>⟧ v).meaning) self.new ≡ record editing { phase = Phase.Declined })) }
+        ensures err { OnErr result ((wanted_of (editing_at (λ v. (⟦<dyn SimpleModule as SimpleModule>⟧ v).meaning) self.old) ≡ None) × (editing_at (λ v. (⟦<dyn SimpleModule as SimpleModule>⟧ v).meaning) self.new ≡ editing_at (λ v. (⟦<dyn SimpleModule as SimpleModule>⟧ v).meaning) self.old)) }
+        ensures limit { limit_at self.new ≡ limit_at self.old }
+    {
+        self.session.decline()
+    }
+
+    /// Writes the vector file of the last run.
+    pub fn vectors<O: Out>(&self, out: &mut O) -> Result<(), FileFault>
+        requires sound { IsSettled C.behaviour (λ v. (⟦<dyn SimpleModule as SimpleModule>⟧ v).meaning) self.now }
+        ensures written { FileWritten C.behaviour (editing_at (λ v. (⟦<dyn SimpleModule as SimpleModule>⟧ v).meaning) self.now).model (editing_at (λ v. (⟦<dyn SimpleModule as SimpleModule>⟧ v).meaning) self.now).done
+            (O.content out.old) (O.failures out.old) (O.content out.new) (O.failures out.new) result }
+    {
+        self.session.vectors(out)
+    }
+
+    /// How the last run ended, where one is done.
+    pub fn outcome(&self) -> Option<&Outcome>
+        requires sound { IsSettled C.behaviour (λ v. (⟦<dyn SimpleModule as SimpleModule>⟧ v).meaning) self.now }
+        ensures { option_copied result ≡ option_map (λ (d : Completed). d.outcome) (editing_at (λ v. (⟦<dyn SimpleModule as SimpleModule>⟧ v).meaning) self.now).done }
+    {
+        self.session.outcome()
+    }
+}

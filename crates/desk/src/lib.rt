@@ -1,0 +1,7 @@
+//! The desk: commands as lines of text, and their answers.
+#![tactic(auto)]
+
+pub mod answers;
+pub mod buffer;
+pub mod commands;
+pub mod desk;
