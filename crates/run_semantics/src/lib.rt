@@ -1,6 +1,7 @@
 //! The definitions of a run, and the small types that a world is made of.
 #![tactic(auto)]
 
+pub mod laws;
 pub mod outcome;
 pub mod pending;
 pub mod traces;
