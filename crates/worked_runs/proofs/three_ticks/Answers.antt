@@ -1,0 +1,13 @@
+use Rattle.std.proofs.Common.{refl}
+use Rattle.std.specs.Fmt.{digits}
+use Rattle.sim_time.specs.Text.{text_of_time}
+use Rattle.model_answers.specs.Records.{path_of}
+use Rattle.recorders.specs.Hearing.{is_within}
+use Rattle.result_files.specs.Header.{item_line}
+use Rattle.stock_modules.specs.Stock.{stock}
+use Rattle.stock_modules.specs.Tick.{number_of, state_of, tick_naming}
+use Rattle.worked_runs.proofs.three_ticks.Goals as goal
+
+pub returns : goal.returns
+unfolding digits text_of_time path_of is_within item_line stock number_of state_of tick_naming
+returns c = record { answer_is = refl; file_is = refl }
