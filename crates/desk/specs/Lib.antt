@@ -1,3 +1,4 @@
 pub mod Answers
+pub mod Buffers
 pub mod Commands
 pub mod Turns

@@ -6,7 +6,7 @@ use Rattle.model_answers.specs.declared.model.Model.{Model}
 use Rattle.run_semantics.specs.Run.{run_to}
 use Rattle.run_semantics.specs.Ending.{ending}
 use Rattle.kernel.specs.declared.request.Request.{Request}
-use Rattle.edit_session.specs.Editing.{Editing}
+use Rattle.edit_session.specs.Editing.{Editing, completed}
 use Rattle.edit_session.specs.Sessions.{editing_of, IsSound}
 use Rattle.desk.specs.Answers.{done_text}
 use Rattle.desk.specs.Commands.{command_of}
@@ -29,6 +29,10 @@ module _ {C X : Type 0} {Y : X → Type 0} where
   abbrev pub IsSettled : Behaviour → ((v : X) → Y v → Module) → Desk C X Y → Type 0
   IsSettled b meaning d = IsSound b meaning d.session
 
+abbrev pub IfText : DeskTurn → Type 0 → Type 0
+IfText (turn.Text text) P = P
+IfText (turn.Want request) P = Unit {0}
+
 -- THE ANSWER TO `run N`: that of a fresh run of the model
 abbrev pub run_answer : Behaviour → Model → ℕ → List ℕ
 run_answer b m limit =
@@ -48,6 +52,21 @@ AnswersCommand b m command.TooLarge answer = answer ≡ turn.Text (codes "refuse
 
 abbrev pub AnswersLine : Behaviour → Model → List ℕ → DeskTurn → Type 0
 AnswersLine b m line answer = AnswersCommand b m (command_of line) answer
+
+-- What a command leaves: a run that is done, or all as it was
+abbrev pub LeavesCommand : Behaviour → Editing → Command → DeskTurn → Editing → Type 0
+LeavesCommand b e (command.Run limit) answer later = IfText answer (later.done ≡ Some (completed b e.model limit))
+LeavesCommand b e command.Unknown answer later = later ≡ e
+LeavesCommand b e command.TooLarge answer later = later ≡ e
+
+abbrev pub LeavesLine : Behaviour → Editing → List ℕ → DeskTurn → Editing → Type 0
+LeavesLine b e line answer later = LeavesCommand b e (command_of line) answer later
+
+-- the limit of the last run, behind a command
+abbrev pub limit_after : Command → ℕ → ℕ
+limit_after (command.Run limit) before = limit
+limit_after command.Unknown before = before
+limit_after command.TooLarge before = before
 
 abbrev pub IfWanting : DeskTurn → (Request → Type 0) → Type 0
 IfWanting (turn.Text text) P = Unit {0}

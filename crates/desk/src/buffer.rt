@@ -4,6 +4,7 @@ ghost use Rattle.std.specs.Prelude.{◌≡◌, []};
 
 use result_files::writer::{Out, WriteFault};
 use std::alloc::Global;
+use std::marker::Model;
 
 /// Bytes in memory. A write fails where memory runs out.
 #[derive(Drop)]
@@ -12,9 +13,19 @@ pub struct Buffer {
     failures: u64,
 }
 
+impl Model for Buffer {
+    ghost use Rattle.desk.specs.Buffers.{Buffered};
+
+    ghost Value = { Buffered };
+
+    ghost view = { λ b. record { bytes = b.bytes.items; failures = b.failures } };
+}
+
 impl Buffer {
     /// No bytes.
-    pub fn new(alloc: Global) -> Buffer {
+    pub fn new(alloc: Global) -> Buffer
+        ensures { result ≡ record { bytes = []; failures = 0 } }
+    {
         Buffer {
             bytes: Vec::new(alloc),
             failures: 0,
@@ -22,13 +33,15 @@ impl Buffer {
     }
 
     /// The bytes that it took.
-    pub fn as_bytes(&self) -> &[u8] {
+    pub fn as_bytes(&self) -> &[u8]
+        ensures { result.now ≡ self.now.bytes }
+    {
         self.bytes.as_slice()
     }
 }
 
 impl Out for Buffer {
-    ghost content = { λ buffer. buffer.bytes.items };
+    ghost content = { λ buffer. buffer.bytes };
 
     ghost failures = { λ buffer. buffer.failures };
 

@@ -1,12 +1,13 @@
 //! The desk.
 
 ghost use Rattle.std.specs.Prelude.{◌≡◌, ◌↔◌, ◌+◌, Some, None, IsSome, OnOk, OnErr, IfOk, IfErr, option_map, option_copied};
-ghost use Rattle.edit_session.specs.Editing.{Completed, IsFor, IsUnknown, wanted_of};
+ghost use Rattle.edit_session.specs.Editing.{Completed, completed, IsFor, IsUnknown, wanted_of};
 ghost use Rattle.edit_session.specs.Files.{FileWritten};
 ghost use Rattle.edit_session.specs.Sessions.{editing_of, IsSound};
 ghost use Rattle.edit_session.specs.declared.running.Phase.{Phase};
 ghost use Rattle.edit_session.specs.declared.session.SupplyReason.{SupplyReason};
-ghost use Rattle.desk.specs.Turns.{editing_at, limit_at, IsSettled, AnswersRun, AnswersLine, IfWanting};
+ghost use Rattle.desk.specs.Commands.{command_of};
+ghost use Rattle.desk.specs.Turns.{editing_at, limit_at, limit_after, IsSettled, AnswersRun, AnswersLine, LeavesLine, IfText, IfWanting};
 
 use crate::answers::done_text;
 use crate::commands::{Command, command_of};
@@ -56,14 +57,13 @@ impl<C: Catalogue> Desk<C> {
         requires sound { IsSettled C.behaviour (λ v. (⟦<dyn SimpleModule as SimpleModule>⟧ v).meaning) self.old }
         ensures sound { IsSettled C.behaviour (λ v. (⟦<dyn SimpleModule as SimpleModule>⟧ v).meaning) self.new }
         ensures model { (editing_at (λ v. (⟦<dyn SimpleModule as SimpleModule>⟧ v).meaning) self.new).model ≡ (editing_at (λ v. (⟦<dyn SimpleModule as SimpleModule>⟧ v).meaning) self.old).model }
+        ensures limit { limit_at self.new ≡ limit_after (command_of line.now) (limit_at self.old) }
         ensures answer { IfOk result (λ turn. AnswersLine C.behaviour (editing_at (λ v. (⟦<dyn SimpleModule as SimpleModule>⟧ v).meaning) self.old).model line.now turn) }
+        ensures done { IfOk result (λ turn. LeavesLine C.behaviour (editing_at (λ v. (⟦<dyn SimpleModule as SimpleModule>⟧ v).meaning) self.old) line.now turn (editing_at (λ v. (⟦<dyn SimpleModule as SimpleModule>⟧ v).meaning) self.new)) }
         ensures waits { IfOk result (λ turn. IfWanting turn (λ request. wanted_of (editing_at (λ v. (⟦<dyn SimpleModule as SimpleModule>⟧ v).meaning) self.new) ≡ Some request)) }
     {
         match command_of(line) {
-            Command::Run(limit) => {
-                self.limit = limit;
-                self.go_on()
-            }
+            Command::Run(limit) => self.run(limit),
             Command::Unknown => Ok(DeskTurn::Text(Text::from_bytes(
                 self.alloc,
                 b"refused Command",
@@ -75,6 +75,23 @@ impl<C: Catalogue> Desk<C> {
         }
     }
 
+    /// Runs the model for at most so many events, or goes on with the run that waits.
+    pub fn run(&mut self, limit: u64) -> Result<DeskTurn, NoMemory>
+        requires sound { IsSettled C.behaviour (λ v. (⟦<dyn SimpleModule as SimpleModule>⟧ v).meaning) self.old }
+        ensures sound { IsSettled C.behaviour (λ v. (⟦<dyn SimpleModule as SimpleModule>⟧ v).meaning) self.new }
+        ensures model { (editing_at (λ v. (⟦<dyn SimpleModule as SimpleModule>⟧ v).meaning) self.new).model ≡ (editing_at (λ v. (⟦<dyn SimpleModule as SimpleModule>⟧ v).meaning) self.old).model }
+        ensures limit { limit_at self.new ≡ limit }
+        ensures answer { IfOk result (λ turn. AnswersRun C.behaviour (editing_at (λ v. (⟦<dyn SimpleModule as SimpleModule>⟧ v).meaning) self.old).model limit turn) }
+        ensures done { IfOk result (λ turn. IfText turn ((editing_at (λ v. (⟦<dyn SimpleModule as SimpleModule>⟧ v).meaning) self.new).done ≡ Some (completed C.behaviour (editing_at (λ v. (⟦<dyn SimpleModule as SimpleModule>⟧ v).meaning) self.old).model limit))) }
+        ensures waits { IfOk result (λ turn. IfWanting turn (λ request. wanted_of (editing_at (λ v. (⟦<dyn SimpleModule as SimpleModule>⟧ v).meaning) self.new) ≡ Some request)) }
+    {
+        self.limit = limit;
+        match self.session.run(limit)? {
+            Progress::Want(request) => Ok(DeskTurn::Want(request)),
+            Progress::Done(report) => Ok(DeskTurn::Text(done_text(self.alloc, &report)?)),
+        }
+    }
+
     /// Goes on with the last run.
     pub fn go_on(&mut self) -> Result<DeskTurn, NoMemory>
         requires sound { IsSettled C.behaviour (λ v. (⟦<dyn SimpleModule as SimpleModule>⟧ v).meaning) self.old }
@@ -82,12 +99,10 @@ impl<C: Catalogue> Desk<C> {
         ensures model { (editing_at (λ v. (⟦<dyn SimpleModule as SimpleModule>⟧ v).meaning) self.new).model ≡ (editing_at (λ v. (⟦<dyn SimpleModule as SimpleModule>⟧ v).meaning) self.old).model }
         ensures limit { limit_at self.new ≡ limit_at self.old }
         ensures answer { IfOk result (λ turn. AnswersRun C.behaviour (editing_at (λ v. (⟦<dyn SimpleModule as SimpleModule>⟧ v).meaning) self.old).model (limit_at self.old) turn) }
+        ensures done { IfOk result (λ turn. IfText turn ((editing_at (λ v. (⟦<dyn SimpleModule as SimpleModule>⟧ v).meaning) self.new).done ≡ Some (completed C.behaviour (editing_at (λ v. (⟦<dyn SimpleModule as SimpleModule>⟧ v).meaning) self.old).model (limit_at self.old)))) }
         ensures waits { IfOk result (λ turn. IfWanting turn (λ request. wanted_of (editing_at (λ v. (⟦<dyn SimpleModule as SimpleModule>⟧ v).meaning) self.new) ≡ Some request)) }
     {
-        match self.session.run(self.limit)? {
-            Progress::Want(request) => Ok(DeskTurn::Want(request)),
-            Progress::Done(report) => Ok(DeskTurn::Text(done_text(self.alloc, &report)?)),
-        }
+        self.run(self.limit)
     }
 
     /// Gives the module that the run waits for its box, or hands the box back.

@@ -24,6 +24,9 @@ use sqlite_items::Items;
 use std::alloc::{AllocError, Global};
 use std::marker::Model;
 
+/// How many actions a reply has at most.
+const MAX_ACTIONS: usize = 1000;
+
 /// A world but for the modules, which contracts see as a world with none.
 #[derive(Drop)]
 pub struct Core {
@@ -281,7 +284,7 @@ impl Core {
         requires { self.old.next + 1000 < 2 ^ 128 }
         ensures { IfOk result (λ turn. flow_of turn self.new ≡ acted id actions.now self.old) }
     {
-        if actions.len() > 1000 {
+        if actions.len() > MAX_ACTIONS {
             return self.broken(alloc, id, Fault::TooManyActions);
         }
         self.perform_all(alloc, id, actions)
@@ -324,12 +327,12 @@ impl Core {
         &mut self,
         alloc: Global,
         id: u32,
-        actions: &[Action],
+        last_actions: &[Action],
     ) -> Result<Turn, NoMemory>
-        requires { self.old.next + length actions.now < 2 ^ 128 }
-        ensures { IfOk result (λ turn. flow_of turn self.new ≡ perform_last_all id actions.now self.old) }
+        requires { self.old.next + length last_actions.now < 2 ^ 128 }
+        ensures { IfOk result (λ turn. flow_of turn self.new ≡ perform_last_all id last_actions.now self.old) }
     {
-        for action in actions {
+        for action in last_actions {
             match self.perform_last(alloc, id, action)? {
                 Turn::GoOn => {}
                 turn => return Ok(turn),
@@ -342,7 +345,7 @@ impl Core {
         requires { self.old.next + 1000 < 2 ^ 128 }
         ensures { IfOk result (λ turn. flow_of turn self.new ≡ acted_last id actions.now self.old) }
     {
-        if actions.len() > 1000 {
+        if actions.len() > MAX_ACTIONS {
             return self.broken(alloc, id, Fault::TooManyActions);
         }
         self.perform_last_all(alloc, id, actions)

@@ -4,6 +4,6 @@ use Rattle.kernel.proofs.core_part.Core.perform_last_all.Given as goal
 
 abbrev pub invariant-loop-action : goal.invariant-loop-action
 invariant-loop-action l = record {
-  flow : perform_last_all l.id (drop l.action-index l.actions) l.self ≡ perform_last_all l.id l.actions l.fn.self;
+  flow : perform_last_all l.id (drop l.action-index l.last_actions) l.self ≡ perform_last_all l.id l.last_actions l.fn.self;
   next : l.self.next ≤ l.fn.self.next + l.action-index;
 }

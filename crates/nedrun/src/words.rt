@@ -1,0 +1,146 @@
+//! What the program is asked for, and why it ends early.
+
+use clap::error::ErrorKind;
+use clap::{Arg, ArgAction, Command, value_parser};
+use edit_session::begin::BeginFault;
+use sim_values::NoMemory;
+use std::alloc::{AllocError, AllocFailed, Global};
+use std::rt::Env;
+use std::{env, io};
+
+/// Why the program ends early.
+#[derive(Drop)]
+pub enum Stop {
+    /// The words aren't as they should be, or ask for help.
+    Words(clap::Error),
+    /// The texts make no model.
+    Refused(BeginFault),
+    /// A file or a stream failed.
+    Failed(io::Error),
+    /// Memory ran out.
+    NoMemory,
+}
+
+impl Stop {
+    /// Says it, on standard error but for help, and answers the status.
+    pub fn tell<R: Print + Eprint>(&self, rt: &R) -> u8 {
+        let (told, status) = match self {
+            Stop::Words(error) => (error.print(rt), words_status(error)),
+            Stop::Refused(fault) => (eprintln!(rt; "nedrun: {fault}"), 2),
+            Stop::Failed(error) => (eprintln!(rt; "nedrun: {error}"), 1),
+            Stop::NoMemory => (eprintln!(rt; "nedrun: NoMemory"), 1),
+        };
+        if told.is_ok() { status } else { 1 }
+    }
+}
+
+/// The status after words that aren't as they should be.
+fn words_status(error: &clap::Error) -> u8 {
+    match error.kind() {
+        ErrorKind::OutOfMemory => 1,
+        ErrorKind::DisplayHelp => 0,
+        _ => 2,
+    }
+}
+
+impl From<clap::Error> for Stop {
+    fn from(error: clap::Error) -> Stop {
+        Stop::Words(error)
+    }
+}
+
+impl From<BeginFault> for Stop {
+    fn from(fault: BeginFault) -> Stop {
+        match fault {
+            BeginFault::NoMemory => Stop::NoMemory,
+            _ => Stop::Refused(fault),
+        }
+    }
+}
+
+impl From<io::Error> for Stop {
+    fn from(error: io::Error) -> Stop {
+        Stop::Failed(error)
+    }
+}
+
+impl From<NoMemory> for Stop {
+    fn from(_e: NoMemory) -> Stop {
+        Stop::NoMemory
+    }
+}
+
+impl From<AllocError> for Stop {
+    fn from(_e: AllocError) -> Stop {
+        Stop::NoMemory
+    }
+}
+
+impl<T: Drop> From<AllocFailed<T>> for Stop {
+    fn from(_e: AllocFailed<T>) -> Stop {
+        Stop::NoMemory
+    }
+}
+
+/// What the program is asked for.
+#[derive(Drop)]
+pub struct Words {
+    /// The run ends after so many events.
+    pub limit: u64,
+    /// Where the result file is written.
+    pub directory: String,
+    /// The path of the ini file.
+    pub ini: String,
+    /// The paths of the NED files.
+    pub texts: Vec<String>,
+}
+
+/// The words that the program takes.
+fn command<'a>(alloc: Global) -> Result<Command<'a>, AllocError> {
+    let limit = Arg::new(alloc, "limit")
+        .short('l')
+        .value_name("LIMIT")
+        .value_parser(value_parser!(u64))
+        .default_value("1000000")
+        .help("How many events are executed at most");
+    let directory = Arg::new(alloc, "directory")
+        .short('o')
+        .value_name("DIR")
+        .default_value(".")
+        .help("Where the result file is written");
+    let ini = Arg::new(alloc, "ini")
+        .value_name("INI")
+        .required(true)
+        .help("The ini file");
+    let texts = Arg::new(alloc, "ned")
+        .value_name("NED")
+        .required(true)
+        .action(ArgAction::Append)
+        .num_args(1..)
+        .help("The NED files");
+    Command::new(alloc, "nedrun")
+        .about("Runs a network of modules and writes its vector file")
+        .arg(limit)?
+        .arg(directory)?
+        .arg(ini)?
+        .arg(texts)
+}
+
+impl Words {
+    /// The program's own words.
+    pub fn read<R: Env + AllocGlobal>(rt: &R) -> Result<Words, Stop> {
+        let alloc = rt.alloc();
+        let given: Vec<String> = env::args(rt)?.collect(alloc)?;
+        let matches = command(alloc)?.try_get_matches_from(given.as_slice())?;
+        let mut texts = Vec::new(alloc);
+        for path in matches.get_strs("ned").unwrap_or(&[]) {
+            texts.push(String::from_str(alloc, path)?)?;
+        }
+        Ok(Words {
+            limit: matches.get_one::<u64>("limit").unwrap_or(1000000),
+            directory: String::from_str(alloc, matches.get_str("directory").unwrap_or("."))?,
+            ini: String::from_str(alloc, matches.get_str("ini").unwrap_or(""))?,
+            texts,
+        })
+    }
+}

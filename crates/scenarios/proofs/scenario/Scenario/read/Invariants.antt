@@ -1,0 +1,10 @@
+use denote.Shadow.{shadow}
+use denote.Text.{Utf8}
+use Rattle.scenarios.proofs.scenario.Scenario.read.Given as goal
+
+-- the parts are text
+abbrev pub invariant-loop-part : goal.invariant-loop-part
+invariant-loop-part l = record {
+  ini : shadow (Utf8 l.ini);
+  asked : shadow (Utf8 l.asked);
+}

@@ -1,0 +1,88 @@
+//! A scenario at a desk, with the stock modules.
+
+use crate::scenario::Scenario;
+use edit_session::begin::BeginFault;
+use sim_values::NoMemory;
+use sim_values::text::Text;
+use std::alloc::Global;
+use stock_desk::replies::{Reply, replies_to};
+
+/// The line of a scenario that asks for the vector file of the last run.
+const VECTORS: &str = "vectors";
+
+/// Writes a line.
+fn say(told: &mut Vec<u8>, line: &[u8]) -> Result<(), NoMemory> {
+    told.extend_from_slice(line)?;
+    told.push(b'\n')?;
+    Ok(())
+}
+
+/// The command lines: all lines but those that ask for a file.
+fn commands(alloc: Global, asked: &str) -> Result<Vec<Text>, NoMemory> {
+    let mut lines = Vec::new(alloc);
+    for line in asked.lines() {
+        if line != VECTORS {
+            lines.push(Text::from_str(alloc, line)?)?;
+        }
+    }
+    Ok(lines)
+}
+
+/// Writes the text of a reply.
+fn tell_reply(told: &mut Vec<u8>, reply: &Reply) -> Result<(), NoMemory> {
+    match reply {
+        Reply::Done(text, _) => say(told, text.as_bytes()),
+        Reply::Refused(text) => say(told, text.as_bytes()),
+        Reply::NoMemory => say(told, b"refused NoMemory".as_slice()),
+    }
+}
+
+/// Writes the vector file of a run that is done, or that there is none.
+fn tell_file(told: &mut Vec<u8>, last: Option<&Reply>) -> Result<(), NoMemory> {
+    match last {
+        Some(Reply::Done(_, file)) => {
+            told.extend_from_slice(file.as_bytes())?;
+            Ok(())
+        }
+        _ => say(told, b"no file".as_slice()),
+    }
+}
+
+/// What the lines lead to, with the replies to their commands.
+fn tell(alloc: Global, asked: &str, replies: &[Reply]) -> Result<Vec<u8>, NoMemory> {
+    let mut told = Vec::new(alloc);
+    let mut last = None;
+    let mut left = replies;
+    for line in asked.lines() {
+        if line == VECTORS {
+            tell_file(&mut told, last)?;
+        } else if let [reply, rest @ ..] = left {
+            tell_reply(&mut told, reply)?;
+            last = Some(reply);
+            left = rest;
+        }
+    }
+    Ok(told)
+}
+
+/// Says why the texts make no model.
+fn refused(alloc: Global, fault: BeginFault) -> Result<Vec<u8>, NoMemory> {
+    let mut told = Vec::new(alloc);
+    let line = format!(in alloc; "refused {fault}")?;
+    say(&mut told, line.as_bytes())?;
+    Ok(told)
+}
+
+/// Plays a scenario. Answers what its lines lead to.
+pub fn play(alloc: Global, scenario: &Scenario<'_>) -> Result<Vec<u8>, NoMemory> {
+    let lines = commands(alloc, scenario.asked)?;
+    match replies_to(
+        alloc,
+        &scenario.texts,
+        scenario.ini.as_bytes(),
+        lines.as_slice(),
+    ) {
+        Ok(replies) => tell(alloc, scenario.asked, replies.as_slice()),
+        Err(fault) => refused(alloc, fault),
+    }
+}

@@ -1,0 +1,42 @@
+-- The plain machine: it makes a fresh run for each line that asks for one, and remembers nothing.
+use Rattle.std.specs.Prelude.{◌≡◌, ℕ, List, [], ◌∷◌, Option, Some, None, IfSome, codes}
+use Rattle.module_api.specs.Behaviour.{Behaviour}
+use Rattle.model_answers.specs.declared.model.Model.{Model}
+use Rattle.edit_session.specs.Files.{vectors_of_run}
+use Rattle.desk.specs.Commands.{command_of}
+use Rattle.desk.specs.Turns.{run_answer}
+use Rattle.desk.specs.declared.commands.Command.{Command}
+use Rattle.desk.specs.declared.commands.Command.TheVariants as command
+use Rattle.stock_desk.specs.declared.replies.Reply.{Reply}
+use Rattle.stock_desk.specs.declared.replies.Reply.TheVariants as reply
+
+-- what a line leads to: a text, and the vector file of a run that is done
+pub record Said : Type 0 where
+  pub text : List ℕ
+  pub file : Option (List ℕ)
+
+abbrev pub said_to_command : Behaviour → Model → Command → Said
+said_to_command b m (command.Run limit) = record { text = run_answer b m limit; file = Some (vectors_of_run b m limit) }
+said_to_command b m command.Unknown = record { text = codes "refused Command"; file = None }
+said_to_command b m command.TooLarge = record { text = codes "refused TooLarge"; file = None }
+
+-- WHAT THE PLAIN MACHINE SAYS to a line
+abbrev pub said_to : Behaviour → Model → List ℕ → Said
+said_to b m line = said_to_command b m (command_of line)
+
+-- what a reply says, where memory sufficed
+abbrev pub said_by : Reply → Option Said
+said_by (reply.Done text file) = Some (record { text = text; file = Some file.bytes })
+said_by (reply.Refused text) = Some (record { text = text; file = None })
+said_by reply.NoMemory = None
+
+-- a reply to a line is the plain machine's, or memory ran out
+abbrev pub IsReplyTo : Behaviour → Model → List ℕ → Reply → Type 0
+IsReplyTo b m line r = IfSome (said_by r) (λ said. said ≡ said_to b m line)
+
+-- as many replies as lines, each to its own
+abbrev pub AreReplies : Behaviour → Model → List (List ℕ) → List Reply → Type 0
+AreReplies b m [] [] = Unit {0}
+AreReplies b m [] (r ∷ rs) = ⊥
+AreReplies b m (line ∷ lines) [] = ⊥
+AreReplies b m (line ∷ lines) (r ∷ rs) = IsReplyTo b m line r × AreReplies b m lines rs

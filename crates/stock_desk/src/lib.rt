@@ -1,0 +1,6 @@
+//! The desk with the stock modules: lists of command lines, and what they lead to.
+#![tactic(auto)]
+
+pub mod replies;
+#[cfg(test)]
+mod tests;
