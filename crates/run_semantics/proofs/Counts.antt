@@ -14,7 +14,7 @@ use Rattle.run_semantics.specs.declared.pending.Pending.{Pending}
 use Rattle.run_semantics.specs.World.{World, empty, asked}
 use Rattle.run_semantics.specs.Perform.{Flow, On, Stopped, Broken, ◌>>=◌}
 use Rattle.run_semantics.specs.Event.{begun, event, message_of}
-use Rattle.run_semantics.specs.Run.{rooted, built, unless_many, root_asked, inside_asked, prepared, Part, parts_of, place, place_all, place_parts, ready, standing, most_stages, initialize, one_stage, stages_from, initialize_all, with_started, Stage, Running, Over, world_at, settled, start, picked, next_stage, after}
+use Rattle.run_semantics.specs.Run.{rooted, built, unless_many, root_asked, inside_asked, prepared, Part, parts_of, place, place_all, place_parts, ready, standing, most_stages, initialize, one_stage, stages_from, initialize_all, with_started, Stage, Running, Over, world_at, settled, start, picked, next_stage, after, IsReached}
 use Rattle.run_semantics.proofs.Sound.{in_flow, call_keeps}
 
 pub then_count : (n : ℕ) (fl : Flow) (k : World → Flow) → (in_flow fl).count ≡ n → ((w : World) → w.count ≡ n → (in_flow (k w)).count ≡ n) → (in_flow (fl >>= k)).count ≡ n
@@ -91,7 +91,7 @@ start_count b m =
 
 -- ---- events
 
-event_count : (b : Behaviour) (m : Model) (p : Pending) (rest : List Pending) (w : World) → (in_flow (event b m p rest w)).count ≡ w.count + 1
+pub event_count : (b : Behaviour) (m : Model) (p : Pending) (rest : List Pending) (w : World) → (in_flow (event b m p rest w)).count ≡ w.count + 1
 event_count b m p rest w = (call_keeps b m p.id (prompt.Message (message_of p)) (begun p rest w)).count
 
 picked_count : (b : Behaviour) (m : Model) (w : World) (pending : List Pending) → (world_at (picked b m w pending)).count ≤ w.count + 1
@@ -141,3 +141,7 @@ next_runs b m n (Over w outcome) f u e = cc
 pub runs_on : (b : Behaviour) (m : Model) (n : ℕ) → RunsOn n (after b m n)
 runs_on b m zero u e = ap (λ (s : Stage). (world_at s).count) (sym e) ∙ start_count b m
 runs_on b m (suc n) u e = next_runs b m n (after b m n) (runs_on b m n) u e
+
+-- it got as far as event n
+pub reached_after : (b : Behaviour) (m : Model) (n : ℕ) (w : World) → after b m n ≡ Running w → IsReached (after b m n) n
+reached_after b m n w e = ap (λ (s : Stage). (world_at s).count) e ∙ runs_on b m n w e
