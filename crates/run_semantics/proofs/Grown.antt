@@ -1,5 +1,5 @@
 -- Runs grow, and call only modules that were started.
-use Rattle.std.proofs.Common.{◌≡◌, inl, inr, ⊎_elim, ℕ, zero, suc, ◌+◌, ◌≤◌, ◌<◌, ◌==◌, cond, Bool, true, false, List, [], ◌∷◌, ◌++◌, Option, Some, None, IsSome, refl, sym, ap, ◌∙◌, arith, subst, slice_get, length, map, if◌then◌else◌, true≢false, eq-eqb, eq-or-lt_of_le}
+use Rattle.std.proofs.Common.{◌≡◌, inl, inr, ⊎_elim, ℕ, zero, suc, ◌+◌, ◌≤◌, ◌<◌, ◌==◌, cond, Bool, true, false, List, [], ◌∷◌, ◌++◌, Option, Some, None, IsSome, refl, sym, ap, ◌∙◌, arith, subst, append-nil, slice_get, length, map, if◌then◌else◌, true≢false, eq-eqb, eq-or-lt_of_le}
 use Rattle.std.specs.List.{position_from}
 use Rattle.module_api.specs.Behaviour.{Behaviour}
 use Rattle.model_answers.specs.declared.answer.Answer.{Answer}
@@ -14,12 +14,12 @@ use Rattle.run_semantics.specs.declared.traces.Instance.{Instance}
 use Rattle.run_semantics.specs.World.{World, empty, asked}
 use Rattle.run_semantics.specs.Perform.{Flow, On, Stopped, Broken, ◌>>=◌}
 use Rattle.run_semantics.specs.Event.{place_in}
-use Rattle.run_semantics.specs.Run.{rooted, record_under, ids_from, built, unless_many, root_asked, inside_asked, prepared, Part, with_class, parts_from, parts_of, placed, place, place_all, place_parts, ready, initialize_all, with_started, Stage, Running, Over, world_at, settled, after}
+use Rattle.run_semantics.specs.Run.{rooted, record_under, ids_from, built, unless_many, root_asked, inside_asked, prepared, Part, with_class, parts_from, parts_of, placed, place_all, place_parts, ready, initialize_all, with_started, standing, part_of, Stage, Running, Over, world_at, settled, after}
 use Rattle.run_semantics.specs.Laws.{Each, IsAmong, ids_of, HasGrown, CanBeCalled}
 use Rattle.run_semantics.proofs.Sound.{in_flow}
 use Rattle.run_semantics.proofs.Order.{each_map}
 use Rattle.run_semantics.proofs.Reuse.{after_later}
-use Rattle.run_semantics.proofs.Orderly.{IsOrderly, Follows, on_same, on_more, initialize_all_leads, orderly_none, ready_none, orderly_after, after_follows}
+use Rattle.run_semantics.proofs.Orderly.{IsOrderly, Follows, same_ids, on_same, on_more, initialize_all_leads, orderly_none, ready_none, orderly_after, after_follows}
 
 -- ---- growth
 
@@ -108,21 +108,41 @@ inside_built m w f = built_built 1 (answer_of m w.records (Build 1)) (asked (Bui
 prepared_built : (m : Model) → OnlyOn IsBuilt (prepared m)
 prepared_built m = only_then IsBuilt IsBuilt (root_asked m) (inside_asked m) (root_built (answer_of m [] Root)) (inside_built m)
 
--- the modules that are placed are among these
-abbrev AllAmong : List ℕ → World → Type 0
-AllAmong live w = (w.live ≡ live) × Each (λ id. IsAmong id live) (ids_of w.modules)
+-- exactly the simple modules that were created stand, and all that were created live
+record IsReady (w : World) : Type 0 where
+  parts : standing w.modules ≡ parts_of w
+  live : w.live ≡ ids_from 1 w.records
 
-among_placed : (live : List ℕ) (is : List Instance) (i : Instance) → IsAmong i.id live → Each (λ id. IsAmong id live) (ids_of is) → Each (λ id. IsAmong id live) (ids_of (is ++ i ∷ []))
-among_placed live [] i h k = (h, tt)
-among_placed live (j ∷ js) i h k = (k.0, among_placed live js i h k.1)
+-- these parts stand at last, and records and what lives are those of that world
+record StandAll (ps : List Part) (u w : World) : Type 0 where
+  parts : standing w.modules ≡ ps
+  live : w.live ≡ u.live
+  records : w.records ≡ u.records
 
-place_among : (b : Behaviour) (live : List ℕ) (p : Part) (w : World) (c : Bool) (g : Flow) → OnlyOn (AllAmong live) g → IsAmong p.id live → AllAmong live w → OnlyOn (AllAmong live) (if c then On (placed p (b.naming p.kind).initial w) else g)
-place_among b live p w true g k h f = (f.0, among_placed live w.modules _ h f.1)
-place_among b live p w false g k h f = k
+standing_one_more : (is : List Instance) (i : Instance) (ps : List Part) → standing (is ++ i ∷ []) ++ ps ≡ standing is ++ part_of i ∷ ps
+standing_one_more [] i ps = refl
+standing_one_more (j ∷ js) i ps = ap (λ qs. part_of j ∷ qs) (standing_one_more js i ps)
 
-place_all_among : (b : Behaviour) (live : List ℕ) (ps : List Part) (w : World) → Each (λ p. IsAmong p.id live) ps → AllAmong live w → OnlyOn (AllAmong live) (place_all b ps w)
-place_all_among b live [] w h f = f
-place_all_among b live (p ∷ ps) w h f = only_then (AllAmong live) (AllAmong live) (place b p w) (place_all b ps) (place_among b live p w (b.known p.kind) _ tt h.0 f) (λ v g. place_all_among b live ps v h.1 g)
+place_stands : (b : Behaviour) (all ps : List Part) (u : World) (p : Part) (w : World) (c : Bool) (g : Flow) → (OnlyOn (StandAll all u) (On (placed p (b.naming p.kind).initial w) >>= place_all b ps)) → OnlyOn (StandAll all u) (g >>= place_all b ps) → OnlyOn (StandAll all u) ((if c then On (placed p (b.naming p.kind).initial w) else g) >>= place_all b ps)
+place_stands b all ps u p w true g h l = h
+place_stands b all ps u p w false g h l = l
+
+place_all_stands : (b : Behaviour) (all ps : List Part) (u w : World) → standing w.modules ++ ps ≡ all → w.live ≡ u.live → w.records ≡ u.records → OnlyOn (StandAll all u) (place_all b ps w)
+place_all_stands b all [] u w e live records = record { parts = sym (append-nil (standing w.modules)) ∙ e; live = live; records = records }
+place_all_stands b all (p ∷ ps) u w e live records =
+    let v : World = placed p (b.naming p.kind).initial w in
+    place_stands b all ps u p w (b.known p.kind) _ (place_all_stands b all ps u v (standing_one_more w.modules _ ps ∙ e) live records) tt
+
+place_parts_ready : (b : Behaviour) (w : World) → IsBuilt w → OnlyOn IsReady (place_parts b w)
+place_parts_ready b w f = by (place_parts b w) (place_all_stands b (parts_of w) (parts_of w) w w (rw f.modules refl) refl refl)
+  where
+    by : (fl : Flow) → OnlyOn (StandAll (parts_of w) w) fl → OnlyOn IsReady fl
+    by (On v) h = record { parts = h.parts ∙ ap (parts_from 1) (sym h.records); live = h.live ∙ (f.live ∙ ap (ids_from 1) (sym h.records)) }
+    by (Stopped v) h = h
+    by (Broken v path fault) h = tt
+
+ready_ready : (b : Behaviour) (m : Model) → OnlyOn IsReady (ready b m)
+ready_ready b m = only_then IsBuilt IsReady (prepared m) (place_parts b) (prepared_built m) (place_parts_ready b)
 
 parts_among : (id : ℕ) (rs : List Record) → Each (λ p. IsAmong p.id (ids_from id rs)) (parts_from id rs)
 parts_among id [] = tt
@@ -132,26 +152,19 @@ parts_among id (r ∷ rs) = by r.class (each_map (λ p. IsAmong p.id (ids_from (
     by None h = h
     by (Some kind) h = (inl refl, h)
 
--- all modules that have a state live
-abbrev AllLive : World → Type 0
-AllLive w = Each (λ id. IsAmong id w.live) (ids_of w.modules)
+each_id : (live : List ℕ) (is : List Instance) → Each (λ p. IsAmong p.id live) (standing is) → Each (λ id. IsAmong id live) (ids_of is)
+each_id live [] h = tt
+each_id live (i ∷ is) h = (h.0, each_id live is h.1)
 
-place_parts_live : (b : Behaviour) (w : World) → IsBuilt w → OnlyOn AllLive (place_parts b w)
-place_parts_live b w f =
-    by (place_parts b w) (place_all_among b w.live (parts_of w) w (rw f.live (parts_among 1 w.records)) (refl, rw f.modules tt))
-  where
-    by : (fl : Flow) → OnlyOn (AllAmong w.live) fl → OnlyOn AllLive fl
-    by (On v) h = subst (λ live. Each (λ id. IsAmong id live) (ids_of v.modules)) (sym h.0) h.1
-    by (Stopped v) h = h
-    by (Broken v path fault) h = tt
-
-ready_live : (b : Behaviour) (m : Model) → OnlyOn AllLive (ready b m)
-ready_live b m = only_then IsBuilt AllLive (prepared m) (place_parts b) (prepared_built m) (place_parts_live b)
+-- all modules that stand live
+ready_lives : (w : World) → IsReady w → Each (λ id. IsAmong id w.live) (ids_of w.modules)
+ready_lives w f = each_id w.live w.modules (rw (f.parts, f.live) (parts_among 1 w.records))
 
 -- ---- runs that go on
 
--- all modules were started, and no others live
+-- exactly the simple modules that were created stand, all of them were started, and no others live
 record AreStarted (w : World) : Type 0 where
+  parts : standing w.modules ≡ parts_of w
   modules : Each (λ id. IsAmong id w.started) (ids_of w.modules)
   live : w.started ≡ w.live
 
@@ -159,8 +172,12 @@ abbrev IfRunning : (World → Type 0) → Stage → Type 0
 IfRunning P (Running w) = P w
 IfRunning P (Over w outcome) = Unit {0}
 
-started_kept : (v w : World) → ids_of w.modules ≡ ids_of v.modules → w.started ≡ v.started → w.live ≡ v.live → AreStarted v → AreStarted w
-started_kept v w ids started live f = record { modules = rw (ids, started) f.modules; live = started ∙ (f.live ∙ sym live) }
+started_kept : (v w : World) → w.records ≡ v.records → standing w.modules ≡ standing v.modules → w.started ≡ v.started → w.live ≡ v.live → AreStarted v → AreStarted w
+started_kept v w records same started live f = record {
+  parts = same ∙ (f.parts ∙ ap (parts_from 1) (sym records));
+  modules = rw (same_ids w.modules v.modules same, started) f.modules;
+  live = started ∙ (f.live ∙ sym live);
+}
 
 settled_started : (fl : Flow) → AreStarted (in_flow fl) → IfRunning AreStarted (settled fl)
 settled_started (On w) f = f
@@ -168,21 +185,21 @@ settled_started (Stopped w) f = f
 settled_started (Broken w path fault) f = tt
 
 -- the modules are started before the first of them is called
-begin_started : (b : Behaviour) (m : Model) (fl : Flow) → IsOrderly (in_flow fl) → OnlyOn AllLive fl → IfRunning AreStarted (settled (fl >>= initialize_all b m))
+begin_started : (b : Behaviour) (m : Model) (fl : Flow) → IsOrderly (in_flow fl) → OnlyOn IsReady fl → IfRunning AreStarted (settled (fl >>= initialize_all b m))
 begin_started b m (On w) f h =
     let g = initialize_all_leads b m w f in
-    let at_first : AreStarted (with_started w) = record { modules = h; live = refl } in
-    settled_started (initialize_all b m w) (started_kept (with_started w) (in_flow (initialize_all b m w)) g.ids g.started g.live at_first)
+    let at_first : AreStarted (with_started w) = record { parts = h.parts; modules = ready_lives w h; live = refl } in
+    settled_started (initialize_all b m w) (started_kept (with_started w) (in_flow (initialize_all b m w)) g.records g.same g.started g.live at_first)
 begin_started b m (Stopped w) f h = absurd h
 begin_started b m (Broken w path fault) f h = tt
 
 next_started : (s t : Stage) → Follows (world_at s) (world_at t) → ((w : World) (outcome : Outcome) → s ≡ Over w outcome → IfRunning AreStarted t) → IfRunning AreStarted s → IfRunning AreStarted t
-next_started (Running v) (Running w) g k f = started_kept v w g.ids g.started g.live f
+next_started (Running v) (Running w) g k f = started_kept v w g.records g.same g.started g.live f
 next_started (Running v) (Over w outcome) g k f = tt
 next_started (Over v outcome) t g k f = k v outcome refl
 
 started_after : (b : Behaviour) (m : Model) (n : ℕ) → IfRunning AreStarted (after b m n)
-started_after b m zero = begin_started b m (ready b m) (orderly_none (in_flow (ready b m)) (ready_none b m)) (ready_live b m)
+started_after b m zero = begin_started b m (ready b m) (orderly_none (in_flow (ready b m)) (ready_none b m)) (ready_ready b m)
 started_after b m (suc n) = next_started (after b m n) (after b m (suc n)) (after_follows b m n) (λ w outcome e. rw e tt) (started_after b m n)
 
 -- ---- calls
@@ -205,6 +222,10 @@ can_be_called : (w : World) (id : ℕ) → AreStarted w → IsAmong id (ids_of w
 can_be_called w id f h =
     let started = among_of w.started (ids_of w.modules) id f.modules h in
     record { found = found_in id 0 w.modules h; started = started; live = subst (IsAmong id) f.live started }
+
+-- in a run that goes on exactly the simple modules that were created stand
+pub parts_after : (b : Behaviour) (m : Model) (n : ℕ) (w : World) → after b m n ≡ Running w → standing w.modules ≡ parts_of w
+parts_after b m n w e = let g : AreStarted w = subst (IfRunning AreStarted) e (started_after b m n) in g.parts
 
 -- in a run that goes on each event to come is for a module that can be called
 pub called_after : (b : Behaviour) (m : Model) (n : ℕ) (w : World) → after b m n ≡ Running w → Each (λ e. CanBeCalled w e.id) w.pending

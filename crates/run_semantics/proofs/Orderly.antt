@@ -1,6 +1,6 @@
 -- In every world of a run the events to come are in order, none is late, each has a number of its own, and each is for a
 -- module that stands.
-use Rattle.std.proofs.Common.{◌≡◌, ◌≢◌, inl, inr, ℕ, zero, suc, ◌+◌, ◌≤◌, ◌<◌, ◌==◌, cond, Bool, true, false, List, [], ◌∷◌, ◌++◌, Option, Some, None, refl, sym, ap, ◌∙◌, arith, subst, append_assoc, append-nil, slice_get, slice_set, length, if◌then◌else◌, nat_lt, nat_le, eqb-true}
+use Rattle.std.proofs.Common.{◌≡◌, ◌≢◌, inl, inr, ℕ, zero, suc, ◌+◌, ◌≤◌, ◌<◌, ◌==◌, cond, Bool, true, false, List, [], ◌∷◌, ◌++◌, Option, Some, None, refl, sym, ap, ◌∙◌, arith, subst, append_assoc, append-nil, slice_get, slice_set, length, map, if◌then◌else◌, nat_lt, nat_le, eqb-true}
 use Rattle.std.specs.List.{list_any, position_from}
 use Rattle.sim_time.specs.Time.{time_sum}
 use Rattle.module_api.specs.Behaviour.{Behaviour, Replied}
@@ -27,7 +27,7 @@ use Rattle.run_semantics.specs.World.{World, empty, asked}
 use Rattle.run_semantics.specs.Order.{inserted}
 use Rattle.run_semantics.specs.Perform.{Flow, On, Stopped, Broken, ◌>>=◌, is_timer, scheduled, perform, perform_all, ask_all, question_of, acted, read_fault, unless_fault, answered}
 use Rattle.run_semantics.specs.Event.{call_of, place_in, with_state, called, call_at, call_module, begun, event, message_of}
-use Rattle.run_semantics.specs.Run.{rooted, built, unless_many, root_asked, inside_asked, prepared, Part, parts_of, place, place_all, place_parts, ready, standing, most_stages, initialize, one_stage, stages_from, initialize_all, with_started, Stage, Running, Over, world_at, settled, picked, next_stage, after}
+use Rattle.run_semantics.specs.Run.{rooted, built, unless_many, root_asked, inside_asked, prepared, Part, parts_of, place, place_all, place_parts, ready, standing, most_stages, initialize, one_stage, stages_from, initialize_all, with_started, part_of, Stage, Running, Over, world_at, settled, picked, next_stage, after}
 use Rattle.run_semantics.specs.Laws.{Each, AreInOrder, HaveOwnNumbers, IsAmong, ids_of, GoesOn}
 use Rattle.run_semantics.proofs.Sound.{in_flow}
 use Rattle.run_semantics.proofs.Counts.{event_count}
@@ -45,11 +45,20 @@ pub record IsOrderly (w : World) : Type 0 where
 pub record Leads (old new : World) : Type 0 where
   pub clock : new.clock ≡ old.clock
   pub next : old.next ≤ new.next
-  pub ids : ids_of new.modules ≡ ids_of old.modules
+  pub records : new.records ≡ old.records
+  pub same : standing new.modules ≡ standing old.modules
   pub started : new.started ≡ old.started
   pub live : new.live ≡ old.live
   pub emissions : GoesOn old.emissions new.emissions
   pub orderly : IsOrderly new
+
+ids_standing : (is : List Instance) → map (λ (p : Part). p.id) (standing is) ≡ ids_of is
+ids_standing [] = refl
+ids_standing (i ∷ is) = ap (λ ids. i.id ∷ ids) (ids_standing is)
+
+-- where the same modules stand, the ids are the same
+pub same_ids : (is js : List Instance) → standing is ≡ standing js → ids_of is ≡ ids_of js
+same_ids is js e = sym (ids_standing is) ∙ (ap (map (λ (p : Part). p.id)) e ∙ ids_standing js)
 
 pub on_same : {X : Type 0} (xs : List X) → GoesOn xs xs
 on_same xs = ([], append-nil xs)
@@ -58,13 +67,14 @@ pub on_more : {X : Type 0} (xs ys zs : List X) → GoesOn xs ys → GoesOn ys zs
 on_more xs ys zs f g = (f.0 ++ g.0, sym (append_assoc xs f.0 g.0) ∙ (ap (λ us. us ++ g.0) f.1 ∙ g.1))
 
 leads_same : (w : World) → IsOrderly w → Leads w w
-leads_same w f = record { clock = refl; next = omega arith; ids = refl; started = refl; live = refl; emissions = on_same w.emissions; orderly = f }
+leads_same w f = record { clock = refl; next = omega arith; records = refl; same = refl; started = refl; live = refl; emissions = on_same w.emissions; orderly = f }
 
 leads_on : {u v w : World} → Leads u v → Leads v w → Leads u w
 leads_on {u} {v} {w} f g = record {
   clock = g.clock ∙ f.clock;
   next = omega (arith, f.next, g.next);
-  ids = g.ids ∙ f.ids;
+  records = g.records ∙ f.records;
+  same = g.same ∙ f.same;
   started = g.started ∙ f.started;
   live = g.live ∙ f.live;
   emissions = on_more u.emissions v.emissions w.emissions f.emissions g.emissions;
@@ -76,7 +86,7 @@ abbrev StandsIn : ℕ → World → Type 0
 StandsIn id w = IsAmong id (ids_of w.modules)
 
 stands_on : (id : ℕ) (u v : World) → Leads u v → StandsIn id u → StandsIn id v
-stands_on id u v f h = subst (IsAmong id) (sym f.ids) h
+stands_on id u v f h = subst (IsAmong id) (sym (same_ids v.modules u.modules f.same)) h
 
 on_leads : (P : World → Type 0) (fl : Flow) (k : World → Flow) → IsOrderly (in_flow fl) → P (in_flow fl) → ((v : World) → IsOrderly v → P v → Leads v (in_flow (k v))) → Leads (in_flow fl) (in_flow (fl >>= k))
 on_leads P (On w) k f p h = h w f p
@@ -107,7 +117,8 @@ leads_inserted e w f number time stands =
     record {
       clock = refl;
       next = omega arith;
-      ids = refl;
+      records = refl;
+      same = refl;
       started = refl;
       live = refl;
       emissions = on_same w.emissions;
@@ -130,7 +141,8 @@ perform_leads : (id : ℕ) (action : Action) (w : World) → IsOrderly w → Sta
 perform_leads id (Emit signal value) w f h = record {
   clock = refl;
   next = omega arith;
-  ids = refl;
+  records = refl;
+  same = refl;
   started = refl;
   live = refl;
   emissions = (_, refl);
@@ -151,11 +163,12 @@ acted_leads id actions w f h = either_leads w (nat_lt 1000 (length actions)) _ _
 -- ---- replies and calls
 
 -- what changes neither clock, modules, events nor emissions
-leads_beside : (u v : World) → IsOrderly u → v.clock ≡ u.clock → v.next ≡ u.next → v.pending ≡ u.pending → ids_of v.modules ≡ ids_of u.modules → v.started ≡ u.started → v.live ≡ u.live → v.emissions ≡ u.emissions → Leads u v
-leads_beside u v f clock next pending ids started live emissions = record {
+leads_beside : (u v : World) → IsOrderly u → v.clock ≡ u.clock → v.next ≡ u.next → v.pending ≡ u.pending → v.records ≡ u.records → standing v.modules ≡ standing u.modules → v.started ≡ u.started → v.live ≡ u.live → v.emissions ≡ u.emissions → Leads u v
+leads_beside u v f clock next pending records same started live emissions = record {
   clock = clock;
   next = omega (arith, next);
-  ids = ids;
+  records = records;
+  same = same;
   started = started;
   live = live;
   emissions = ([], append-nil u.emissions ∙ sym emissions);
@@ -164,14 +177,14 @@ leads_beside u v f clock next pending ids started live emissions = record {
     own = subst HaveOwnNumbers (sym pending) f.own;
     below = rw (pending, next) f.below;
     due = rw (pending, clock) f.due;
-    modules = rw (pending, ids) f.modules;
+    modules = rw (pending, same_ids v.modules u.modules same) f.modules;
   };
 }
 
 ask_all_leads : (id : ℕ) (reads : List Read) (w : World) → IsOrderly w → Leads w (ask_all id reads w)
 ask_all_leads id [] w f = leads_same w f
 ask_all_leads id (r ∷ rs) w f =
-    let g : Leads w (asked (question_of id r) w) = leads_beside w _ f refl refl refl refl refl refl refl in
+    let g : Leads w (asked (question_of id r) w) = leads_beside w _ f refl refl refl refl refl refl refl refl in
     leads_on g (ask_all_leads id rs (asked (question_of id r) w) g.orderly)
 
 unless_leads : (w : World) (id : ℕ) (found : Option Fault) (go : World → Flow) → IsOrderly w → Leads w (in_flow (go w)) → Leads w (in_flow (unless_fault id found go w))
@@ -184,17 +197,18 @@ answered_leads m id reply w f h =
     let g = ask_all_leads id reply.reads w f in
     leads_on g (unless_leads v id (read_fault m w.records id reply.reads) (acted id reply.actions) g.orderly (acted_leads id reply.actions v g.orderly (stands_on id w v g h)))
 
-ids_set : (is : List Instance) (place : ℕ) (i : Instance) (state : List ℕ) → slice_get is place ≡ Some i → ids_of (slice_set is place (record i { state = state })) ≡ ids_of is
-ids_set [] place i state e = refl
-ids_set (j ∷ js) zero i state e = let same : j ≡ i = cc in ap (λ (x : Instance). x.id ∷ ids_of js) (sym same)
-ids_set (j ∷ js) (suc place) i state e = ap (λ xs. j.id ∷ xs) (ids_set js place i state e)
+-- a new state leaves what stands
+standing_set : (is : List Instance) (place : ℕ) (i : Instance) (state : List ℕ) → slice_get is place ≡ Some i → standing (slice_set is place (record i { state = state })) ≡ standing is
+standing_set [] place i state e = refl
+standing_set (j ∷ js) zero i state e = let same : j ≡ i = cc in ap (λ (x : Instance). part_of x ∷ standing js) (sym same)
+standing_set (j ∷ js) (suc place) i state e = ap (λ ps. part_of j ∷ ps) (standing_set js place i state e)
 
 called_leads : (b : Behaviour) (m : Model) (id : ℕ) (p : Prompt) (w : World) (place : ℕ) (found : Option Instance) → slice_get w.modules place ≡ found → IsOrderly w → StandsIn id w → Leads w (in_flow (called b m id p w place found))
 called_leads b m id p w place None e f h = leads_same w f
 called_leads b m id p w place (Some i) e f h =
     let r : Replied = (b.naming i.kind).reply i.state (call_of m id p w) in
     let v : World = with_state place i r.state w in
-    let g : Leads w v = leads_beside w v f refl refl refl (ids_set w.modules place i r.state e) refl refl refl in
+    let g : Leads w v = leads_beside w v f refl refl refl refl (standing_set w.modules place i r.state e) refl refl refl in
     leads_on g (answered_leads m id r.reply v g.orderly (stands_on id w v g h))
 
 -- a module that has a place stands
@@ -283,14 +297,15 @@ pub record Follows (old new : World) : Type 0 where
   pub clock : old.clock ≤ new.clock
   pub count : old.count ≤ new.count
   pub next : old.next ≤ new.next
-  pub ids : ids_of new.modules ≡ ids_of old.modules
+  pub records : new.records ≡ old.records
+  pub same : standing new.modules ≡ standing old.modules
   pub started : new.started ≡ old.started
   pub live : new.live ≡ old.live
   pub emissions : GoesOn old.emissions new.emissions
   pub orderly : IsOrderly new
 
 follows_same : (w : World) → IsOrderly w → Follows w w
-follows_same w f = record { clock = omega arith; count = omega arith; next = omega arith; ids = refl; started = refl; live = refl; emissions = on_same w.emissions; orderly = f }
+follows_same w f = record { clock = omega arith; count = omega arith; next = omega arith; records = refl; same = refl; started = refl; live = refl; emissions = on_same w.emissions; orderly = f }
 
 -- the first event is taken out, and none that is left is before it
 orderly_begun : (p : Pending) (rest : List Pending) (w : World) → w.pending ≡ p ∷ rest → IsOrderly w → IsOrderly (begun p rest w)
@@ -316,7 +331,8 @@ event_follows b m p rest w e f =
       clock = omega (arith, g.clock, now);
       count = omega (arith, count);
       next = g.next;
-      ids = g.ids;
+      records = g.records;
+      same = g.same;
       started = g.started;
       live = g.live;
       emissions = g.emissions;

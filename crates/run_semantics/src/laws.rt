@@ -9,7 +9,7 @@ ghost use Rattle.run_semantics.specs.Agreement.{Agrees, AgreesUpTo};
 ghost use Rattle.run_semantics.specs.Event.{place_in};
 ghost use Rattle.run_semantics.specs.Laws.{Each, AreInOrder, HaveOwnNumbers, HasGrown, CanBeCalled, gone_on};
 ghost use Rattle.run_semantics.specs.World.{World};
-ghost use Rattle.run_semantics.specs.Run.{Running, Over, IsReached, next_stage, after, stopped, run_to, world_at};
+ghost use Rattle.run_semantics.specs.Run.{Running, Over, IsReached, next_stage, after, stopped, run_to, world_at, standing, parts_of};
 
 /// After n events at most n are counted.
 pub fn at_most_n_are_counted()
@@ -98,4 +98,11 @@ pub fn events_are_for_started_modules()
         → Each (λ e. IsSome (place_in e.id (world_at (after b m n)).modules)) (world_at (after b m n)).pending }
     ensures started { (b : Behaviour) (m : Model) (n : ℕ) (w : World) → after b m n ≡ Running w
         → Each (λ e. CanBeCalled w e.id) w.pending }
+{}
+
+/// In a run that goes on exactly the simple modules that were created stand, by rising id, each of its
+/// kind.
+pub fn created_modules_stand()
+    ensures { (b : Behaviour) (m : Model) (n : ℕ) (w : World) → after b m n ≡ Running w
+        → standing w.modules ≡ parts_of w }
 {}
