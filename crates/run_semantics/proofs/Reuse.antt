@@ -21,6 +21,7 @@ use Rattle.run_semantics.specs.declared.outcome.Outcome.TheVariants.{Ended}
 use Rattle.run_semantics.specs.declared.pending.Pending.{Pending}
 use Rattle.run_semantics.specs.declared.traces.Instance.{Instance}
 use Rattle.run_semantics.specs.Agreement.{Agrees, AgreesUpTo}
+use Rattle.run_semantics.specs.Laws.{Each}
 use Rattle.run_semantics.specs.World.{World, empty, asked}
 use Rattle.run_semantics.specs.Perform.{Flow, On, Stopped, Broken, ◌>>=◌, ask_all, question_of, acted, first_fault, fault_of_read, read_fault, unless_fault}
 use Rattle.run_semantics.specs.Event.{call_of, place_in, with_state, replied, called, call_at, call_module, begun, event, message_of}
@@ -365,6 +366,18 @@ past_after b m v (suc k) h =
     (λ (e : v ≡ suc k). subst (λ n. IsPast (world_at (after b m v)) (world_at (after b m n))) e (past_same (world_at (after b m v))))
     (λ (lt : v < suc k). past_later (suc k) (world_at (after b m v)) (world_at (after b m k)) (world_at (after b m (suc k))) (past_after b m v k (omega (arith, lt))) (after_later b m k))
     (eq-or-lt_of_le h)
+
+noted_stay : (m : Model) (rs more : List Record) → AreNested 0 rs → (qs : List Asked) → AllAbout (length rs) qs → Each (λ a. answer_of m (rs ++ more) a.question ≡ answer_of m rs a.question) qs
+noted_stay m rs more h [] f = tt
+noted_stay m rs more h (a ∷ qs) f = (answer_more m rs more h a.question f.0, noted_stay m rs more h qs f.1)
+
+-- what was asked has the same answers with the modules of a later world
+pub noted_after : (b : Behaviour) (m other : Model) (n k : ℕ) → n ≤ k → Each (λ a. answer_of other (world_at (after b m k)).records a.question ≡ answer_of other (world_at (after b m n)).records a.question) (world_at (after b m n)).questions
+noted_after b m other n k h =
+    let u : World = world_at (after b m n) in
+    let p = past_after b m n k h in
+    let f = fits_after b m n in
+    subst (λ rs. Each (λ (a : Asked). answer_of other rs a.question ≡ answer_of other u.records a.question) u.questions) p.records (noted_stay other u.records p.more f.nested u.questions f.questions)
 
 -- the same, by the questions of the first events of a longer run
 pub after_same_up_to : (b : Behaviour) → IsLawful b → (m n : Model) (v k : ℕ) → v ≤ k → AgreesUpTo v m n (world_at (after b m k)).records (world_at (after b m k)).questions → after b m v ≡ after b n v

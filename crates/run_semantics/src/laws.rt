@@ -4,6 +4,7 @@ ghost use Rattle.std.specs.Prelude.{◌≡◌, ℕ, suc, ◌+◌, ◌≤◌, ◌
 ghost use Rattle.module_api.specs.Behaviour.{Behaviour};
 ghost use Rattle.module_api.specs.Laws.{IsLawful};
 ghost use Rattle.model_answers.specs.declared.model.Model.{Model};
+ghost use Rattle.model_answers.specs.Answering.{answer_of};
 ghost use Rattle.run_semantics.specs.declared.outcome.Outcome.{Outcome};
 ghost use Rattle.run_semantics.specs.Agreement.{Agrees, AgreesUpTo};
 ghost use Rattle.run_semantics.specs.Event.{place_in};
@@ -36,6 +37,14 @@ pub fn equal_runs_up_to_an_event()
     ensures { (b : Behaviour) → IsLawful b → (m n : Model) (v k : ℕ) → v ≤ k
         → AgreesUpTo v m n (world_at (after b m k)).records (world_at (after b m k)).questions
         → after b m v ≡ after b n v }
+{}
+
+/// The answers to what was asked stay the same, in each model, when more modules are created: so it
+/// doesn't matter of which later moment the records are by which models are compared.
+pub fn answers_stay()
+    ensures { (b : Behaviour) (m other : Model) (n k : ℕ) → n ≤ k
+        → Each (λ a. answer_of other (world_at (after b m k)).records a.question
+        ≡ answer_of other (world_at (after b m n)).records a.question) (world_at (after b m n)).questions }
 {}
 
 /// What is to come rests on where the run stands alone: n + k events are k more from the stage after n.
