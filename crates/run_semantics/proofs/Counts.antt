@@ -8,11 +8,13 @@ use Rattle.model_answers.specs.declared.answer.Built.{Built}
 use Rattle.model_answers.specs.declared.answer.Question.TheVariants.{Root, Build}
 use Rattle.model_answers.specs.declared.model.Model.{Model}
 use Rattle.model_answers.specs.Answering.{answer_of}
+use Rattle.run_semantics.specs.declared.outcome.Outcome.{Outcome}
+use Rattle.run_semantics.specs.declared.outcome.Outcome.TheVariants.{Ended}
 use Rattle.run_semantics.specs.declared.pending.Pending.{Pending}
 use Rattle.run_semantics.specs.World.{World, empty, asked}
 use Rattle.run_semantics.specs.Perform.{Flow, On, Stopped, Broken, ◌>>=◌}
-use Rattle.run_semantics.specs.Event.{call_module, begun, event, message_of}
-use Rattle.run_semantics.specs.Run.{rooted, built, unless_many, root_asked, inside_asked, prepared, Part, parts_of, place, place_all, place_parts, ready, standing, most_stages, initialize, one_stage, stages_from, initialize_all, with_started, Stage, Running, Over, world_at, settled, start, picked, next_stage, after}
+use Rattle.run_semantics.specs.Event.{begun, event, message_of}
+use Rattle.run_semantics.specs.Run.{rooted, built, unless_many, root_asked, inside_asked, prepared, Part, parts_of, place, place_all, place_parts, ready, standing, most_stages, initialize, one_stage, stages_from, initialize_all, with_started, Stage, Running, Over, world_at, settled, start, picked, next_stage, after, IsReached}
 use Rattle.run_semantics.proofs.Sound.{in_flow, call_keeps}
 
 pub then_count : (n : ℕ) (fl : Flow) (k : World → Flow) → (in_flow fl).count ≡ n → ((w : World) → w.count ≡ n → (in_flow (k w)).count ≡ n) → (in_flow (fl >>= k)).count ≡ n
@@ -89,7 +91,7 @@ start_count b m =
 
 -- ---- events
 
-event_count : (b : Behaviour) (m : Model) (p : Pending) (rest : List Pending) (w : World) → (in_flow (event b m p rest w)).count ≡ w.count + 1
+pub event_count : (b : Behaviour) (m : Model) (p : Pending) (rest : List Pending) (w : World) → (in_flow (event b m p rest w)).count ≡ w.count + 1
 event_count b m p rest w = (call_keeps b m p.id (prompt.Message (message_of p)) (begun p rest w)).count
 
 picked_count : (b : Behaviour) (m : Model) (w : World) (pending : List Pending) → (world_at (picked b m w pending)).count ≤ w.count + 1
@@ -108,3 +110,38 @@ next_count b m (Over w outcome) = omega arith
 pub count_at_most : (b : Behaviour) (m : Model) (n : ℕ) → (world_at (after b m n)).count ≤ n
 count_at_most b m zero = omega (arith, start_count b m)
 count_at_most b m (suc n) = omega (arith, next_count b m (after b m n), count_at_most b m n)
+
+-- ---- runs that go on
+
+-- a run that goes on has so many events
+abbrev pub RunsOn : ℕ → Stage → Type 0
+RunsOn n s = (u : World) → s ≡ Running u → u.count ≡ n
+
+settled_runs : (n : ℕ) (fl : Flow) → (in_flow fl).count ≡ n → RunsOn n (settled fl)
+settled_runs n (On v) at u e = let same : v ≡ u = cc in ap (λ (x : World). x.count) (sym same) ∙ at
+settled_runs n (Stopped v) at u e = let same : v ≡ u = cc in ap (λ (x : World). x.count) (sym same) ∙ at
+settled_runs n (Broken v path f) at u e = cc
+
+either_runs : (c : Bool) (n : ℕ) (w : World) (outcome : Outcome) (s : Stage) → RunsOn n s → RunsOn n (if c then Over w outcome else s)
+either_runs true n w outcome s f u e = cc
+either_runs false n w outcome s f u e = f u e
+
+picked_runs : (b : Behaviour) (m : Model) (w : World) (pending : List Pending) → RunsOn (w.count + 1) (picked b m w pending)
+picked_runs b m w [] u e = cc
+picked_runs b m w (p ∷ rest) u e = settled_runs (w.count + 1) (event b m p rest w) (event_count b m p rest w) u e
+
+next_runs : (b : Behaviour) (m : Model) (n : ℕ) (s : Stage) → RunsOn n s → RunsOn (suc n) (next_stage b m s)
+next_runs b m n (Running w) f u e =
+    let at = f w refl in
+    let more = either_runs w.ended (w.count + 1) w Ended (picked b m w w.pending) (picked_runs b m w w.pending) u e in
+    omega (arith, at, more)
+next_runs b m n (Over w outcome) f u e = cc
+
+-- after n turns a run that goes on has executed n events
+pub runs_on : (b : Behaviour) (m : Model) (n : ℕ) → RunsOn n (after b m n)
+runs_on b m zero u e = ap (λ (s : Stage). (world_at s).count) (sym e) ∙ start_count b m
+runs_on b m (suc n) u e = next_runs b m n (after b m n) (runs_on b m n) u e
+
+-- it got as far as event n
+pub reached_after : (b : Behaviour) (m : Model) (n : ℕ) (w : World) → after b m n ≡ Running w → IsReached (after b m n) n
+reached_after b m n w e = ap (λ (s : Stage). (world_at s).count) e ∙ runs_on b m n w e

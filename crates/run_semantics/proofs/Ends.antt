@@ -1,11 +1,12 @@
 -- How runs end.
-use Rattle.std.proofs.Common.{◌≡◌, ℕ, zero, suc, ◌+◌, ◌≤◌, ◌<◌, refl, sym, ◌∙◌, ap, arith, subst, ⊎_elim}
+use Rattle.std.proofs.Common.{◌≡◌, ℕ, zero, suc, ◌+◌, ◌≤◌, ◌<◌, sym, ◌∙◌, ap, arith, subst, ⊎_elim}
 use Rattle.std.proofs.Math.Nat.{eq-or-lt_of_le}
 use Rattle.module_api.specs.Behaviour.{Behaviour}
 use Rattle.model_answers.specs.declared.model.Model.{Model}
 use Rattle.run_semantics.specs.declared.outcome.Outcome.{Outcome}
 use Rattle.run_semantics.specs.World.{World}
-use Rattle.run_semantics.specs.Run.{Stage, Running, Over, world_at, next_stage, after, stopped, run_to, Ran}
+use Rattle.run_semantics.specs.Run.{Stage, Running, Over, world_at, next_stage, after, stopped, run_to}
+use Rattle.run_semantics.specs.Laws.{gone_on}
 use Rattle.run_semantics.proofs.Counts.{count_at_most}
 
 over_stays : (b : Behaviour) (m : Model) (w : World) (outcome : Outcome) (k n : ℕ) → k ≤ n → after b m k ≡ Over w outcome → after b m n ≡ Over w outcome
@@ -26,3 +27,21 @@ count_going b m w k e = omega (arith, count_at_most b m k, ap (λ (s : Stage). (
 
 pub count_over : (b : Behaviour) (m : Model) (w : World) (outcome : Outcome) (k : ℕ) → Over w outcome ≡ after b m k → w.count ≤ k
 count_over b m w outcome k e = omega (arith, count_at_most b m k, ap (λ (s : Stage). (world_at s).count) e)
+
+-- ---- going on
+
+-- what is to come rests on the stage alone
+pub gone_after : (b : Behaviour) (m : Model) (n k : ℕ) → after b m (n + k) ≡ gone_on b m k (after b m n)
+gone_after b m n zero = let e : n + zero ≡ n = omega arith in ap (after b m) e
+gone_after b m n (suc k) = let e : n + suc k ≡ suc (n + k) = omega arith in ap (after b m) e ∙ ap (next_stage b m) (gone_after b m n k)
+
+-- from an equal stage
+pub gone_from : (b : Behaviour) (n : Model) (v k : ℕ) (s : Stage) → s ≡ after b n v → after b n (v + k) ≡ gone_on b n k s
+gone_from b n v k s e = gone_after b n v k ∙ ap (gone_on b n k) (sym e)
+
+-- one event more
+pub one_more : (b : Behaviour) (m : Model) (n : ℕ) (w : World) → after b m n ≡ Running w → run_to b m (suc n) ≡ stopped (next_stage b m (Running w))
+one_more b m n w e = ap (λ s. stopped (next_stage b m s)) e
+
+pub no_more : (b : Behaviour) (m : Model) (n : ℕ) (w : World) (outcome : Outcome) → after b m n ≡ Over w outcome → run_to b m (suc n) ≡ run_to b m n
+no_more b m n w outcome e = ap (λ s. stopped (next_stage b m s)) e ∙ ap stopped (sym e)

@@ -1,4 +1,9 @@
 pub mod Counts
 pub mod Ends
+pub mod Grown
+pub mod Growth
+pub mod Order
+pub mod Orderly
+pub mod Reuse
 pub mod Setup
 pub mod Sound

@@ -5,3 +5,4 @@ pub mod Event
 pub mod Run
 pub mod Ending
 pub mod Agreement
+pub mod Laws

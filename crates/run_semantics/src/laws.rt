@@ -1,11 +1,16 @@
 //! Laws of runs. The functions do nothing: their contracts are the laws.
 
-ghost use Rattle.std.specs.Prelude.{◌≡◌, ℕ, ◌≤◌};
+ghost use Rattle.std.specs.Prelude.{◌≡◌, ℕ, suc, ◌+◌, ◌≤◌, ◌<◌, IsSome};
 ghost use Rattle.module_api.specs.Behaviour.{Behaviour};
+ghost use Rattle.module_api.specs.Laws.{IsLawful};
 ghost use Rattle.model_answers.specs.declared.model.Model.{Model};
+ghost use Rattle.model_answers.specs.Answering.{answer_of};
 ghost use Rattle.run_semantics.specs.declared.outcome.Outcome.{Outcome};
+ghost use Rattle.run_semantics.specs.Agreement.{Agrees, AgreesUpTo};
+ghost use Rattle.run_semantics.specs.Event.{place_in};
+ghost use Rattle.run_semantics.specs.Laws.{Each, AreInOrder, HaveOwnNumbers, HasGrown, CanBeCalled, gone_on};
 ghost use Rattle.run_semantics.specs.World.{World};
-ghost use Rattle.run_semantics.specs.Run.{Over, after, run_to, world_at};
+ghost use Rattle.run_semantics.specs.Run.{Running, Over, IsReached, next_stage, after, stopped, run_to, world_at, standing, parts_of};
 
 /// After n events at most n are counted.
 pub fn at_most_n_are_counted()
@@ -16,4 +21,97 @@ pub fn at_most_n_are_counted()
 pub fn over_is_over()
     ensures { (b : Behaviour) (m : Model) (w : World) (outcome : Outcome) (k limit : ℕ) → k ≤ limit
         → Over w outcome ≡ after b m k → run_to b m limit ≡ record { world = w; outcome = outcome } }
+{}
+
+/// Two models that answer alike all that the run of the first one asked up to an event have the same
+/// run up to there: the same world, its questions included, and the same end where it is over.
+pub fn equal_answers_equal_runs()
+    ensures { (b : Behaviour) → IsLawful b → (m n : Model) (v : ℕ)
+        → Agrees m n (world_at (after b m v)).records (world_at (after b m v)).questions
+        → after b m v ≡ after b n v }
+{}
+
+/// Of a run of k events, the questions of the first v events alone decide the run up to there: two
+/// models that answer those alike have it in common.
+pub fn equal_runs_up_to_an_event()
+    ensures { (b : Behaviour) → IsLawful b → (m n : Model) (v k : ℕ) → v ≤ k
+        → AgreesUpTo v m n (world_at (after b m k)).records (world_at (after b m k)).questions
+        → after b m v ≡ after b n v }
+{}
+
+/// The answers to what was asked stay the same, in each model, when more modules are created: so it
+/// doesn't matter of which later moment the records are by which models are compared.
+pub fn answers_stay()
+    ensures { (b : Behaviour) (m other : Model) (n k : ℕ) → n ≤ k
+        → Each (λ a. answer_of other (world_at (after b m k)).records a.question
+        ≡ answer_of other (world_at (after b m n)).records a.question) (world_at (after b m n)).questions }
+{}
+
+/// What is to come rests on where the run stands alone: n + k events are k more from the stage after n.
+pub fn runs_go_on()
+    ensures { (b : Behaviour) (m : Model) (n k : ℕ) → after b m (n + k) ≡ gone_on b m k (after b m n) }
+{}
+
+/// So a world that is kept after event v serves each model that answers alike what was asked up to v:
+/// the run of that model is the one that goes on from there.
+pub fn kept_worlds_serve()
+    ensures { (b : Behaviour) → IsLawful b → (m n : Model) (v k : ℕ) → v ≤ k
+        → AgreesUpTo v m n (world_at (after b m k)).records (world_at (after b m k)).questions
+        → (more : ℕ) → after b n (v + more) ≡ gone_on b n more (after b m v) }
+{}
+
+/// To a limit of one event more, a run that goes on has its next event besides, and one that is over
+/// is the same.
+pub fn one_event_more()
+    ensures running { (b : Behaviour) (m : Model) (n : ℕ) (w : World) → after b m n ≡ Running w
+        → run_to b m (suc n) ≡ stopped (next_stage b m (Running w)) }
+    ensures over { (b : Behaviour) (m : Model) (n : ℕ) (w : World) (outcome : Outcome) → after b m n ≡ Over w outcome
+        → run_to b m (suc n) ≡ run_to b m n }
+{}
+
+/// Nothing that happened is undone: with more events the clock, the count of events and the next
+/// insertion number do not fall, and records, emissions and questions stay, each in its place.
+pub fn runs_grow()
+    ensures { (b : Behaviour) (m : Model) (n k : ℕ) → n ≤ k
+        → HasGrown (world_at (after b m n)) (world_at (after b m k)) }
+{}
+
+/// A run that goes on after n events got as far as event n.
+pub fn running_is_reached()
+    ensures { (b : Behaviour) (m : Model) (n : ℕ) (w : World) → after b m n ≡ Running w
+        → IsReached (after b m n) n }
+{}
+
+/// The events to come are in order, at each moment of a run: the first of the list is the next one.
+pub fn events_are_in_order()
+    ensures { (b : Behaviour) (m : Model) (n : ℕ) → AreInOrder (world_at (after b m n)).pending }
+{}
+
+/// No two events to come have the same insertion number, and the next one is above them all.
+pub fn no_two_events_share_a_number()
+    ensures own { (b : Behaviour) (m : Model) (n : ℕ) → HaveOwnNumbers (world_at (after b m n)).pending }
+    ensures below { (b : Behaviour) (m : Model) (n : ℕ)
+        → Each (λ e. e.number < (world_at (after b m n)).next) (world_at (after b m n)).pending }
+{}
+
+/// No event to come is earlier than the clock.
+pub fn no_event_is_late()
+    ensures { (b : Behaviour) (m : Model) (n : ℕ)
+        → Each (λ e. (world_at (after b m n)).clock ≤ e.time) (world_at (after b m n)).pending }
+{}
+
+/// Each event to come is for a module that its call finds; and in a run that goes on that module was
+/// started and lives. So no event is passed over, and none calls a module before it is started.
+pub fn events_are_for_started_modules()
+    ensures found { (b : Behaviour) (m : Model) (n : ℕ)
+        → Each (λ e. IsSome (place_in e.id (world_at (after b m n)).modules)) (world_at (after b m n)).pending }
+    ensures started { (b : Behaviour) (m : Model) (n : ℕ) (w : World) → after b m n ≡ Running w
+        → Each (λ e. CanBeCalled w e.id) w.pending }
+{}
+
+/// In a run that goes on exactly the simple modules that were created stand, by rising id, each of its
+/// kind.
+pub fn created_modules_stand()
+    ensures { (b : Behaviour) (m : Model) (n : ℕ) (w : World) → after b m n ≡ Running w
+        → standing w.modules ≡ parts_of w }
 {}

@@ -1,0 +1,241 @@
+-- Runs grow, and call only modules that were started.
+use Rattle.std.proofs.Common.{◌≡◌, inl, inr, ⊎_elim, ℕ, zero, suc, ◌+◌, ◌≤◌, ◌<◌, ◌==◌, cond, Bool, true, false, List, [], ◌∷◌, ◌++◌, Option, Some, None, IsSome, refl, sym, ap, ◌∙◌, arith, subst, append-nil, slice_get, length, map, if◌then◌else◌, true≢false, eq-eqb, eq-or-lt_of_le}
+use Rattle.std.specs.List.{position_from}
+use Rattle.module_api.specs.Behaviour.{Behaviour}
+use Rattle.model_answers.specs.declared.answer.Answer.{Answer}
+use Rattle.model_answers.specs.declared.answer.Answer.TheVariants as answer
+use Rattle.model_answers.specs.declared.answer.Built.{Built}
+use Rattle.model_answers.specs.declared.answer.Question.TheVariants.{Root, Build}
+use Rattle.model_answers.specs.declared.model.Model.{Model}
+use Rattle.model_answers.specs.declared.record.Record.{Record}
+use Rattle.model_answers.specs.Answering.{answer_of}
+use Rattle.run_semantics.specs.declared.outcome.Outcome.{Outcome}
+use Rattle.run_semantics.specs.declared.traces.Instance.{Instance}
+use Rattle.run_semantics.specs.World.{World, empty, asked}
+use Rattle.run_semantics.specs.Perform.{Flow, On, Stopped, Broken, ◌>>=◌}
+use Rattle.run_semantics.specs.Event.{place_in}
+use Rattle.run_semantics.specs.Run.{rooted, record_under, ids_from, built, unless_many, root_asked, inside_asked, prepared, Part, with_class, parts_from, parts_of, placed, place_all, place_parts, ready, initialize_all, with_started, standing, part_of, Stage, Running, Over, world_at, settled, after}
+use Rattle.run_semantics.specs.Laws.{Each, IsAmong, ids_of, HasGrown, CanBeCalled}
+use Rattle.run_semantics.proofs.Sound.{in_flow}
+use Rattle.run_semantics.proofs.Order.{each_map}
+use Rattle.run_semantics.proofs.Reuse.{after_later}
+use Rattle.run_semantics.proofs.Orderly.{IsOrderly, Follows, same_ids, on_same, on_more, initialize_all_leads, orderly_none, ready_none, orderly_after, after_follows}
+
+-- ---- growth
+
+grown_same : (w : World) → HasGrown w w
+grown_same w = record { clock = omega arith; count = omega arith; next = omega arith; records = on_same w.records; emissions = on_same w.emissions; questions = on_same w.questions }
+
+grown_on : (u v w : World) → HasGrown u v → HasGrown v w → HasGrown u w
+grown_on u v w f g = record {
+  clock = omega (arith, f.clock, g.clock);
+  count = omega (arith, f.count, g.count);
+  next = omega (arith, f.next, g.next);
+  records = on_more u.records v.records w.records f.records g.records;
+  emissions = on_more u.emissions v.emissions w.emissions f.emissions g.emissions;
+  questions = on_more u.questions v.questions w.questions f.questions g.questions;
+}
+
+grown_next : (b : Behaviour) (m : Model) (n : ℕ) → HasGrown (world_at (after b m n)) (world_at (after b m (suc n)))
+grown_next b m n =
+    let f = after_follows b m n in
+    let l = after_later b m n in
+    record { clock = f.clock; count = f.count; next = f.next; records = (l.more, l.records); emissions = f.emissions; questions = (l.rest, l.joined) }
+
+-- a run of more events has grown
+pub grown_after : (b : Behaviour) (m : Model) (n k : ℕ) → n ≤ k → HasGrown (world_at (after b m n)) (world_at (after b m k))
+grown_after b m n zero h = let e : n ≡ zero = omega arith in subst (λ i. HasGrown (world_at (after b m n)) (world_at (after b m i))) e (grown_same (world_at (after b m n)))
+grown_after b m n (suc k) h =
+    ⊎_elim
+    (λ (e : n ≡ suc k). subst (λ i. HasGrown (world_at (after b m n)) (world_at (after b m i))) e (grown_same (world_at (after b m n))))
+    (λ (l : n < suc k). grown_on (world_at (after b m n)) (world_at (after b m k)) (world_at (after b m (suc k))) (grown_after b m n k (omega (arith, l))) (grown_next b m k))
+    (eq-or-lt_of_le h)
+
+-- ---- setup: the modules that are placed live
+
+-- the flow goes on in a world with the property, or it is broken
+abbrev OnlyOn : (World → Type 0) → Flow → Type 0
+OnlyOn P (On w) = P w
+OnlyOn P (Stopped w) = ⊥
+OnlyOn P (Broken w path f) = Unit {0}
+
+only_then : (P Q : World → Type 0) (fl : Flow) (k : World → Flow) → OnlyOn P fl → ((w : World) → P w → OnlyOn Q (k w)) → OnlyOn Q (fl >>= k)
+only_then P Q (On w) k p h = h w p
+only_then P Q (Stopped w) k p h = p
+only_then P Q (Broken w path f) k p h = tt
+
+-- all records are of modules that live, and no module has a state yet
+record IsBuilt (w : World) : Type 0 where
+  live : w.live ≡ ids_from 1 w.records
+  modules : w.modules ≡ []
+
+ids_from-append : (k : ℕ) (rs : List Record) (parent : ℕ) (bs : List Built) → ids_from k rs ++ ids_from (k + length rs) bs ≡ ids_from k (rs ++ map (record_under parent) bs)
+ids_from-append k [] parent [] = refl
+ids_from-append k [] parent (b ∷ bs) =
+    let here : k + 0 ≡ k = omega arith in
+    let rest : suc (k + 0) ≡ suc k + 0 = omega arith in
+    ap (λ i. i ∷ ids_from (suc (k + 0)) bs) here ∙ ap (λ i. k ∷ ids_from i bs) rest ∙ ap (λ is. k ∷ is) (ids_from-append (suc k) [] parent bs)
+ids_from-append k (r ∷ rs) parent bs =
+    let same : k + suc (length rs) ≡ suc k + length rs = omega arith in
+    ap (λ i. k ∷ ids_from (suc k) rs ++ ids_from i bs) same ∙ ap (λ is. k ∷ is) (ids_from-append (suc k) rs parent bs)
+
+root_built : (found : Answer) → OnlyOn IsBuilt (rooted found (asked Root empty))
+root_built (answer.Root name) = record { live = refl; modules = refl }
+root_built (answer.Inside bs) = tt
+root_built (answer.Value v) = tt
+root_built (answer.Fault path f) = tt
+root_built answer.Absent = tt
+
+many_built : (parent : ℕ) (bs : List Built) (w : World) (one : Option Built) → IsBuilt w → OnlyOn IsBuilt (unless_many parent bs w one)
+many_built parent bs w (Some b) f = tt
+many_built parent bs w None f =
+    let next : suc (length w.records) ≡ 1 + length w.records = omega arith in
+    record {
+      live = ap (λ is. is ++ ids_from (suc (length w.records)) bs) f.live ∙ ap (λ i. ids_from 1 w.records ++ ids_from i bs) next ∙ ids_from-append 1 w.records parent bs;
+      modules = f.modules;
+    }
+
+built_built : (parent : ℕ) (found : Answer) (w : World) → IsBuilt w → OnlyOn IsBuilt (built parent found w)
+built_built parent (answer.Inside bs) w f = many_built parent bs w (slice_get bs 65535) f
+built_built parent (answer.Root name) w f = tt
+built_built parent (answer.Value v) w f = tt
+built_built parent (answer.Fault path fault) w f = tt
+built_built parent answer.Absent w f = tt
+
+inside_built : (m : Model) (w : World) → IsBuilt w → OnlyOn IsBuilt (inside_asked m w)
+inside_built m w f = built_built 1 (answer_of m w.records (Build 1)) (asked (Build 1) w) (record { live = f.live; modules = f.modules })
+
+prepared_built : (m : Model) → OnlyOn IsBuilt (prepared m)
+prepared_built m = only_then IsBuilt IsBuilt (root_asked m) (inside_asked m) (root_built (answer_of m [] Root)) (inside_built m)
+
+-- exactly the simple modules that were created stand, and all that were created live
+record IsReady (w : World) : Type 0 where
+  parts : standing w.modules ≡ parts_of w
+  live : w.live ≡ ids_from 1 w.records
+
+-- these parts stand at last, and records and what lives are those of that world
+record StandAll (ps : List Part) (u w : World) : Type 0 where
+  parts : standing w.modules ≡ ps
+  live : w.live ≡ u.live
+  records : w.records ≡ u.records
+
+standing_one_more : (is : List Instance) (i : Instance) (ps : List Part) → standing (is ++ i ∷ []) ++ ps ≡ standing is ++ part_of i ∷ ps
+standing_one_more [] i ps = refl
+standing_one_more (j ∷ js) i ps = ap (λ qs. part_of j ∷ qs) (standing_one_more js i ps)
+
+place_stands : (b : Behaviour) (all ps : List Part) (u : World) (p : Part) (w : World) (c : Bool) (g : Flow) → (OnlyOn (StandAll all u) (On (placed p (b.naming p.kind).initial w) >>= place_all b ps)) → OnlyOn (StandAll all u) (g >>= place_all b ps) → OnlyOn (StandAll all u) ((if c then On (placed p (b.naming p.kind).initial w) else g) >>= place_all b ps)
+place_stands b all ps u p w true g h l = h
+place_stands b all ps u p w false g h l = l
+
+place_all_stands : (b : Behaviour) (all ps : List Part) (u w : World) → standing w.modules ++ ps ≡ all → w.live ≡ u.live → w.records ≡ u.records → OnlyOn (StandAll all u) (place_all b ps w)
+place_all_stands b all [] u w e live records = record { parts = sym (append-nil (standing w.modules)) ∙ e; live = live; records = records }
+place_all_stands b all (p ∷ ps) u w e live records =
+    let v : World = placed p (b.naming p.kind).initial w in
+    place_stands b all ps u p w (b.known p.kind) _ (place_all_stands b all ps u v (standing_one_more w.modules _ ps ∙ e) live records) tt
+
+place_parts_ready : (b : Behaviour) (w : World) → IsBuilt w → OnlyOn IsReady (place_parts b w)
+place_parts_ready b w f = by (place_parts b w) (place_all_stands b (parts_of w) (parts_of w) w w (rw f.modules refl) refl refl)
+  where
+    by : (fl : Flow) → OnlyOn (StandAll (parts_of w) w) fl → OnlyOn IsReady fl
+    by (On v) h = record { parts = h.parts ∙ ap (parts_from 1) (sym h.records); live = h.live ∙ (f.live ∙ ap (ids_from 1) (sym h.records)) }
+    by (Stopped v) h = h
+    by (Broken v path fault) h = tt
+
+ready_ready : (b : Behaviour) (m : Model) → OnlyOn IsReady (ready b m)
+ready_ready b m = only_then IsBuilt IsReady (prepared m) (place_parts b) (prepared_built m) (place_parts_ready b)
+
+parts_among : (id : ℕ) (rs : List Record) → Each (λ p. IsAmong p.id (ids_from id rs)) (parts_from id rs)
+parts_among id [] = tt
+parts_among id (r ∷ rs) = by r.class (each_map (λ p. IsAmong p.id (ids_from (suc id) rs)) (λ p. IsAmong p.id (ids_from id (r ∷ rs))) (parts_from (suc id) rs) (λ p h. inr h) (parts_among (suc id) rs))
+  where
+    by : (class : Option (List ℕ)) → Each (λ p. IsAmong p.id (ids_from id (r ∷ rs))) (parts_from (suc id) rs) → Each (λ p. IsAmong p.id (ids_from id (r ∷ rs))) (with_class id class (parts_from (suc id) rs))
+    by None h = h
+    by (Some kind) h = (inl refl, h)
+
+each_id : (live : List ℕ) (is : List Instance) → Each (λ p. IsAmong p.id live) (standing is) → Each (λ id. IsAmong id live) (ids_of is)
+each_id live [] h = tt
+each_id live (i ∷ is) h = (h.0, each_id live is h.1)
+
+-- all modules that stand live
+ready_lives : (w : World) → IsReady w → Each (λ id. IsAmong id w.live) (ids_of w.modules)
+ready_lives w f = each_id w.live w.modules (rw (f.parts, f.live) (parts_among 1 w.records))
+
+-- ---- runs that go on
+
+-- exactly the simple modules that were created stand, all of them were started, and no others live
+record AreStarted (w : World) : Type 0 where
+  parts : standing w.modules ≡ parts_of w
+  modules : Each (λ id. IsAmong id w.started) (ids_of w.modules)
+  live : w.started ≡ w.live
+
+abbrev IfRunning : (World → Type 0) → Stage → Type 0
+IfRunning P (Running w) = P w
+IfRunning P (Over w outcome) = Unit {0}
+
+started_kept : (v w : World) → w.records ≡ v.records → standing w.modules ≡ standing v.modules → w.started ≡ v.started → w.live ≡ v.live → AreStarted v → AreStarted w
+started_kept v w records same started live f = record {
+  parts = same ∙ (f.parts ∙ ap (parts_from 1) (sym records));
+  modules = rw (same_ids w.modules v.modules same, started) f.modules;
+  live = started ∙ (f.live ∙ sym live);
+}
+
+settled_started : (fl : Flow) → AreStarted (in_flow fl) → IfRunning AreStarted (settled fl)
+settled_started (On w) f = f
+settled_started (Stopped w) f = f
+settled_started (Broken w path fault) f = tt
+
+-- the modules are started before the first of them is called
+begin_started : (b : Behaviour) (m : Model) (fl : Flow) → IsOrderly (in_flow fl) → OnlyOn IsReady fl → IfRunning AreStarted (settled (fl >>= initialize_all b m))
+begin_started b m (On w) f h =
+    let g = initialize_all_leads b m w f in
+    let at_first : AreStarted (with_started w) = record { parts = h.parts; modules = ready_lives w h; live = refl } in
+    settled_started (initialize_all b m w) (started_kept (with_started w) (in_flow (initialize_all b m w)) g.records g.same g.started g.live at_first)
+begin_started b m (Stopped w) f h = absurd h
+begin_started b m (Broken w path fault) f h = tt
+
+next_started : (s t : Stage) → Follows (world_at s) (world_at t) → ((w : World) (outcome : Outcome) → s ≡ Over w outcome → IfRunning AreStarted t) → IfRunning AreStarted s → IfRunning AreStarted t
+next_started (Running v) (Running w) g k f = started_kept v w g.records g.same g.started g.live f
+next_started (Running v) (Over w outcome) g k f = tt
+next_started (Over v outcome) t g k f = k v outcome refl
+
+started_after : (b : Behaviour) (m : Model) (n : ℕ) → IfRunning AreStarted (after b m n)
+started_after b m zero = begin_started b m (ready b m) (orderly_none (in_flow (ready b m)) (ready_none b m)) (ready_ready b m)
+started_after b m (suc n) = next_started (after b m n) (after b m (suc n)) (after_follows b m n) (λ w outcome e. rw e tt) (started_after b m n)
+
+-- ---- calls
+
+found_in : (id k : ℕ) (is : List Instance) → IsAmong id (ids_of is) → IsSome (position_from (λ (i : Instance). i.id == id) k is)
+found_in id k [] h = absurd h
+found_in id k (i ∷ is) h = by (i.id == id) refl h (found_in id (k + 1) is)
+  where
+    by : (c : Bool) → (i.id == id) ≡ c → IsAmong id (ids_of (i ∷ is)) → (IsAmong id (ids_of is) → IsSome (position_from (λ (i : Instance). i.id == id) (k + 1) is)) → IsSome (cond c (Some k) (position_from (λ (i : Instance). i.id == id) (k + 1) is))
+    by true t h later = refl
+    by false t (inl same) later = absurd (true≢false (sym (eq-eqb i.id id same) ∙ t))
+    by false t (inr there) later = later there
+
+among_of : (ids : List ℕ) (xs : List ℕ) (id : ℕ) → Each (λ x. IsAmong x ids) xs → IsAmong id xs → IsAmong id ids
+among_of ids [] id f h = absurd h
+among_of ids (x ∷ xs) id f (inl same) = subst (λ y. IsAmong y ids) same f.0
+among_of ids (x ∷ xs) id f (inr there) = among_of ids xs id f.1 there
+
+can_be_called : (w : World) (id : ℕ) → AreStarted w → IsAmong id (ids_of w.modules) → CanBeCalled w id
+can_be_called w id f h =
+    let started = among_of w.started (ids_of w.modules) id f.modules h in
+    record { found = found_in id 0 w.modules h; started = started; live = subst (IsAmong id) f.live started }
+
+-- in a run that goes on exactly the simple modules that were created stand
+pub parts_after : (b : Behaviour) (m : Model) (n : ℕ) (w : World) → after b m n ≡ Running w → standing w.modules ≡ parts_of w
+parts_after b m n w e = let g : AreStarted w = subst (IfRunning AreStarted) e (started_after b m n) in g.parts
+
+-- in a run that goes on each event to come is for a module that can be called
+pub called_after : (b : Behaviour) (m : Model) (n : ℕ) (w : World) → after b m n ≡ Running w → Each (λ e. CanBeCalled w e.id) w.pending
+called_after b m n w e =
+    let f : IsOrderly w = subst (λ s. IsOrderly (world_at s)) e (orderly_after b m n) in
+    let g : AreStarted w = subst (IfRunning AreStarted) e (started_after b m n) in
+    each_map (λ x. IsAmong x.id (ids_of w.modules)) (λ x. CanBeCalled w x.id) w.pending (λ x h. can_be_called w x.id g h) f.modules
+
+-- and each event to come in any world is for a module that a call finds
+pub found_after : (b : Behaviour) (m : Model) (n : ℕ) → Each (λ e. IsSome (place_in e.id (world_at (after b m n)).modules)) (world_at (after b m n)).pending
+found_after b m n =
+    let w : World = world_at (after b m n) in
+    each_map (λ x. IsAmong x.id (ids_of w.modules)) (λ x. IsSome (place_in x.id w.modules)) w.pending (λ x h. found_in x.id 0 w.modules h) (orderly_after b m n).modules

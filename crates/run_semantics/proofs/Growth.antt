@@ -1,0 +1,357 @@
+-- What parts of an event add to a world: questions, and modules.
+use Rattle.std.proofs.Common.{◌≡◌, ℕ, zero, suc, ◌+◌, ◌≤◌, ◌==◌, cond, Bool, true, false, List, [], ◌∷◌, ◌++◌, Option, Some, None, refl, sym, ap, ◌∙◌, arith, subst, append_assoc, append-nil, length-append, slice_get, slice_set, length, map, if◌then◌else◌, nat_lt, eqb-true}
+use Rattle.std.specs.List.{list_any, position_from}
+use Rattle.sim_time.specs.Time.{time_sum}
+use Rattle.module_api.specs.Behaviour.{Behaviour, Replied}
+use Rattle.module_api.specs.declared.call.Prompt.{Prompt}
+use Rattle.module_api.specs.declared.call.Prompt.TheVariants as prompt
+use Rattle.module_api.specs.declared.reply.Action.{Action}
+use Rattle.module_api.specs.declared.reply.Action.TheVariants.{Emit, ScheduleAfter, Fail}
+use Rattle.module_api.specs.declared.reply.Read.{Read}
+use Rattle.module_api.specs.declared.reply.Read.TheVariants as read
+use Rattle.module_api.specs.declared.reply.Schedule.{Schedule}
+use Rattle.model_answers.specs.declared.answer.Answer.{Answer}
+use Rattle.model_answers.specs.declared.answer.Answer.TheVariants as answer
+use Rattle.model_answers.specs.declared.answer.Asked.{Asked}
+use Rattle.model_answers.specs.declared.answer.Built.{Built}
+use Rattle.model_answers.specs.declared.answer.Question.{Question}
+use Rattle.model_answers.specs.declared.answer.Question.TheVariants.{Root, Build}
+use Rattle.model_answers.specs.declared.model.Model.{Model}
+use Rattle.model_answers.specs.declared.record.Record.{Record}
+use Rattle.model_answers.specs.Answering.{answer_of}
+use Rattle.run_semantics.specs.declared.outcome.Fault.{Fault}
+use Rattle.run_semantics.specs.declared.traces.Instance.{Instance}
+use Rattle.run_semantics.specs.World.{World, empty, asked}
+use Rattle.run_semantics.specs.Perform.{Flow, On, Stopped, Broken, ◌>>=◌, is_timer, scheduled, perform, perform_all, ask_all, question_of, acted, read_fault, unless_fault}
+use Rattle.run_semantics.specs.Event.{call_of, place_in, with_state, replied, called, call_at, call_module, event}
+use Rattle.run_semantics.specs.Run.{rooted, record_under, built, unless_many, root_asked, inside_asked, Part, with_class, parts_from, parts_of, place, place_all, place_parts, standing, most_stages, initialize, one_stage, stages_from, initialize_all, with_started}
+use Rattle.run_semantics.proofs.Sound.{in_flow}
+use Rattle.model_answers.proofs.AnswerLemmas.{AreNested, about}
+
+-- ---- worlds whose ids are those of records
+
+-- all questions are of that event
+abbrev pub AllOfEvent : ℕ → List Asked → Type 0
+AllOfEvent event [] = Unit {0}
+AllOfEvent event (a ∷ rest) = (a.event ≡ event) × AllOfEvent event rest
+
+-- all are about modules with ids up to that one
+abbrev pub AllAbout : ℕ → List Asked → Type 0
+AllAbout n [] = Unit {0}
+AllAbout n (a ∷ rest) = (about a.question ≤ n) × AllAbout n rest
+
+-- all have ids up to that one
+abbrev pub AllWithin : ℕ → List Instance → Type 0
+AllWithin n [] = Unit {0}
+AllWithin n (i ∷ rest) = (i.id ≤ n) × AllWithin n rest
+
+abbrev pub PartsWithin : ℕ → List Part → Type 0
+PartsWithin n [] = Unit {0}
+PartsWithin n (p ∷ ps) = (p.id ≤ n) × PartsWithin n ps
+
+-- modules and questions are of ids that were given, and each module was created after the one around it
+pub record Fits (w : World) : Type 0 where
+  pub nested : AreNested 0 w.records
+  pub modules : AllWithin (length w.records) w.modules
+  pub questions : AllAbout (length w.records) w.questions
+
+AllOfEvent-append : (n : ℕ) (xs ys : List Asked) → AllOfEvent n xs → AllOfEvent n ys → AllOfEvent n (xs ++ ys)
+AllOfEvent-append n [] ys f g = g
+AllOfEvent-append n (x ∷ xs) ys f g = (f.0, AllOfEvent-append n xs ys f.1 g)
+
+AllAbout-append : (n : ℕ) (xs ys : List Asked) → AllAbout n xs → AllAbout n ys → AllAbout n (xs ++ ys)
+AllAbout-append n [] ys f g = g
+AllAbout-append n (x ∷ xs) ys f g = (f.0, AllAbout-append n xs ys f.1 g)
+
+AllAbout-more : (n k : ℕ) (xs : List Asked) → n ≤ k → AllAbout n xs → AllAbout k xs
+AllAbout-more n k [] h f = tt
+AllAbout-more n k (x ∷ xs) h f = (omega (arith, f.0), AllAbout-more n k xs h f.1)
+
+AllWithin-more : (n k : ℕ) (xs : List Instance) → n ≤ k → AllWithin n xs → AllWithin k xs
+AllWithin-more n k [] h f = tt
+AllWithin-more n k (x ∷ xs) h f = (omega (arith, f.0), AllWithin-more n k xs h f.1)
+
+AllWithin-append : (n : ℕ) (xs ys : List Instance) → AllWithin n xs → AllWithin n ys → AllWithin n (xs ++ ys)
+AllWithin-append n [] ys f g = g
+AllWithin-append n (x ∷ xs) ys f g = (f.0, AllWithin-append n xs ys f.1 g)
+
+AllWithin-at : (n : ℕ) (xs : List Instance) (i : ℕ) (x : Instance) → slice_get xs i ≡ Some x → AllWithin n xs → x.id ≤ n
+AllWithin-at n [] i x e f = cc
+AllWithin-at n (y ∷ xs) zero x e f = let same : y ≡ x = cc in subst (λ (z : Instance). z.id ≤ n) same f.0
+AllWithin-at n (y ∷ xs) (suc i) x e f = AllWithin-at n xs i x e f.1
+
+AllWithin-set : (n : ℕ) (xs : List Instance) (i : ℕ) (x : Instance) → x.id ≤ n → AllWithin n xs → AllWithin n (slice_set xs i x)
+AllWithin-set n [] i x h f = tt
+AllWithin-set n (y ∷ xs) zero x h f = (h, f.1)
+AllWithin-set n (y ∷ xs) (suc i) x h f = (f.0, AllWithin-set n xs i x h f.1)
+
+-- a module that has a place has an id that was given
+placed_within : (n id k place : ℕ) (xs : List Instance) → AllWithin n xs → position_from (λ (i : Instance). i.id == id) k xs ≡ Some place → id ≤ n
+placed_within n id k place [] f e = cc
+placed_within n id k place (x ∷ xs) f e = by (x.id == id) refl (placed_within n id (k + 1) place xs f.1) e
+  where
+    by : (t : Bool) → (x.id == id) ≡ t → (position_from (λ (i : Instance). i.id == id) (k + 1) xs ≡ Some place → id ≤ n) → cond t (Some k) (position_from (λ (i : Instance). i.id == id) (k + 1) xs) ≡ Some place → id ≤ n
+    by true t later e = let same = eqb-true x.id id t in let l = f.0 in omega (arith, same, l)
+    by false t later e = later e
+
+-- ---- growth
+
+-- from the first world to the second, questions of the present event were asked, modules were created, and no event was
+-- executed
+pub record IsGrown (old new : World) : Type 0 where
+  pub rest : List Asked
+  pub joined : old.questions ++ rest ≡ new.questions
+  pub present : AllOfEvent old.count rest
+  pub count : new.count ≡ old.count
+  pub more : List Record
+  pub records : old.records ++ more ≡ new.records
+  pub fits : Fits new
+
+pub grown_same : (w : World) → Fits w → IsGrown w w
+grown_same w f = record { rest = []; joined = append-nil w.questions; present = tt; count = refl; more = []; records = append-nil w.records; fits = f }
+
+pub grown_on : {u v w : World} → IsGrown u v → IsGrown v w → IsGrown u w
+grown_on {u} {v} {w} f g = record {
+  rest = f.rest ++ g.rest;
+  joined = sym (append_assoc u.questions f.rest g.rest) ∙ (ap (λ ys. ys ++ g.rest) f.joined ∙ g.joined);
+  present = AllOfEvent-append u.count f.rest g.rest f.present (subst (λ n. AllOfEvent n g.rest) f.count g.present);
+  count = g.count ∙ f.count;
+  more = f.more ++ g.more;
+  records = sym (append_assoc u.records f.more g.more) ∙ (ap (λ ys. ys ++ g.more) f.records ∙ g.records);
+  fits = g.fits;
+}
+
+-- what leaves records, modules, questions and the count as they were
+pub grown_beside : (u v : World) → Fits u → v.records ≡ u.records → v.modules ≡ u.modules → v.questions ≡ u.questions → v.count ≡ u.count → IsGrown u v
+grown_beside u v f records modules questions count = record {
+  rest = [];
+  joined = append-nil u.questions ∙ sym questions;
+  present = tt;
+  count = count;
+  more = [];
+  records = append-nil u.records ∙ sym records;
+  fits = record {
+    nested = subst (AreNested 0) (sym records) f.nested;
+    modules = rw (records, modules) f.modules;
+    questions = rw (records, questions) f.questions;
+  };
+}
+
+pub then_grows : (fl : Flow) (k : World → Flow) → Fits (in_flow fl) → ((w : World) → Fits w → IsGrown w (in_flow (k w))) → IsGrown (in_flow fl) (in_flow (fl >>= k))
+then_grows (On w) k f h = h w f
+then_grows (Stopped w) k f h = grown_same w f
+then_grows (Broken w path fault) k f h = grown_same w f
+
+-- one part, and then the next
+pub grown_then : (w : World) (fl : Flow) (k : World → Flow) → IsGrown w (in_flow fl) → ((w : World) → Fits w → IsGrown w (in_flow (k w))) → IsGrown w (in_flow (fl >>= k))
+grown_then w fl k f h = grown_on f (then_grows fl k f.fits h)
+
+pub either_grows : (w : World) (c : Bool) (f g : Flow) → IsGrown w (in_flow f) → IsGrown w (in_flow g) → IsGrown w (in_flow (if c then f else g))
+either_grows w true f g h k = h
+either_grows w false f g h k = k
+
+-- ---- actions: one line for each
+
+scheduled_grows : (id : ℕ) (s : Schedule) (w : World) (time : Option ℕ) → Fits w → IsGrown w (in_flow (scheduled id s w time))
+scheduled_grows id s w None f = grown_same w f
+scheduled_grows id s w (Some time) f = either_grows w (list_any (λ p. is_timer id s.timer p) w.pending) _ _ (grown_same w f) (grown_beside w _ f refl refl refl refl)
+
+perform_grows : (id : ℕ) (action : Action) (w : World) → Fits w → IsGrown w (in_flow (perform id action w))
+perform_grows id (Emit signal value) w f = grown_beside w _ f refl refl refl refl
+perform_grows id (ScheduleAfter s) w f = scheduled_grows id s w (time_sum w.clock s.delay) f
+perform_grows id (Fail text) w f = grown_same w f
+
+perform_all_grows : (id : ℕ) (actions : List Action) (w : World) → Fits w → IsGrown w (in_flow (perform_all id actions w))
+perform_all_grows id [] w f = grown_same w f
+perform_all_grows id (action ∷ actions) w f = grown_then w (perform id action w) (perform_all id actions) (perform_grows id action w f) (perform_all_grows id actions)
+
+acted_grows : (id : ℕ) (actions : List Action) (w : World) → Fits w → IsGrown w (in_flow (acted id actions w))
+acted_grows id actions w f = either_grows w (nat_lt 1000 (length actions)) _ _ (grown_same w f) (perform_all_grows id actions w f)
+
+-- ---- questions
+
+pub asked_grows : (q : Question) (w : World) → Fits w → about q ≤ length w.records → IsGrown w (asked q w)
+asked_grows q w f l = record {
+  rest = record { event = w.count; question = q } ∷ [];
+  joined = refl;
+  present = (refl, tt);
+  count = refl;
+  more = [];
+  records = append-nil w.records;
+  fits = record {
+    nested = f.nested;
+    modules = f.modules;
+    questions = AllAbout-append (length w.records) w.questions (record { event = w.count; question = q } ∷ []) f.questions (l, tt);
+  };
+}
+
+-- a read is about the module that replied
+about_read : (id : ℕ) (r : Read) → about (question_of id r) ≡ id
+about_read id (read.Parameter name) = refl
+about_read id (read.Gate name) = refl
+
+pub asked_read_grows : (id : ℕ) (r : Read) (w : World) → Fits w → id ≤ length w.records → IsGrown w (asked (question_of id r) w)
+asked_read_grows id r w f l = asked_grows (question_of id r) w f (omega (arith, l, about_read id r))
+
+pub ask_all_grows : (id : ℕ) (reads : List Read) (w : World) → Fits w → id ≤ length w.records → IsGrown w (ask_all id reads w)
+ask_all_grows id [] w f l = grown_same w f
+ask_all_grows id (r ∷ rs) w f l =
+    let g = asked_read_grows id r w f l in
+    grown_on g (ask_all_grows id rs (asked (question_of id r) w) g.fits l)
+
+-- ---- replies and calls
+
+unless_grows : (w : World) (id : ℕ) (found : Option Fault) (go : World → Flow) → Fits w → IsGrown w (in_flow (go w)) → IsGrown w (in_flow (unless_fault id found go w))
+unless_grows w id (Some fault) go f h = grown_same w f
+unless_grows w id None go f h = h
+
+-- what follows the questions
+pub answered_on : (id : ℕ) (found : Option Fault) (actions : List Action) (w : World) → Fits w → IsGrown w (in_flow (unless_fault id found (acted id actions) w))
+answered_on id found actions w f = unless_grows w id found (acted id actions) f (acted_grows id actions w f)
+
+pub fits_with_state : (place : ℕ) (i : Instance) (state : List ℕ) (w : World) → Fits w → slice_get w.modules place ≡ Some i → Fits (with_state place i state w)
+fits_with_state place i state w f e = record {
+  nested = f.nested;
+  modules = AllWithin-set (length w.records) w.modules place (record i { state = state }) (AllWithin-at (length w.records) w.modules place i e f.modules) f.modules;
+  questions = f.questions;
+}
+
+pub replied_grows : (m : Model) (id place : ℕ) (i : Instance) (r : Replied) (w : World) → Fits w → id ≤ length w.records → slice_get w.modules place ≡ Some i → IsGrown w (in_flow (replied m id place i r w))
+replied_grows m id place i r w f l e =
+    let v : World = with_state place i r.state w in
+    let asks = ask_all_grows id r.reply.reads v (fits_with_state place i r.state w f e) l in
+    let g = grown_on asks (answered_on id (read_fault m w.records id r.reply.reads) r.reply.actions (ask_all id r.reply.reads v) asks.fits) in
+    record { rest = g.rest; joined = g.joined; present = g.present; count = g.count; more = g.more; records = g.records; fits = g.fits }
+
+called_grows : (b : Behaviour) (m : Model) (id : ℕ) (p : Prompt) (w : World) (place : ℕ) (found : Option Instance) → Fits w → id ≤ length w.records → slice_get w.modules place ≡ found → IsGrown w (in_flow (called b m id p w place found))
+called_grows b m id p w place None f l e = grown_same w f
+called_grows b m id p w place (Some i) f l e = replied_grows m id place i ((b.naming i.kind).reply i.state (call_of m id p w)) w f l e
+
+call_at_grows : (b : Behaviour) (m : Model) (id : ℕ) (p : Prompt) (w : World) (found : Option ℕ) → Fits w → place_in id w.modules ≡ found → IsGrown w (in_flow (call_at b m id p w found))
+call_at_grows b m id p w None f e = grown_same w f
+call_at_grows b m id p w (Some place) f e = called_grows b m id p w place (slice_get w.modules place) f (placed_within (length w.records) id 0 place w.modules f.modules e) refl
+
+pub call_grows : (b : Behaviour) (m : Model) (id : ℕ) (p : Prompt) (w : World) → Fits w → IsGrown w (in_flow (call_module b m id p w))
+call_grows b m id p w f = call_at_grows b m id p w (place_in id w.modules) f refl
+
+-- the module that has a place is one that was created
+pub within_of_place : (id place : ℕ) (w : World) → Fits w → place_in id w.modules ≡ Some place → id ≤ length w.records
+within_of_place id place w f e = placed_within (length w.records) id 0 place w.modules f.modules e
+
+-- ---- boxes and initialization
+
+parts_within : (id : ℕ) (rs : List Record) (n : ℕ) → id + length rs ≤ n + 1 → PartsWithin n (parts_from id rs)
+parts_within id [] n l = tt
+parts_within id (r ∷ rs) n l = by r.class (parts_within (suc id) rs n (omega (arith, l)))
+  where
+    by : (class : Option (List ℕ)) → PartsWithin n (parts_from (suc id) rs) → PartsWithin n (with_class id class (parts_from (suc id) rs))
+    by None h = h
+    by (Some kind) h = (omega (arith, l), h)
+
+place_grows : (b : Behaviour) (p : Part) (w : World) → Fits w → p.id ≤ length w.records → IsGrown w (in_flow (place b p w))
+place_grows b p w f l = either_grows w (b.known p.kind) _ _ (record {
+  rest = [];
+  joined = append-nil w.questions;
+  present = tt;
+  count = refl;
+  more = [];
+  records = append-nil w.records;
+  fits = record { nested = f.nested; modules = AllWithin-append (length w.records) w.modules _ f.modules (l, tt); questions = f.questions };
+}) (grown_same w f)
+
+PartsWithin-more : (n k : ℕ) (ps : List Part) → n ≤ k → PartsWithin n ps → PartsWithin k ps
+PartsWithin-more n k [] h f = tt
+PartsWithin-more n k (p ∷ ps) h f = (omega (arith, f.0), PartsWithin-more n k ps h f.1)
+
+pub longer : (u v : World) → IsGrown u v → length u.records ≤ length v.records
+longer u v g = omega (arith, length-append u.records g.more, ap (λ (rs : List Record). length rs) g.records)
+
+-- the next part, where there are so many records
+then_grows_where : (n : ℕ) (fl : Flow) (k : World → Flow) → Fits (in_flow fl) → n ≤ length (in_flow fl).records → ((w : World) → Fits w → n ≤ length w.records → IsGrown w (in_flow (k w))) → IsGrown (in_flow fl) (in_flow (fl >>= k))
+then_grows_where n (On w) k f l h = h w f l
+then_grows_where n (Stopped w) k f l h = grown_same w f
+then_grows_where n (Broken w path fault) k f l h = grown_same w f
+
+place_all_grows : (b : Behaviour) (n : ℕ) (ps : List Part) (w : World) → PartsWithin n ps → Fits w → n ≤ length w.records → IsGrown w (in_flow (place_all b ps w))
+place_all_grows b n [] w h f l = grown_same w f
+place_all_grows b n (p ∷ ps) w h f l =
+    let g = place_grows b p w f (omega (arith, h.0, l)) in
+    grown_on g (then_grows_where n (place b p w) (place_all b ps) g.fits (omega (arith, longer w (in_flow (place b p w)) g, l)) (λ v. place_all_grows b n ps v h.1))
+
+pub place_parts_grows : (b : Behaviour) (w : World) → Fits w → IsGrown w (in_flow (place_parts b w))
+place_parts_grows b w f = place_all_grows b (length w.records) (parts_of w) w (parts_within 1 w.records (length w.records) (omega arith)) f (omega arith)
+
+initialize_grows : (b : Behaviour) (m : Model) (stage : ℕ) (p : Part) (w : World) → Fits w → IsGrown w (in_flow (initialize b m stage p w))
+initialize_grows b m stage p w f = either_grows w (nat_lt stage (b.naming p.kind).stages) _ _ (call_grows b m p.id (prompt.Initialize stage) w f) (grown_same w f)
+
+one_stage_grows : (b : Behaviour) (m : Model) (stage : ℕ) (ps : List Part) (w : World) → Fits w → IsGrown w (in_flow (one_stage b m stage ps w))
+one_stage_grows b m stage [] w f = grown_same w f
+one_stage_grows b m stage (p ∷ ps) w f = grown_then w (initialize b m stage p w) (one_stage b m stage ps) (initialize_grows b m stage p w f) (one_stage_grows b m stage ps)
+
+stages_grow : (b : Behaviour) (m : Model) (ps : List Part) (stage left : ℕ) (w : World) → Fits w → IsGrown w (in_flow (stages_from b m ps stage left w))
+stages_grow b m ps stage zero w f = grown_same w f
+stages_grow b m ps stage (suc left) w f = grown_then w (one_stage b m stage ps w) (stages_from b m ps (suc stage) left) (one_stage_grows b m stage ps w f) (stages_grow b m ps (suc stage) left)
+
+pub initialize_all_grows : (b : Behaviour) (m : Model) (w : World) → Fits w → IsGrown w (in_flow (initialize_all b m w))
+initialize_all_grows b m w f =
+    let fits : Fits (with_started w) = record { nested = f.nested; modules = f.modules; questions = f.questions } in
+    let g = stages_grow b m (standing w.modules) 0 (most_stages b (standing w.modules)) (with_started w) fits in
+    record { rest = g.rest; joined = g.joined; present = g.present; count = g.count; more = g.more; records = g.records; fits = g.fits }
+
+-- ---- setup
+
+pub fits_empty : Fits empty
+fits_empty = record { nested = tt; modules = tt; questions = tt }
+
+pub rooted_grows : (found : Answer) → IsGrown (asked Root empty) (in_flow (rooted found (asked Root empty)))
+rooted_grows (answer.Root name) = record {
+  rest = [];
+  joined = refl;
+  present = tt;
+  count = refl;
+  more = _;
+  records = refl;
+  fits = record { nested = (omega arith, tt); modules = tt; questions = (omega arith, tt) };
+}
+rooted_grows (answer.Inside bs) = grown_same _ (asked_grows Root empty fits_empty (omega arith)).fits
+rooted_grows (answer.Value v) = grown_same _ (asked_grows Root empty fits_empty (omega arith)).fits
+rooted_grows (answer.Fault path f) = grown_same _ (asked_grows Root empty fits_empty (omega arith)).fits
+rooted_grows answer.Absent = grown_same _ (asked_grows Root empty fits_empty (omega arith)).fits
+
+pub root_grows : (m : Model) → IsGrown empty (in_flow (root_asked m))
+root_grows m = grown_on (asked_grows Root empty fits_empty (omega arith)) (rooted_grows (answer_of m [] Root))
+
+nested_more : (k : ℕ) (rs : List Record) (parent : ℕ) (bs : List Built) → AreNested k rs → parent ≤ k + length rs → AreNested k (rs ++ map (record_under parent) bs)
+nested_more k [] parent [] h l = tt
+nested_more k [] parent (b ∷ bs) h l = (omega (arith, l), nested_more (suc k) [] parent bs tt (omega (arith, l)))
+nested_more k (r ∷ rs) parent bs h l = (h.0, nested_more (suc k) rs parent bs h.1 (omega (arith, l)))
+
+many_grows : (parent : ℕ) (bs : List Built) (w : World) (one : Option Built) → Fits w → parent ≤ length w.records → IsGrown w (in_flow (unless_many parent bs w one))
+many_grows parent bs w (Some b) f l = grown_same w f
+many_grows parent bs w None f l =
+    let rises = length-append w.records (map (record_under parent) bs) in
+    record {
+      rest = [];
+      joined = append-nil w.questions;
+      present = tt;
+      count = refl;
+      more = map (record_under parent) bs;
+      records = refl;
+      fits = record {
+        nested = nested_more 0 w.records parent bs f.nested (omega (arith, l));
+        modules = AllWithin-more (length w.records) _ w.modules (omega (arith, rises)) f.modules;
+        questions = AllAbout-more (length w.records) _ w.questions (omega (arith, rises)) f.questions;
+      };
+    }
+
+pub built_grows : (parent : ℕ) (found : Answer) (w : World) → Fits w → parent ≤ length w.records → IsGrown w (in_flow (built parent found w))
+built_grows parent (answer.Inside bs) w f l = many_grows parent bs w (slice_get bs 65535) f l
+built_grows parent (answer.Root name) w f l = grown_same w f
+built_grows parent (answer.Value v) w f l = grown_same w f
+built_grows parent (answer.Fault path fault) w f l = grown_same w f
+built_grows parent answer.Absent w f l = grown_same w f
+
+pub inside_grows : (m : Model) (w : World) → Fits w → 1 ≤ length w.records → IsGrown w (in_flow (inside_asked m w))
+inside_grows m w f l =
+    let g = asked_grows (Build 1) w f l in
+    grown_on g (built_grows 1 (answer_of m w.records (Build 1)) (asked (Build 1) w) g.fits l)

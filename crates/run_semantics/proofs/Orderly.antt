@@ -1,0 +1,365 @@
+-- In every world of a run the events to come are in order, none is late, each has a number of its own, and each is for a
+-- module that stands.
+use Rattle.std.proofs.Common.{◌≡◌, ◌≢◌, inl, inr, ℕ, zero, suc, ◌+◌, ◌≤◌, ◌<◌, ◌==◌, cond, Bool, true, false, List, [], ◌∷◌, ◌++◌, Option, Some, None, refl, sym, ap, ◌∙◌, arith, subst, append_assoc, append-nil, slice_get, slice_set, length, map, if◌then◌else◌, nat_lt, nat_le, eqb-true}
+use Rattle.std.specs.List.{list_any, position_from}
+use Rattle.sim_time.specs.Time.{time_sum}
+use Rattle.module_api.specs.Behaviour.{Behaviour, Replied}
+use Rattle.module_api.specs.declared.call.Prompt.{Prompt}
+use Rattle.module_api.specs.declared.call.Prompt.TheVariants as prompt
+use Rattle.module_api.specs.declared.reply.Action.{Action}
+use Rattle.module_api.specs.declared.reply.Action.TheVariants.{Emit, ScheduleAfter, Fail}
+use Rattle.module_api.specs.declared.reply.Read.{Read}
+use Rattle.module_api.specs.declared.reply.Reply.{Reply}
+use Rattle.module_api.specs.declared.reply.Schedule.{Schedule}
+use Rattle.model_answers.specs.declared.answer.Answer.{Answer}
+use Rattle.model_answers.specs.declared.answer.Answer.TheVariants as answer
+use Rattle.model_answers.specs.declared.answer.Built.{Built}
+use Rattle.model_answers.specs.declared.answer.Question.TheVariants.{Root, Build}
+use Rattle.model_answers.specs.declared.model.Model.{Model}
+use Rattle.model_answers.specs.Answering.{answer_of}
+use Rattle.run_semantics.specs.declared.outcome.Fault.{Fault}
+use Rattle.run_semantics.specs.declared.outcome.Outcome.{Outcome}
+use Rattle.run_semantics.specs.declared.outcome.Outcome.TheVariants.{Ended}
+use Rattle.run_semantics.specs.declared.pending.Happening.TheVariants.{Timer}
+use Rattle.run_semantics.specs.declared.pending.Pending.{Pending}
+use Rattle.run_semantics.specs.declared.traces.Instance.{Instance}
+use Rattle.run_semantics.specs.World.{World, empty, asked}
+use Rattle.run_semantics.specs.Order.{inserted}
+use Rattle.run_semantics.specs.Perform.{Flow, On, Stopped, Broken, ◌>>=◌, is_timer, scheduled, perform, perform_all, ask_all, question_of, acted, read_fault, unless_fault, answered}
+use Rattle.run_semantics.specs.Event.{call_of, place_in, with_state, called, call_at, call_module, begun, event, message_of}
+use Rattle.run_semantics.specs.Run.{rooted, built, unless_many, root_asked, inside_asked, prepared, Part, parts_of, place, place_all, place_parts, ready, standing, most_stages, initialize, one_stage, stages_from, initialize_all, with_started, part_of, Stage, Running, Over, world_at, settled, picked, next_stage, after}
+use Rattle.run_semantics.specs.Laws.{Each, AreInOrder, HaveOwnNumbers, IsAmong, ids_of, GoesOn}
+use Rattle.run_semantics.proofs.Sound.{in_flow}
+use Rattle.run_semantics.proofs.Counts.{event_count}
+use Rattle.run_semantics.proofs.Order.{before_time, each_map, each_inserted, ordered_inserted, own_inserted}
+
+-- what holds of the events to come of a world
+pub record IsOrderly (w : World) : Type 0 where
+  pub order : AreInOrder w.pending
+  pub own : HaveOwnNumbers w.pending
+  pub below : Each (λ e. e.number < w.next) w.pending
+  pub due : Each (λ e. w.clock ≤ e.time) w.pending
+  pub modules : Each (λ e. IsAmong e.id (ids_of w.modules)) w.pending
+
+-- from the first world to the second, within one event
+pub record Leads (old new : World) : Type 0 where
+  pub clock : new.clock ≡ old.clock
+  pub next : old.next ≤ new.next
+  pub records : new.records ≡ old.records
+  pub same : standing new.modules ≡ standing old.modules
+  pub started : new.started ≡ old.started
+  pub live : new.live ≡ old.live
+  pub emissions : GoesOn old.emissions new.emissions
+  pub orderly : IsOrderly new
+
+ids_standing : (is : List Instance) → map (λ (p : Part). p.id) (standing is) ≡ ids_of is
+ids_standing [] = refl
+ids_standing (i ∷ is) = ap (λ ids. i.id ∷ ids) (ids_standing is)
+
+-- where the same modules stand, the ids are the same
+pub same_ids : (is js : List Instance) → standing is ≡ standing js → ids_of is ≡ ids_of js
+same_ids is js e = sym (ids_standing is) ∙ (ap (map (λ (p : Part). p.id)) e ∙ ids_standing js)
+
+pub on_same : {X : Type 0} (xs : List X) → GoesOn xs xs
+on_same xs = ([], append-nil xs)
+
+pub on_more : {X : Type 0} (xs ys zs : List X) → GoesOn xs ys → GoesOn ys zs → GoesOn xs zs
+on_more xs ys zs f g = (f.0 ++ g.0, sym (append_assoc xs f.0 g.0) ∙ (ap (λ us. us ++ g.0) f.1 ∙ g.1))
+
+leads_same : (w : World) → IsOrderly w → Leads w w
+leads_same w f = record { clock = refl; next = omega arith; records = refl; same = refl; started = refl; live = refl; emissions = on_same w.emissions; orderly = f }
+
+leads_on : {u v w : World} → Leads u v → Leads v w → Leads u w
+leads_on {u} {v} {w} f g = record {
+  clock = g.clock ∙ f.clock;
+  next = omega (arith, f.next, g.next);
+  records = g.records ∙ f.records;
+  same = g.same ∙ f.same;
+  started = g.started ∙ f.started;
+  live = g.live ∙ f.live;
+  emissions = on_more u.emissions v.emissions w.emissions f.emissions g.emissions;
+  orderly = g.orderly;
+}
+
+-- the module of that id stands
+abbrev StandsIn : ℕ → World → Type 0
+StandsIn id w = IsAmong id (ids_of w.modules)
+
+stands_on : (id : ℕ) (u v : World) → Leads u v → StandsIn id u → StandsIn id v
+stands_on id u v f h = subst (IsAmong id) (sym (same_ids v.modules u.modules f.same)) h
+
+on_leads : (P : World → Type 0) (fl : Flow) (k : World → Flow) → IsOrderly (in_flow fl) → P (in_flow fl) → ((v : World) → IsOrderly v → P v → Leads v (in_flow (k v))) → Leads (in_flow fl) (in_flow (fl >>= k))
+on_leads P (On w) k f p h = h w f p
+on_leads P (Stopped w) k f p h = leads_same w f
+on_leads P (Broken w path fault) k f p h = leads_same w f
+
+leads_then : (P : World → Type 0) (w : World) (fl : Flow) (k : World → Flow) → Leads w (in_flow fl) → P (in_flow fl) → ((v : World) → IsOrderly v → P v → Leads v (in_flow (k v))) → Leads w (in_flow (fl >>= k))
+leads_then P w fl k f p h = leads_on f (on_leads P fl k f.orderly p h)
+
+either_leads : (w : World) (c : Bool) (f g : Flow) → Leads w (in_flow f) → Leads w (in_flow g) → Leads w (in_flow (if c then f else g))
+either_leads w true f g h k = h
+either_leads w false f g h k = k
+
+-- ---- actions: one line for each
+
+sum_by : (c : Bool) (n a time : ℕ) → a ≤ n → (if c then Some n else None) ≡ Some time → a ≤ time
+sum_by true n a time l e = let same : n ≡ time = cc in omega (arith, l, same)
+sum_by false n a time l e = cc
+
+-- a sum of times is no less than the first
+sum_is_after : (a b time : ℕ) → time_sum a b ≡ Some time → a ≤ time
+sum_is_after a b time e = sum_by (nat_le (a + b) 9223372036854775807) (a + b) a time (omega arith) e
+
+-- one more event, at a time that is not past, for a module that stands
+leads_inserted : (e : Pending) (w : World) → IsOrderly w → e.number ≡ w.next → w.clock ≤ e.time → StandsIn e.id w → Leads w (record w { pending = inserted e w.pending; next = w.next + 1 })
+leads_inserted e w f number time stands =
+    let ne : Each (λ g. g.number ≢ e.number) w.pending = each_map (λ g. g.number < w.next) (λ g. g.number ≢ e.number) w.pending (λ g l x. absurd (omega (arith, l, x, number))) f.below in
+    record {
+      clock = refl;
+      next = omega arith;
+      records = refl;
+      same = refl;
+      started = refl;
+      live = refl;
+      emissions = on_same w.emissions;
+      orderly = record {
+        order = ordered_inserted e w.pending ne f.order;
+        own = own_inserted e w.pending ne f.own;
+        below = each_inserted (λ g. g.number < w.next + 1) e w.pending (omega (arith, number)) (each_map (λ g. g.number < w.next) (λ g. g.number < w.next + 1) w.pending (λ g l. omega (arith, l)) f.below);
+        due = each_inserted (λ g. w.clock ≤ g.time) e w.pending time f.due;
+        modules = each_inserted (λ g. IsAmong g.id (ids_of w.modules)) e w.pending stands f.modules;
+      };
+    }
+
+scheduled_leads : (id : ℕ) (s : Schedule) (w : World) (found : Option ℕ) → time_sum w.clock s.delay ≡ found → IsOrderly w → StandsIn id w → Leads w (in_flow (scheduled id s w found))
+scheduled_leads id s w None e f h = leads_same w f
+scheduled_leads id s w (Some time) e f h =
+    either_leads w (list_any (λ p. is_timer id s.timer p) w.pending) _ _ (leads_same w f)
+    (leads_inserted (record { time = time; priority = s.priority; number = w.next; id = id; what = Timer s.timer s.kind }) w f refl (sum_is_after w.clock s.delay time e) h)
+
+perform_leads : (id : ℕ) (action : Action) (w : World) → IsOrderly w → StandsIn id w → Leads w (in_flow (perform id action w))
+perform_leads id (Emit signal value) w f h = record {
+  clock = refl;
+  next = omega arith;
+  records = refl;
+  same = refl;
+  started = refl;
+  live = refl;
+  emissions = (_, refl);
+  orderly = record { order = f.order; own = f.own; below = f.below; due = f.due; modules = f.modules };
+}
+perform_leads id (ScheduleAfter s) w f h = scheduled_leads id s w (time_sum w.clock s.delay) refl f h
+perform_leads id (Fail text) w f h = leads_same w f
+
+perform_all_leads : (id : ℕ) (actions : List Action) (w : World) → IsOrderly w → StandsIn id w → Leads w (in_flow (perform_all id actions w))
+perform_all_leads id [] w f h = leads_same w f
+perform_all_leads id (action ∷ actions) w f h =
+    let g = perform_leads id action w f h in
+    leads_then (StandsIn id) w (perform id action w) (perform_all id actions) g (stands_on id w (in_flow (perform id action w)) g h) (perform_all_leads id actions)
+
+acted_leads : (id : ℕ) (actions : List Action) (w : World) → IsOrderly w → StandsIn id w → Leads w (in_flow (acted id actions w))
+acted_leads id actions w f h = either_leads w (nat_lt 1000 (length actions)) _ _ (leads_same w f) (perform_all_leads id actions w f h)
+
+-- ---- replies and calls
+
+-- what changes neither clock, modules, events nor emissions
+leads_beside : (u v : World) → IsOrderly u → v.clock ≡ u.clock → v.next ≡ u.next → v.pending ≡ u.pending → v.records ≡ u.records → standing v.modules ≡ standing u.modules → v.started ≡ u.started → v.live ≡ u.live → v.emissions ≡ u.emissions → Leads u v
+leads_beside u v f clock next pending records same started live emissions = record {
+  clock = clock;
+  next = omega (arith, next);
+  records = records;
+  same = same;
+  started = started;
+  live = live;
+  emissions = ([], append-nil u.emissions ∙ sym emissions);
+  orderly = record {
+    order = subst AreInOrder (sym pending) f.order;
+    own = subst HaveOwnNumbers (sym pending) f.own;
+    below = rw (pending, next) f.below;
+    due = rw (pending, clock) f.due;
+    modules = rw (pending, same_ids v.modules u.modules same) f.modules;
+  };
+}
+
+ask_all_leads : (id : ℕ) (reads : List Read) (w : World) → IsOrderly w → Leads w (ask_all id reads w)
+ask_all_leads id [] w f = leads_same w f
+ask_all_leads id (r ∷ rs) w f =
+    let g : Leads w (asked (question_of id r) w) = leads_beside w _ f refl refl refl refl refl refl refl refl in
+    leads_on g (ask_all_leads id rs (asked (question_of id r) w) g.orderly)
+
+unless_leads : (w : World) (id : ℕ) (found : Option Fault) (go : World → Flow) → IsOrderly w → Leads w (in_flow (go w)) → Leads w (in_flow (unless_fault id found go w))
+unless_leads w id (Some fault) go f h = leads_same w f
+unless_leads w id None go f h = h
+
+answered_leads : (m : Model) (id : ℕ) (reply : Reply) (w : World) → IsOrderly w → StandsIn id w → Leads w (in_flow (answered m id reply w))
+answered_leads m id reply w f h =
+    let v : World = ask_all id reply.reads w in
+    let g = ask_all_leads id reply.reads w f in
+    leads_on g (unless_leads v id (read_fault m w.records id reply.reads) (acted id reply.actions) g.orderly (acted_leads id reply.actions v g.orderly (stands_on id w v g h)))
+
+-- a new state leaves what stands
+standing_set : (is : List Instance) (place : ℕ) (i : Instance) (state : List ℕ) → slice_get is place ≡ Some i → standing (slice_set is place (record i { state = state })) ≡ standing is
+standing_set [] place i state e = refl
+standing_set (j ∷ js) zero i state e = let same : j ≡ i = cc in ap (λ (x : Instance). part_of x ∷ standing js) (sym same)
+standing_set (j ∷ js) (suc place) i state e = ap (λ ps. part_of j ∷ ps) (standing_set js place i state e)
+
+called_leads : (b : Behaviour) (m : Model) (id : ℕ) (p : Prompt) (w : World) (place : ℕ) (found : Option Instance) → slice_get w.modules place ≡ found → IsOrderly w → StandsIn id w → Leads w (in_flow (called b m id p w place found))
+called_leads b m id p w place None e f h = leads_same w f
+called_leads b m id p w place (Some i) e f h =
+    let r : Replied = (b.naming i.kind).reply i.state (call_of m id p w) in
+    let v : World = with_state place i r.state w in
+    let g : Leads w v = leads_beside w v f refl refl refl refl (standing_set w.modules place i r.state e) refl refl refl in
+    leads_on g (answered_leads m id r.reply v g.orderly (stands_on id w v g h))
+
+-- a module that has a place stands
+placed_stands : (id k place : ℕ) (is : List Instance) → position_from (λ (i : Instance). i.id == id) k is ≡ Some place → IsAmong id (ids_of is)
+placed_stands id k place [] e = cc
+placed_stands id k place (i ∷ is) e = by (i.id == id) refl (placed_stands id (k + 1) place is) e
+  where
+    by : (t : Bool) → (i.id == id) ≡ t → (position_from (λ (i : Instance). i.id == id) (k + 1) is ≡ Some place → IsAmong id (ids_of is)) → cond t (Some k) (position_from (λ (i : Instance). i.id == id) (k + 1) is) ≡ Some place → IsAmong id (ids_of (i ∷ is))
+    by true t later e = inl (eqb-true i.id id t)
+    by false t later e = inr (later e)
+
+call_at_leads : (b : Behaviour) (m : Model) (id : ℕ) (p : Prompt) (w : World) (found : Option ℕ) → place_in id w.modules ≡ found → IsOrderly w → Leads w (in_flow (call_at b m id p w found))
+call_at_leads b m id p w None e f = leads_same w f
+call_at_leads b m id p w (Some place) e f = called_leads b m id p w place (slice_get w.modules place) refl f (placed_stands id 0 place w.modules e)
+
+pub call_leads : (b : Behaviour) (m : Model) (id : ℕ) (p : Prompt) (w : World) → IsOrderly w → Leads w (in_flow (call_module b m id p w))
+call_leads b m id p w f = call_at_leads b m id p w (place_in id w.modules) refl f
+
+-- ---- initialization
+
+initialize_leads : (b : Behaviour) (m : Model) (stage : ℕ) (p : Part) (w : World) → IsOrderly w → Leads w (in_flow (initialize b m stage p w))
+initialize_leads b m stage p w f = either_leads w (nat_lt stage (b.naming p.kind).stages) _ _ (call_leads b m p.id (prompt.Initialize stage) w f) (leads_same w f)
+
+one_stage_leads : (b : Behaviour) (m : Model) (stage : ℕ) (ps : List Part) (w : World) → IsOrderly w → Leads w (in_flow (one_stage b m stage ps w))
+one_stage_leads b m stage [] w f = leads_same w f
+one_stage_leads b m stage (p ∷ ps) w f =
+    leads_then (λ v. Unit {0}) w (initialize b m stage p w) (one_stage b m stage ps) (initialize_leads b m stage p w f) tt (λ v g u. one_stage_leads b m stage ps v g)
+
+stages_lead : (b : Behaviour) (m : Model) (ps : List Part) (stage left : ℕ) (w : World) → IsOrderly w → Leads w (in_flow (stages_from b m ps stage left w))
+stages_lead b m ps stage zero w f = leads_same w f
+stages_lead b m ps stage (suc left) w f =
+    leads_then (λ v. Unit {0}) w (one_stage b m stage ps w) (stages_from b m ps (suc stage) left) (one_stage_leads b m stage ps w f) tt (λ v g u. stages_lead b m ps (suc stage) left v g)
+
+orderly_started : (w : World) → IsOrderly w → IsOrderly (with_started w)
+orderly_started w f = record { order = f.order; own = f.own; below = f.below; due = f.due; modules = f.modules }
+
+pub initialize_all_leads : (b : Behaviour) (m : Model) (w : World) → IsOrderly w → Leads (with_started w) (in_flow (initialize_all b m w))
+initialize_all_leads b m w f = stages_lead b m (standing w.modules) 0 (most_stages b (standing w.modules)) (with_started w) (orderly_started w f)
+
+-- ---- setup: no event is to come
+
+then_none : (fl : Flow) (k : World → Flow) → (in_flow fl).pending ≡ [] → ((w : World) → w.pending ≡ [] → (in_flow (k w)).pending ≡ []) → (in_flow (fl >>= k)).pending ≡ []
+then_none (On w) k e h = h w e
+then_none (Stopped w) k e h = e
+then_none (Broken w path f) k e h = e
+
+either_none : (c : Bool) (f g : Flow) → (in_flow f).pending ≡ [] → (in_flow g).pending ≡ [] → (in_flow (if c then f else g)).pending ≡ []
+either_none true f g e d = e
+either_none false f g e d = d
+
+root_none : (found : Answer) → (in_flow (rooted found (asked Root empty))).pending ≡ []
+root_none (answer.Root name) = refl
+root_none (answer.Inside bs) = refl
+root_none (answer.Value v) = refl
+root_none (answer.Fault path f) = refl
+root_none answer.Absent = refl
+
+many_none : (parent : ℕ) (bs : List Built) (w : World) (one : Option Built) → w.pending ≡ [] → (in_flow (unless_many parent bs w one)).pending ≡ []
+many_none parent bs w (Some b) e = e
+many_none parent bs w None e = e
+
+built_none : (parent : ℕ) (found : Answer) (w : World) → w.pending ≡ [] → (in_flow (built parent found w)).pending ≡ []
+built_none parent (answer.Inside bs) w e = many_none parent bs w (slice_get bs 65535) e
+built_none parent (answer.Root name) w e = e
+built_none parent (answer.Value v) w e = e
+built_none parent (answer.Fault path f) w e = e
+built_none parent answer.Absent w e = e
+
+place_all_none : (b : Behaviour) (ps : List Part) (w : World) → w.pending ≡ [] → (in_flow (place_all b ps w)).pending ≡ []
+place_all_none b [] w e = e
+place_all_none b (p ∷ ps) w e = then_none (place b p w) (place_all b ps) (either_none (b.known p.kind) _ _ e e) (place_all_none b ps)
+
+pub ready_none : (b : Behaviour) (m : Model) → (in_flow (ready b m)).pending ≡ []
+ready_none b m =
+    then_none (prepared m) (place_parts b)
+    (then_none (root_asked m) (inside_asked m) (root_none (answer_of m [] Root)) (λ w e. built_none 1 (answer_of m w.records (Build 1)) (asked (Build 1) w) e))
+    (λ w e. place_all_none b (parts_of w) w e)
+
+pub orderly_none : (w : World) → w.pending ≡ [] → IsOrderly w
+orderly_none w e = record { order = rw e tt; own = rw e tt; below = rw e tt; due = rw e tt; modules = rw e tt }
+
+-- ---- runs
+
+-- from the first world to the second, over one event at most
+pub record Follows (old new : World) : Type 0 where
+  pub clock : old.clock ≤ new.clock
+  pub count : old.count ≤ new.count
+  pub next : old.next ≤ new.next
+  pub records : new.records ≡ old.records
+  pub same : standing new.modules ≡ standing old.modules
+  pub started : new.started ≡ old.started
+  pub live : new.live ≡ old.live
+  pub emissions : GoesOn old.emissions new.emissions
+  pub orderly : IsOrderly new
+
+follows_same : (w : World) → IsOrderly w → Follows w w
+follows_same w f = record { clock = omega arith; count = omega arith; next = omega arith; records = refl; same = refl; started = refl; live = refl; emissions = on_same w.emissions; orderly = f }
+
+-- the first event is taken out, and none that is left is before it
+orderly_begun : (p : Pending) (rest : List Pending) (w : World) → w.pending ≡ p ∷ rest → IsOrderly w → IsOrderly (begun p rest w)
+orderly_begun p rest w e f =
+    let order : AreInOrder (p ∷ rest) = subst AreInOrder e f.order in
+    let own : HaveOwnNumbers (p ∷ rest) = subst HaveOwnNumbers e f.own in
+    let below : Each (λ g. g.number < w.next) (p ∷ rest) = subst (Each (λ (g : Pending). g.number < w.next)) e f.below in
+    let modules : Each (λ g. IsAmong g.id (ids_of w.modules)) (p ∷ rest) = subst (Each (λ (g : Pending). IsAmong g.id (ids_of w.modules))) e f.modules in
+    record { order = order.1; own = own.1; below = below.1; due = each_map _ (λ g. p.time ≤ g.time) rest (λ g b. before_time p g b) order.0; modules = modules.1 }
+
+settled_at : (fl : Flow) → world_at (settled fl) ≡ in_flow fl
+settled_at (On w) = refl
+settled_at (Stopped w) = refl
+settled_at (Broken w path f) = refl
+
+event_follows : (b : Behaviour) (m : Model) (p : Pending) (rest : List Pending) (w : World) → w.pending ≡ p ∷ rest → IsOrderly w → Follows w (world_at (settled (event b m p rest w)))
+event_follows b m p rest w e f =
+    let due : Each (λ g. w.clock ≤ g.time) (p ∷ rest) = subst (Each (λ (g : Pending). w.clock ≤ g.time)) e f.due in
+    let now : w.clock ≤ p.time = due.0 in
+    let g = call_leads b m p.id (prompt.Message (message_of p)) (begun p rest w) (orderly_begun p rest w e f) in
+    let count = event_count b m p rest w in
+    subst (Follows w) (sym (settled_at (event b m p rest w))) (record {
+      clock = omega (arith, g.clock, now);
+      count = omega (arith, count);
+      next = g.next;
+      records = g.records;
+      same = g.same;
+      started = g.started;
+      live = g.live;
+      emissions = g.emissions;
+      orderly = g.orderly;
+    })
+
+picked_follows : (b : Behaviour) (m : Model) (w : World) (pending : List Pending) → w.pending ≡ pending → IsOrderly w → Follows w (world_at (picked b m w pending))
+picked_follows b m w [] e f = follows_same w f
+picked_follows b m w (p ∷ rest) e f = event_follows b m p rest w e f
+
+either_follows : (c : Bool) (w : World) (outcome : Outcome) (s : Stage) → IsOrderly w → Follows w (world_at s) → Follows w (world_at (if c then Over w outcome else s))
+either_follows true w outcome s f g = follows_same w f
+either_follows false w outcome s f g = g
+
+next_follows : (b : Behaviour) (m : Model) (s : Stage) → IsOrderly (world_at s) → Follows (world_at s) (world_at (next_stage b m s))
+next_follows b m (Running w) f = either_follows w.ended w Ended (picked b m w w.pending) f (picked_follows b m w w.pending refl f)
+next_follows b m (Over w outcome) f = follows_same w f
+
+orderly_then : (b : Behaviour) (m : Model) (fl : Flow) → IsOrderly (in_flow fl) → IsOrderly (in_flow (fl >>= initialize_all b m))
+orderly_then b m (On w) f = (initialize_all_leads b m w f).orderly
+orderly_then b m (Stopped w) f = f
+orderly_then b m (Broken w path fault) f = f
+
+-- every world of a run is orderly
+pub orderly_after : (b : Behaviour) (m : Model) (n : ℕ) → IsOrderly (world_at (after b m n))
+orderly_after b m zero = subst IsOrderly (sym (settled_at (ready b m >>= initialize_all b m))) (orderly_then b m (ready b m) (orderly_none (in_flow (ready b m)) (ready_none b m)))
+orderly_after b m (suc n) = (next_follows b m (after b m n) (orderly_after b m n)).orderly
+
+pub after_follows : (b : Behaviour) (m : Model) (n : ℕ) → Follows (world_at (after b m n)) (world_at (after b m (suc n)))
+after_follows b m n = next_follows b m (after b m n) (orderly_after b m n)

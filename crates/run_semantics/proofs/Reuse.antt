@@ -1,0 +1,391 @@
+-- A run takes nothing from its model but answers to the questions that it notes: models that answer them alike have the
+-- same run.
+use Rattle.std.proofs.Common.{◌≡◌, ℕ, zero, suc, ◌+◌, ◌≤◌, ◌<◌, Bool, true, false, List, [], ◌∷◌, ◌++◌, Option, Some, None, refl, sym, ap, ◌∙◌, arith, subst, append_assoc, append-nil, slice_get, length, if◌then◌else◌, nat_lt, ⊎_elim}
+use Rattle.std.proofs.Math.Nat.{eq-or-lt_of_le}
+use Rattle.module_api.specs.Behaviour.{Behaviour, Replied}
+use Rattle.module_api.specs.Laws.{AgreesOn, IsLawful}
+use Rattle.module_api.specs.declared.call.Prompt.{Prompt}
+use Rattle.module_api.specs.declared.call.Prompt.TheVariants as prompt
+use Rattle.module_api.specs.declared.reply.Read.{Read}
+use Rattle.module_api.specs.declared.reply.Read.TheVariants as read
+use Rattle.model_answers.specs.declared.answer.Answer.{Answer}
+use Rattle.model_answers.specs.declared.answer.Answer.TheVariants as answer
+use Rattle.model_answers.specs.declared.answer.Asked.{Asked}
+use Rattle.model_answers.specs.declared.answer.Question.TheVariants.{Root, Build}
+use Rattle.model_answers.specs.declared.model.Model.{Model}
+use Rattle.model_answers.specs.declared.record.Record.{Record}
+use Rattle.model_answers.specs.Answering.{answer_of, parameters_of}
+use Rattle.model_answers.proofs.AnswerLemmas.{AreNested, answer_more, same_value}
+use Rattle.run_semantics.specs.declared.outcome.Outcome.{Outcome}
+use Rattle.run_semantics.specs.declared.outcome.Outcome.TheVariants.{Ended}
+use Rattle.run_semantics.specs.declared.pending.Pending.{Pending}
+use Rattle.run_semantics.specs.declared.traces.Instance.{Instance}
+use Rattle.run_semantics.specs.Agreement.{Agrees, AgreesUpTo}
+use Rattle.run_semantics.specs.Laws.{Each}
+use Rattle.run_semantics.specs.World.{World, empty, asked}
+use Rattle.run_semantics.specs.Perform.{Flow, On, Stopped, Broken, ◌>>=◌, ask_all, question_of, acted, first_fault, fault_of_read, read_fault, unless_fault}
+use Rattle.run_semantics.specs.Event.{call_of, place_in, with_state, replied, called, call_at, call_module, begun, event, message_of}
+use Rattle.run_semantics.specs.Run.{rooted, built, root_asked, inside_asked, prepared, Part, place_parts, ready, standing, most_stages, initialize, one_stage, stages_from, initialize_all, with_started, Stage, Running, Over, world_at, settled, start, picked, next_stage, after}
+use Rattle.run_semantics.proofs.Sound.{in_flow}
+use Rattle.run_semantics.proofs.Counts.{RunsOn, runs_on}
+use Rattle.run_semantics.proofs.Growth.{AllOfEvent, AllAbout, Fits, IsGrown, grown_same, grown_on, fits_empty, root_grows, rooted_grows, inside_grows, built_grows, then_grows, asked_grows, asked_read_grows, ask_all_grows, answered_on, fits_with_state, replied_grows, within_of_place, call_grows, place_parts_grows, initialize_all_grows}
+
+-- ---- agreement on fewer questions
+
+-- the models agree on all that was asked in that world
+abbrev pub AgreesIn : Model → Model → World → Type 0
+AgreesIn m n w = Agrees m n w.records w.questions
+
+Agrees-front : (m n : Model) (rs : List Record) (xs ys : List Asked) → Agrees m n rs (xs ++ ys) → Agrees m n rs xs
+Agrees-front m n rs [] ys h = tt
+Agrees-front m n rs (x ∷ xs) ys h = (h.0, Agrees-front m n rs xs ys h.1)
+
+Agrees-last : (m n : Model) (rs : List Record) (xs : List Asked) (a : Asked) → Agrees m n rs (xs ++ a ∷ []) → answer_of m rs a.question ≡ answer_of n rs a.question
+Agrees-last m n rs [] a h = h.0
+Agrees-last m n rs (x ∷ xs) a h = Agrees-last m n rs xs a h.1
+
+-- with the modules that were there before
+Agrees-fewer : (m n : Model) (rs more : List Record) → AreNested 0 rs → (xs : List Asked) → AllAbout (length rs) xs → Agrees m n (rs ++ more) xs → Agrees m n rs xs
+Agrees-fewer m n rs more h [] f a = tt
+Agrees-fewer m n rs more h (x ∷ xs) f a =
+    (sym (answer_more m rs more h x.question f.0) ∙ (a.0 ∙ answer_more n rs more h x.question f.0), Agrees-fewer m n rs more h xs f.1 a.1)
+
+Agrees-grown : (m n : Model) (u : World) (rest : List Asked) (more rs : List Record) (qs : List Asked) → Fits u → u.questions ++ rest ≡ qs → u.records ++ more ≡ rs → Agrees m n rs qs → AgreesIn m n u
+Agrees-grown m n u rest more rs qs f joined records h =
+    let all : Agrees m n (u.records ++ more) (u.questions ++ rest) = subst (λ xs. Agrees m n xs (u.questions ++ rest)) (sym records) (subst (Agrees m n rs) (sym joined) h) in
+    Agrees-fewer m n u.records more f.nested u.questions f.questions (Agrees-front m n (u.records ++ more) u.questions rest all)
+
+Agrees-before : (m n : Model) (u w : World) → Fits u → IsGrown u w → AgreesIn m n w → AgreesIn m n u
+Agrees-before m n u w f g h = Agrees-grown m n u g.rest g.more w.records w.questions f g.joined g.records h
+
+-- ---- parts of an event in two models
+
+-- a part of an event, from that world on, in the first model and in the second: it only asks, and where the models agree
+-- on all that was asked it is the same
+pub record DoesSame (m n : Model) (w : World) (f g : Flow) : Type 0 where
+  pub grows : IsGrown w (in_flow f)
+  pub same : AgreesIn m n (in_flow f) → f ≡ g
+
+-- a part that takes nothing from the model
+does_itself : (m n : Model) (w : World) (f : Flow) → IsGrown w (in_flow f) → DoesSame m n w f f
+does_itself m n w f g = record { grows = g; same = λ h. refl }
+
+-- a world in which the part goes on has the property
+abbrev IfOn : (World → Type 0) → Flow → Type 0
+IfOn P (On w) = P w
+IfOn P (Stopped w) = Unit {0}
+IfOn P (Broken w path f) = Unit {0}
+
+on_grows : (m n : Model) (P : World → Type 0) (fl : Flow) (k l : World → Flow) → Fits (in_flow fl) → IfOn P fl → ((v : World) → Fits v → P v → DoesSame m n v (k v) (l v)) → IsGrown (in_flow fl) (in_flow (fl >>= k))
+on_grows m n P (On w) k l f p h = (h w f p).grows
+on_grows m n P (Stopped w) k l f p h = grown_same w f
+on_grows m n P (Broken w path fault) k l f p h = grown_same w f
+
+on_same : (m n : Model) (P : World → Type 0) (fl : Flow) (k l : World → Flow) → Fits (in_flow fl) → IfOn P fl → ((v : World) → Fits v → P v → DoesSame m n v (k v) (l v)) → AgreesIn m n (in_flow (fl >>= k)) → (fl >>= k) ≡ (fl >>= l)
+on_same m n P (On w) k l f p h a = (h w f p).same a
+on_same m n P (Stopped w) k l f p h a = refl
+on_same m n P (Broken w path fault) k l f p h a = refl
+
+-- one part and the next, which may rely on what the first leaves
+does_then_where : (m n : Model) (P : World → Type 0) (w : World) (f g : Flow) (k l : World → Flow) → DoesSame m n w f g → IfOn P f → ((v : World) → Fits v → P v → DoesSame m n v (k v) (l v)) → DoesSame m n w (f >>= k) (g >>= l)
+does_then_where m n P w f g k l d p h =
+    let more = on_grows m n P f k l d.grows.fits p h in
+    record {
+      grows = grown_on d.grows more;
+      same = λ a. on_same m n P f k l d.grows.fits p h a ∙ ap (λ fl. fl >>= l) (d.same (Agrees-before m n (in_flow f) (in_flow (f >>= k)) d.grows.fits more a));
+    }
+
+any_world : (fl : Flow) → IfOn (λ w. Unit {0}) fl
+any_world (On w) = tt
+any_world (Stopped w) = tt
+any_world (Broken w path f) = tt
+
+does_then : (m n : Model) (w : World) (f g : Flow) (k l : World → Flow) → DoesSame m n w f g → ((v : World) → Fits v → DoesSame m n v (k v) (l v)) → DoesSame m n w (f >>= k) (g >>= l)
+does_then m n w f g k l d h = does_then_where m n (λ w. Unit {0}) w f g k l d (any_world f) (λ v fits p. h v fits)
+
+either_does : (m n : Model) (w : World) (c : Bool) (f g h k : Flow) → DoesSame m n w f g → DoesSame m n w h k → DoesSame m n w (if c then f else h) (if c then g else k)
+either_does m n w true f g h k d e = d
+either_does m n w false f g h k d e = e
+
+-- ---- replies and calls
+
+-- the models answer these reads alike
+abbrev AnswerAlike : Model → Model → List Record → ℕ → List Read → Type 0
+AnswerAlike m n records id [] = Unit {0}
+AnswerAlike m n records id (r ∷ rs) = (answer_of m records (question_of id r) ≡ answer_of n records (question_of id r)) × AnswerAlike m n records id rs
+
+-- what was asked of the reads
+alike_asked : (m n : Model) (id : ℕ) (reads : List Read) (w : World) → Fits w → id ≤ length w.records → AgreesIn m n (ask_all id reads w) → AnswerAlike m n w.records id reads
+alike_asked m n id [] w f l h = tt
+alike_asked m n id (r ∷ rs) w f l h =
+    let v : World = asked (question_of id r) w in
+    let g = asked_read_grows id r w f l in
+    let here : AgreesIn m n v = Agrees-before m n v (ask_all id rs v) g.fits (ask_all_grows id rs v g.fits l) h in
+    (Agrees-last m n w.records w.questions (record { event = w.count; question = question_of id r }) here, alike_asked m n id rs v g.fits l h)
+
+fault_alike : (m n : Model) (records : List Record) (id : ℕ) (reads : List Read) → AnswerAlike m n records id reads → read_fault m records id reads ≡ read_fault n records id reads
+fault_alike m n records id [] h = refl
+fault_alike m n records id (r ∷ rs) h =
+    ap (λ (a : Answer). first_fault (fault_of_read r a) (read_fault m records id rs)) h.0
+    ∙ ap (first_fault (fault_of_read r (answer_of n records (question_of id r)))) (fault_alike m n records id rs h.1)
+
+-- a call shows the same there
+shown_alike : (m n : Model) (id : ℕ) (p : Prompt) (w : World) (reads : List Read) → AnswerAlike m n w.records id reads → AgreesOn reads (call_of m id p w) (parameters_of n w.records id) []
+shown_alike m n id p w [] h = tt
+shown_alike m n id p w (read.Parameter name ∷ rs) h = (same_value m n w.records id name h.0, shown_alike m n id p w rs h.1)
+shown_alike m n id p w (read.Gate name ∷ rs) h = (refl, shown_alike m n id p w rs h.1)
+
+called_same : (b : Behaviour) → IsLawful b → (m n : Model) (id : ℕ) (p : Prompt) (w : World) (place : ℕ) (found : Option Instance) → Fits w → id ≤ length w.records → slice_get w.modules place ≡ found → DoesSame m n w (called b m id p w place found) (called b n id p w place found)
+called_same b law m n id p w place None f l e = does_itself m n w (On w) (grown_same w f)
+called_same b law m n id p w place (Some i) f l e =
+    let r : Replied = (b.naming i.kind).reply i.state (call_of m id p w) in
+    let v : World = with_state place i r.state w in
+    let fits = fits_with_state place i r.state w f e in
+    let asks = ask_all_grows id r.reply.reads v fits l in
+    record {
+      grows = replied_grows m id place i r w f l e;
+      same = λ h.
+          let before : AgreesIn m n (ask_all id r.reply.reads v) = Agrees-before m n (ask_all id r.reply.reads v) _ asks.fits (answered_on id (read_fault m w.records id r.reply.reads) r.reply.actions (ask_all id r.reply.reads v) asks.fits) h in
+          let alike : AnswerAlike m n w.records id r.reply.reads = alike_asked m n id r.reply.reads v fits l before in
+          let reply : (b.naming i.kind).reply i.state (call_of n id p w) ≡ r = (law.reads i.kind) i.state (call_of m id p w) (parameters_of n w.records id) [] (shown_alike m n id p w r.reply.reads alike) in
+          ap (λ found. unless_fault id found (acted id r.reply.actions) (ask_all id r.reply.reads v)) (fault_alike m n w.records id r.reply.reads alike)
+          ∙ ap (λ (x : Replied). replied n id place i x w) (sym reply);
+    }
+
+call_at_same : (b : Behaviour) → IsLawful b → (m n : Model) (id : ℕ) (p : Prompt) (w : World) (found : Option ℕ) → Fits w → place_in id w.modules ≡ found → DoesSame m n w (call_at b m id p w found) (call_at b n id p w found)
+call_at_same b law m n id p w None f e = does_itself m n w (On w) (grown_same w f)
+call_at_same b law m n id p w (Some place) f e = called_same b law m n id p w place (slice_get w.modules place) f (within_of_place id place w f e) refl
+
+call_same : (b : Behaviour) → IsLawful b → (m n : Model) (id : ℕ) (p : Prompt) (w : World) → Fits w → DoesSame m n w (call_module b m id p w) (call_module b n id p w)
+call_same b law m n id p w f = call_at_same b law m n id p w (place_in id w.modules) f refl
+
+-- ---- setup, boxes and initialization
+
+root_same : (m n : Model) → DoesSame m n empty (root_asked m) (root_asked n)
+root_same m n = record {
+  grows = root_grows m;
+  same = λ h.
+      let v : World = asked Root empty in
+      let here : AgreesIn m n v = Agrees-before m n v (in_flow (root_asked m)) (asked_grows Root empty fits_empty (omega arith)).fits (rooted_grows (answer_of m [] Root)) h in
+      ap (λ (a : Answer). rooted a v) here.0;
+}
+
+-- where a network is there, it has a record
+abbrev HasRecord : World → Type 0
+HasRecord w = 1 ≤ length w.records
+
+rooted_on : (found : Answer) → IfOn HasRecord (rooted found (asked Root empty))
+rooted_on (answer.Root name) = omega arith
+rooted_on (answer.Inside bs) = tt
+rooted_on (answer.Value v) = tt
+rooted_on (answer.Fault path f) = tt
+rooted_on answer.Absent = tt
+
+inside_same : (m n : Model) (w : World) → Fits w → HasRecord w → DoesSame m n w (inside_asked m w) (inside_asked n w)
+inside_same m n w f l =
+    let v : World = asked (Build 1) w in
+    let g = asked_grows (Build 1) w f l in
+    record {
+      grows = inside_grows m w f l;
+      same = λ h.
+          let here : AgreesIn m n v = Agrees-before m n v (in_flow (inside_asked m w)) g.fits (built_grows 1 (answer_of m w.records (Build 1)) v g.fits l) h in
+          ap (λ (a : Answer). built 1 a v) (Agrees-last m n w.records w.questions (record { event = w.count; question = Build 1 }) here);
+    }
+
+prepared_same : (m n : Model) → DoesSame m n empty (prepared m) (prepared n)
+prepared_same m n = does_then_where m n HasRecord empty (root_asked m) (root_asked n) (inside_asked m) (inside_asked n) (root_same m n) (rooted_on (answer_of m [] Root)) (inside_same m n)
+
+ready_same : (b : Behaviour) (m n : Model) → DoesSame m n empty (ready b m) (ready b n)
+ready_same b m n =
+    does_then m n empty (prepared m) (prepared n) (place_parts b) (place_parts b) (prepared_same m n) (λ w f. does_itself m n w (place_parts b w) (place_parts_grows b w f))
+
+initialize_same : (b : Behaviour) → IsLawful b → (m n : Model) (stage : ℕ) (p : Part) (w : World) → Fits w → DoesSame m n w (initialize b m stage p w) (initialize b n stage p w)
+initialize_same b law m n stage p w f =
+    either_does m n w (nat_lt stage (b.naming p.kind).stages) _ _ (On w) (On w) (call_same b law m n p.id (prompt.Initialize stage) w f) (does_itself m n w (On w) (grown_same w f))
+
+one_stage_same : (b : Behaviour) → IsLawful b → (m n : Model) (stage : ℕ) (ps : List Part) (w : World) → Fits w → DoesSame m n w (one_stage b m stage ps w) (one_stage b n stage ps w)
+one_stage_same b law m n stage [] w f = does_itself m n w (On w) (grown_same w f)
+one_stage_same b law m n stage (p ∷ ps) w f =
+    does_then m n w (initialize b m stage p w) (initialize b n stage p w) (one_stage b m stage ps) (one_stage b n stage ps) (initialize_same b law m n stage p w f) (one_stage_same b law m n stage ps)
+
+stages_same : (b : Behaviour) → IsLawful b → (m n : Model) (ps : List Part) (stage left : ℕ) (w : World) → Fits w → DoesSame m n w (stages_from b m ps stage left w) (stages_from b n ps stage left w)
+stages_same b law m n ps stage zero w f = does_itself m n w (On w) (grown_same w f)
+stages_same b law m n ps stage (suc left) w f =
+    does_then m n w (one_stage b m stage ps w) (one_stage b n stage ps w) (stages_from b m ps (suc stage) left) (stages_from b n ps (suc stage) left) (one_stage_same b law m n stage ps w f) (stages_same b law m n ps (suc stage) left)
+
+initialize_all_same : (b : Behaviour) → IsLawful b → (m n : Model) (w : World) → Fits w → DoesSame m n w (initialize_all b m w) (initialize_all b n w)
+initialize_all_same b law m n w f =
+    let fits : Fits (with_started w) = record { nested = f.nested; modules = f.modules; questions = f.questions } in
+    record {
+      grows = initialize_all_grows b m w f;
+      same = (stages_same b law m n (standing w.modules) 0 (most_stages b (standing w.modules)) (with_started w) fits).same;
+    }
+
+-- event zero, before it is settled
+abbrev pub begins : Behaviour → Model → Flow
+begins b m = ready b m >>= initialize_all b m
+
+pub begins_same : (b : Behaviour) → IsLawful b → (m n : Model) → DoesSame m n empty (begins b m) (begins b n)
+begins_same b law m n = does_then m n empty (ready b m) (ready b n) (initialize_all b m) (initialize_all b n) (ready_same b m n) (initialize_all_same b law m n)
+
+pub begins_grows : (b : Behaviour) (m : Model) → IsGrown empty (in_flow (begins b m))
+begins_grows b m = let g = (ready_same b m m).grows in grown_on g (then_grows (ready b m) (initialize_all b m) g.fits (initialize_all_grows b m))
+
+settled_world : (fl : Flow) → world_at (settled fl) ≡ in_flow fl
+settled_world (On w) = refl
+settled_world (Stopped w) = refl
+settled_world (Broken w path f) = refl
+
+start_same : (b : Behaviour) → IsLawful b → (m n : Model) → AgreesIn m n (world_at (start b m)) → start b m ≡ start b n
+start_same b law m n h = ap settled ((begins_same b law m n).same (subst (AgreesIn m n) (settled_world (begins b m)) h))
+
+-- ---- events
+
+-- from the first world to the second one event was executed at most, the one of that number: its questions were asked
+pub record IsLater (event : ℕ) (old new : World) : Type 0 where
+  pub rest : List Asked
+  pub joined : old.questions ++ rest ≡ new.questions
+  pub later : AllOfEvent event rest
+  pub more : List Record
+  pub records : old.records ++ more ≡ new.records
+  pub fits : Fits new
+
+later_same : (event : ℕ) (w : World) → Fits w → IsLater event w w
+later_same event w f = record { rest = []; joined = append-nil w.questions; later = tt; more = []; records = append-nil w.records; fits = f }
+
+fits_begun : (p : Pending) (rest : List Pending) (w : World) → Fits w → Fits (begun p rest w)
+fits_begun p rest w f = record { nested = f.nested; modules = f.modules; questions = f.questions }
+
+event_later : (b : Behaviour) (m : Model) (p : Pending) (rest : List Pending) (w : World) → Fits w → IsLater (w.count + 1) w (world_at (settled (event b m p rest w)))
+event_later b m p rest w f =
+    let g = call_grows b m p.id (prompt.Message (message_of p)) (begun p rest w) (fits_begun p rest w f) in
+    subst (IsLater (w.count + 1) w) (sym (settled_world (event b m p rest w))) (record { rest = g.rest; joined = g.joined; later = g.present; more = g.more; records = g.records; fits = g.fits })
+
+picked_later : (b : Behaviour) (m : Model) (w : World) (pending : List Pending) → Fits w → IsLater (w.count + 1) w (world_at (picked b m w pending))
+picked_later b m w [] f = later_same (w.count + 1) w f
+picked_later b m w (p ∷ rest) f = event_later b m p rest w f
+
+either_later : (event : ℕ) (c : Bool) (w : World) (outcome : Outcome) (s : Stage) → Fits w → IsLater event w (world_at s) → IsLater event w (world_at (if c then Over w outcome else s))
+either_later event true w outcome s f g = later_same event w f
+either_later event false w outcome s f g = g
+
+next_later : (b : Behaviour) (m : Model) (n : ℕ) (s : Stage) → RunsOn n s → Fits (world_at s) → IsLater (suc n) (world_at s) (world_at (next_stage b m s))
+next_later b m n (Running w) at f =
+    let e : w.count + 1 ≡ suc n = omega (arith, at w refl) in
+    subst (λ event. IsLater event w (world_at (next_stage b m (Running w)))) e (either_later (w.count + 1) w.ended w Ended (picked b m w w.pending) f (picked_later b m w w.pending f))
+next_later b m n (Over w outcome) at f = later_same (suc n) w f
+
+picked_same : (b : Behaviour) → IsLawful b → (m n : Model) (w : World) (pending : List Pending) → Fits w → AgreesIn m n (world_at (picked b m w pending)) → picked b m w pending ≡ picked b n w pending
+picked_same b law m n w [] f h = refl
+picked_same b law m n w (p ∷ rest) f h =
+    ap settled ((call_same b law m n p.id (prompt.Message (message_of p)) (begun p rest w) (fits_begun p rest w f)).same (subst (AgreesIn m n) (settled_world (event b m p rest w)) h))
+
+either_same : (m n : Model) (c : Bool) (w : World) (outcome : Outcome) (s t : Stage) → (AgreesIn m n (world_at s) → s ≡ t) → AgreesIn m n (world_at (if c then Over w outcome else s)) → (if c then Over w outcome else s) ≡ (if c then Over w outcome else t)
+either_same m n true w outcome s t k h = refl
+either_same m n false w outcome s t k h = k h
+
+next_same : (b : Behaviour) → IsLawful b → (m n : Model) (s : Stage) → Fits (world_at s) → AgreesIn m n (world_at (next_stage b m s)) → next_stage b m s ≡ next_stage b n s
+next_same b law m n (Running w) f h = either_same m n w.ended w Ended (picked b m w w.pending) (picked b n w w.pending) (picked_same b law m n w w.pending f) h
+next_same b law m n (Over w outcome) f h = refl
+
+-- ---- runs
+
+pub fits_after : (b : Behaviour) (m : Model) (n : ℕ) → Fits (world_at (after b m n))
+fits_after b m zero = subst Fits (sym (settled_world (begins b m))) (begins_grows b m).fits
+fits_after b m (suc n) = (next_later b m n (after b m n) (runs_on b m n) (fits_after b m n)).fits
+
+pub after_later : (b : Behaviour) (m : Model) (n : ℕ) → IsLater (suc n) (world_at (after b m n)) (world_at (after b m (suc n)))
+after_later b m n = next_later b m n (after b m n) (runs_on b m n) (fits_after b m n)
+
+-- models that agree on all that was asked in the run of the first up to an event have the same run up to there
+pub after_same : (b : Behaviour) → IsLawful b → (m n : Model) (v : ℕ) → AgreesIn m n (world_at (after b m v)) → after b m v ≡ after b n v
+after_same b law m n zero h = start_same b law m n h
+after_same b law m n (suc v) h =
+    let g = after_later b m v in
+    let before : AgreesIn m n (world_at (after b m v)) = Agrees-grown m n (world_at (after b m v)) g.rest g.more (world_at (after b m (suc v))).records (world_at (after b m (suc v))).questions (fits_after b m v) g.joined g.records h in
+    next_same b law m n (after b m v) (fits_after b m v) h ∙ ap (next_stage b n) (after_same b law m n v before)
+
+-- ---- the first events of a longer run
+
+-- all are of events up to that one
+abbrev AllUpTo : ℕ → List Asked → Type 0
+AllUpTo v [] = Unit {0}
+AllUpTo v (a ∷ rest) = (a.event ≤ v) × AllUpTo v rest
+
+AllUpTo-append : (v : ℕ) (xs ys : List Asked) → AllUpTo v xs → AllUpTo v ys → AllUpTo v (xs ++ ys)
+AllUpTo-append v [] ys f g = g
+AllUpTo-append v (x ∷ xs) ys f g = (f.0, AllUpTo-append v xs ys f.1 g)
+
+AllUpTo-more : (u v : ℕ) (xs : List Asked) → u ≤ v → AllUpTo u xs → AllUpTo v xs
+AllUpTo-more u v [] h f = tt
+AllUpTo-more u v (x ∷ xs) h f = (omega (arith, f.0), AllUpTo-more u v xs h f.1)
+
+AllUpTo-of : (v event : ℕ) (xs : List Asked) → event ≤ v → AllOfEvent event xs → AllUpTo v xs
+AllUpTo-of v event [] h f = tt
+AllUpTo-of v event (x ∷ xs) h f = (omega (arith, f.0), AllUpTo-of v event xs h f.1)
+
+-- the questions of a run up to an event are of the events up to it
+up_to_after : (b : Behaviour) (m : Model) (v : ℕ) → AllUpTo v (world_at (after b m v)).questions
+up_to_after b m zero =
+    let g = begins_grows b m in
+    subst (λ (w : World). AllUpTo 0 w.questions) (sym (settled_world (begins b m))) (subst (AllUpTo 0) g.joined (AllUpTo-of 0 0 g.rest (omega arith) g.present))
+up_to_after b m (suc v) =
+    let g = after_later b m v in
+    subst (AllUpTo (suc v)) g.joined (AllUpTo-append (suc v) _ g.rest (AllUpTo-more v (suc v) _ (omega arith) (up_to_after b m v)) (AllUpTo-of (suc v) (suc v) g.rest (omega arith) g.later))
+
+Agrees-up_to : (v : ℕ) (m n : Model) (rs : List Record) (xs : List Asked) → AllUpTo v xs → AgreesUpTo v m n rs xs → Agrees m n rs xs
+Agrees-up_to v m n rs [] f a = tt
+Agrees-up_to v m n rs (x ∷ xs) f a = (a.0 f.0, Agrees-up_to v m n rs xs f.1 a.1)
+
+AgreesUpTo-front : (v : ℕ) (m n : Model) (rs : List Record) (xs ys : List Asked) → AgreesUpTo v m n rs (xs ++ ys) → AgreesUpTo v m n rs xs
+AgreesUpTo-front v m n rs [] ys h = tt
+AgreesUpTo-front v m n rs (x ∷ xs) ys h = (h.0, AgreesUpTo-front v m n rs xs ys h.1)
+
+-- the second world is of the same run as the first, and no earlier
+pub record IsPast (old new : World) : Type 0 where
+  pub rest : List Asked
+  pub joined : old.questions ++ rest ≡ new.questions
+  pub more : List Record
+  pub records : old.records ++ more ≡ new.records
+
+past_same : (w : World) → IsPast w w
+past_same w = record { rest = []; joined = append-nil w.questions; more = []; records = append-nil w.records }
+
+past_later : (event : ℕ) (u v w : World) → IsPast u v → IsLater event v w → IsPast u w
+past_later event u v w f g = record {
+  rest = f.rest ++ g.rest;
+  joined = sym (append_assoc u.questions f.rest g.rest) ∙ (ap (λ ys. ys ++ g.rest) f.joined ∙ g.joined);
+  more = f.more ++ g.more;
+  records = sym (append_assoc u.records f.more g.more) ∙ (ap (λ ys. ys ++ g.more) f.records ∙ g.records);
+}
+
+past_after : (b : Behaviour) (m : Model) (v k : ℕ) → v ≤ k → IsPast (world_at (after b m v)) (world_at (after b m k))
+past_after b m v zero h = let e : v ≡ zero = omega arith in subst (λ n. IsPast (world_at (after b m v)) (world_at (after b m n))) e (past_same (world_at (after b m v)))
+past_after b m v (suc k) h =
+    ⊎_elim
+    (λ (e : v ≡ suc k). subst (λ n. IsPast (world_at (after b m v)) (world_at (after b m n))) e (past_same (world_at (after b m v))))
+    (λ (lt : v < suc k). past_later (suc k) (world_at (after b m v)) (world_at (after b m k)) (world_at (after b m (suc k))) (past_after b m v k (omega (arith, lt))) (after_later b m k))
+    (eq-or-lt_of_le h)
+
+noted_stay : (m : Model) (rs more : List Record) → AreNested 0 rs → (qs : List Asked) → AllAbout (length rs) qs → Each (λ a. answer_of m (rs ++ more) a.question ≡ answer_of m rs a.question) qs
+noted_stay m rs more h [] f = tt
+noted_stay m rs more h (a ∷ qs) f = (answer_more m rs more h a.question f.0, noted_stay m rs more h qs f.1)
+
+-- what was asked has the same answers with the modules of a later world
+pub noted_after : (b : Behaviour) (m other : Model) (n k : ℕ) → n ≤ k → Each (λ a. answer_of other (world_at (after b m k)).records a.question ≡ answer_of other (world_at (after b m n)).records a.question) (world_at (after b m n)).questions
+noted_after b m other n k h =
+    let u : World = world_at (after b m n) in
+    let p = past_after b m n k h in
+    let f = fits_after b m n in
+    subst (λ rs. Each (λ (a : Asked). answer_of other rs a.question ≡ answer_of other u.records a.question) u.questions) p.records (noted_stay other u.records p.more f.nested u.questions f.questions)
+
+-- the same, by the questions of the first events of a longer run
+pub after_same_up_to : (b : Behaviour) → IsLawful b → (m n : Model) (v k : ℕ) → v ≤ k → AgreesUpTo v m n (world_at (after b m k)).records (world_at (after b m k)).questions → after b m v ≡ after b n v
+after_same_up_to b law m n v k h a =
+    let u : World = world_at (after b m v) in
+    let w : World = world_at (after b m k) in
+    let p = past_after b m v k h in
+    let own : AgreesUpTo v m n w.records u.questions = AgreesUpTo-front v m n w.records u.questions p.rest (subst (AgreesUpTo v m n w.records) (sym p.joined) a) in
+    let all : Agrees m n w.records u.questions = Agrees-up_to v m n w.records u.questions (up_to_after b m v) own in
+    let f = fits_after b m v in
+    after_same b law m n v (Agrees-fewer m n u.records p.more f.nested u.questions f.questions (subst (λ rs. Agrees m n rs u.questions) (sym p.records) all))

@@ -1,0 +1,59 @@
+-- Words for what holds of the worlds that a run reaches.
+use Rattle.std.specs.Prelude.{◌≡◌, ◌≢◌, ◌⊎◌, ℕ, zero, suc, ◌≤◌, List, [], ◌∷◌, ◌++◌, IsSome, IsTrue, map}
+use Rattle.module_api.specs.Behaviour.{Behaviour}
+use Rattle.model_answers.specs.declared.model.Model.{Model}
+use Rattle.run_semantics.specs.declared.pending.Pending.{Pending}
+use Rattle.run_semantics.specs.declared.traces.Instance.{Instance}
+use Rattle.run_semantics.specs.Order.{comes_before}
+use Rattle.run_semantics.specs.World.{World}
+use Rattle.run_semantics.specs.Event.{place_in}
+use Rattle.run_semantics.specs.Run.{Stage, next_stage}
+
+-- it holds of each
+abbrev pub Each : {X : Type 0} → (X → Type 0) → List X → Type 0
+Each P [] = Unit {0}
+Each P (x ∷ xs) = P x × Each P xs
+
+-- each event comes before all that follow it
+abbrev pub AreInOrder : List Pending → Type 0
+AreInOrder [] = Unit {0}
+AreInOrder (e ∷ es) = Each (λ f. IsTrue (comes_before e f)) es × AreInOrder es
+
+-- no two events have the same insertion number
+abbrev pub HaveOwnNumbers : List Pending → Type 0
+HaveOwnNumbers [] = Unit {0}
+HaveOwnNumbers (e ∷ es) = Each (λ f. f.number ≢ e.number) es × HaveOwnNumbers es
+
+-- it is one of these numbers
+abbrev pub IsAmong : ℕ → List ℕ → Type 0
+IsAmong n [] = ⊥
+IsAmong n (x ∷ xs) = (x ≡ n) ⊎ IsAmong n xs
+
+-- the ids of simple modules
+abbrev pub ids_of : List Instance → List ℕ
+ids_of modules = map (λ i. i.id) modules
+
+-- a call of that module finds it, and it was started and lives
+pub record CanBeCalled (w : World) (id : ℕ) : Type 0 where
+  pub found : IsSome (place_in id w.modules)
+  pub started : IsAmong id w.started
+  pub live : IsAmong id w.live
+
+-- the second list is the first, and more at its end
+abbrev pub GoesOn : {X : Type 0} → List X → List X → Type 0
+GoesOn {X} xs ys = (more : List X) × (xs ++ more ≡ ys)
+
+-- Nothing that happened is undone: from the first world to the second the clock, the count of events and the next
+-- insertion number do not fall, and of records, emissions and questions all stay as they are, in their places.
+pub record HasGrown (old new : World) : Type 0 where
+  pub clock : old.clock ≤ new.clock
+  pub count : old.count ≤ new.count
+  pub next : old.next ≤ new.next
+  pub records : GoesOn old.records new.records
+  pub emissions : GoesOn old.emissions new.emissions
+  pub questions : GoesOn old.questions new.questions
+
+-- so many more events from a stage on
+abbrev pub gone_on : Behaviour → Model → ℕ → Stage → Stage
+gone_on b m zero s = s
+gone_on b m (suc k) s = next_stage b m (gone_on b m k s)
