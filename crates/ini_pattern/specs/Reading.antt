@@ -122,3 +122,7 @@ pub record Slides (pieces : List Piece) (to_end : Bool) (name rest : List ℕ) :
 abbrev pub CannotSlide : List Piece → Bool → List ℕ → Type 0
 CannotSlide pieces to_end name =
     (before from other : List ℕ) → name ≡ before ++ from → has_no_dot before ≡ true → Covers pieces from other → IsEnd to_end other → ⊥
+
+-- what follows the first dot of a name
+abbrev pub IsPastDot : List ℕ → List ℕ → Type 0
+IsPastDot name rest = (front : List ℕ) × (name ≡ front ++ (46 ∷ rest)) × (has_no_dot front ≡ true)

@@ -4,8 +4,8 @@ ghost use Rattle.std.specs.Prelude.{◌≡◌, ◌↔◌, [], ◌∷◌, ◌++�
 ghost use Rattle.std.specs.List.{list_all};
 ghost use Rattle.std.specs.Option.{option_map};
 ghost use Rattle.std.specs.Str.{chars};
-ghost use Rattle.ini_pattern.specs.Matches.{in_ranges, Covers, Matches};
-ghost use Rattle.ini_pattern.specs.Reading.{is_number_in, is_any_path, is_any_name, is_fixed, left_by, left_by_all, IsLongestRest, HasNoRest, IsLongestAnywhere, HasNoRestAnywhere, StarLeaves, MatchesEnd, IsEnd, is_no_name, is_steady, Slides, CannotSlide};
+ghost use Rattle.ini_pattern.specs.Matches.{has_no_dot, in_ranges, Covers, Matches};
+ghost use Rattle.ini_pattern.specs.Reading.{is_number_in, is_any_path, is_any_name, is_fixed, left_by, left_by_all, IsLongestRest, HasNoRest, IsLongestAnywhere, HasNoRestAnywhere, StarLeaves, MatchesEnd, IsEnd, is_no_name, is_steady, Slides, CannotSlide, IsPastDot};
 
 use crate::piece::{CharRange, Piece};
 use crate::reading::{after_char, digit_run, first_char, same_text};
@@ -269,8 +269,26 @@ fn slide<'a>(pieces: &[Piece], name: &'a str, to_end: bool) -> Option<&'a str>
     }
 }
 
-/// The longest rest that steady pieces can leave of a name. Only the last `*` is tried again: the
-/// pieces before it took as few characters as they can, and as many dots as ever.
+/// The longest rest that a `*` and steady pieces behind it can leave of a name. Only the last `*` is
+/// tried again: the pieces before it took as few characters as they can, and as many dots as ever.
+fn star_rest<'a>(pieces: &[Piece], name: &'a str, to_end: bool) -> Option<&'a str>
+    requires { IsTrue (list_all is_steady pieces.now) }
+    ensures { MatchOption result (HasNoRest (Piece.AnyName ∷ pieces.now) to_end (chars name.now))
+        (λ rest. IsLongestRest (Piece.AnyName ∷ pieces.now) to_end (chars name.now) (chars rest.now)) }
+{
+    let mut left = pieces;
+    let mut here = name;
+    while let Some((front, back)) = around_name(left) {
+        let Some(rest) = slide(front, here, false) else {
+            return None;
+        };
+        here = rest;
+        left = back;
+    }
+    slide(left, here, to_end)
+}
+
+/// The longest rest that steady pieces can leave of a name.
 fn steady_rest<'a>(pieces: &[Piece], name: &'a str, to_end: bool) -> Option<&'a str>
     requires { IsTrue (list_all is_steady pieces.now) }
     ensures { MatchOption result (HasNoRest pieces.now to_end (chars name.now))
@@ -282,16 +300,7 @@ fn steady_rest<'a>(pieces: &[Piece], name: &'a str, to_end: bool) -> Option<&'a 
     let Some(begin) = fixed_rest(first, name, false) else {
         return None;
     };
-    let mut left = behind;
-    let mut here = begin;
-    while let Some((front, back)) = around_name(left) {
-        let Some(rest) = slide(front, here, false) else {
-            return None;
-        };
-        here = rest;
-        left = back;
-    }
-    slide(left, here, to_end)
+    star_rest(behind, begin, to_end)
 }
 
 /// The longest rest that pieces can leave of a name, where the rest has to be nothing if they have
@@ -307,20 +316,67 @@ fn longest_rest<'a>(pieces: &[Piece], name: &'a str, to_end: bool) -> Option<&'a
     }
 }
 
-/// The longest rest that pieces can leave of any end of a name, as above.
-fn longest_anywhere<'a>(pieces: &[Piece], name: &'a str, to_end: bool) -> Option<&'a str>
+/// What follows the first dot of a name.
+fn past_dot(name: &str) -> Option<&str>
+    ensures { MatchOption result (IsTrue (has_no_dot (chars name.now)))
+        (λ rest. IsPastDot (chars name.now) (chars rest.now)) }
+{
+    let mut here = name;
+    while let Some((c, behind)) = first_char(here) {
+        if c == '.' {
+            return Some(behind);
+        }
+        here = behind;
+    }
+    None
+}
+
+/// The longest rest that steady pieces can leave of any end of a name. Where they leave none from
+/// a place on, they leave none from any place before the next dot: the dots that each piece takes
+/// are the same ones from there.
+fn steady_anywhere<'a>(pieces: &[Piece], name: &'a str, to_end: bool) -> Option<&'a str>
+    requires { IsTrue (list_all is_steady pieces.now) }
     ensures { MatchOption result (HasNoRestAnywhere pieces.now to_end (chars name.now))
         (λ rest. IsLongestAnywhere pieces.now to_end (chars name.now) (chars rest.now)) }
 {
     let mut from = name;
     loop {
-        if let Some(rest) = longest_rest(pieces, from, to_end) {
+        if let Some(rest) = star_rest(pieces, from, to_end) {
+            return Some(rest);
+        }
+        match past_dot(from) {
+            None => return None,
+            Some(behind) => from = behind,
+        }
+    }
+}
+
+/// The longest rest that pieces can leave of any end of a name, found by trying each.
+fn searched_anywhere<'a>(pieces: &[Piece], name: &'a str, to_end: bool) -> Option<&'a str>
+    ensures { MatchOption result (HasNoRestAnywhere pieces.now to_end (chars name.now))
+        (λ rest. IsLongestAnywhere pieces.now to_end (chars name.now) (chars rest.now)) }
+{
+    let mut from = name;
+    loop {
+        if let Some(rest) = searched_rest(pieces, from, to_end) {
             return Some(rest);
         }
         match first_char(from) {
             None => return None,
             Some((_, behind)) => from = behind,
         }
+    }
+}
+
+/// The longest rest that pieces can leave of any end of a name, as above.
+fn longest_anywhere<'a>(pieces: &[Piece], name: &'a str, to_end: bool) -> Option<&'a str>
+    ensures { MatchOption result (HasNoRestAnywhere pieces.now to_end (chars name.now))
+        (λ rest. IsLongestAnywhere pieces.now to_end (chars name.now) (chars rest.now)) }
+{
+    if are_steady(pieces) {
+        steady_anywhere(pieces, name, to_end)
+    } else {
+        searched_anywhere(pieces, name, to_end)
     }
 }
 

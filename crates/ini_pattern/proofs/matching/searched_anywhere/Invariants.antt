@@ -4,7 +4,7 @@ use denote.Text.{Utf8}
 use Rattle.std.specs.Str.{chars}
 use Rattle.ini_pattern.specs.Matches.{Covers}
 use Rattle.ini_pattern.specs.Reading.{EndsWith, IsEnd}
-use Rattle.ini_pattern.proofs.matching.longest_anywhere.Given as goal
+use Rattle.ini_pattern.proofs.matching.searched_anywhere.Given as goal
 
 -- each end of the name of which the pieces leave a rest ends what is tried, which ends the name
 abbrev pub invariant-loop-rest : goal.invariant-loop-rest

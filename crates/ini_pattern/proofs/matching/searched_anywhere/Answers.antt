@@ -3,7 +3,7 @@ use Rattle.std.specs.Str.{chars}
 use Rattle.ini_pattern.specs.Matches.{Covers}
 use Rattle.ini_pattern.proofs.CoverLemmas.{ends_none, ends_next, ends_trans}
 use Rattle.ini_pattern.proofs.CrossLemmas.{cross}
-use Rattle.ini_pattern.proofs.matching.longest_anywhere.Goals as goal
+use Rattle.ini_pattern.proofs.matching.searched_anywhere.Goals as goal
 
 pub returns-in-None : goal.returns-in-None
 returns-in-None c = λ from rest ends covers stops.
