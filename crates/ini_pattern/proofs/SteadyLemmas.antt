@@ -14,7 +14,7 @@ use Rattle.ini_pattern.specs.Reading.{is_any_name, is_no_name, is_fixed, is_stea
 use Rattle.ini_pattern.proofs.CoverLemmas.{cuts, covers_append, covers_split, covers_left_all, ends_next, ends_trans, some_same, none_some}
 use Rattle.ini_pattern.proofs.CrossLemmas.{cross, no_dot_front}
 
-is_name : (p : Piece) → is_any_name p ≡ true → p ≡ AnyName
+pub is_name : (p : Piece) → is_any_name p ≡ true → p ≡ AnyName
 is_name AnyPath h = absurd (false≢true h)
 is_name AnyName h = refl
 is_name AnyChar h = absurd (false≢true h)
@@ -170,18 +170,18 @@ pub one_rest : (ps : List Piece) (n r u : List ℕ) → list_all is_fixed ps ≡
 one_rest ps n r u f v w = some_same (sym (covers_left_all ps n r f v) ∙ covers_left_all ps n u f w)
 
 -- and one that begins later leaves no more
-no_more_left : (ps : List Piece) (s t r u : List ℕ) → list_all is_fixed ps ≡ true → EndsWith s t → Covers ps s r → Covers ps t u → EndsWith r u
+pub no_more_left : (ps : List Piece) (s t r u : List ℕ) → list_all is_fixed ps ≡ true → EndsWith s t → Covers ps s r → Covers ps t u → EndsWith r u
 no_more_left ps s t r u f ends v w =
     elim (cross ps s t r u ends v w) [
       | inl over ↦ over
       | inr again ↦ ([], one_rest ps s r u f v again)
     ]
 
-no_dot_back : (f g : List ℕ) → has_no_dot (f ++ g) ≡ true → has_no_dot g ≡ true
+pub no_dot_back : (f g : List ℕ) → has_no_dot (f ++ g) ≡ true → has_no_dot g ≡ true
 no_dot_back [] g h = h
 no_dot_back (c ∷ f) g h = no_dot_back f g ((and_parts (not (eqb c 46)) (has_no_dot (f ++ g)) h).1)
 
-no_dot_both : (f g : List ℕ) → has_no_dot f ≡ true → has_no_dot g ≡ true → has_no_dot (f ++ g) ≡ true
+pub no_dot_both : (f g : List ℕ) → has_no_dot f ≡ true → has_no_dot g ≡ true → has_no_dot (f ++ g) ≡ true
 no_dot_both [] g h k = k
 no_dot_both (c ∷ f) g h k =
     let parts = and_parts (not (eqb c 46)) (has_no_dot f) h in
@@ -294,11 +294,6 @@ last_none ps left to_end name here w none other covered stops =
 pub steady_none : (ps left front back : List Piece) (to_end : Bool) (name here : List ℕ) → SteadySoFar ps left name here → left ≡ front ++ (AnyName ∷ back) → CannotSlide front false here → HasNoRest ps to_end name
 steady_none ps left front back to_end name here w e none other covered stops = step_none left front back here other e none ((w.same other).0 covered)
 
-pub steady_begin : (ps front back : List Piece) (name here : List ℕ) → list_all is_steady ps ≡ true → ps ≡ front ++ (AnyName ∷ back) → list_all is_no_name front ≡ true → Covers front name here → SteadySoFar ps back name here
-steady_begin ps front back name here st e n v =
-    let parts = steady_split front (AnyName ∷ back) (subst (λ l. list_all is_steady l ≡ true) e st) in
-    record { steady = parts.1; same = begin_star ps front back name here e (all_fixed front parts.0 n) v }
-
 pub star_begin : (ps : List Piece) (name : List ℕ) → list_all is_steady ps ≡ true → SteadySoFar (AnyName ∷ ps) ps name name
 star_begin ps name st = record { steady = st; same = λ u. (λ w. w, λ w. w) }
 
@@ -314,35 +309,35 @@ steady_next ps left front back name here rest w e n v =
       same = λ u. (λ k. (step u).0 ((w.same u).0 k), λ k. (w.same u).1 ((step u).1 k));
     }
 
-pub only_fixed : (ps : List Piece) (to_end : Bool) (name rest : List ℕ) → list_all is_steady ps ≡ true → list_all is_no_name ps ≡ true → Covers ps name rest → IsEnd to_end rest → IsLongestRest ps to_end name rest
-only_fixed ps to_end name rest st n v stops = record {
+only_fixed : (ps : List Piece) (to_end : Bool) (name rest : List ℕ) → list_all is_fixed ps ≡ true → Covers ps name rest → IsEnd to_end rest → IsLongestRest ps to_end name rest
+only_fixed ps to_end name rest fixed v stops = record {
   covers = v;
   ends = stops;
-  longest = λ other covered _. ([], one_rest ps name rest other (all_fixed ps st n) v covered);
+  longest = λ other covered _. ([], one_rest ps name rest other fixed v covered);
 }
 
 pub fixed_front : (ps front back : List Piece) → list_all is_steady ps ≡ true → ps ≡ front ++ (AnyName ∷ back) → list_all is_no_name front ≡ true → list_all is_fixed front ≡ true
 fixed_front ps front back st e n =
     all_fixed front (steady_split front (AnyName ∷ back) (subst (λ l. list_all is_steady l ≡ true) e st)).0 n
 
-pub told_fixed : {A : Type 0} (view : A → List ℕ) (ps : List Piece) (to_end : Bool) (name : List ℕ) (r : Option A) → list_all is_steady ps ≡ true → list_all is_no_name ps ≡ true → MatchOption r (HasNoRest ps to_end name) (λ x. Covers ps name (view x) × IsEnd to_end (view x)) → MatchOption r (HasNoRest ps to_end name) (λ x. IsLongestRest ps to_end name (view x))
-told_fixed view ps to_end name None st n h = h
-told_fixed view ps to_end name (Some x) st n h = only_fixed ps to_end name (view x) st n h.0 h.1
+pub told_fixed : {A : Type 0} (view : A → List ℕ) (ps : List Piece) (to_end : Bool) (name : List ℕ) (r : Option A) → list_all is_fixed ps ≡ true → MatchOption r (HasNoRest ps to_end name) (λ x. Covers ps name (view x) × IsEnd to_end (view x)) → MatchOption r (HasNoRest ps to_end name) (λ x. IsLongestRest ps to_end name (view x))
+told_fixed view ps to_end name None fixed h = h
+told_fixed view ps to_end name (Some x) fixed h = only_fixed ps to_end name (view x) fixed h.0 h.1
 
 pub told_slide : {A : Type 0} (view : A → List ℕ) (ps left : List Piece) (to_end : Bool) (name here : List ℕ) (r : Option A) → SteadySoFar ps left name here → list_all is_no_name left ≡ true → MatchOption r (CannotSlide left to_end here) (λ x. Slides left to_end here (view x)) → MatchOption r (HasNoRest ps to_end name) (λ x. IsLongestRest ps to_end name (view x))
 told_slide view ps left to_end name here None w n h = last_none ps left to_end name here w h
 told_slide view ps left to_end name here (Some x) w n h = last_star ps left to_end name here (view x) w n h
 
 -- the longest rest behind the first star
-pub told_star : {A : Type 0} (view : A → List ℕ) (ps front back : List Piece) (to_end : Bool) (name here : List ℕ) (r : Option A) → list_all is_steady ps ≡ true → ps ≡ front ++ (AnyName ∷ back) → list_all is_no_name front ≡ true → Covers front name here → MatchOption r (HasNoRest (AnyName ∷ back) to_end here) (λ x. IsLongestRest (AnyName ∷ back) to_end here (view x)) → MatchOption r (HasNoRest ps to_end name) (λ x. IsLongestRest ps to_end name (view x))
-told_star view ps front back to_end name here None st e n v h = λ other covered stops.
-    h other (((steady_begin ps front back name here st e n v).same other).0 covered) stops
-told_star view ps front back to_end name here (Some x) st e n v h =
-    let w = steady_begin ps front back name here st e n v in
+pub told_star : {A : Type 0} (view : A → List ℕ) (ps front back : List Piece) (to_end : Bool) (name here : List ℕ) (r : Option A) → list_all is_fixed front ≡ true → ps ≡ front ++ (AnyName ∷ back) → Covers front name here → MatchOption r (HasNoRest (AnyName ∷ back) to_end here) (λ x. IsLongestRest (AnyName ∷ back) to_end here (view x)) → MatchOption r (HasNoRest ps to_end name) (λ x. IsLongestRest ps to_end name (view x))
+told_star view ps front back to_end name here None fixed e v h = λ other covered stops.
+    h other ((begin_star ps front back name here e fixed v other).0 covered) stops
+told_star view ps front back to_end name here (Some x) fixed e v h =
+    let same : (u : List ℕ) → Covers ps name u ↔ Covers (AnyName ∷ back) here u = begin_star ps front back name here e fixed v in
     record {
-      covers = (w.same (view x)).1 h.covers;
+      covers = (same (view x)).1 h.covers;
       ends = h.ends;
-      longest = λ other covered stops. h.longest other ((w.same other).0 covered) stops;
+      longest = λ other covered stops. h.longest other ((same other).0 covered) stops;
     }
 
 -- what is passed has no dot

@@ -7,6 +7,7 @@ pub mod laws;
 pub mod matching;
 pub mod parse;
 pub mod pattern;
+pub mod places;
 pub mod piece;
 pub mod reading;
 #[cfg(test)]

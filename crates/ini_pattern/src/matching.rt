@@ -8,6 +8,7 @@ ghost use Rattle.ini_pattern.specs.Matches.{has_no_dot, in_ranges, Covers, Match
 ghost use Rattle.ini_pattern.specs.Reading.{is_number_in, is_any_path, is_any_name, is_fixed, left_by, left_by_all, IsLongestRest, HasNoRest, IsLongestAnywhere, HasNoRestAnywhere, StarLeaves, MatchesEnd, IsEnd, is_no_name, is_steady, Slides, CannotSlide, IsPastDot};
 
 use crate::piece::{CharRange, Piece};
+use crate::places::{can_be_placed, placed_anywhere, placed_start};
 use crate::reading::{after_char, digit_run, first_char, same_text};
 
 /// Whether a character is in one of the ranges.
@@ -71,14 +72,14 @@ fn left_by_all<'a>(pieces: &[Piece], name: &'a str) -> Option<&'a str>
 }
 
 /// Whether a piece is `**`.
-fn is_any_path(piece: &Piece) -> bool
+pub(crate) fn is_any_path(piece: &Piece) -> bool
     ensures { result ≡ is_any_path piece.now }
 {
     matches!(piece, Piece::AnyPath)
 }
 
 /// Whether a piece is `*`.
-fn is_any_name(piece: &Piece) -> bool
+pub(crate) fn is_any_name(piece: &Piece) -> bool
     ensures { result ≡ is_any_name piece.now }
 {
     matches!(piece, Piece::AnyName)
@@ -219,7 +220,7 @@ fn any_name_at(pieces: &[Piece]) -> Option<usize>
 }
 
 /// The pieces before the first `*`, and those behind it.
-fn around_name(pieces: &[Piece]) -> Option<(&[Piece], &[Piece])>
+pub(crate) fn around_name(pieces: &[Piece]) -> Option<(&[Piece], &[Piece])>
     ensures { MatchOption result (IsTrue (list_all is_no_name pieces.now))
         (λ parts. IsTrue (list_all is_no_name parts.0.now)
         × (pieces.now ≡ parts.0.now ++ (Piece.AnyName ∷ parts.1.now))) }
@@ -231,7 +232,7 @@ fn around_name(pieces: &[Piece]) -> Option<(&[Piece], &[Piece])>
 }
 
 /// What pieces that are no stars leave of a name, where that may be left.
-fn fixed_rest<'a>(pieces: &[Piece], name: &'a str, to_end: bool) -> Option<&'a str>
+pub(crate) fn fixed_rest<'a>(pieces: &[Piece], name: &'a str, to_end: bool) -> Option<&'a str>
     requires { IsTrue (list_all is_fixed pieces.now) }
     ensures { MatchOption result (HasNoRest pieces.now to_end (chars name.now))
         (λ rest. Covers pieces.now (chars name.now) (chars rest.now) × IsEnd to_end (chars rest.now)) }
@@ -311,6 +312,8 @@ fn longest_rest<'a>(pieces: &[Piece], name: &'a str, to_end: bool) -> Option<&'a
 {
     if are_steady(pieces) {
         steady_rest(pieces, name, to_end)
+    } else if can_be_placed(pieces) {
+        placed_start(pieces, name, to_end)
     } else {
         searched_rest(pieces, name, to_end)
     }
@@ -375,6 +378,8 @@ fn longest_anywhere<'a>(pieces: &[Piece], name: &'a str, to_end: bool) -> Option
 {
     if are_steady(pieces) {
         steady_anywhere(pieces, name, to_end)
+    } else if can_be_placed(pieces) {
+        placed_anywhere(pieces, name, to_end)
     } else {
         searched_anywhere(pieces, name, to_end)
     }
