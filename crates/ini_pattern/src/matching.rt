@@ -9,7 +9,7 @@ ghost use Rattle.ini_pattern.specs.Reading.{is_number_in, is_any_path, is_any_na
 
 use crate::piece::{CharRange, Piece};
 use crate::places::{can_be_placed, placed_anywhere, placed_start};
-use crate::reading::{after_char, digit_run, first_char, same_text};
+use crate::reading::{after_char, digit_run, first_char, is_long_run, same_text};
 
 /// Whether a character is in one of the ranges.
 fn in_ranges(ranges: &[CharRange], c: char) -> bool
@@ -24,8 +24,11 @@ fn in_ranges(ranges: &[CharRange], c: char) -> bool
 fn left_by_number(name: &str, low: u64, high: Option<u64>) -> Option<&str>
     ensures { option_map (λ rest. chars rest.now) result ≡ left_by (Piece.Number low high) (chars name.now) }
 {
+    if is_long_run(name) {
+        return None;
+    }
     let (digits, rest) = digit_run(name);
-    if digits.count == 0 || digits.count > 18 || digits.value < low {
+    if digits.count == 0 || digits.value < low {
         return None;
     }
     match high {
