@@ -29,7 +29,7 @@ front_more q p ps true h rest =
     rw (h, next, h) rest
 front_more q p ps false h rest = rw h refl
 
-front_passes : (q : Piece → Bool) (ps : List Piece) → list_all q (take (prefix_len q ps) ps) ≡ true
+pub front_passes : (q : Piece → Bool) (ps : List Piece) → list_all q (take (prefix_len q ps) ps) ≡ true
 front_passes q [] = refl
 front_passes q (p ∷ ps) = front_more q p ps (q p) refl (front_passes q ps)
 
@@ -43,7 +43,7 @@ all_more : (q : Piece → Bool) (p : Piece) (ps : List Piece) (b : Bool) → q p
 all_more q p ps true h rest le = rw h (rest (omega (arith, subst (λ n. suc (length ps) ≤ n) (cond_at (q p) (1 + prefix_len q ps) h) le)))
 all_more q p ps false h rest le = absurd (omega (arith, subst (λ n. suc (length ps) ≤ n) (cond_off (q p) (1 + prefix_len q ps) h) le))
 
-all_pass : (q : Piece → Bool) (ps : List Piece) → length ps ≤ prefix_len q ps → list_all q ps ≡ true
+pub all_pass : (q : Piece → Bool) (ps : List Piece) → length ps ≤ prefix_len q ps → list_all q ps ≡ true
 all_pass q [] le = refl
 all_pass q (p ∷ ps) le = all_more q p ps (q p) refl (all_pass q ps) le
 

@@ -99,11 +99,6 @@ abbrev pub HasNoRestAnywhere : List Piece → Bool → List ℕ → Type 0
 HasNoRestAnywhere pieces to_end name =
     (from rest : List ℕ) → EndsWith name from → Covers pieces from rest → IsEnd to_end rest → ⊥
 
--- a star, which takes dots or not, leaves this rest of a name
-abbrev pub StarLeaves : Bool → List ℕ → List ℕ → Type 0
-StarLeaves dots name rest =
-    (taken : List ℕ) × (name ≡ taken ++ rest) × IsTrue (if dots then true else has_no_dot taken)
-
 -- the pieces match an end of a name
 abbrev pub MatchesEnd : List Piece → List ℕ → Type 0
 MatchesEnd pieces name = (from : List ℕ) × EndsWith name from × Matches pieces from

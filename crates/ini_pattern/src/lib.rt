@@ -7,8 +7,8 @@ pub mod laws;
 pub mod matching;
 pub mod parse;
 pub mod pattern;
-pub mod places;
 pub mod piece;
+pub mod places;
 pub mod reading;
 #[cfg(test)]
 mod tests;

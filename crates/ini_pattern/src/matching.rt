@@ -5,11 +5,12 @@ ghost use Rattle.std.specs.List.{list_all};
 ghost use Rattle.std.specs.Option.{option_map};
 ghost use Rattle.std.specs.Str.{chars};
 ghost use Rattle.ini_pattern.specs.Matches.{has_no_dot, in_ranges, Covers, Matches};
-ghost use Rattle.ini_pattern.specs.Reading.{is_number_in, is_any_path, is_any_name, is_fixed, left_by, left_by_all, IsLongestRest, HasNoRest, IsLongestAnywhere, HasNoRestAnywhere, StarLeaves, MatchesEnd, IsEnd, is_no_name, is_steady, Slides, CannotSlide, IsPastDot};
+ghost use Rattle.ini_pattern.specs.Places.{is_no_path};
+ghost use Rattle.ini_pattern.specs.Reading.{is_number_in, is_any_path, is_any_name, is_fixed, left_by, left_by_all, IsLongestRest, HasNoRest, IsLongestAnywhere, HasNoRestAnywhere, MatchesEnd, IsEnd, is_no_name, is_steady, Slides, CannotSlide, IsPastDot};
 
 use crate::piece::{CharRange, Piece};
-use crate::places::{can_be_placed, placed_anywhere, placed_start};
-use crate::reading::{after_char, digit_run, first_char, is_long_run, same_text};
+use crate::places::{placed_anywhere, placed_start};
+use crate::reading::{after_char, digit_run, first_char, is_long_run};
 
 /// Whether a character is in one of the ranges.
 fn in_ranges(ranges: &[CharRange], c: char) -> bool
@@ -75,7 +76,7 @@ fn left_by_all<'a>(pieces: &[Piece], name: &'a str) -> Option<&'a str>
 }
 
 /// Whether a piece is `**`.
-pub(crate) fn is_any_path(piece: &Piece) -> bool
+fn is_any_path(piece: &Piece) -> bool
     ensures { result ≡ is_any_path piece.now }
 {
     matches!(piece, Piece::AnyPath)
@@ -88,113 +89,11 @@ pub(crate) fn is_any_name(piece: &Piece) -> bool
     matches!(piece, Piece::AnyName)
 }
 
-/// Whether no piece is a star.
-fn are_fixed(pieces: &[Piece]) -> bool
-    ensures { result ≡ list_all is_fixed pieces.now }
-{
-    pieces
-        .iter()
-        .all(|piece| !is_any_path(piece) && !is_any_name(piece))
-}
-
-/// Whether a text is left at the end of a name by characters of which none is a dot, if dots are not
-/// allowed.
-fn star_leaves(dots: bool, name: &str, rest: &str) -> bool
-    ensures { IsTrue result ↔ StarLeaves dots (chars name.now) (chars rest.now) }
-{
-    let mut here = name;
-    loop {
-        if same_text(here, rest) {
-            return true;
-        }
-        match first_char(here) {
-            None => return false,
-            Some((c, behind)) => {
-                if !dots && c == '.' {
-                    return false;
-                }
-                here = behind;
-            }
-        }
-    }
-}
-
-/// Whether a piece leaves this rest of a name.
-fn piece_leaves(piece: &Piece, name: &str, rest: &str) -> bool
-    ensures { IsTrue result ↔ Covers (piece.now ∷ []) (chars name.now) (chars rest.now) }
-{
-    if is_any_path(piece) {
-        return star_leaves(true, name, rest);
-    }
-    if is_any_name(piece) {
-        return star_leaves(false, name, rest);
-    }
-    match left_by(piece, name) {
-        Some(left) => same_text(left, rest),
-        None => false,
-    }
-}
-
-/// Whether pieces that are no stars leave this rest of a name.
-fn fixed_leave(pieces: &[Piece], name: &str, rest: &str) -> bool
-    requires { IsTrue (list_all is_fixed pieces.now) }
-    ensures { IsTrue result ↔ Covers pieces.now (chars name.now) (chars rest.now) }
-{
-    match left_by_all(pieces, name) {
-        Some(left) => same_text(left, rest),
-        None => false,
-    }
-}
-
-/// Whether any pieces leave this rest of a name. It halves the pieces, so it goes no deeper than
-/// the number of halvings of a length.
-fn leave(pieces: &[Piece], name: &str, rest: &str) -> bool
-    ensures { IsTrue result ↔ Covers pieces.now (chars name.now) (chars rest.now) }
-{
-    if are_fixed(pieces) {
-        return fixed_leave(pieces, name, rest);
-    }
-    if pieces.len() < 2 {
-        return match pieces {
-            [piece] => piece_leaves(piece, name, rest),
-            _ => same_text(name, rest),
-        };
-    }
-    let (front, back) = pieces.split_at(pieces.len() / 2);
-    let mut middle = name;
-    loop {
-        if leave(front, name, middle) && leave(back, middle, rest) {
-            return true;
-        }
-        match first_char(middle) {
-            None => return false,
-            Some((_, behind)) => middle = behind,
-        }
-    }
-}
-
 /// Whether this rest may be left, where it has to be nothing if the pieces have to go to the end.
 fn may_stop(rest: &str, to_end: bool) -> bool
     ensures { IsTrue result ↔ IsEnd to_end (chars rest.now) }
 {
     !to_end || first_char(rest).is_none()
-}
-
-/// The longest rest that pieces can leave of a name, found by trying each.
-fn searched_rest<'a>(pieces: &[Piece], name: &'a str, to_end: bool) -> Option<&'a str>
-    ensures { MatchOption result (HasNoRest pieces.now to_end (chars name.now))
-        (λ rest. IsLongestRest pieces.now to_end (chars name.now) (chars rest.now)) }
-{
-    let mut rest = name;
-    loop {
-        if may_stop(rest, to_end) && leave(pieces, name, rest) {
-            return Some(rest);
-        }
-        match first_char(rest) {
-            None => return None,
-            Some((_, behind)) => rest = behind,
-        }
-    }
 }
 
 /// Whether a piece is no `**`, and takes as many dots of any name.
@@ -223,7 +122,7 @@ fn any_name_at(pieces: &[Piece]) -> Option<usize>
 }
 
 /// The pieces before the first `*`, and those behind it.
-pub(crate) fn around_name(pieces: &[Piece]) -> Option<(&[Piece], &[Piece])>
+fn around_name(pieces: &[Piece]) -> Option<(&[Piece], &[Piece])>
     ensures { MatchOption result (IsTrue (list_all is_no_name pieces.now))
         (λ parts. IsTrue (list_all is_no_name parts.0.now)
         × (pieces.now ≡ parts.0.now ++ (Piece.AnyName ∷ parts.1.now))) }
@@ -310,15 +209,14 @@ fn steady_rest<'a>(pieces: &[Piece], name: &'a str, to_end: bool) -> Option<&'a 
 /// The longest rest that pieces can leave of a name, where the rest has to be nothing if they have
 /// to go to the end.
 fn longest_rest<'a>(pieces: &[Piece], name: &'a str, to_end: bool) -> Option<&'a str>
+    requires { IsTrue (list_all is_no_path pieces.now) }
     ensures { MatchOption result (HasNoRest pieces.now to_end (chars name.now))
         (λ rest. IsLongestRest pieces.now to_end (chars name.now) (chars rest.now)) }
 {
     if are_steady(pieces) {
         steady_rest(pieces, name, to_end)
-    } else if can_be_placed(pieces) {
-        placed_start(pieces, name, to_end)
     } else {
-        searched_rest(pieces, name, to_end)
+        placed_start(pieces, name, to_end)
     }
 }
 
@@ -357,34 +255,16 @@ fn steady_anywhere<'a>(pieces: &[Piece], name: &'a str, to_end: bool) -> Option<
     }
 }
 
-/// The longest rest that pieces can leave of any end of a name, found by trying each.
-fn searched_anywhere<'a>(pieces: &[Piece], name: &'a str, to_end: bool) -> Option<&'a str>
-    ensures { MatchOption result (HasNoRestAnywhere pieces.now to_end (chars name.now))
-        (λ rest. IsLongestAnywhere pieces.now to_end (chars name.now) (chars rest.now)) }
-{
-    let mut from = name;
-    loop {
-        if let Some(rest) = searched_rest(pieces, from, to_end) {
-            return Some(rest);
-        }
-        match first_char(from) {
-            None => return None,
-            Some((_, behind)) => from = behind,
-        }
-    }
-}
-
 /// The longest rest that pieces can leave of any end of a name, as above.
 fn longest_anywhere<'a>(pieces: &[Piece], name: &'a str, to_end: bool) -> Option<&'a str>
+    requires { IsTrue (list_all is_no_path pieces.now) }
     ensures { MatchOption result (HasNoRestAnywhere pieces.now to_end (chars name.now))
         (λ rest. IsLongestAnywhere pieces.now to_end (chars name.now) (chars rest.now)) }
 {
     if are_steady(pieces) {
         steady_anywhere(pieces, name, to_end)
-    } else if can_be_placed(pieces) {
-        placed_anywhere(pieces, name, to_end)
     } else {
-        searched_anywhere(pieces, name, to_end)
+        placed_anywhere(pieces, name, to_end)
     }
 }
 
@@ -397,8 +277,9 @@ fn any_path_at(pieces: &[Piece]) -> Option<usize>
 
 /// The pieces before the first `**`, and those behind it.
 fn around_path(pieces: &[Piece]) -> Option<(&[Piece], &[Piece])>
-    ensures { MatchOption result (position is_any_path pieces.now ≡ None)
-        (λ parts. pieces.now ≡ parts.0.now ++ (Piece.AnyPath ∷ parts.1.now)) }
+    ensures { MatchOption result (IsTrue (list_all is_no_path pieces.now))
+        (λ parts. IsTrue (list_all is_no_path parts.0.now)
+        × (pieces.now ≡ parts.0.now ++ (Piece.AnyPath ∷ parts.1.now))) }
 {
     let Some(at) = any_path_at(pieces) else {
         return None;

@@ -15,13 +15,6 @@ pub(crate) fn first_char(text: &str) -> Option<(char, &str)>
     Some((first, characters.as_str()))
 }
 
-/// Whether two texts are one.
-pub(crate) fn same_text(a: &str, b: &str) -> bool
-    ensures { IsTrue result ↔ (chars a.now ≡ chars b.now) }
-{
-    a == b
-}
-
 /// Digits of a number.
 #[derive(Clone, Copy)]
 pub(crate) struct Digits {

@@ -1,5 +1,5 @@
 use Rattle.std.specs.Str.{chars}
-use Rattle.ini_pattern.proofs.PlacedLemmas.{told_anywhere}
+use Rattle.ini_pattern.proofs.PlaceLemmas.{told_anywhere}
 use Rattle.ini_pattern.proofs.places.placed_anywhere.Goals as goal
 
 pub returns : goal.returns
