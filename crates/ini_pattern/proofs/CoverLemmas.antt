@@ -1,5 +1,5 @@
 -- What pieces take of a name, and what they leave.
-use Rattle.std.proofs.Common.{◌≡◌, ◌≢◌, ◌↔◌, ℕ, ◌≤◌, ◌⊎◌, inl, inr, Bool, true, false, not, ◌&&◌, cond, eqb, leb, ltb, Option, Some, None, List, [], ◌∷◌, ◌++◌, length, take, drop, take-append-drop, append_assoc, refl, sym, ap, subst, ◌∙◌}
+use Rattle.std.proofs.Common.{◌≡◌, ◌≢◌, ◌↔◌, ℕ, ◌≤◌, ◌⊎◌, inl, inr, Bool, true, false, not, ◌&&◌, cond, eqb, leb, ltb, Option, Some, None, List, [], ◌∷◌, ◌++◌, length, append_assoc, refl, sym, ap, subst, ◌∙◌}
 use Rattle.std.specs.Prelude.{option_and_then, IfSome}
 use Rattle.std.specs.Char.{is_ascii_digit}
 use Rattle.std.specs.List.{list_all}
@@ -10,7 +10,7 @@ use Rattle.ini_pattern.specs.declared.piece.Piece.{Piece}
 use Rattle.ini_pattern.specs.declared.piece.Piece.TheVariants.{AnyPath, AnyName, AnyChar, Char, Set, Number}
 use Rattle.ini_pattern.specs.Matches.{has_no_dot, in_ranges, begins_with_digit, IsNumberIn, Covers}
 use Rattle.ini_pattern.specs.PatternOf.{digits_front, after_digits}
-use Rattle.ini_pattern.specs.Reading.{is_any_path, is_any_name, is_fixed, left_by_char, is_up_to, is_number_in, left_by, left_by_all, EndsWith, StarLeaves}
+use Rattle.ini_pattern.specs.Reading.{is_any_path, is_any_name, is_fixed, left_by_char, is_up_to, is_number_in, left_by, left_by_all, EndsWith}
 
 -- two ways to cut a text: one front goes further than the other
 pub cuts : (f s g t : List ℕ) → f ++ s ≡ g ++ t → ((z : List ℕ) × (g ≡ f ++ z) × (s ≡ z ++ t)) ⊎ ((z : List ℕ) × (f ≡ g ++ z) × (t ≡ z ++ s))
@@ -195,79 +195,6 @@ some_same h = cc
 pub none_some : {A : Type 0} {x : A} → None ≡ Some x → ⊥
 none_some h = cc
 
--- a star, one character at a time
-pub star_here : (dots : Bool) (n : List ℕ) → StarLeaves dots n n
-star_here true n = ([], refl, refl)
-star_here false n = ([], refl, refl)
-
-pub nothing_both : (f r : List ℕ) → [] ≡ f ++ r → [] ≡ r
-nothing_both [] r e = e
-nothing_both (x ∷ f) r e = cc
-
-pub star_nothing : (dots : Bool) (r : List ℕ) → StarLeaves dots [] r → [] ≡ r
-star_nothing dots r (taken, e, h) = nothing_both taken r e
-
-pub star_on : (dots : Bool) (c : ℕ) (n r : List ℕ) → (dots ≡ true) ⊎ (eqb c 46 ≡ false) → StarLeaves dots n r → StarLeaves dots (c ∷ n) r
-star_on true c n r h w = (c ∷ w.0, ap (λ l. c ∷ l) w.1, refl)
-star_on false c n r (inl e) w = absurd (false≢true e)
-star_on false c n r (inr e) w = (c ∷ w.0, ap (λ l. c ∷ l) w.1, rw e w.2)
-
-pub star_off : (dots : Bool) (c : ℕ) (n r : List ℕ) → (c ∷ n ≡ r → ⊥) → StarLeaves dots (c ∷ n) r → StarLeaves dots n r × ((dots ≡ true) ⊎ (eqb c 46 ≡ false))
-star_off dots c n r ne ([], e, h) = absurd (ne e)
-star_off true c n r ne (x ∷ f, e, h) = ((f, cc, refl), inl refl)
-star_off false c n r ne (x ∷ f, e, h) =
-    let heads : c ≡ x = cc in
-    let parts = and_parts (not (eqb x 46)) (has_no_dot f) h in
-    ((f, cc, parts.1), inr (rw heads (not-true _ parts.0)))
-
-pub star_stuck : (dots : Bool) (here : List ℕ) (c : ℕ) (n r : List ℕ) → here ≡ c ∷ n → (here ≡ r → ⊥) → dots ≡ false → c ≡ 46 → StarLeaves dots here r → ⊥
-star_stuck dots here c n r e ne closed dot w =
-    elim ((star_off dots c n r (λ same. ne (e ∙ same)) (subst (λ l. StarLeaves dots l r) e w)).1) [
-      | inl t ↦ false≢true (sym closed ∙ t)
-      | inr f ↦ false≢true (sym f ∙ eq-eqb c 46 dot)
-    ]
-
-pub star_step : (dots : Bool) (here : List ℕ) (c : ℕ) (n r : List ℕ) → here ≡ c ∷ n → (here ≡ r → ⊥) → (dots ≡ true) ⊎ (eqb c 46 ≡ false) → StarLeaves dots n r ↔ StarLeaves dots here r
-star_step dots here c n r e ne open_way = (
-  λ w. subst (λ l. StarLeaves dots l r) (sym e) (star_on dots c n r open_way w),
-  λ w. (star_off dots c n r (λ same. ne (e ∙ same)) (subst (λ l. StarLeaves dots l r) e w)).0,
-)
-
--- one star as pieces
-pub path_covers : (p : Piece) (n r : List ℕ) → is_any_path p ≡ true → StarLeaves true n r ↔ Covers (p ∷ []) n r
-path_covers AnyPath n r h = (λ w. (w.0, r, w.1, tt, refl), λ w. (w.0, w.2 ∙ ap (λ l. w.0 ++ l) w.4, refl))
-path_covers AnyName n r h = absurd (false≢true h)
-path_covers AnyChar n r h = absurd (false≢true h)
-path_covers (Char c) n r h = absurd (false≢true h)
-path_covers (Set negated ranges) n r h = absurd (false≢true h)
-path_covers (Number low high) n r h = absurd (false≢true h)
-
-pub name_covers : (p : Piece) (n r : List ℕ) → is_any_name p ≡ true → StarLeaves false n r ↔ Covers (p ∷ []) n r
-name_covers AnyPath n r h = absurd (false≢true h)
-name_covers AnyName n r h = (λ w. (w.0, r, w.1, w.2, refl), λ w. (w.0, w.2 ∙ ap (λ l. w.0 ++ l) w.4, w.3))
-name_covers AnyChar n r h = absurd (false≢true h)
-name_covers (Char c) n r h = absurd (false≢true h)
-name_covers (Set negated ranges) n r h = absurd (false≢true h)
-name_covers (Number low high) n r h = absurd (false≢true h)
-
-pub fixed_from : (p : Piece) → is_any_path p ≡ false → is_any_name p ≡ false → is_fixed p ≡ true
-fixed_from p a b = rw (a, b) refl
-
--- pieces in two parts, by a text left between them that ends this one
-abbrev pub CoversFrom : List Piece → List Piece → List ℕ → List ℕ → List ℕ → Type 0
-CoversFrom front back n r from = (m : List ℕ) × EndsWith from m × Covers front n m × Covers back m r
-
-pub halves : (ps front back : List Piece) (k : ℕ) (n r : List ℕ) → front ≡ take k ps → back ≡ drop k ps → Covers ps n r → CoversFrom front back n r n
-halves ps front back k n r e f w =
-    let whole : ps ≡ front ++ back = sym (take-append-drop k ps) ∙ ap (λ l. l ++ drop k ps) (sym e) ∙ ap (λ l. front ++ l) (sym f) in
-    let parts = covers_split front back n r (subst (λ l. Covers l n r) whole w) in
-    (parts.0, covers_end front n parts.0 parts.1, parts.1, parts.2)
-
-pub joined : (ps front back : List Piece) (k : ℕ) (n m r : List ℕ) → front ≡ take k ps → back ≡ drop k ps → Covers front n m → Covers back m r → Covers ps n r
-joined ps front back k n m r e f v w =
-    let whole : front ++ back ≡ ps = ap (λ l. l ++ back) e ∙ ap (λ l. take k ps ++ l) f ∙ take-append-drop k ps in
-    subst (λ l. Covers l n r) whole (covers_append front back n m r v w)
-
 -- an end of a text is the text, or an end of what stands behind its first character
 pub ends_split : (from m : List ℕ) → EndsWith from m → (from ≡ m) ⊎ ((c : ℕ) × (more : List ℕ) × (from ≡ c ∷ more) × EndsWith more m)
 ends_split from m ([], e) = inl e
@@ -286,12 +213,3 @@ ends_none from m w e =
       | inl same ↦ same
       | inr v ↦ let wrong : v.0 ∷ v.1 ≡ [] = sym v.2 ∙ e in cc
     ]
-
-pub none_from : (front back : List Piece) (n r mid : List ℕ) → CoversFrom front back n r mid → mid ≡ [] → (Covers front n mid → Covers back mid r → ⊥) → ⊥
-none_from front back n r mid w e missed =
-    let same : w.0 ≡ mid = sym (ends_none mid w.0 w.1 e) in
-    missed (subst (λ m. Covers front n m) same w.2) (subst (λ m. Covers back m r) same w.3)
-
-pub next_from : (front back : List Piece) (n r mid more : List ℕ) (c : ℕ) → CoversFrom front back n r mid → mid ≡ c ∷ more → (Covers front n mid → Covers back mid r → ⊥) → CoversFrom front back n r more
-next_from front back n r mid more c w e missed =
-    (w.0, ends_next mid w.0 more c w.1 e (λ same. missed (subst (λ m. Covers front n m) (sym same) w.2) (subst (λ m. Covers back m r) (sym same) w.3)), w.2, w.3)

@@ -20,7 +20,7 @@ one_char s first (y ∷ x) second c d e f =
     let same : first ≡ x ++ (d ∷ second) = cc in
     (x ++ d ∷ [], same ∙ sym (append_assoc x (d ∷ []) second))
 
-no_dot_front : (f g : List ℕ) → has_no_dot (f ++ g) ≡ true → has_no_dot f ≡ true
+pub no_dot_front : (f g : List ℕ) → has_no_dot (f ++ g) ≡ true → has_no_dot f ≡ true
 no_dot_front [] g h = refl
 no_dot_front (c ∷ f) g h =
     let parts = and_parts (not (eqb c 46)) (has_no_dot (f ++ g)) h in

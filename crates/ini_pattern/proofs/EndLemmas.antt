@@ -1,13 +1,15 @@
 -- Where a `**` stands, only the longest rest of what stands before it matters.
 use Rattle.std.proofs.Common.{◌≡◌, ◌↔◌, ℕ, ◌+◌, inl, inr, true, false, ltb, Option, Some, None, List, [], ◌∷◌, ◌++◌, length, take, drop, refl, sym, ap, subst, ◌∙◌}
 use Rattle.std.specs.Prelude.{position, MatchOption, is_some}
-use Rattle.std.specs.List.{position_or_len}
-use Rattle.std.proofs.lemmas.Bool.{cases_Bool, false≢true, ltb-true}
+use Rattle.std.specs.List.{list_all, position_or_len}
+use Rattle.std.proofs.lemmas.Bool.{cases_Bool, false≢true, ltb-true, ltb-false}
 use Rattle.std.proofs.lemmas.List.Sums.{split_at_first, passes_at_first}
 use Rattle.ini_pattern.specs.declared.piece.Piece.{Piece}
 use Rattle.ini_pattern.specs.declared.piece.Piece.TheVariants.{AnyPath, AnyName, AnyChar, Char, Set, Number}
 use Rattle.ini_pattern.specs.Matches.{Covers, Matches}
 use Rattle.ini_pattern.specs.Reading.{is_any_path, EndsWith, MatchesEnd, IsLongestRest, HasNoRest, IsLongestAnywhere, HasNoRestAnywhere}
+use Rattle.ini_pattern.specs.Places.{is_no_path}
+use Rattle.ini_pattern.proofs.SteadyLemmas.{front_passes, all_pass}
 use Rattle.ini_pattern.proofs.CoverLemmas.{covers_append, covers_split, ends_trans, some_same, none_some}
 
 is_path : (p : Piece) → is_any_path p ≡ true → p ≡ AnyPath
@@ -19,7 +21,14 @@ is_path (Set negated ranges) h = absurd (false≢true h)
 is_path (Number low high) h = absurd (false≢true h)
 
 -- the pieces about the first `**`
-pub about_path : (ps : List Piece) (at : ℕ) → position is_any_path ps ≡ Some at → ps ≡ take at ps ++ (AnyPath ∷ drop (at + 1) ps)
+pub no_path : (ps : List Piece) → position is_any_path ps ≡ None → list_all is_no_path ps ≡ true
+no_path ps h =
+    elim (cases_Bool (ltb (position_or_len is_any_path ps) (length ps))) [
+      | inl t ↦ let wrong : Some (position_or_len is_any_path ps) ≡ None = rw t at h in absurd (none_some (sym wrong))
+      | inr f ↦ all_pass is_no_path ps (ltb-false (position_or_len is_any_path ps) (length ps) f)
+    ]
+
+pub about_path : (ps : List Piece) (at : ℕ) → position is_any_path ps ≡ Some at → (list_all is_no_path (take at ps) ≡ true) × (ps ≡ take at ps ++ (AnyPath ∷ drop (at + 1) ps))
 about_path ps at h =
     elim (cases_Bool (ltb (position_or_len is_any_path ps) (length ps))) [
       | inr f ↦ let wrong : None ≡ Some at = rw f at h in absurd (none_some wrong)
@@ -28,9 +37,11 @@ about_path ps at h =
           let place : position_or_len is_any_path ps ≡ at = some_same found in
           let within = ltb-true (position_or_len is_any_path ps) (length ps) t in
           let cut = split_at_first is_any_path ps AnyPath within in
-          let path = is_path _ (passes_at_first is_any_path ps AnyPath within) in
-          subst (λ k. ps ≡ take k ps ++ (AnyPath ∷ drop (k + 1) ps)) place
-          (cut ∙ ap (λ p. take (position_or_len is_any_path ps) ps ++ (p ∷ drop (position_or_len is_any_path ps + 1) ps)) path)
+          let path = is_path _ (passes_at_first is_any_path ps AnyPath within) in (
+            subst (λ k. list_all is_no_path (take k ps) ≡ true) place (front_passes is_no_path ps),
+            subst (λ k. ps ≡ take k ps ++ (AnyPath ∷ drop (k + 1) ps)) place
+                (cut ∙ ap (λ p. take (position_or_len is_any_path ps) ps ++ (p ∷ drop (position_or_len is_any_path ps + 1) ps)) path),
+          )
     ]
 
 -- what is behind a `**` may begin at any end of what is left

@@ -5,3 +5,5 @@ pub mod EndLemmas
 pub mod ParseLemmas
 pub mod LawLemmas
 pub mod SteadyLemmas
+pub mod PlaceLemmas
+pub mod PlacedLemmas

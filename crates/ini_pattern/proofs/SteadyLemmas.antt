@@ -1,5 +1,5 @@
 -- Pieces that take as many dots of any name: only the last `*` need be tried again.
-use Rattle.std.proofs.Common.{◌≡◌, ◌≢◌, ◌↔◌, ℕ, suc, ◌+◌, ◌≤◌, inl, inr, Bool, true, false, not, cond, eqb, ltb, Option, Some, None, List, [], ◌∷◌, ◌++◌, length, take, drop, append_assoc, refl, sym, ap, subst, ◌∙◌, arith}
+use Rattle.std.proofs.Common.{◌≡◌, ◌≢◌, ◌↔◌, ℕ, suc, ◌+◌, ◌≤◌, inl, inr, Bool, true, false, not, cond, eqb, ltb, Option, Some, None, List, [], ◌∷◌, ◌++◌, length, take, drop, append-nil, append_assoc, refl, sym, ap, subst, ◌∙◌, arith}
 use Rattle.std.specs.Prelude.{position, MatchOption}
 use Rattle.std.specs.Char.{is_ascii_digit}
 use Rattle.std.specs.List.{list_all, prefix_len, position_or_len}
@@ -10,11 +10,11 @@ use Rattle.std.proofs.lemmas.List.Sums.{split_at_first, passes_at_first}
 use Rattle.ini_pattern.specs.declared.piece.Piece.{Piece}
 use Rattle.ini_pattern.specs.declared.piece.Piece.TheVariants.{AnyPath, AnyName, AnyChar, Char, Set, Number}
 use Rattle.ini_pattern.specs.Matches.{has_no_dot, in_ranges, Takes, Covers}
-use Rattle.ini_pattern.specs.Reading.{is_any_name, is_no_name, is_fixed, is_steady, EndsWith, IsEnd, IsLongestRest, HasNoRest, Slides, CannotSlide}
-use Rattle.ini_pattern.proofs.CoverLemmas.{covers_append, covers_split, covers_left_all, ends_next, some_same, none_some}
-use Rattle.ini_pattern.proofs.CrossLemmas.{cross}
+use Rattle.ini_pattern.specs.Reading.{is_any_name, is_no_name, is_fixed, is_steady, EndsWith, IsEnd, IsLongestRest, HasNoRest, Slides, CannotSlide, IsLongestAnywhere, HasNoRestAnywhere, IsPastDot}
+use Rattle.ini_pattern.proofs.CoverLemmas.{cuts, covers_append, covers_split, covers_left_all, ends_next, ends_trans, some_same, none_some}
+use Rattle.ini_pattern.proofs.CrossLemmas.{cross, no_dot_front}
 
-is_name : (p : Piece) → is_any_name p ≡ true → p ≡ AnyName
+pub is_name : (p : Piece) → is_any_name p ≡ true → p ≡ AnyName
 is_name AnyPath h = absurd (false≢true h)
 is_name AnyName h = refl
 is_name AnyChar h = absurd (false≢true h)
@@ -29,7 +29,7 @@ front_more q p ps true h rest =
     rw (h, next, h) rest
 front_more q p ps false h rest = rw h refl
 
-front_passes : (q : Piece → Bool) (ps : List Piece) → list_all q (take (prefix_len q ps) ps) ≡ true
+pub front_passes : (q : Piece → Bool) (ps : List Piece) → list_all q (take (prefix_len q ps) ps) ≡ true
 front_passes q [] = refl
 front_passes q (p ∷ ps) = front_more q p ps (q p) refl (front_passes q ps)
 
@@ -43,7 +43,7 @@ all_more : (q : Piece → Bool) (p : Piece) (ps : List Piece) (b : Bool) → q p
 all_more q p ps true h rest le = rw h (rest (omega (arith, subst (λ n. suc (length ps) ≤ n) (cond_at (q p) (1 + prefix_len q ps) h) le)))
 all_more q p ps false h rest le = absurd (omega (arith, subst (λ n. suc (length ps) ≤ n) (cond_off (q p) (1 + prefix_len q ps) h) le))
 
-all_pass : (q : Piece → Bool) (ps : List Piece) → length ps ≤ prefix_len q ps → list_all q ps ≡ true
+pub all_pass : (q : Piece → Bool) (ps : List Piece) → length ps ≤ prefix_len q ps → list_all q ps ≡ true
 all_pass q [] le = refl
 all_pass q (p ∷ ps) le = all_more q p ps (q p) refl (all_pass q ps) le
 
@@ -170,18 +170,18 @@ pub one_rest : (ps : List Piece) (n r u : List ℕ) → list_all is_fixed ps ≡
 one_rest ps n r u f v w = some_same (sym (covers_left_all ps n r f v) ∙ covers_left_all ps n u f w)
 
 -- and one that begins later leaves no more
-no_more_left : (ps : List Piece) (s t r u : List ℕ) → list_all is_fixed ps ≡ true → EndsWith s t → Covers ps s r → Covers ps t u → EndsWith r u
+pub no_more_left : (ps : List Piece) (s t r u : List ℕ) → list_all is_fixed ps ≡ true → EndsWith s t → Covers ps s r → Covers ps t u → EndsWith r u
 no_more_left ps s t r u f ends v w =
     elim (cross ps s t r u ends v w) [
       | inl over ↦ over
       | inr again ↦ ([], one_rest ps s r u f v again)
     ]
 
-no_dot_back : (f g : List ℕ) → has_no_dot (f ++ g) ≡ true → has_no_dot g ≡ true
+pub no_dot_back : (f g : List ℕ) → has_no_dot (f ++ g) ≡ true → has_no_dot g ≡ true
 no_dot_back [] g h = h
 no_dot_back (c ∷ f) g h = no_dot_back f g ((and_parts (not (eqb c 46)) (has_no_dot (f ++ g)) h).1)
 
-no_dot_both : (f g : List ℕ) → has_no_dot f ≡ true → has_no_dot g ≡ true → has_no_dot (f ++ g) ≡ true
+pub no_dot_both : (f g : List ℕ) → has_no_dot f ≡ true → has_no_dot g ≡ true → has_no_dot (f ++ g) ≡ true
 no_dot_both [] g h k = k
 no_dot_both (c ∷ f) g h k =
     let parts = and_parts (not (eqb c 46)) (has_no_dot f) h in
@@ -294,10 +294,11 @@ last_none ps left to_end name here w none other covered stops =
 pub steady_none : (ps left front back : List Piece) (to_end : Bool) (name here : List ℕ) → SteadySoFar ps left name here → left ≡ front ++ (AnyName ∷ back) → CannotSlide front false here → HasNoRest ps to_end name
 steady_none ps left front back to_end name here w e none other covered stops = step_none left front back here other e none ((w.same other).0 covered)
 
-pub steady_begin : (ps front back : List Piece) (name here : List ℕ) → list_all is_steady ps ≡ true → ps ≡ front ++ (AnyName ∷ back) → list_all is_no_name front ≡ true → Covers front name here → SteadySoFar ps back name here
-steady_begin ps front back name here st e n v =
-    let parts = steady_split front (AnyName ∷ back) (subst (λ l. list_all is_steady l ≡ true) e st) in
-    record { steady = parts.1; same = begin_star ps front back name here e (all_fixed front parts.0 n) v }
+pub star_begin : (ps : List Piece) (name : List ℕ) → list_all is_steady ps ≡ true → SteadySoFar (AnyName ∷ ps) ps name name
+star_begin ps name st = record { steady = st; same = λ u. (λ w. w, λ w. w) }
+
+pub star_requires : (ps front back : List Piece) → list_all is_steady ps ≡ true → ps ≡ front ++ (AnyName ∷ back) → list_all is_steady back ≡ true
+star_requires ps front back st e = (steady_split front (AnyName ∷ back) (subst (λ l. list_all is_steady l ≡ true) e st)).1
 
 pub steady_next : (ps left front back : List Piece) (name here rest : List ℕ) → SteadySoFar ps left name here → left ≡ front ++ (AnyName ∷ back) → list_all is_no_name front ≡ true → Slides front false here rest → SteadySoFar ps back name rest
 steady_next ps left front back name here rest w e n v =
@@ -308,21 +309,96 @@ steady_next ps left front back name here rest w e n v =
       same = λ u. (λ k. (step u).0 ((w.same u).0 k), λ k. (w.same u).1 ((step u).1 k));
     }
 
-pub only_fixed : (ps : List Piece) (to_end : Bool) (name rest : List ℕ) → list_all is_steady ps ≡ true → list_all is_no_name ps ≡ true → Covers ps name rest → IsEnd to_end rest → IsLongestRest ps to_end name rest
-only_fixed ps to_end name rest st n v stops = record {
+only_fixed : (ps : List Piece) (to_end : Bool) (name rest : List ℕ) → list_all is_fixed ps ≡ true → Covers ps name rest → IsEnd to_end rest → IsLongestRest ps to_end name rest
+only_fixed ps to_end name rest fixed v stops = record {
   covers = v;
   ends = stops;
-  longest = λ other covered _. ([], one_rest ps name rest other (all_fixed ps st n) v covered);
+  longest = λ other covered _. ([], one_rest ps name rest other fixed v covered);
 }
 
 pub fixed_front : (ps front back : List Piece) → list_all is_steady ps ≡ true → ps ≡ front ++ (AnyName ∷ back) → list_all is_no_name front ≡ true → list_all is_fixed front ≡ true
 fixed_front ps front back st e n =
     all_fixed front (steady_split front (AnyName ∷ back) (subst (λ l. list_all is_steady l ≡ true) e st)).0 n
 
-pub told_fixed : {A : Type 0} (view : A → List ℕ) (ps : List Piece) (to_end : Bool) (name : List ℕ) (r : Option A) → list_all is_steady ps ≡ true → list_all is_no_name ps ≡ true → MatchOption r (HasNoRest ps to_end name) (λ x. Covers ps name (view x) × IsEnd to_end (view x)) → MatchOption r (HasNoRest ps to_end name) (λ x. IsLongestRest ps to_end name (view x))
-told_fixed view ps to_end name None st n h = h
-told_fixed view ps to_end name (Some x) st n h = only_fixed ps to_end name (view x) st n h.0 h.1
+pub told_fixed : {A : Type 0} (view : A → List ℕ) (ps : List Piece) (to_end : Bool) (name : List ℕ) (r : Option A) → list_all is_fixed ps ≡ true → MatchOption r (HasNoRest ps to_end name) (λ x. Covers ps name (view x) × IsEnd to_end (view x)) → MatchOption r (HasNoRest ps to_end name) (λ x. IsLongestRest ps to_end name (view x))
+told_fixed view ps to_end name None fixed h = h
+told_fixed view ps to_end name (Some x) fixed h = only_fixed ps to_end name (view x) fixed h.0 h.1
 
 pub told_slide : {A : Type 0} (view : A → List ℕ) (ps left : List Piece) (to_end : Bool) (name here : List ℕ) (r : Option A) → SteadySoFar ps left name here → list_all is_no_name left ≡ true → MatchOption r (CannotSlide left to_end here) (λ x. Slides left to_end here (view x)) → MatchOption r (HasNoRest ps to_end name) (λ x. IsLongestRest ps to_end name (view x))
 told_slide view ps left to_end name here None w n h = last_none ps left to_end name here w h
 told_slide view ps left to_end name here (Some x) w n h = last_star ps left to_end name here (view x) w n h
+
+-- the longest rest behind the first star
+pub told_star : {A : Type 0} (view : A → List ℕ) (ps front back : List Piece) (to_end : Bool) (name here : List ℕ) (r : Option A) → list_all is_fixed front ≡ true → ps ≡ front ++ (AnyName ∷ back) → Covers front name here → MatchOption r (HasNoRest (AnyName ∷ back) to_end here) (λ x. IsLongestRest (AnyName ∷ back) to_end here (view x)) → MatchOption r (HasNoRest ps to_end name) (λ x. IsLongestRest ps to_end name (view x))
+told_star view ps front back to_end name here None fixed e v h = λ other covered stops.
+    h other ((begin_star ps front back name here e fixed v other).0 covered) stops
+told_star view ps front back to_end name here (Some x) fixed e v h =
+    let same : (u : List ℕ) → Covers ps name u ↔ Covers (AnyName ∷ back) here u = begin_star ps front back name here e fixed v in
+    record {
+      covers = (same (view x)).1 h.covers;
+      ends = h.ends;
+      longest = λ other covered stops. h.longest other ((same other).0 covered) stops;
+    }
+
+-- what is passed has no dot
+abbrev pub PastNoDot : List ℕ → List ℕ → Type 0
+PastNoDot name here = (front : List ℕ) × (name ≡ front ++ here) × (has_no_dot front ≡ true)
+
+pub past_next : (name here behind : List ℕ) (c : ℕ) → PastNoDot name here → here ≡ c ∷ behind → (c ≡ 46 → ⊥) → PastNoDot name behind
+past_next name here behind c w h ne = (
+  w.0 ++ c ∷ [],
+  w.1 ∙ ap (λ l. w.0 ++ l) h ∙ sym (append_assoc w.0 (c ∷ []) behind),
+  no_dot_both w.0 (c ∷ []) w.2 (rw (ne_eqb c 46 ne) refl),
+)
+
+-- what stands before the first dot
+dot_first : (front behind x from z : List ℕ) → x ≡ front ++ z → 46 ∷ behind ≡ z ++ from → has_no_dot front ≡ true → (has_no_dot x ≡ true → ⊥) → EndsWith behind from
+dot_first front behind x from [] e f clear apart =
+    absurd (apart (subst (λ l. has_no_dot l ≡ true) (sym (e ∙ append-nil front)) clear))
+dot_first front behind x from (c ∷ z) e f clear apart = (z, cc)
+
+dot_gone : (front behind x from : List ℕ) → front ++ (46 ∷ behind) ≡ x ++ from → has_no_dot front ≡ true → (has_no_dot x ≡ true → ⊥) → EndsWith behind from
+dot_gone front behind x from e clear apart =
+    elim (cuts front (46 ∷ behind) x from e) [
+      | inl w ↦ dot_first front behind x from w.0 w.1 w.2 clear apart
+      | inr w ↦ absurd (apart (no_dot_front x w.0 (subst (λ l. has_no_dot l ≡ true) w.1 clear)))
+    ]
+
+-- no start is passed from which the pieces leave a rest
+abbrev pub StartsFrom : List Piece → Bool → List ℕ → List ℕ → Type 0
+StartsFrom ps to_end name here =
+    EndsWith name here × ((from other : List ℕ) → EndsWith name from → Covers ps from other → IsEnd to_end other → EndsWith here from)
+
+pub starts_next : (ps : List Piece) (to_end : Bool) (name here behind : List ℕ) → StartsFrom ps to_end name here → HasNoRest (AnyName ∷ ps) to_end here → IsPastDot here behind → StartsFrom ps to_end name behind
+starts_next ps to_end name here behind w none past = (
+  ends_trans name here behind w.0 (past.0 ++ 46 ∷ [], past.1 ∙ sym (append_assoc past.0 (46 ∷ []) behind)),
+  λ from other ends v stops.
+      let over = w.1 from other ends v stops in
+      dot_gone past.0 behind over.0 from (sym past.1 ∙ over.1) past.2 (λ clear. none other (over.0, from, over.1, clear, v) stops),
+)
+
+pub starts_none : (ps : List Piece) (to_end : Bool) (name here : List ℕ) → StartsFrom ps to_end name here → HasNoRest (AnyName ∷ ps) to_end here → has_no_dot here ≡ true → HasNoRestAnywhere ps to_end name
+starts_none ps to_end name here w none clear from other ends v stops =
+    let over = w.1 from other ends v stops in
+    none other (over.0, from, over.1, no_dot_front over.0 from (subst (λ l. has_no_dot l ≡ true) over.1 clear), v) stops
+
+longest_over : (ps : List Piece) (to_end : Bool) (here rest from other : List ℕ) → IsLongestRest (AnyName ∷ ps) to_end here rest → EndsWith here from → Covers ps from other → IsEnd to_end other → EndsWith rest other
+longest_over ps to_end here rest from other found over v stops =
+    let k = found.covers in
+    elim (cuts k.0 k.1 over.0 from (sym k.2 ∙ over.1)) [
+      | inl w ↦
+          elim (cross ps k.1 from rest other (w.0, w.2) k.4 v) [
+            | inl ends ↦ ends
+            | inr again ↦ found.longest other (k.0, k.1, k.2, k.3, again) stops
+          ]
+      | inr w ↦ found.longest other (over.0, from, over.1, no_dot_front over.0 w.0 (subst (λ l. has_no_dot l ≡ true) w.1 k.3), v) stops
+    ]
+
+pub starts_found : (ps : List Piece) (to_end : Bool) (name here rest : List ℕ) → StartsFrom ps to_end name here → IsLongestRest (AnyName ∷ ps) to_end here rest → IsLongestAnywhere ps to_end name rest
+starts_found ps to_end name here rest w found = record {
+  start = found.covers.1;
+  within = ends_trans name here found.covers.1 w.0 (found.covers.0, found.covers.2);
+  covers = found.covers.4;
+  ends = found.ends;
+  longest = λ from other ends v stops. longest_over ps to_end here rest from other found (w.1 from other ends v stops) v stops;
+}

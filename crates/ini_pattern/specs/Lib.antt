@@ -3,3 +3,4 @@ pub mod PatternOf
 pub mod Fault
 pub mod Reading
 pub mod Laws
+pub mod Places

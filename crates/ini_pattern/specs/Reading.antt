@@ -99,11 +99,6 @@ abbrev pub HasNoRestAnywhere : List Piece → Bool → List ℕ → Type 0
 HasNoRestAnywhere pieces to_end name =
     (from rest : List ℕ) → EndsWith name from → Covers pieces from rest → IsEnd to_end rest → ⊥
 
--- a star, which takes dots or not, leaves this rest of a name
-abbrev pub StarLeaves : Bool → List ℕ → List ℕ → Type 0
-StarLeaves dots name rest =
-    (taken : List ℕ) × (name ≡ taken ++ rest) × IsTrue (if dots then true else has_no_dot taken)
-
 -- the pieces match an end of a name
 abbrev pub MatchesEnd : List Piece → List ℕ → Type 0
 MatchesEnd pieces name = (from : List ℕ) × EndsWith name from × Matches pieces from
@@ -122,3 +117,7 @@ pub record Slides (pieces : List Piece) (to_end : Bool) (name rest : List ℕ) :
 abbrev pub CannotSlide : List Piece → Bool → List ℕ → Type 0
 CannotSlide pieces to_end name =
     (before from other : List ℕ) → name ≡ before ++ from → has_no_dot before ≡ true → Covers pieces from other → IsEnd to_end other → ⊥
+
+-- what follows the first dot of a name
+abbrev pub IsPastDot : List ℕ → List ℕ → Type 0
+IsPastDot name rest = (front : List ℕ) × (name ≡ front ++ (46 ∷ rest)) × (has_no_dot front ≡ true)

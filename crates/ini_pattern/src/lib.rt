@@ -8,6 +8,7 @@ pub mod matching;
 pub mod parse;
 pub mod pattern;
 pub mod piece;
+pub mod places;
 pub mod reading;
 #[cfg(test)]
 mod tests;

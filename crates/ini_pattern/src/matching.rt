@@ -4,11 +4,13 @@ ghost use Rattle.std.specs.Prelude.{◌≡◌, ◌↔◌, [], ◌∷◌, ◌++�
 ghost use Rattle.std.specs.List.{list_all};
 ghost use Rattle.std.specs.Option.{option_map};
 ghost use Rattle.std.specs.Str.{chars};
-ghost use Rattle.ini_pattern.specs.Matches.{in_ranges, Covers, Matches};
-ghost use Rattle.ini_pattern.specs.Reading.{is_number_in, is_any_path, is_any_name, is_fixed, left_by, left_by_all, IsLongestRest, HasNoRest, IsLongestAnywhere, HasNoRestAnywhere, StarLeaves, MatchesEnd, IsEnd, is_no_name, is_steady, Slides, CannotSlide};
+ghost use Rattle.ini_pattern.specs.Matches.{has_no_dot, in_ranges, Covers, Matches};
+ghost use Rattle.ini_pattern.specs.Places.{is_no_path};
+ghost use Rattle.ini_pattern.specs.Reading.{is_number_in, is_any_path, is_any_name, is_fixed, left_by, left_by_all, IsLongestRest, HasNoRest, IsLongestAnywhere, HasNoRestAnywhere, MatchesEnd, IsEnd, is_no_name, is_steady, Slides, CannotSlide, IsPastDot};
 
 use crate::piece::{CharRange, Piece};
-use crate::reading::{after_char, digit_run, first_char, same_text};
+use crate::places::{placed_anywhere, placed_start};
+use crate::reading::{after_char, digit_run, first_char, is_long_run};
 
 /// Whether a character is in one of the ranges.
 fn in_ranges(ranges: &[CharRange], c: char) -> bool
@@ -23,8 +25,11 @@ fn in_ranges(ranges: &[CharRange], c: char) -> bool
 fn left_by_number(name: &str, low: u64, high: Option<u64>) -> Option<&str>
     ensures { option_map (λ rest. chars rest.now) result ≡ left_by (Piece.Number low high) (chars name.now) }
 {
+    if is_long_run(name) {
+        return None;
+    }
     let (digits, rest) = digit_run(name);
-    if digits.count == 0 || digits.count > 18 || digits.value < low {
+    if digits.count == 0 || digits.value < low {
         return None;
     }
     match high {
@@ -78,95 +83,10 @@ fn is_any_path(piece: &Piece) -> bool
 }
 
 /// Whether a piece is `*`.
-fn is_any_name(piece: &Piece) -> bool
+pub(crate) fn is_any_name(piece: &Piece) -> bool
     ensures { result ≡ is_any_name piece.now }
 {
     matches!(piece, Piece::AnyName)
-}
-
-/// Whether no piece is a star.
-fn are_fixed(pieces: &[Piece]) -> bool
-    ensures { result ≡ list_all is_fixed pieces.now }
-{
-    pieces
-        .iter()
-        .all(|piece| !is_any_path(piece) && !is_any_name(piece))
-}
-
-/// Whether a text is left at the end of a name by characters of which none is a dot, if dots are not
-/// allowed.
-fn star_leaves(dots: bool, name: &str, rest: &str) -> bool
-    ensures { IsTrue result ↔ StarLeaves dots (chars name.now) (chars rest.now) }
-{
-    let mut here = name;
-    loop {
-        if same_text(here, rest) {
-            return true;
-        }
-        match first_char(here) {
-            None => return false,
-            Some((c, behind)) => {
-                if !dots && c == '.' {
-                    return false;
-                }
-                here = behind;
-            }
-        }
-    }
-}
-
-/// Whether a piece leaves this rest of a name.
-fn piece_leaves(piece: &Piece, name: &str, rest: &str) -> bool
-    ensures { IsTrue result ↔ Covers (piece.now ∷ []) (chars name.now) (chars rest.now) }
-{
-    if is_any_path(piece) {
-        return star_leaves(true, name, rest);
-    }
-    if is_any_name(piece) {
-        return star_leaves(false, name, rest);
-    }
-    match left_by(piece, name) {
-        Some(left) => same_text(left, rest),
-        None => false,
-    }
-}
-
-/// Whether pieces that are no stars leave this rest of a name.
-fn fixed_leave(pieces: &[Piece], name: &str, rest: &str) -> bool
-    requires { IsTrue (list_all is_fixed pieces.now) }
-    ensures { IsTrue result ↔ Covers pieces.now (chars name.now) (chars rest.now) }
-{
-    match left_by_all(pieces, name) {
-        Some(left) => same_text(left, rest),
-        None => false,
-    }
-}
-
-/// Whether any pieces leave this rest of a name. It halves the pieces, so it goes no deeper than
-/// the number of halvings of a length.
-fn leave(pieces: &[Piece], name: &str, rest: &str) -> bool
-    ensures { IsTrue result ↔ Covers pieces.now (chars name.now) (chars rest.now) }
-{
-    if are_fixed(pieces) {
-        return fixed_leave(pieces, name, rest);
-    }
-    if pieces.len() < 2 {
-        return match pieces {
-            [piece] => piece_leaves(piece, name, rest),
-            _ => same_text(name, rest),
-        };
-    }
-    let (front, back) = pieces.split_at(pieces.len() / 2);
-    let mut middle = name;
-    loop {
-        if leave(front, name, middle) && leave(back, middle, rest) {
-            return true;
-        }
-        match first_char(middle) {
-            None => return false,
-            Some((_, behind)) => middle = behind,
-        }
-    }
 }
 
 /// Whether this rest may be left, where it has to be nothing if the pieces have to go to the end.
@@ -174,23 +94,6 @@ fn may_stop(rest: &str, to_end: bool) -> bool
     ensures { IsTrue result ↔ IsEnd to_end (chars rest.now) }
 {
     !to_end || first_char(rest).is_none()
-}
-
-/// The longest rest that pieces can leave of a name, found by trying each.
-fn searched_rest<'a>(pieces: &[Piece], name: &'a str, to_end: bool) -> Option<&'a str>
-    ensures { MatchOption result (HasNoRest pieces.now to_end (chars name.now))
-        (λ rest. IsLongestRest pieces.now to_end (chars name.now) (chars rest.now)) }
-{
-    let mut rest = name;
-    loop {
-        if may_stop(rest, to_end) && leave(pieces, name, rest) {
-            return Some(rest);
-        }
-        match first_char(rest) {
-            None => return None,
-            Some((_, behind)) => rest = behind,
-        }
-    }
 }
 
 /// Whether a piece is no `**`, and takes as many dots of any name.
@@ -231,7 +134,7 @@ fn around_name(pieces: &[Piece]) -> Option<(&[Piece], &[Piece])>
 }
 
 /// What pieces that are no stars leave of a name, where that may be left.
-fn fixed_rest<'a>(pieces: &[Piece], name: &'a str, to_end: bool) -> Option<&'a str>
+pub(crate) fn fixed_rest<'a>(pieces: &[Piece], name: &'a str, to_end: bool) -> Option<&'a str>
     requires { IsTrue (list_all is_fixed pieces.now) }
     ensures { MatchOption result (HasNoRest pieces.now to_end (chars name.now))
         (λ rest. Covers pieces.now (chars name.now) (chars rest.now) × IsEnd to_end (chars rest.now)) }
@@ -269,8 +172,26 @@ fn slide<'a>(pieces: &[Piece], name: &'a str, to_end: bool) -> Option<&'a str>
     }
 }
 
-/// The longest rest that steady pieces can leave of a name. Only the last `*` is tried again: the
-/// pieces before it took as few characters as they can, and as many dots as ever.
+/// The longest rest that a `*` and steady pieces behind it can leave of a name. Only the last `*` is
+/// tried again: the pieces before it took as few characters as they can, and as many dots as ever.
+fn star_rest<'a>(pieces: &[Piece], name: &'a str, to_end: bool) -> Option<&'a str>
+    requires { IsTrue (list_all is_steady pieces.now) }
+    ensures { MatchOption result (HasNoRest (Piece.AnyName ∷ pieces.now) to_end (chars name.now))
+        (λ rest. IsLongestRest (Piece.AnyName ∷ pieces.now) to_end (chars name.now) (chars rest.now)) }
+{
+    let mut left = pieces;
+    let mut here = name;
+    while let Some((front, back)) = around_name(left) {
+        let Some(rest) = slide(front, here, false) else {
+            return None;
+        };
+        here = rest;
+        left = back;
+    }
+    slide(left, here, to_end)
+}
+
+/// The longest rest that steady pieces can leave of a name.
 fn steady_rest<'a>(pieces: &[Piece], name: &'a str, to_end: bool) -> Option<&'a str>
     requires { IsTrue (list_all is_steady pieces.now) }
     ensures { MatchOption result (HasNoRest pieces.now to_end (chars name.now))
@@ -282,45 +203,68 @@ fn steady_rest<'a>(pieces: &[Piece], name: &'a str, to_end: bool) -> Option<&'a 
     let Some(begin) = fixed_rest(first, name, false) else {
         return None;
     };
-    let mut left = behind;
-    let mut here = begin;
-    while let Some((front, back)) = around_name(left) {
-        let Some(rest) = slide(front, here, false) else {
-            return None;
-        };
-        here = rest;
-        left = back;
-    }
-    slide(left, here, to_end)
+    star_rest(behind, begin, to_end)
 }
 
 /// The longest rest that pieces can leave of a name, where the rest has to be nothing if they have
 /// to go to the end.
 fn longest_rest<'a>(pieces: &[Piece], name: &'a str, to_end: bool) -> Option<&'a str>
+    requires { IsTrue (list_all is_no_path pieces.now) }
     ensures { MatchOption result (HasNoRest pieces.now to_end (chars name.now))
         (λ rest. IsLongestRest pieces.now to_end (chars name.now) (chars rest.now)) }
 {
     if are_steady(pieces) {
         steady_rest(pieces, name, to_end)
     } else {
-        searched_rest(pieces, name, to_end)
+        placed_start(pieces, name, to_end)
     }
 }
 
-/// The longest rest that pieces can leave of any end of a name, as above.
-fn longest_anywhere<'a>(pieces: &[Piece], name: &'a str, to_end: bool) -> Option<&'a str>
+/// What follows the first dot of a name.
+fn past_dot(name: &str) -> Option<&str>
+    ensures { MatchOption result (IsTrue (has_no_dot (chars name.now)))
+        (λ rest. IsPastDot (chars name.now) (chars rest.now)) }
+{
+    let mut here = name;
+    while let Some((c, behind)) = first_char(here) {
+        if c == '.' {
+            return Some(behind);
+        }
+        here = behind;
+    }
+    None
+}
+
+/// The longest rest that steady pieces can leave of any end of a name. Where they leave none from
+/// a place on, they leave none from any place before the next dot: the dots that each piece takes
+/// are the same ones from there.
+fn steady_anywhere<'a>(pieces: &[Piece], name: &'a str, to_end: bool) -> Option<&'a str>
+    requires { IsTrue (list_all is_steady pieces.now) }
     ensures { MatchOption result (HasNoRestAnywhere pieces.now to_end (chars name.now))
         (λ rest. IsLongestAnywhere pieces.now to_end (chars name.now) (chars rest.now)) }
 {
     let mut from = name;
     loop {
-        if let Some(rest) = longest_rest(pieces, from, to_end) {
+        if let Some(rest) = star_rest(pieces, from, to_end) {
             return Some(rest);
         }
-        match first_char(from) {
+        match past_dot(from) {
             None => return None,
-            Some((_, behind)) => from = behind,
+            Some(behind) => from = behind,
         }
+    }
+}
+
+/// The longest rest that pieces can leave of any end of a name, as above.
+fn longest_anywhere<'a>(pieces: &[Piece], name: &'a str, to_end: bool) -> Option<&'a str>
+    requires { IsTrue (list_all is_no_path pieces.now) }
+    ensures { MatchOption result (HasNoRestAnywhere pieces.now to_end (chars name.now))
+        (λ rest. IsLongestAnywhere pieces.now to_end (chars name.now) (chars rest.now)) }
+{
+    if are_steady(pieces) {
+        steady_anywhere(pieces, name, to_end)
+    } else {
+        placed_anywhere(pieces, name, to_end)
     }
 }
 
@@ -333,8 +277,9 @@ fn any_path_at(pieces: &[Piece]) -> Option<usize>
 
 /// The pieces before the first `**`, and those behind it.
 fn around_path(pieces: &[Piece]) -> Option<(&[Piece], &[Piece])>
-    ensures { MatchOption result (position is_any_path pieces.now ≡ None)
-        (λ parts. pieces.now ≡ parts.0.now ++ (Piece.AnyPath ∷ parts.1.now)) }
+    ensures { MatchOption result (IsTrue (list_all is_no_path pieces.now))
+        (λ parts. IsTrue (list_all is_no_path parts.0.now)
+        × (pieces.now ≡ parts.0.now ++ (Piece.AnyPath ∷ parts.1.now))) }
 {
     let Some(at) = any_path_at(pieces) else {
         return None;

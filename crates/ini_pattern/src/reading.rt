@@ -1,6 +1,6 @@
 //! Texts by their characters.
 
-ghost use Rattle.std.specs.Prelude.{◌≡◌, ◌↔◌, [], ◌∷◌, IsTrue, MatchOption, false};
+ghost use Rattle.std.specs.Prelude.{◌≡◌, ◌↔◌, ◌<◌, [], ◌∷◌, length, IsTrue, MatchOption, false};
 ghost use Rattle.std.specs.Str.{chars};
 ghost use Rattle.ini_pattern.specs.PatternOf.{begins_with, digits_front, after_digits};
 ghost use Rattle.ini_pattern.specs.Reading.{IsReadingOf};
@@ -13,13 +13,6 @@ pub(crate) fn first_char(text: &str) -> Option<(char, &str)>
     let mut characters = text.chars();
     let first = characters.next()?;
     Some((first, characters.as_str()))
-}
-
-/// Whether two texts are one.
-pub(crate) fn same_text(a: &str, b: &str) -> bool
-    ensures { IsTrue result ↔ (chars a.now ≡ chars b.now) }
-{
-    a == b
 }
 
 /// Digits of a number.
@@ -50,6 +43,25 @@ pub(crate) fn digit_run(text: &str) -> (Digits, &str)
         rest = after;
     }
     (Digits { count, value }, rest)
+}
+
+/// Whether a text begins with more than 18 digits. It looks at no more than 19 of them.
+pub(crate) fn is_long_run(text: &str) -> bool
+    ensures { IsTrue result ↔ (18 < length (digits_front (chars text.now))) }
+{
+    let mut count: u32 = 0;
+    let mut rest = text;
+    while let Some((digit, after)) = first_char(rest) {
+        if !digit.is_ascii_digit() {
+            return false;
+        }
+        if count == 18 {
+            return true;
+        }
+        count += 1;
+        rest = after;
+    }
+    false
 }
 
 /// What follows this character, where a text begins with it.
