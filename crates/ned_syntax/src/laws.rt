@@ -1,6 +1,7 @@
 //! What holds of the definitions themselves.
 
 ghost use Rattle.ned_syntax.specs.NedText.{HasOneMeaning, IsOneExpression, MeanTheSame};
+ghost use Rattle.ned_syntax.specs.Spelling.{IsReadBack};
 
 /// Two meanings of one text are equal.
 pub fn one_meaning(bytes: &[u8])
@@ -11,4 +12,9 @@ pub fn one_meaning(bytes: &[u8])
 /// Texts of the same tokens mean the same.
 pub fn same_meaning(first: &[u8], second: &[u8])
     ensures { MeanTheSame first.now second.now }
+{}
+
+/// What a text declares, written in the standard spelling and read again, is the same.
+pub fn read_back(bytes: &[u8])
+    ensures { IsReadBack bytes.now }
 {}
