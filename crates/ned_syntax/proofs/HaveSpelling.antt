@@ -48,7 +48,7 @@ have_value (values.Text text) h = (h, tt)
 have_value (values.Quantity d (pos n)) h = (h, tt)
 have_value (values.Quantity d (negsuc n)) h = absurd h
 
-have_expression : (e : Expression) → CanBeExpression e → HaveSpelling (expression_tokens e)
+pub have_expression : (e : Expression) → CanBeExpression e → HaveSpelling (expression_tokens e)
 have_expression (expressions.Literal v) h = have_value v h
 
 have_given : (g : ParameterValue) → CanBeGiven g → HaveSpelling (given_tokens g)

@@ -368,3 +368,6 @@ keeps_file = mapped (λ ts h. h) (each keeps_type)
 
 pub file_can : (ts : List Token) (f : NedFile) → AreSound ts → file.Is ts f → CanBeFile f
 file_can ts f h is = keeps_file.kept ts f h is
+
+pub expression_can : (ts : List Token) (e : Expression) → AreSound ts → expression.Is ts e → CanBeExpression e
+expression_can ts e h is = keeps_expression.kept ts e h is

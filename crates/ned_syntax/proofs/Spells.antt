@@ -385,3 +385,6 @@ a_file f h = mapped (each type_rule type_tokens CanBeType a_type f.types h)
 
 pub file_is : (f : NedFile) → CanBeFile f → file.Is (file_tokens f) f
 file_is f h = (a_file f h).is
+
+pub expression_is : (e : Expression) → CanBeExpression e → expression.Is (expression_tokens e) e
+expression_is e h = (an_expression e h).is

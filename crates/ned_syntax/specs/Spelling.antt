@@ -8,6 +8,7 @@ use Rattle.ned_tokens.specs.declared.token.Keyword.TheVariants as k
 use Rattle.ned_tokens.specs.declared.token.Mark.TheVariants as m
 use Rattle.ned_tokens.specs.declared.token.Token.{Token}
 use Rattle.ned_tokens.specs.declared.token.Token.TheVariants as token
+use Rattle.ned_tokens.specs.Lines.{tokens_of}
 use Rattle.ned_tokens.specs.Meaning.{max_length}
 use Rattle.ned_tokens.specs.Spelling.{unit_text, spell}
 use Rattle.ned_syntax.specs.declared.ast.Expression.{Expression}
@@ -29,7 +30,8 @@ use Rattle.ned_syntax.specs.declared.ast.TypeKind.{TypeKind}
 use Rattle.ned_syntax.specs.declared.ast.TypeKind.TheVariants as kinds
 use Rattle.ned_syntax.specs.declared.ast.TypeDeclaration.{TypeDeclaration}
 use Rattle.ned_syntax.specs.declared.ast.NedFile.{NedFile}
-use Rattle.ned_syntax.specs.NedText.{IsNedFile}
+use Rattle.ned_syntax.specs.Grammar.{file}
+use Rattle.ned_syntax.specs.NedText.{IsNedFile, IsExpressionText}
 
 -- the tokens of a list, one element after the other
 abbrev pub listed_tokens : {X : Type 0} → (X → List Token) → List X → List Token
@@ -143,6 +145,24 @@ file_tokens f = listed_tokens type_tokens f.types
 unfoldable pub spelled : NedFile → List ℕ
 spelled f = spell (file_tokens f)
 
+-- the standard spelling of an expression
+unfoldable pub spelled_expression : Expression → List ℕ
+spelled_expression e = spell (expression_tokens e)
+
+-- ---- what is read back
+
 -- What a text declares is what its standard spelling declares, where that is small enough to be read.
 abbrev pub IsReadBack : List ℕ → Type 0
 IsReadBack bytes = (declared : NedFile) → IsNedFile bytes declared → length (spelled declared) ≤ max_length → IsNedFile (spelled declared) declared
+
+-- However long the standard spelling is, its tokens say what the text declares.
+abbrev pub SaysTheSame : List ℕ → Type 0
+SaysTheSame bytes = (declared : NedFile) → IsNedFile bytes declared → file.Is (tokens_of (spelled declared)) declared
+
+-- What an expression's text says is what its standard spelling says, where that is small enough to be read.
+abbrev pub ExpressionIsReadBack : List ℕ → Type 0
+ExpressionIsReadBack bytes = (e : Expression) → IsExpressionText bytes e → length (spelled_expression e) ≤ max_length → IsExpressionText (spelled_expression e) e
+
+-- What two texts declare is the same where it is spelled the same.
+abbrev pub SpellingDecides : List ℕ → List ℕ → Type 0
+SpellingDecides first second = (one other : NedFile) → IsNedFile first one → IsNedFile second other → spelled one ≡ spelled other → one ≡ other

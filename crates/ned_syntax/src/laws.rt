@@ -1,7 +1,7 @@
 //! What holds of the definitions themselves.
 
 ghost use Rattle.ned_syntax.specs.NedText.{HasOneMeaning, IsOneExpression, MeanTheSame};
-ghost use Rattle.ned_syntax.specs.Spelling.{IsReadBack};
+ghost use Rattle.ned_syntax.specs.Spelling.{ExpressionIsReadBack, IsReadBack, SaysTheSame, SpellingDecides};
 
 /// Two meanings of one text are equal.
 pub fn one_meaning(bytes: &[u8])
@@ -16,5 +16,12 @@ pub fn same_meaning(first: &[u8], second: &[u8])
 
 /// What a text declares, written in the standard spelling and read again, is the same.
 pub fn read_back(bytes: &[u8])
-    ensures { IsReadBack bytes.now }
+    ensures file { IsReadBack bytes.now }
+    ensures long { SaysTheSame bytes.now }
+    ensures expression { ExpressionIsReadBack bytes.now }
+{}
+
+/// What two texts declare is the same where it is spelled the same.
+pub fn one_spelling(first: &[u8], second: &[u8])
+    ensures { SpellingDecides first.now second.now }
 {}
