@@ -2,6 +2,7 @@
 
 ghost use Rattle.ned_syntax.specs.NedText.{HasOneMeaning, IsOneExpression, MeanTheSame};
 ghost use Rattle.ned_syntax.specs.Spelling.{ExpressionIsReadBack, IsReadBack, SaysTheSame, SpellingDecides};
+ghost use Rattle.ned_syntax.specs.SpellingExample.{ExampleIsSpelled};
 
 /// Two meanings of one text are equal.
 pub fn one_meaning(bytes: &[u8])
@@ -24,4 +25,9 @@ pub fn read_back(bytes: &[u8])
 /// What two texts declare is the same where it is spelled the same.
 pub fn one_spelling(first: &[u8], second: &[u8])
     ensures { SpellingDecides first.now second.now }
+{}
+
+/// A file with a line of each kind, and its standard spelling.
+pub fn spelled_example()
+    ensures { ExampleIsSpelled }
 {}

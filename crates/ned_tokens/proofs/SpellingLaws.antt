@@ -1,18 +1,18 @@
 -- Tokens in their standard spelling are read as themselves.
-use Rattle.std.proofs.Common.{◌≡◌, ℕ, Bool, true, false, cond, eqb, List, [], ◌∷◌, ◌++◌, Option, Some, None, refl, sym, ap, subst, ◌∙◌, append_assoc, append-nil, IsUtf8}
+use Rattle.std.proofs.Common.{◌≡◌, ℕ, ◌<◌, Bool, true, false, ◌||◌, cond, eqb, List, [], ◌∷◌, ◌++◌, length, inl, inr, arith, Option, Some, None, refl, sym, ap, subst, ◌∙◌, append_assoc, append-nil, IsUtf8}
 use Rattle.std.specs.Str.{is_utf8}
-use Rattle.std.proofs.lemmas.Str.{is_utf8-from_IsUtf8}
+use Rattle.std.proofs.lemmas.Str.{IsUtf8-append, is_utf8-from_IsUtf8}
 use Rattle.ned_tokens.specs.declared.token.Token.{Token}
 use Rattle.ned_tokens.specs.declared.token.Token.TheVariants as token
 use Rattle.ned_tokens.specs.declared.runs.Class.TheVariants as class
 use Rattle.ned_tokens.specs.Runs.{Bytes, behind}
 use Rattle.ned_tokens.specs.Lexing.{next, token_of, scan, scanned, line_tokens, is_open, ends_open}
 use Rattle.ned_tokens.specs.Lines.{add_front, lines_of, tokens_of_lines, tokens_of}
-use Rattle.ned_tokens.specs.Spelling.{token_text, is_number, begins_number, ends_line, gap, spell, HasSpelling, HaveSpelling, AreReadBack}
+use Rattle.ned_tokens.specs.Spelling.{token_text, is_number, begins_number, ends_line, is_opening, begins_closing, gap, spell, HasSpelling, HaveSpelling, AreReadBack}
 use Rattle.ned_tokens.proofs.LexLemmas.{scanned-none, scanned-some}
 use Rattle.ned_tokens.proofs.LineLemmas.{tokens_cons, tokens_nil}
 use Rattle.ned_tokens.proofs.Utf8Lemmas.{ascii_text, around_ascii}
-use Rattle.ned_tokens.proofs.SpellingLemmas.{Parted, no_end, NoNumber, Over, token_line, token_is_text, token_reads, token_front, closed}
+use Rattle.ned_tokens.proofs.SpellingLemmas.{Parted, no_end, NoNumber, Over, token_line, token_is_text, token_reads, token_front, token_some, opening_reads, closing_parts, closed}
 
 -- ---- lines
 
@@ -24,13 +24,22 @@ abbrev others_of : List Bytes → List Bytes
 others_of [] = []
 others_of (line ∷ lines) = lines
 
+add_front_is : (b : ℕ) (lines : List Bytes) → add_front b lines ≡ (b ∷ first_of lines) ∷ others_of lines
+add_front_is b [] = refl
+add_front_is b (line ∷ lines) = refl
+
 -- bytes without an end stand in front of the first line
-front_line : (w rest line : Bytes) (lines : List Bytes) → no_end w ≡ true → lines_of rest ≡ line ∷ lines → lines_of (w ++ rest) ≡ (w ++ line) ∷ lines
+front_line : (w rest : Bytes) → 0 < length w → no_end w ≡ true → lines_of (w ++ rest) ≡ (w ++ first_of (lines_of rest)) ∷ others_of (lines_of rest)
 unfolding lines_of
-front_line [] rest line lines h e = e
-front_line (b ∷ w) rest line lines h e = go (eqb b 10) h (λ h. front_line w rest line lines h e)
+front_line [] rest some h = absurd (omega (arith, some))
+front_line (b ∷ []) rest some h = go (eqb b 10) h
   where
-    go : (t : Bool) → cond t false (no_end w) ≡ true → (no_end w ≡ true → lines_of (w ++ rest) ≡ (w ++ line) ∷ lines) → cond t ([] ∷ lines_of (w ++ rest)) (add_front b (lines_of (w ++ rest))) ≡ (b ∷ (w ++ line)) ∷ lines
+    go : (t : Bool) → cond t false true ≡ true → cond t ([] ∷ lines_of rest) (add_front b (lines_of rest)) ≡ (b ∷ first_of (lines_of rest)) ∷ others_of (lines_of rest)
+    go true h = absurd cc
+    go false h = add_front_is b (lines_of rest)
+front_line (b ∷ c ∷ w) rest some h = go (eqb b 10) h (λ h. front_line (c ∷ w) rest (omega arith) h)
+  where
+    go : (t : Bool) → cond t false (no_end (c ∷ w)) ≡ true → (no_end (c ∷ w) ≡ true → lines_of ((c ∷ w) ++ rest) ≡ ((c ∷ w) ++ first_of (lines_of rest)) ∷ others_of (lines_of rest)) → cond t ([] ∷ lines_of ((c ∷ w) ++ rest)) (add_front b (lines_of ((c ∷ w) ++ rest))) ≡ (b ∷ ((c ∷ w) ++ first_of (lines_of rest))) ∷ others_of (lines_of rest)
     go true h ih = absurd cc
     go false h ih = ap (add_front b) (ih h)
 
@@ -40,11 +49,7 @@ end_line rest = refl
 
 space_line : (rest : Bytes) → lines_of (32 ∷ rest) ≡ (32 ∷ first_of (lines_of rest)) ∷ others_of (lines_of rest)
 unfolding lines_of
-space_line rest = go (lines_of rest)
-  where
-    go : (lines : List Bytes) → add_front 32 lines ≡ (32 ∷ first_of lines) ∷ others_of lines
-    go [] = refl
-    go (line ∷ lines) = refl
+space_line rest = add_front_is 32 (lines_of rest)
 
 -- ---- the tokens of a line
 
@@ -80,8 +85,9 @@ record Reads (ts : List Token) : Type 0 where
   is_text : IsUtf8 (first_of (lines_of (spell ts)))
   tokens : tokens_of_lines false (lines_of (spell ts)) ≡ ts
   no_number : begins_number ts ≡ false → NoNumber (first_of (lines_of (spell ts)))
+  parted : begins_closing ts ≡ true → Parted (first_of (lines_of (spell ts)))
 
-over_gap : (t : Token) (ts : List Token) (us : Bytes) → ends_line t ts ≡ false → (begins_number ts ≡ false → NoNumber us) → Over t (32 ∷ us)
+over_gap : (t : Token) (ts : List Token) (us : Bytes) → ends_line t ts ≡ false → (begins_number ts ≡ false → NoNumber us) → Over t us
 over_gap (token.Quantity d n) ts us e h = h e
 over_gap _ ts us e h = tt
 
@@ -90,53 +96,70 @@ over_end (token.Quantity d n) = refl
 over_end _ = tt
 
 module _ (t : Token) (ts : List Token) (spelled : HasSpelling t) (ih : Reads ts) where
+  abbrev text : Bytes
+  text = token_text t
+
   abbrev rest : Bytes
   rest = spell ts
 
-  -- a line of this token alone
-  alone : lines_of (token_text t ++ 10 ∷ rest) ≡ token_text t ∷ lines_of rest
-  alone = front_line (token_text t) (10 ∷ rest) [] (lines_of rest) (token_line t spelled) (end_line rest) ∙ ap (λ (l : Bytes). l ∷ lines_of rest) (append-nil (token_text t))
+  abbrev first : Bytes
+  first = first_of (lines_of rest)
+
+  abbrev others : List Bytes
+  others = others_of (lines_of rest)
+
+  scanned_first : (us : Bytes) → next (text ++ us) ≡ Some (t, us) → scanned us ≡ scanned first → scanned (text ++ us) ≡ t ∷ scanned first
+  scanned_first us reads same = scanned-some (text ++ us) (t, us) reads ∙ ap (λ (l : List Token). t ∷ l) same
 
   -- a line that begins with this token
-  beside : lines_of (token_text t ++ 32 ∷ rest) ≡ (token_text t ++ 32 ∷ first_of (lines_of rest)) ∷ others_of (lines_of rest)
-  beside = front_line (token_text t) (32 ∷ rest) (32 ∷ first_of (lines_of rest)) (others_of (lines_of rest)) (token_line t spelled) (space_line rest)
+  beside : (us : Bytes) → lines_of (spell (t ∷ ts)) ≡ (text ++ us) ∷ others → IsUtf8 us → next (text ++ us) ≡ Some (t, us) → scanned us ≡ scanned first → Reads (t ∷ ts)
+  beside us lines utf8 reads same =
+      let line : IsUtf8 (text ++ us) = IsUtf8-append text us (token_is_text t spelled) utf8 in
+      record {
+        is_text = rw lines line;
+        tokens = rw lines (tokens_first ((text ++ us) ∷ others) line ∙ ap (λ (l : List Token). then_lines l others) (scanned_first us reads same) ∙ token_first t (scanned first) others (closed t spelled) ∙ ap (λ (l : List Token). t ∷ l) (sym (tokens_first (lines_of rest) ih.is_text) ∙ ih.tokens));
+        no_number = λ plain. rw lines (token_front t spelled plain us);
+        parted = λ closing. rw lines (closing_parts t closing us);
+      }
 
-  scanned_alone : scanned (token_text t) ≡ t ∷ []
-  scanned_alone =
-      let reads : next (token_text t) ≡ Some (t, []) = ap next (sym (append-nil (token_text t))) ∙ token_reads t spelled [] tt (over_end t) in
-      scanned-some (token_text t) (t, []) reads ∙ ap (λ (us : List Token). t ∷ us) (scanned-none [] nothing_next)
+  -- a line of this token alone
+  alone : lines_of (spell (t ∷ ts)) ≡ (text ++ []) ∷ lines_of rest → Reads (t ∷ ts)
+  alone lines =
+      let line : IsUtf8 (text ++ []) = IsUtf8-append text [] (token_is_text t spelled) (ascii_text [] refl) in
+      let reads = scanned-some (text ++ []) (t, []) (token_reads t spelled [] tt (over_end t)) ∙ ap (λ (us : List Token). t ∷ us) (scanned-none [] nothing_next) in
+      record {
+        is_text = rw lines line;
+        tokens = rw lines (tokens_first ((text ++ []) ∷ lines_of rest) line ∙ ap (λ (l : List Token). then_lines l (lines_of rest)) reads ∙ token_first t [] (lines_of rest) (closed t spelled) ∙ ap (λ (l : List Token). t ∷ l) ih.tokens);
+        no_number = λ plain. rw lines (token_front t spelled plain []);
+        parted = λ closing. rw lines (closing_parts t closing []);
+      }
 
-  scanned_beside : ends_line t ts ≡ false → scanned (token_text t ++ 32 ∷ first_of (lines_of rest)) ≡ t ∷ scanned (first_of (lines_of rest))
-  scanned_beside e =
-      let us = first_of (lines_of rest) in
-      let reads = token_reads t spelled (32 ∷ us) refl (over_gap t ts us e ih.no_number) in
-      scanned-some (token_text t ++ 32 ∷ us) (t, 32 ∷ us) reads ∙ ap (λ (l : List Token). t ∷ l) (space_scanned us)
+  -- where the line goes on, what comes next may stand behind this token
+  reads_next : ends_line t ts ≡ false → (b : Bool) → is_opening t ≡ b → b || begins_closing ts ≡ true → next (text ++ first) ≡ Some (t, first)
+  reads_next e true opening h = opening_reads t opening first
+  reads_next e false opening h = token_reads t spelled first (ih.parted h) (over_gap t ts first e ih.no_number)
+
+  line_goes_on : ends_line t ts ≡ false → (b : Bool) → is_opening t || begins_closing ts ≡ b → Reads (t ∷ ts)
+  unfolding spell
+  line_goes_on e true g =
+      let lines : lines_of (spell (t ∷ ts)) ≡ (text ++ first) ∷ others = rw (e, g) (front_line text rest (token_some t spelled) (token_line t spelled)) in
+      beside first lines ih.is_text (reads_next e (is_opening t) refl g) refl
+  line_goes_on e false g =
+      let front = front_line text (32 ∷ rest) (token_some t spelled) (token_line t spelled) in
+      let lines : lines_of (spell (t ∷ ts)) ≡ (text ++ 32 ∷ first) ∷ others = rw (e, g) (front ∙ ap (λ (ls : List Bytes). (text ++ first_of ls) ∷ others_of ls) (space_line rest)) in
+      beside (32 ∷ first) lines (around_ascii [] first 32 refl (ascii_text [] refl) ih.is_text) (token_reads t spelled (32 ∷ first) (inl refl) (over_gap t ts (32 ∷ first) e ih.no_number)) (space_scanned first)
 
   front_reads : (b : Bool) → ends_line t ts ≡ b → Reads (t ∷ ts)
   unfolding spell
   front_reads true e =
-      let lines : lines_of (spell (t ∷ ts)) ≡ token_text t ∷ lines_of rest = rw e alone in
-      let text = token_is_text t spelled in
-      record {
-        is_text = rw lines text;
-        tokens = rw lines (tokens_first (token_text t ∷ lines_of rest) text ∙ ap (λ (l : List Token). then_lines l (lines_of rest)) scanned_alone ∙ token_first t [] (lines_of rest) (closed t spelled) ∙ ap (λ (l : List Token). t ∷ l) ih.tokens);
-        no_number = λ plain. rw (lines, sym (append-nil (token_text t))) (token_front t spelled plain []);
-      }
-  front_reads false e =
-      let us = first_of (lines_of rest) in
-      let line = token_text t ++ 32 ∷ us in
-      let others = others_of (lines_of rest) in
-      let lines : lines_of (spell (t ∷ ts)) ≡ line ∷ others = rw e beside in
-      let text : IsUtf8 line = around_ascii (token_text t) us 32 refl (token_is_text t spelled) ih.is_text in
-      record {
-        is_text = rw lines text;
-        tokens = rw lines (tokens_first (line ∷ others) text ∙ ap (λ (l : List Token). then_lines l others) (scanned_beside e) ∙ token_first t (scanned us) others (closed t spelled) ∙ ap (λ (l : List Token). t ∷ l) (sym (tokens_first (lines_of rest) ih.is_text) ∙ ih.tokens));
-        no_number = λ plain. rw lines (token_front t spelled plain (32 ∷ us));
-      }
+      let front = front_line text (10 ∷ rest) (token_some t spelled) (token_line t spelled) in
+      let lines : lines_of (spell (t ∷ ts)) ≡ (text ++ []) ∷ lines_of rest = rw e (front ∙ ap (λ (ls : List Bytes). (text ++ first_of ls) ∷ others_of ls) (end_line rest)) in
+      alone lines
+  front_reads false e = line_goes_on e (is_opening t || begins_closing ts) refl
 
 all_reads : (ts : List Token) → HaveSpelling ts → Reads ts
 unfolding spell lines_of tokens_of_lines
-all_reads [] h = record { is_text = ascii_text [] refl; tokens = refl; no_number = λ e. refl }
+all_reads [] h = record { is_text = ascii_text [] refl; tokens = refl; no_number = λ e. refl; parted = λ e. absurd cc }
 all_reads (t ∷ ts) h = front_reads t ts h.0 (all_reads ts h.1) (ends_line t ts) refl
 
 pub read_back : (ts : List Token) → AreReadBack ts

@@ -1,5 +1,5 @@
 -- Tokens in their standard spelling are read as themselves.
-use Rattle.std.proofs.Common.{◌≡◌, ℕ, zero, suc, ◌+◌, ◌*◌, ◌^◌, ◌<◌, ◌≤◌, Bool, true, false, cond, eqb, ltb, leb, not, ◌&&◌, ◌||◌, List, [], ◌∷◌, ◌++◌, length, Option, Some, None, ◌⊎◌, inl, inr, refl, sym, ap, subst, ◌∙◌, append_assoc, append-nil, arith, codes, decimal, IsUtf8}
+use Rattle.std.proofs.Common.{◌≡◌, ℕ, zero, suc, ◌+◌, ◌*◌, ◌^◌, ◌<◌, ◌≤◌, Bool, true, false, cond, eqb, ltb, leb, not, ◌&&◌, ◌||◌, List, [], ◌∷◌, ◌++◌, length, Option, Some, None, ◌⊎◌, inl, inr, refl, sym, ap, subst, ◌∙◌, append_assoc, append-nil, arith, length-append, codes, decimal, IsUtf8}
 use Rattle.std.specs.Str.{is_utf8}
 use Rattle.std.specs.Str.Parse.{AllDigits, digits_value_after}
 use Rattle.std.specs.Char.{digit_value}
@@ -31,12 +31,33 @@ use Rattle.ned_tokens.proofs.LexLemmas.{scanned-none, scanned-some}
 use Rattle.ned_tokens.proofs.LineLemmas.{tokens_cons}
 use Rattle.ned_tokens.proofs.Utf8Lemmas.{all_ascii, ascii_text, before_ascii, after_ascii, around_ascii}
 use Rattle.ned_tokens.proofs.QuantityLemmas.{row_end}
-use Rattle.ned_tokens.specs.Spelling.{word_text, mark_text, unit_text, quoted_byte, quoted, token_text, is_number, begins_number, ends_line, gap, spell, all_in, begins_name, IsName, HasSpelling, HaveSpelling, AreReadBack}
+use Rattle.ned_tokens.specs.Spelling.{word_text, mark_text, unit_text, quoted_byte, quoted, token_text, is_number, is_opening, is_closing, all_in, begins_name, IsName, HasSpelling}
 
--- behind a token the line ends, or has a space
+-- ---- what stands behind a token
+
+-- the byte is one of these
+abbrev OneOf : ℕ → Bytes → Type 0
+OneOf b [] = ⊥
+OneOf b (c ∷ cs) = (b ≡ c) ⊎ OneOf b cs
+
+-- P holds of each
+abbrev Each : (ℕ → Type 0) → Bytes → Type 0
+Each P [] = Unit {0}
+Each P (b ∷ bs) = P b × Each P bs
+
+each_of : (P : ℕ → Type 0) (b : ℕ) (cs : Bytes) → Each P cs → OneOf b cs → P b
+each_of P b [] all h = absurd h
+each_of P b (c ∷ cs) all (inl e) = subst P (sym e) all.0
+each_of P b (c ∷ cs) all (inr h) = each_of P b cs all.1 h
+
+-- a space, and `(`, `)`, `,`, `:`, `;`, `?`, `[` and `]`, with which no token goes on
+abbrev pub parting : Bytes
+parting = 32 ∷ 40 ∷ 41 ∷ 44 ∷ 58 ∷ 59 ∷ 63 ∷ 91 ∷ 93 ∷ []
+
+-- the line ends, or goes on with a byte that parts tokens
 abbrev pub Parted : Bytes → Type 0
 Parted [] = Unit {0}
-Parted (b ∷ bs) = b ≡ 32
+Parted (b ∷ bs) = OneOf b parting
 
 -- a byte that passes a test is none that doesn't
 differs : (p : ℕ → Bool) (b c : ℕ) → p b ≡ true → p c ≡ false → eqb b c ≡ false
@@ -46,10 +67,22 @@ differs p b c pass fail = go (eqb b c) refl
     go true e = let same : p b ≡ p c = ap p (eqb-true b c e) in absurd cc
     go false e = refl
 
--- a class has no space
-parted_begins : (c : Class) (us : Bytes) → is_in c 32 ≡ false → Parted us → begins c us ≡ false
+-- a class without the bytes that part tokens
+abbrev Apart : Class → Type 0
+Apart c = Each (λ b. is_in c b ≡ false) parting
+
+name_apart : Apart class.Name
+name_apart = (refl, (refl, (refl, (refl, (refl, (refl, (refl, (refl, (refl, tt)))))))))
+
+digit_apart : Apart class.Digit
+digit_apart = (refl, (refl, (refl, (refl, (refl, (refl, (refl, (refl, (refl, tt)))))))))
+
+letter_apart : Apart class.Letter
+letter_apart = (refl, (refl, (refl, (refl, (refl, (refl, (refl, (refl, (refl, tt)))))))))
+
+parted_begins : (c : Class) (us : Bytes) → Apart c → Parted us → begins c us ≡ false
 parted_begins c [] none h = refl
-parted_begins c (b ∷ bs) none h = ap (is_in c) h ∙ none
+parted_begins c (b ∷ bs) none h = each_of (λ b. is_in c b ≡ false) b parting none h
 
 -- bytes of a class and then none of it are a run
 run_is : (c : Class) (text us : Bytes) → all_in c text ≡ true → begins c us ≡ false → run c (text ++ us) ≡ text
@@ -77,14 +110,23 @@ unfolding mark_text token_of token_at mark_at mark_of arrow_of pair_of bracket_o
 mark_ends m.Open = refl
 mark_ends _ = refl
 
-mark_parts : (w : Mark) (us : Bytes) → next (mark_text w ++ 32 ∷ us) ≡ Some (token.Mark w, 32 ∷ us)
+mark_parts : (w : Mark) (us : Bytes) → Each (λ b. next (mark_text w ++ b ∷ us) ≡ Some (token.Mark w, b ∷ us)) parting
 unfolding mark_text token_of token_at mark_at mark_of arrow_of pair_of bracket_of operator_of
-mark_parts m.Open us = refl
-mark_parts _ us = refl
+mark_parts m.Open us = (refl, (refl, (refl, (refl, (refl, (refl, (refl, (refl, (refl, tt)))))))))
+mark_parts _ us = (refl, (refl, (refl, (refl, (refl, (refl, (refl, (refl, (refl, tt)))))))))
 
 mark_reads : (w : Mark) (us : Bytes) → Parted us → next (mark_text w ++ us) ≡ Some (token.Mark w, us)
 mark_reads w [] h = ap next (append-nil (mark_text w)) ∙ mark_ends w
-mark_reads w (u ∷ us) h = subst (λ (b : ℕ). next (mark_text w ++ b ∷ us) ≡ Some (token.Mark w, b ∷ us)) (sym h) (mark_parts w us)
+mark_reads w (u ∷ us) h = each_of (λ b. next (mark_text w ++ b ∷ us) ≡ Some (token.Mark w, b ∷ us)) u parting (mark_parts w us) h
+
+-- behind `@`, `(` and `[` anything may stand
+pub opening_reads : (t : Token) → is_opening t ≡ true → (us : Bytes) → next (token_text t ++ us) ≡ Some (t, us)
+unfolding mark_text token_of token_at mark_at mark_of arrow_of pair_of bracket_of operator_of
+opening_reads (token.Mark m.At) h us = refl
+opening_reads (token.Mark m.LeftParen) h us = refl
+opening_reads (token.Mark m.LeftBracket) h us = refl
+opening_reads (token.Mark _) h us = absurd cc
+opening_reads _ h us = absurd cc
 
 -- ---- words and names
 
@@ -110,7 +152,7 @@ name_reads : (text us : Bytes) → begins_name text ≡ true → all_in class.Na
 unfolding token_of token_at word_at
 name_reads [] us begun all parted = absurd cc
 name_reads (b ∷ bs) us begun all parted =
-    let ends = parted_begins class.Name us refl parted in
+    let ends = parted_begins class.Name us name_apart parted in
     let no_space = differs begins_word b 32 begun refl in
     let no_tab = differs begins_word b 9 begun refl in
     let no_return = differs begins_word b 13 begun refl in
@@ -148,7 +190,7 @@ begins_x (b ∷ bs) = eqb b 120
 
 parted_no_x : (us : Bytes) → Parted us → begins_x us ≡ false
 parted_no_x [] h = refl
-parted_no_x (u ∷ us) h = rw h refl
+parted_no_x (u ∷ us) h = each_of (λ b. eqb b 120 ≡ false) u parting (refl, (refl, (refl, (refl, (refl, (refl, (refl, (refl, (refl, tt))))))))) h
 
 -- decimal digits have no `x` behind their first
 no_prefix : (d : ℕ) (ds us : Bytes) → all_in class.Digit ds ≡ true → begins_x us ≡ false → behind_prefix (d ∷ (ds ++ us)) ≡ None
@@ -162,7 +204,7 @@ no_prefix d (e ∷ ds) us all ends = go (is_digit e) refl all
 
 no_quantity : (us : Bytes) → Parted us → begins_quantity us ≡ false
 no_quantity [] h = refl
-no_quantity (u ∷ us) h = rw h refl
+no_quantity (u ∷ us) h = each_of (λ b. begins_quantity (b ∷ us) ≡ false) u parting (refl, (refl, (refl, (refl, (refl, (refl, (refl, (refl, (refl, tt))))))))) h
 
 number_reads : (text us : Bytes) (n : ℕ) → 0 < length text → all_in class.Digit text ≡ true → below_limit (value_of class.Digit text) ≡ Some n → Parted us → next (text ++ us) ≡ Some (token.Number n, us)
 unfolding token_of token_at number_at number_of
@@ -172,7 +214,7 @@ number_reads (d ∷ ds) us n some all value parted = go (is_digit d) refl all
     go : (t : Bool) → is_digit d ≡ t → cond t (all_in class.Digit ds) false ≡ true → next (d ∷ (ds ++ us)) ≡ Some (token.Number n, us)
     go false e h = absurd cc
     go true e h =
-        let ends = parted_begins class.Digit us refl parted in
+        let ends = parted_begins class.Digit us digit_apart parted in
         let no_space = differs is_digit d 32 e refl in
         let no_tab = differs is_digit d 9 e refl in
         let no_return = differs is_digit d 13 e refl in
@@ -232,21 +274,22 @@ record IsUnit (d : Dimension) (us : Bytes) : Type 0 where
   after : behind class.Letter (unit_text d ++ us) ≡ us
   unit : unit_of (unit_text d) ≡ Some (d, 1)
 
-unit_ends : (d : Dimension) → IsUnit d []
-unfolding unit_text unit_of time_unit rate_unit length_unit
-unit_ends dimension.Time = record { is_quantity = refl; no_digit = refl; no_x = refl; no_fraction = refl; word = refl; after = refl; unit = refl }
-unit_ends dimension.Rate = record { is_quantity = refl; no_digit = refl; no_x = refl; no_fraction = refl; word = refl; after = refl; unit = refl }
-unit_ends dimension.Length = record { is_quantity = refl; no_digit = refl; no_x = refl; no_fraction = refl; word = refl; after = refl; unit = refl }
-
-unit_parts : (d : Dimension) (us : Bytes) → IsUnit d (32 ∷ us)
-unfolding unit_text unit_of time_unit rate_unit length_unit
-unit_parts dimension.Time us = record { is_quantity = refl; no_digit = refl; no_x = refl; no_fraction = refl; word = refl; after = refl; unit = refl }
-unit_parts dimension.Rate us = record { is_quantity = refl; no_digit = refl; no_x = refl; no_fraction = refl; word = refl; after = refl; unit = refl }
-unit_parts dimension.Length us = record { is_quantity = refl; no_digit = refl; no_x = refl; no_fraction = refl; word = refl; after = refl; unit = refl }
+unit_all : (d : Dimension) → all_in class.Letter (unit_text d) ≡ true
+unfolding unit_text
+unit_all dimension.Time = refl
+unit_all _ = refl
 
 unit_is : (d : Dimension) (us : Bytes) → Parted us → IsUnit d us
-unit_is d [] h = unit_ends d
-unit_is d (u ∷ us) h = subst (λ (b : ℕ). IsUnit d (b ∷ us)) (sym h) (unit_parts d us)
+unfolding unit_text unit_of time_unit rate_unit length_unit
+unit_is d us parted = go d (run_is class.Letter (unit_text d) us (unit_all d) ends) (behind_is class.Letter (unit_text d) us (unit_all d) ends)
+  where
+    ends : begins class.Letter us ≡ false
+    ends = parted_begins class.Letter us letter_apart parted
+
+    go : (d : Dimension) → run class.Letter (unit_text d ++ us) ≡ unit_text d → behind class.Letter (unit_text d ++ us) ≡ us → IsUnit d us
+    go dimension.Time word after = record { is_quantity = refl; no_digit = refl; no_x = refl; no_fraction = refl; word = word; after = after; unit = refl }
+    go dimension.Rate word after = record { is_quantity = refl; no_digit = refl; no_x = refl; no_fraction = refl; word = word; after = after; unit = refl }
+    go dimension.Length word after = record { is_quantity = refl; no_digit = refl; no_x = refl; no_fraction = refl; word = word; after = after; unit = refl }
 
 -- digits and then a unit are one quantity
 module _ (d : Dimension) (text us : Bytes) (n : ℕ) (all : all_in class.Digit text ≡ true) (value : value_of class.Digit text ≡ n) (limit : below_limit n ≡ Some n) (is : IsUnit d us) where
@@ -479,3 +522,35 @@ token_front _ h plain us = absurd h
 pub closed : (t : Token) → HasSpelling t → is_open t ≡ false
 closed token.OpenLiteral h = absurd h
 closed _ h = refl
+
+-- what needs no space before it parts the tokens
+pub closing_parts : (t : Token) → is_closing t ≡ true → (us : Bytes) → Parted (token_text t ++ us)
+unfolding mark_text
+closing_parts (token.Mark m.LeftParen) h us = inr (inl refl)
+closing_parts (token.Mark m.RightParen) h us = inr (inr (inl refl))
+closing_parts (token.Mark m.Comma) h us = inr (inr (inr (inl refl)))
+closing_parts (token.Mark m.Colon) h us = inr (inr (inr (inr (inl refl))))
+closing_parts (token.Mark m.Semi) h us = inr (inr (inr (inr (inr (inl refl)))))
+closing_parts (token.Mark m.Question) h us = inr (inr (inr (inr (inr (inr (inl refl))))))
+closing_parts (token.Mark m.LeftBracket) h us = inr (inr (inr (inr (inr (inr (inr (inl refl)))))))
+closing_parts (token.Mark m.RightBracket) h us = inr (inr (inr (inr (inr (inr (inr (inr (inl refl))))))))
+closing_parts (token.Mark _) h us = absurd cc
+closing_parts _ h us = absurd cc
+
+mark_some : (w : Mark) → 0 < length (mark_text w)
+unfolding mark_text
+mark_some m.Open = omega arith
+mark_some _ = omega arith
+
+name_some : (text : Bytes) → begins_name text ≡ true → 0 < length text
+name_some [] h = absurd cc
+name_some (b ∷ bs) h = omega arith
+
+pub token_some : (t : Token) → HasSpelling t → 0 < length (token_text t)
+token_some (token.Word w) h = name_some (word_text w) (word_begins w)
+token_some (token.Mark w) h = mark_some w
+token_some (token.Name text) h = name_some text h.0
+token_some (token.Number n) h = decimal_some n h
+token_some (token.Quantity d n) h = omega (arith, decimal_some n h, length-append (decimal n) (unit_text d))
+token_some (token.Literal text) h = omega arith
+token_some _ h = absurd h

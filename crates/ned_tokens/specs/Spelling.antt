@@ -138,15 +138,37 @@ ends_line (token.Mark m.Semi) ts = true
 ends_line (token.Quantity d n) ts = begins_number ts
 ends_line _ ts = false
 
--- LF, or a space
-abbrev pub gap : Bool → ℕ
-gap true = 10
-gap false = 32
+-- a mark with no space behind it: `@`, `(` or `[`
+abbrev pub is_opening : Token → Bool
+is_opening (token.Mark m.At) = true
+is_opening (token.Mark m.LeftParen) = true
+is_opening (token.Mark m.LeftBracket) = true
+is_opening _ = false
 
--- THE STANDARD SPELLING of tokens: each with the end of its line behind it, or with a space.
+-- a mark with no space before it: `(`, `)`, `[`, `]`, `,`, `:`, `;` or `?`
+abbrev pub is_closing : Token → Bool
+is_closing (token.Mark m.LeftParen) = true
+is_closing (token.Mark m.RightParen) = true
+is_closing (token.Mark m.LeftBracket) = true
+is_closing (token.Mark m.RightBracket) = true
+is_closing (token.Mark m.Comma) = true
+is_closing (token.Mark m.Colon) = true
+is_closing (token.Mark m.Semi) = true
+is_closing (token.Mark m.Question) = true
+is_closing _ = false
+
+abbrev pub begins_closing : List Token → Bool
+begins_closing [] = false
+begins_closing (t ∷ ts) = is_closing t
+
+-- what stands between a token and those behind it: LF, nothing or a space
+abbrev pub gap : Token → List Token → Bytes
+gap t ts = if ends_line t ts then 10 ∷ [] else (if is_opening t || begins_closing ts then [] else 32 ∷ [])
+
+-- THE STANDARD SPELLING of tokens, one behind the other
 unfoldable pub spell : List Token → Bytes
 spell [] = []
-spell (t ∷ ts) = token_text t ++ gap (ends_line t ts) ∷ spell ts
+spell (t ∷ ts) = token_text t ++ (gap t ts ++ spell ts)
 
 -- ---- which tokens have one
 
