@@ -1,15 +1,14 @@
 -- Each token of a standard spelling has a spelling.
-use Rattle.std.proofs.Common.{◌≡◌, ℕ, suc, Bool, true, false, List, [], ◌∷◌, ◌++◌, Option, Some, None, pos, negsuc, refl, codes}
+use Rattle.std.proofs.Common.{Bool, true, false, List, [], ◌∷◌, ◌++◌, Option, Some, None, pos, negsuc, refl}
 use Rattle.sim_values.specs.declared.value.Value.{Value}
 use Rattle.sim_values.specs.declared.value.Value.TheVariants as values
 use Rattle.sim_values.specs.declared.value.Dimension.{Dimension}
 use Rattle.sim_values.specs.declared.value.Dimension.TheVariants as dimension
-use Rattle.ned_tokens.specs.declared.token.Keyword.TheVariants as k
 use Rattle.ned_tokens.specs.declared.token.Mark.TheVariants as m
 use Rattle.ned_tokens.specs.declared.token.Token.{Token}
 use Rattle.ned_tokens.specs.declared.token.Token.TheVariants as token
 use Rattle.ned_tokens.specs.Words.{keyword_of, head_word, section_word, member_word, value_word}
-use Rattle.ned_tokens.specs.Spelling.{unit_text, IsName, HasSpelling, HaveSpelling}
+use Rattle.ned_tokens.specs.Spelling.{unit_text, IsName, HaveSpelling}
 use Rattle.ned_syntax.specs.declared.ast.Expression.{Expression}
 use Rattle.ned_syntax.specs.declared.ast.Expression.TheVariants as expressions
 use Rattle.ned_syntax.specs.declared.ast.ParameterValue.{ParameterValue}

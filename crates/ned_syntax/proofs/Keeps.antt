@@ -1,35 +1,24 @@
 -- What a text declares can be declared.
-use Rattle.std.proofs.Common.{◌≡◌, ℕ, zero, suc, ◌^◌, Bool, true, false, cond, ltb, List, [], ◌∷◌, ◌++◌, Option, Some, None, inl, inr, pos, negsuc, neg_ℤ, refl, sym, ap, subst, ◌∙◌}
-use Rattle.std.specs.Prelude.{is_some, unwrap_or}
+use Rattle.std.proofs.Common.{◌≡◌, ℕ, zero, suc, ◌^◌, Bool, true, false, cond, ltb, List, [], ◌∷◌, ◌++◌, Option, Some, None, inl, inr, pos, refl, sym, subst}
+use Rattle.std.specs.Prelude.{unwrap_or}
 use Rattle.sim_values.specs.declared.value.Value.{Value}
 use Rattle.sim_values.specs.declared.value.Value.TheVariants as values
 use Rattle.sim_values.specs.declared.value.Dimension.{Dimension}
-use Rattle.ned_tokens.specs.declared.token.Keyword.{Keyword}
 use Rattle.ned_tokens.specs.declared.token.Keyword.TheVariants as k
-use Rattle.ned_tokens.specs.declared.token.Mark.{Mark}
 use Rattle.ned_tokens.specs.declared.token.Mark.TheVariants as m
 use Rattle.ned_tokens.specs.declared.token.Token.{Token}
 use Rattle.ned_tokens.specs.declared.token.Token.TheVariants as token
 use Rattle.ned_tokens.specs.Rule.{Rule, token as one_token, ◌⊗◌, ◌◁◌, ◌▷◌, made, such_that, either, optional, many, many_is, optional_is}
 use Rattle.ned_tokens.specs.Balanced.{balanced}
 use Rattle.ned_tokens.specs.Units.{unit_of}
-use Rattle.ned_tokens.specs.Words.{or_else}
-use Rattle.ned_tokens.specs.Spelling.{IsName, HasSpelling}
+use Rattle.ned_tokens.specs.Spelling.{IsName}
 use Rattle.ned_tokens.proofs.SoundTokens.{IsSound, AreSound}
 use Rattle.ned_syntax.specs.declared.ast.Expression.{Expression}
-use Rattle.ned_syntax.specs.declared.ast.Expression.TheVariants as expressions
-use Rattle.ned_syntax.specs.declared.ast.ParameterValue.{ParameterValue}
-use Rattle.ned_syntax.specs.declared.ast.ParameterValue.TheVariants as given
 use Rattle.ned_syntax.specs.declared.ast.ParameterWord.{ParameterWord}
 use Rattle.ned_syntax.specs.declared.ast.ParameterWord.TheVariants as words
 use Rattle.ned_syntax.specs.declared.ast.Declaration.{Declaration}
-use Rattle.ned_syntax.specs.declared.ast.Assignment.{Assignment}
-use Rattle.ned_syntax.specs.declared.ast.RecordedMode.{RecordedMode}
-use Rattle.ned_syntax.specs.declared.ast.Statistic.{Statistic}
 use Rattle.ned_syntax.specs.declared.ast.SectionLine.{SectionLine}
-use Rattle.ned_syntax.specs.declared.ast.SectionLine.TheVariants as lines
 use Rattle.ned_syntax.specs.declared.ast.Submodule.{Submodule}
-use Rattle.ned_syntax.specs.declared.ast.TypeDeclaration.{TypeDeclaration}
 use Rattle.ned_syntax.specs.declared.ast.NedFile.{NedFile}
 use Rattle.ned_syntax.specs.declared.properties.PropertyName.{PropertyName}
 use Rattle.ned_syntax.specs.declared.properties.PropertyName.TheVariants as names
@@ -41,8 +30,8 @@ use Rattle.ned_syntax.specs.declared.statistics.Except.TheVariants as except_is
 use Rattle.ned_syntax.specs.declared.statistics.Said.{Said}
 use Rattle.ned_syntax.specs.declared.parameters.Valued.{Valued}
 use Rattle.ned_syntax.specs.declared.parameters.Tail.{Tail}
-use Rattle.ned_syntax.specs.Grammar.{word, mark, name, name_of, whole_of, whole_value, quantity_value, literal_of, number_of, negated, plain_literal, number, negative_literal, literal, expression, default_value, value_rule, in_parens, turn_of, property_name, bracketed, index, body, unit_effect, said_by_word, said, effect_of, property, modes, loose_text, no_value, source_value, record_value, source_tail, record_tail, source_word, record_word, source_part, record_part, part_or_other, other_part, record_or_other, any_part, part, next_part, nothing_said, over, over_all, said_in, statistic_body, optional_body, statistic_line, indexed_statistic, unnamed_statistic, named_or_not, line_or_ignored, statistic_tail, statistic_word, statistic, plain_name, line_of, plain_line, property_text, property_line, valued, tail, value_in, has_unit, unit_behind, first_unit, unit_in, declared, parameter_word, volatile, any_declaration, is_measured_word, declaration, assignment, assigned_or_said, any_line, section_line, heading, section, simple, submodule, listed, submodules, network, type_rule, file}
-use Rattle.ned_syntax.proofs.Spellable.{Each, IfThere, IsSmall, CanBeValue, CanBeExpression, CanBeGiven, CanBeUnit, CanBeDeclaration, CanBeAssignment, CanBeStatistic, CanBeLine, CanBeSubmodule, CanBeParts, CanBeType, CanBeFile}
+use Rattle.ned_syntax.specs.Grammar.{word, mark, name, name_of, whole_of, whole_value, quantity_value, literal_of, number_of, negated, plain_literal, number, negative_literal, literal, expression, default_value, value_rule, in_parens, turn_of, bracketed, index, body, unit_effect, said_by_word, said, effect_of, property, modes, loose_text, no_value, source_value, record_value, source_tail, record_tail, source_word, record_word, source_part, record_part, part_or_other, other_part, record_or_other, any_part, part, next_part, nothing_said, over, over_all, statistic_body, optional_body, statistic_line, indexed_statistic, unnamed_statistic, named_or_not, line_or_ignored, statistic_tail, statistic_word, statistic, plain_name, line_of, plain_line, property_text, property_line, valued, tail, value_in, unit_in, parameter_word, volatile, any_declaration, is_measured_word, declaration, assignment, assigned_or_said, any_line, section_line, heading, section, simple, submodule, listed, submodules, network, type_rule, file}
+use Rattle.ned_syntax.proofs.Spellable.{Each, IfThere, IsSmall, CanBeValue, CanBeExpression, CanBeGiven, CanBeUnit, CanBeDeclaration, CanBeAssignment, CanBeLine, CanBeSubmodule, CanBeType, CanBeFile}
 
 -- what sound tokens spell by the rule is so
 record Keeps {X : Type 0} (r : Rule X) (P : X → Type 0) : Type 0 where

@@ -1,5 +1,5 @@
 -- What a text declares is what its standard spelling declares.
-use Rattle.std.proofs.Common.{◌≡◌, List, ℕ, subst, sym, ap}
+use Rattle.std.proofs.Common.{◌≡◌, List, ℕ, subst, sym}
 use Rattle.ned_tokens.specs.declared.token.Token.{Token}
 use Rattle.ned_tokens.specs.Lines.{tokens_of}
 use Rattle.ned_tokens.proofs.SpellingLaws as spelling

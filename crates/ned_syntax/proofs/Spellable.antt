@@ -1,5 +1,5 @@
 -- What a text can declare.
-use Rattle.std.proofs.Common.{◌≡◌, ℕ, suc, ◌^◌, Bool, true, false, cond, ltb, List, [], ◌∷◌, Option, Some, None, pos, negsuc}
+use Rattle.std.proofs.Common.{◌≡◌, ℕ, suc, ◌^◌, true, ltb, List, [], ◌∷◌, Option, Some, None, pos, negsuc}
 use Rattle.std.specs.Prelude.{is_some}
 use Rattle.std.specs.Str.{is_utf8}
 use Rattle.sim_values.specs.declared.value.Value.{Value}

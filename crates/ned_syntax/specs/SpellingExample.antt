@@ -15,21 +15,21 @@ use Rattle.ned_syntax.specs.Spelling.{spelled}
 abbrev pub example : NedFile
 example = record {
   types =
-    record {
-      kind = kinds.Simple;
-      name = codes "Source";
-      lines =
-          lines.Declaration (record { name = codes "interval"; word = words.Double; unit = Some dimension.Time; value = Some (given.Default (expressions.Literal (values.Quantity dimension.Time (pos 1000000000000)))) })
-          ∷ lines.Declaration (record { name = codes "offset"; word = words.Int; unit = None; value = Some (given.Fixed (expressions.Literal (values.Whole (negsuc 4)))) })
-          ∷ lines.Assignment (record { name = codes "label"; value = Some (given.Fixed (expressions.Literal (values.Text (codes "a\tb")))) })
-          ∷ lines.Class (codes "Src")
-          ∷ lines.Ignored
-          ∷ lines.Statistic (record { name = codes "sent"; source = codes "packetSent"; modes = record { mode = modes_are.Count; optional = false } ∷ record { mode = modes_are.Sum; optional = true } ∷ [] })
-          ∷ [];
-      submodules = [];
-    }
-    ∷ record { kind = kinds.Network; name = codes "Net"; lines = []; submodules = record { name = codes "a"; type_name = codes "Source" } ∷ [] }
-    ∷ [];
+      record {
+        kind = kinds.Simple;
+        name = codes "Source";
+        lines =
+            lines.Declaration (record { name = codes "interval"; word = words.Double; unit = Some dimension.Time; value = Some (given.Default (expressions.Literal (values.Quantity dimension.Time (pos 1000000000000)))) })
+            ∷ lines.Declaration (record { name = codes "offset"; word = words.Int; unit = None; value = Some (given.Fixed (expressions.Literal (values.Whole (negsuc 4)))) })
+            ∷ lines.Assignment (record { name = codes "label"; value = Some (given.Fixed (expressions.Literal (values.Text (codes "a\tb")))) })
+            ∷ lines.Class (codes "Src")
+            ∷ lines.Ignored
+            ∷ lines.Statistic (record { name = codes "sent"; source = codes "packetSent"; modes = record { mode = modes_are.Count; optional = false } ∷ record { mode = modes_are.Sum; optional = true } ∷ [] })
+            ∷ [];
+        submodules = [];
+      }
+      ∷ record { kind = kinds.Network; name = codes "Net"; lines = []; submodules = record { name = codes "a"; type_name = codes "Source" } ∷ [] }
+      ∷ [];
 }
 
 abbrev pub example_text : List ℕ

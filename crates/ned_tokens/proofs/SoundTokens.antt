@@ -1,5 +1,5 @@
 -- Each token of a text has a spelling, unless it is a stray one.
-use Rattle.std.proofs.Common.{◌≡◌, ℕ, zero, suc, ◌+◌, ◌*◌, ◌^◌, ◌<◌, ◌≤◌, Bool, true, false, cond, eqb, ltb, ◌&&◌, ◌||◌, List, [], ◌∷◌, ◌++◌, length, drop, Option, Some, None, option_map, refl, sym, ap, subst, ◌∙◌, append_assoc, append-nil, arith, IsUtf8}
+use Rattle.std.proofs.Common.{◌≡◌, ℕ, zero, suc, ◌+◌, ◌*◌, ◌^◌, Bool, true, false, cond, eqb, ltb, ◌&&◌, ◌||◌, List, [], ◌∷◌, ◌++◌, length, drop, Option, Some, None, option_map, refl, sym, ap, subst, ◌∙◌, append_assoc, append-nil, IsUtf8}
 use Rattle.std.specs.Str.{is_utf8}
 use Rattle.std.proofs.lemmas.Bool.{eqb-true, ltb-true}
 use Rattle.std.proofs.lemmas.Str.{IsUtf8-from_is_utf8, is_utf8-from_IsUtf8}
@@ -14,14 +14,14 @@ use Rattle.ned_tokens.specs.Runs.{Bytes, is_in, is_letter, is_digit, run, behind
 use Rattle.ned_tokens.specs.Words.{keyword_of}
 use Rattle.ned_tokens.specs.Digits.{value_of, below_limit}
 use Rattle.ned_tokens.specs.Units.{unit_of}
-use Rattle.ned_tokens.specs.Quantities.{and_then, begins_quantity, begins_fraction, rest_of, fraction_at, part_of, amount_of, measured, piece_from, piece_at, same_dimension, added, pieces_from, row_from, quantity_token, row_token, quantity_at}
+use Rattle.ned_tokens.specs.Quantities.{and_then, begins_quantity, begins_fraction, rest_of, fraction_at, part_of, amount_of, measured, piece_at, same_dimension, added, pieces_from, row_from, quantity_token, quantity_at}
 use Rattle.ned_tokens.specs.Marks.{mark_of, marked, mark_at}
 use Rattle.ned_tokens.specs.Numbers.{numbered, number_of, behind_prefix, number_from, number_at}
 use Rattle.ned_tokens.specs.Literals.{escaped, literal_token, with_byte, literal_from}
 use Rattle.ned_tokens.specs.Lexing.{named, word_at, token_at, is_slash_next, token_of, next, one_more, scan, scanned, behind_literal, line_tokens, ends_open}
 use Rattle.ned_tokens.specs.Lines.{lines_of, tokens_of_lines, tokens_of}
-use Rattle.ned_tokens.specs.Spelling.{spell, all_in, begins_name, IsName, HasSpelling, HaveSpelling, is_stray, NoneStray, IsReadBack}
-use Rattle.ned_tokens.proofs.Utf8Lemmas.{ascii_text, before_ascii, after_ascii, around_ascii}
+use Rattle.ned_tokens.specs.Spelling.{all_in, begins_name, HasSpelling, HaveSpelling, is_stray, NoneStray, IsReadBack}
+use Rattle.ned_tokens.proofs.Utf8Lemmas.{before_ascii, after_ascii, around_ascii}
 use Rattle.ned_tokens.proofs.SpellingLaws.{read_back}
 
 -- the token is a stray one, or has a spelling

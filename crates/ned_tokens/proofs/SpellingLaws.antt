@@ -1,16 +1,14 @@
 -- Tokens in their standard spelling are read as themselves.
-use Rattle.std.proofs.Common.{◌≡◌, ℕ, ◌<◌, Bool, true, false, ◌||◌, cond, eqb, List, [], ◌∷◌, ◌++◌, length, inl, inr, arith, Option, Some, None, refl, sym, ap, subst, ◌∙◌, append_assoc, append-nil, IsUtf8}
-use Rattle.std.specs.Str.{is_utf8}
+use Rattle.std.proofs.Common.{◌≡◌, ℕ, ◌<◌, Bool, true, false, ◌||◌, cond, eqb, List, [], ◌∷◌, ◌++◌, length, inl, arith, Option, Some, None, refl, sym, ap, ◌∙◌, IsUtf8}
 use Rattle.std.proofs.lemmas.Str.{IsUtf8-append, is_utf8-from_IsUtf8}
 use Rattle.ned_tokens.specs.declared.token.Token.{Token}
 use Rattle.ned_tokens.specs.declared.token.Token.TheVariants as token
-use Rattle.ned_tokens.specs.declared.runs.Class.TheVariants as class
-use Rattle.ned_tokens.specs.Runs.{Bytes, behind}
+use Rattle.ned_tokens.specs.Runs.{Bytes}
 use Rattle.ned_tokens.specs.Lexing.{next, token_of, scan, scanned, line_tokens, is_open, ends_open}
-use Rattle.ned_tokens.specs.Lines.{add_front, lines_of, tokens_of_lines, tokens_of}
-use Rattle.ned_tokens.specs.Spelling.{token_text, is_number, begins_number, ends_line, is_opening, begins_closing, gap, spell, HasSpelling, HaveSpelling, AreReadBack}
+use Rattle.ned_tokens.specs.Lines.{add_front, lines_of, tokens_of_lines}
+use Rattle.ned_tokens.specs.Spelling.{token_text, begins_number, ends_line, is_opening, begins_closing, spell, HasSpelling, HaveSpelling, AreReadBack}
 use Rattle.ned_tokens.proofs.LexLemmas.{scanned-none, scanned-some}
-use Rattle.ned_tokens.proofs.LineLemmas.{tokens_cons, tokens_nil}
+use Rattle.ned_tokens.proofs.LineLemmas.{tokens_cons}
 use Rattle.ned_tokens.proofs.Utf8Lemmas.{ascii_text, around_ascii}
 use Rattle.ned_tokens.proofs.SpellingLemmas.{Parted, no_end, NoNumber, Over, token_line, token_is_text, token_reads, token_front, token_some, opening_reads, closing_parts, closed}
 

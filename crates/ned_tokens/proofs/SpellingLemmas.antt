@@ -1,12 +1,11 @@
 -- Tokens in their standard spelling are read as themselves.
-use Rattle.std.proofs.Common.{◌≡◌, ℕ, zero, suc, ◌+◌, ◌*◌, ◌^◌, ◌<◌, ◌≤◌, Bool, true, false, cond, eqb, ltb, leb, not, ◌&&◌, ◌||◌, List, [], ◌∷◌, ◌++◌, length, Option, Some, None, ◌⊎◌, inl, inr, refl, sym, ap, subst, ◌∙◌, append_assoc, append-nil, arith, length-append, codes, decimal, IsUtf8}
-use Rattle.std.specs.Str.{is_utf8}
+use Rattle.std.proofs.Common.{◌≡◌, ℕ, ◌+◌, ◌*◌, ◌^◌, ◌<◌, ◌≤◌, Bool, true, false, cond, eqb, ltb, leb, ◌&&◌, ◌||◌, [], ◌∷◌, ◌++◌, length, Option, Some, None, ◌⊎◌, inl, inr, refl, sym, ap, subst, ◌∙◌, append_assoc, append-nil, arith, length-append, decimal, IsUtf8}
 use Rattle.std.specs.Str.Parse.{AllDigits, digits_value_after}
 use Rattle.std.specs.Char.{digit_value}
-use Rattle.std.proofs.lemmas.Str.{digit_value_digit, IsUtf8-append, IsUtf8-from_is_utf8, is_utf8-from_IsUtf8}
+use Rattle.std.proofs.lemmas.Str.{digit_value_digit, IsUtf8-append, IsUtf8-from_is_utf8}
 use Rattle.std.proofs.lemmas.Str.Parse.{digit_from_value}
 use Rattle.std.proofs.lemmas.Fmt.{decimal_is_IsNumeral}
-use Rattle.std.proofs.lemmas.Bool.{eqb-true, ne_eqb, leb-true, ltb-true, ltb-false, lt-leb, le-leb, and_left, and_right, or_parts}
+use Rattle.std.proofs.lemmas.Bool.{eqb-true, ne_eqb, leb-true, ltb-true, ltb-false, lt-leb, le-leb, and_right}
 use Rattle.sim_values.specs.declared.value.Dimension.{Dimension}
 use Rattle.sim_values.specs.declared.value.Dimension.TheVariants as dimension
 use Rattle.ned_tokens.specs.declared.runs.Class.{Class}
@@ -18,20 +17,17 @@ use Rattle.ned_tokens.specs.declared.token.Mark.TheVariants as m
 use Rattle.ned_tokens.specs.declared.token.Token.{Token}
 use Rattle.ned_tokens.specs.declared.token.Token.TheVariants as token
 use Rattle.ned_tokens.specs.Runs.{Bytes, is_in, is_letter, is_digit, run, behind, begins}
-use Rattle.ned_tokens.specs.Words.{or_else, keyword_of, head_word, section_word, member_word, value_word}
-use Rattle.ned_tokens.specs.Marks.{arrow_of, pair_of, bracket_of, operator_of, mark_of, marked, mark_at}
+use Rattle.ned_tokens.specs.Words.{keyword_of, head_word, section_word, member_word, value_word}
+use Rattle.ned_tokens.specs.Marks.{arrow_of, pair_of, bracket_of, operator_of, mark_of, mark_at}
 use Rattle.ned_tokens.specs.Digits.{digit_of, value_from, value_of, below_limit}
 use Rattle.ned_tokens.specs.Units.{unit_of, time_unit, rate_unit, length_unit}
 use Rattle.ned_tokens.specs.Quantities.{begins_quantity, piece_from, fraction_at, piece_at, row_from, row_token, quantity_at}
-use Rattle.ned_tokens.specs.Numbers.{behind_prefix, number_of, number_from, number_at}
+use Rattle.ned_tokens.specs.Numbers.{behind_prefix, number_of, number_at}
 use Rattle.ned_tokens.specs.Literals.{literal_from}
-use Rattle.ned_tokens.specs.Lexing.{named, word_at, token_at, is_slash_next, token_of, next, scanned, line_tokens, is_open, ends_open}
-use Rattle.ned_tokens.specs.Lines.{add_front, lines_of, tokens_of_lines, tokens_of}
-use Rattle.ned_tokens.proofs.LexLemmas.{scanned-none, scanned-some}
-use Rattle.ned_tokens.proofs.LineLemmas.{tokens_cons}
+use Rattle.ned_tokens.specs.Lexing.{named, word_at, token_at, token_of, next, is_open}
 use Rattle.ned_tokens.proofs.Utf8Lemmas.{all_ascii, ascii_text, before_ascii, after_ascii, around_ascii}
 use Rattle.ned_tokens.proofs.QuantityLemmas.{row_end}
-use Rattle.ned_tokens.specs.Spelling.{word_text, mark_text, unit_text, quoted_byte, quoted, token_text, is_number, is_opening, is_closing, all_in, begins_name, IsName, HasSpelling}
+use Rattle.ned_tokens.specs.Spelling.{word_text, mark_text, unit_text, quoted, token_text, is_number, is_opening, is_closing, all_in, begins_name, HasSpelling}
 
 -- ---- what stands behind a token
 
