@@ -37,6 +37,7 @@ IfThere P (Some x) = P x
 abbrev pub IsSmall : ℕ → Type 0
 IsSmall n = ltb n (2 ^ 63) ≡ true
 
+-- an amount is not below zero
 abbrev pub CanBeValue : Value → Type 0
 CanBeValue (values.Whole (pos n)) = IsSmall n
 CanBeValue (values.Whole (negsuc n)) = IsSmall (suc n)
@@ -45,9 +46,11 @@ CanBeValue (values.Text text) = is_utf8 text ≡ true
 CanBeValue (values.Quantity d (pos n)) = IsSmall n
 CanBeValue (values.Quantity d (negsuc n)) = ⊥
 
+-- an expression is so far a literal
 abbrev pub CanBeExpression : Expression → Type 0
 CanBeExpression (expressions.Literal v) = CanBeValue v
 
+-- the value, or `default(..)`
 abbrev pub CanBeGiven : ParameterValue → Type 0
 CanBeGiven (given.Fixed e) = CanBeExpression e
 CanBeGiven (given.Default e) = CanBeExpression e
@@ -59,15 +62,19 @@ CanBeUnit words.Int unit = Unit {0}
 CanBeUnit words.Text unit = unit ≡ None
 CanBeUnit words.Double unit = is_some unit ≡ true
 
+-- a name, a unit that fits the word, and a value
 abbrev pub CanBeDeclaration : Declaration → Type 0
 CanBeDeclaration d = IsName d.name × CanBeUnit d.word d.unit × IfThere CanBeGiven d.value
 
+-- a name and a value
 abbrev pub CanBeAssignment : Assignment → Type 0
 CanBeAssignment a = IsName a.name × IfThere CanBeGiven a.value
 
+-- a name and a source
 abbrev pub CanBeStatistic : Statistic → Type 0
 CanBeStatistic s = IsName s.name × IsName s.source
 
+-- a line of each kind
 abbrev pub CanBeLine : SectionLine → Type 0
 CanBeLine (lines.Declaration d) = CanBeDeclaration d
 CanBeLine (lines.Assignment a) = CanBeAssignment a
@@ -75,6 +82,7 @@ CanBeLine (lines.Statistic s) = CanBeStatistic s
 CanBeLine (lines.Class text) = IsName text
 CanBeLine lines.Ignored = Unit {0}
 
+-- two names
 abbrev pub CanBeSubmodule : Submodule → Type 0
 CanBeSubmodule s = IsName s.name × IsName s.type_name
 
@@ -83,8 +91,10 @@ abbrev pub CanBeParts : TypeKind → TypeDeclaration → Type 0
 CanBeParts kinds.Simple d = Each CanBeLine d.lines × (d.submodules ≡ [])
 CanBeParts kinds.Network d = Each CanBeSubmodule d.submodules × (d.lines ≡ [])
 
+-- a name, and the parts of the kind
 abbrev pub CanBeType : TypeDeclaration → Type 0
 CanBeType d = IsName d.name × CanBeParts d.kind d
 
+-- each type can be declared
 abbrev pub CanBeFile : NedFile → Type 0
 CanBeFile f = Each CanBeType f.types

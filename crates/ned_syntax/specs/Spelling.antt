@@ -50,6 +50,7 @@ value_tokens (values.Text text) = token.Literal text ∷ []
 value_tokens (values.Quantity d (pos n)) = token.Quantity d n ∷ []
 value_tokens (values.Quantity d (negsuc n)) = []
 
+-- an expression is so far a literal
 abbrev pub expression_tokens : Expression → List Token
 expression_tokens (expressions.Literal v) = value_tokens v
 
@@ -70,6 +71,7 @@ abbrev pub unit_tokens : Option Dimension → List Token
 unit_tokens None = []
 unit_tokens (Some d) = token.Mark m.At ∷ token.Name (codes "unit") ∷ token.Mark m.LeftParen ∷ token.Name (unit_text d) ∷ token.Mark m.RightParen ∷ []
 
+-- the word that declares a parameter
 abbrev pub parameter_keyword : ParameterWord → Keyword
 parameter_keyword words.Bool = k.Bool
 parameter_keyword words.Int = k.Int
@@ -84,6 +86,7 @@ declaration_tokens d = token.Word (parameter_keyword d.word) ∷ token.Name d.na
 abbrev pub assignment_tokens : Assignment → List Token
 assignment_tokens a = token.Name a.name ∷ valued_tokens a.value
 
+-- the name of a mode
 abbrev pub mode_name : Mode → List ℕ
 mode_name modes_are.Count = codes "count"
 mode_name modes_are.Sum = codes "sum"
@@ -92,13 +95,16 @@ mode_name modes_are.Max = codes "max"
 mode_name modes_are.Last = codes "last"
 mode_name modes_are.Vector = codes "vector"
 
+-- `?`, where it is asked for
 abbrev pub question_tokens : Bool → List Token
 question_tokens true = token.Mark m.Question ∷ []
 question_tokens false = []
 
+-- mode ["?"]
 abbrev pub mode_tokens : RecordedMode → List Token
 mode_tokens r = token.Name (mode_name r.mode) ∷ question_tokens r.optional
 
+-- "," mode
 abbrev pub next_mode_tokens : RecordedMode → List Token
 next_mode_tokens r = token.Mark m.Comma ∷ mode_tokens r
 
@@ -121,6 +127,7 @@ line_tokens (lines.Statistic s) = statistic_tokens s
 line_tokens (lines.Class text) = token.Mark m.At ∷ token.Name (codes "class") ∷ token.Mark m.LeftParen ∷ token.Name text ∷ token.Mark m.RightParen ∷ []
 line_tokens lines.Ignored = token.Mark m.At ∷ token.Name (codes "ignored") ∷ []
 
+-- line ";"
 abbrev pub section_line_tokens : SectionLine → List Token
 section_line_tokens line = line_tokens line ++ token.Mark m.Semi ∷ []
 
@@ -135,9 +142,11 @@ abbrev pub kind_tokens : TypeKind → TypeDeclaration → List Token
 kind_tokens kinds.Simple d = token.Word k.Simple ∷ token.Name d.name ∷ token.Mark m.Open ∷ token.Word k.Parameters ∷ token.Mark m.Colon ∷ (listed_tokens section_line_tokens d.lines ++ token.Mark m.Close ∷ [])
 kind_tokens kinds.Network d = token.Word k.Network ∷ token.Name d.name ∷ token.Mark m.Open ∷ token.Word k.Submodules ∷ token.Mark m.Colon ∷ (listed_tokens submodule_tokens d.submodules ++ token.Mark m.Close ∷ [])
 
+-- a type, as its kind has it
 abbrev pub type_tokens : TypeDeclaration → List Token
 type_tokens d = kind_tokens d.kind d
 
+-- one type behind the other
 abbrev pub file_tokens : NedFile → List Token
 file_tokens f = listed_tokens type_tokens f.types
 

@@ -28,10 +28,12 @@ use Rattle.ned_tokens.proofs.SpellingLaws.{read_back}
 abbrev pub IsSound : Token → Type 0
 IsSound t = is_stray t ≡ false → HasSpelling t
 
+-- each is sound
 abbrev pub AreSound : List Token → Type 0
 AreSound [] = Unit {0}
 AreSound (t ∷ ts) = IsSound t × AreSound ts
 
+-- those of two lists in a row are sound
 pub AreSound-append : (ts us : List Token) → AreSound ts → AreSound us → AreSound (ts ++ us)
 AreSound-append [] us h k = k
 AreSound-append (t ∷ ts) us h k = (h.0, AreSound-append ts us h.1 k)
@@ -43,23 +45,29 @@ record IsEnd (us bs : Bytes) : Type 0 where
   front : Bytes
   parts : bs ≡ front ++ us
 
+-- all of the bytes
 end_all : (bs : Bytes) → IsEnd bs bs
 end_all bs = record { front = []; parts = refl }
 
+-- with one byte more in front
 end_cons : (b : ℕ) (us bs : Bytes) → IsEnd us bs → IsEnd us (b ∷ bs)
 end_cons b us bs h = record { front = b ∷ h.front; parts = ap (λ (l : Bytes). b ∷ l) h.parts }
 
+-- the end of an end
 end_trans : (us bs cs : Bytes) → IsEnd us bs → IsEnd bs cs → IsEnd us cs
 end_trans us bs cs h k = record { front = k.front ++ h.front; parts = k.parts ∙ ap (λ (l : Bytes). k.front ++ l) h.parts ∙ sym (append_assoc k.front h.front us) }
 
+-- nothing
 end_nil : (bs : Bytes) → IsEnd [] bs
 end_nil bs = record { front = bs; parts = sym (append-nil bs) }
 
+-- without the first bytes
 end_drop : (n : ℕ) (bs : Bytes) → IsEnd (drop n bs) bs
 end_drop zero bs = end_all bs
 end_drop (suc n) [] = end_all []
 end_drop (suc n) (b ∷ bs) = end_cons b (drop n bs) bs (end_drop n bs)
 
+-- behind a run
 end_behind : (c : Class) (bs : Bytes) → IsEnd (behind c bs) bs
 end_behind c [] = end_all []
 end_behind c (b ∷ bs) = go (is_in c b) (end_behind c bs)
@@ -68,6 +76,7 @@ end_behind c (b ∷ bs) = go (is_in c b) (end_behind c bs)
     go true h = end_cons b (behind c bs) bs h
     go false h = end_all (b ∷ bs)
 
+-- behind a text in quotes
 end_literal : (odd : Bool) (text : Option Bytes) (bs : Bytes) → IsEnd (literal_from odd text bs).1 bs
 end_literal true text [] = end_all []
 end_literal false text [] = end_all []
@@ -79,6 +88,7 @@ end_literal false text (b ∷ bs) = go (eqb b 34) (eqb b 92) (end_literal true t
     go false true h k = end_cons b (literal_from true text bs).1 bs h
     go false false h k = end_cons b (literal_from false (with_byte text (Some b)) bs).1 bs k
 
+-- behind a mark
 end_mark : (b : ℕ) (bs : Bytes) → IsEnd (mark_at b bs).1 bs
 unfolding mark_at
 end_mark b bs = go (mark_of b bs)
@@ -87,6 +97,7 @@ end_mark b bs = go (mark_of b bs)
     go None = end_all bs
     go (Some k) = end_drop k.1 bs
 
+-- behind the digits that follow a point
 end_fraction : (bs : Bytes) → IsEnd (fraction_at bs).1 bs
 end_fraction bs = go (begins_fraction bs)
   where
@@ -98,12 +109,14 @@ end_fraction bs = go (begins_fraction bs)
     go true = end_trans (behind class.Digit (rest_of bs)) (rest_of bs) bs (end_behind class.Digit (rest_of bs)) (rest bs)
     go false = end_all bs
 
+-- behind a quantity
 end_piece : (bs : Bytes) → IsEnd (piece_at bs).1 bs
 end_piece bs =
     let digits = behind class.Digit bs in
     let unit = (fraction_at digits).1 in
     end_trans (behind class.Letter unit) unit bs (end_behind class.Letter unit) (end_trans unit digits bs (end_fraction digits) (end_behind class.Digit bs))
 
+-- behind quantities that are summed
 end_pieces : (n : ℕ) (sum : Option (Dimension × ℕ)) (bs : Bytes) → IsEnd (pieces_from n sum bs).1 bs
 unfolding pieces_from
 end_pieces zero sum bs = end_all bs
@@ -113,10 +126,12 @@ end_pieces (suc n) sum bs = go (begins class.Digit (behind class.Space bs)) (end
     go true h = end_trans (pieces_from n (added sum (piece_at (behind class.Space bs)).0) (piece_at (behind class.Space bs)).1).1 (piece_at (behind class.Space bs)).1 bs h (end_trans (piece_at (behind class.Space bs)).1 (behind class.Space bs) bs (end_piece (behind class.Space bs)) (end_behind class.Space bs))
     go false h = end_all bs
 
+-- behind quantities in a row
 end_quantity : (bs : Bytes) → IsEnd (quantity_at bs).1 bs
 unfolding quantity_at row_from
 end_quantity bs = end_trans (pieces_from (length (piece_at bs).1) (piece_at bs).0 (piece_at bs).1).1 (piece_at bs).1 bs (end_pieces (length (piece_at bs).1) (piece_at bs).0 (piece_at bs).1) (end_piece bs)
 
+-- behind `0x`
 end_prefix : (bs hex : Bytes) → behind_prefix bs ≡ Some hex → IsEnd hex bs
 end_prefix [] hex e = absurd cc
 end_prefix (a ∷ []) hex e = absurd cc
@@ -126,6 +141,7 @@ end_prefix (a ∷ b ∷ bs) hex e = go (eqb a 48 && eqb b 120) e
     go true h = let same : bs ≡ hex = cc in record { front = a ∷ b ∷ []; parts = ap (λ (l : Bytes). a ∷ b ∷ l) same }
     go false h = absurd cc
 
+-- behind a number or quantities
 end_number : (bs : Bytes) → IsEnd (number_at bs).1 bs
 unfolding number_at
 end_number bs = go (behind_prefix bs) refl (begins_quantity (behind class.Digit bs))
@@ -138,12 +154,14 @@ end_number bs = go (behind_prefix bs) refl (begins_quantity (behind class.Digit 
     go (Some hex) e t = end_trans (behind class.Hex hex) hex bs (end_behind class.Hex hex) (end_prefix bs hex e)
     go None e t = plain (begins_quantity (behind class.Digit bs))
 
+-- behind a word or a name
 end_word : (b : ℕ) (bs : Bytes) → is_in class.Name b ≡ true → IsEnd (word_at (b ∷ bs)).1 bs
 unfolding word_at
 end_word b bs e = rw e (end_behind class.Name bs)
 
 -- ---- numbers and amounts
 
+-- what passes the limit is below it
 limit_is : (n m : ℕ) → below_limit n ≡ Some m → ltb m (2 ^ 63) ≡ true
 limit_is n m e = go (ltb n (2 ^ 63)) refl e
   where
@@ -151,10 +169,12 @@ limit_is n m e = go (ltb n (2 ^ 63)) refl e
     go true et h = let same : n ≡ m = cc in subst (λ (k : ℕ). ltb k (2 ^ 63) ≡ true) same et
     go false et h = absurd cc
 
+-- a number below the limit
 numbered_sound : (o : Option ℕ) → ((n : ℕ) → o ≡ Some n → ltb n (2 ^ 63) ≡ true) → IsSound (numbered o)
 numbered_sound None h stray = absurd cc
 numbered_sound (Some n) h stray = h n refl
 
+-- the number that digits say
 number_of_sound : (c : Class) (ds : Bytes) → IsSound (number_of c ds)
 unfolding number_of
 number_of_sound c [] = λ stray. absurd cc
@@ -165,6 +185,7 @@ abbrev InLimit : Option (Dimension × ℕ) → Type 0
 InLimit None = Unit {0}
 InLimit (Some q) = ltb q.1 (2 ^ 63) ≡ true
 
+-- an amount that passes the limit
 limited : (d : Dimension) (n : ℕ) → InLimit (option_map (λ k. (d, k)) (below_limit n))
 limited d n = go (below_limit n) (λ m. limit_is n m)
   where
@@ -172,6 +193,7 @@ limited d n = go (below_limit n) (λ m. limit_is n m)
     go None h = tt
     go (Some m) h = h m refl
 
+-- a quantity
 measured_limit : (unit whole fraction : Bytes) → InLimit (measured unit whole fraction)
 measured_limit unit whole fraction = go (unit_of unit)
   where
@@ -183,6 +205,7 @@ measured_limit unit whole fraction = go (unit_of unit)
     go None = tt
     go (Some u) = amount u.0 u.1 (part_of u.1 fraction)
 
+-- a sum
 added_limit : (a b : Option (Dimension × ℕ)) → InLimit (added a b)
 added_limit None b = tt
 added_limit (Some x) None = tt
@@ -192,6 +215,7 @@ added_limit (Some x) (Some y) = go (same_dimension x.0 y.0)
     go true = limited x.0 (x.1 + y.1)
     go false = tt
 
+-- quantities that are summed
 pieces_limit : (n : ℕ) (sum : Option (Dimension × ℕ)) (bs : Bytes) → InLimit sum → InLimit (pieces_from n sum bs).0
 unfolding pieces_from
 pieces_limit zero sum bs h = h
@@ -201,14 +225,17 @@ pieces_limit (suc n) sum bs h = go (begins class.Digit (behind class.Space bs)) 
     go true k = k
     go false k = h
 
+-- the token of an amount
 quantity_token_sound : (o : Option (Dimension × ℕ)) → InLimit o → IsSound (quantity_token o)
 quantity_token_sound None h stray = absurd cc
 quantity_token_sound (Some q) h stray = h
 
+-- quantities in a row
 quantity_sound : (bs : Bytes) → IsSound (quantity_at bs).0
 unfolding quantity_at row_from
 quantity_sound bs = quantity_token_sound (pieces_from (length (piece_at bs).1) (piece_at bs).0 (piece_at bs).1).0 (pieces_limit (length (piece_at bs).1) (piece_at bs).0 (piece_at bs).1 (measured_limit (run class.Letter (fraction_at (behind class.Digit bs)).1) (run class.Digit bs) (fraction_at (behind class.Digit bs)).0))
 
+-- a number or quantities
 number_sound : (bs : Bytes) → IsSound (number_at bs).0
 unfolding number_at
 number_sound bs = go (behind_prefix bs)
@@ -223,6 +250,7 @@ number_sound bs = go (behind_prefix bs)
 
 -- ---- names and words
 
+-- a run is of its class
 run_all : (c : Class) (bs : Bytes) → all_in c (run c bs) ≡ true
 run_all c [] = refl
 run_all c (b ∷ bs) = go (is_in c b) refl (run_all c bs)
@@ -231,6 +259,7 @@ run_all c (b ∷ bs) = go (is_in c b) refl (run_all c bs)
     go true e h = rw e h
     go false e h = refl
 
+-- a word or a name
 named_sound : (o : Option Keyword) (word : Bytes) → keyword_of word ≡ o → begins_name word ≡ true → all_in class.Name word ≡ true → IsSound (named o word)
 named_sound None word e begun all stray = (begun, all, e)
 named_sound (Some w) word e begun all stray = tt
@@ -244,6 +273,7 @@ begins_in b e = go (is_letter b) (is_digit b) (eqb b 95) e
     go false true r h = refl
     go false false r h = h
 
+-- what begins with a letter or `_`
 word_sound : (b : ℕ) (bs : Bytes) → is_letter b || eqb b 95 ≡ true → IsSound (word_at (b ∷ bs)).0
 unfolding word_at
 word_sound b bs e =
@@ -252,6 +282,7 @@ word_sound b bs e =
 
 -- ---- texts in quotes
 
+-- a text with an odd escape is stray
 literal_odd : (odd : Bool) (bs : Bytes) → IsSound (literal_from odd None bs).0
 literal_odd true [] = λ stray. absurd cc
 literal_odd false [] = λ stray. absurd cc
@@ -272,6 +303,7 @@ unescaped acc bs b c d e low small h =
     let rest = after_ascii [] bs b (ltb-true b 128 ascii) behind in
     subst IsUtf8 (sym (append_assoc acc (d ∷ []) bs)) (around_ascii acc bs d small front rest)
 
+-- a text in quotes in a text is a text
 literal_sound : (odd : Bool) (acc bs : Bytes) → IsUtf8 (acc ++ cond odd (92 ∷ bs) bs) → IsSound (literal_from odd (Some acc) bs).0
 literal_sound true acc [] h = λ stray. absurd cc
 literal_sound false acc [] h = λ stray. absurd cc
@@ -297,9 +329,11 @@ record FromText (bs : Bytes) : Type 0 where
   before : Bytes
   text : IsUtf8 (before ++ bs)
 
+-- so the end of them
 from_end : (us bs : Bytes) → IsEnd us bs → FromText bs → FromText us
 from_end us bs h k = record { before = k.before ++ h.front; text = subst IsUtf8 (sym (append_assoc k.before h.front us)) (subst (λ (l : Bytes). IsUtf8 (k.before ++ l)) h.parts k.text) }
 
+-- a mark or a stray byte
 mark_sound : (b : ℕ) (bs : Bytes) → IsSound (mark_at b bs).0
 unfolding mark_at
 mark_sound b bs = go (mark_of b bs)
@@ -308,6 +342,7 @@ mark_sound b bs = go (mark_of b bs)
     go None = λ stray. absurd cc
     go (Some k) = λ stray. tt
 
+-- the first token
 token_sound : (b : ℕ) (bs : Bytes) → FromText (b ∷ bs) → IsSound (token_at b bs).0
 unfolding token_at
 token_sound b bs from = go (is_letter b || eqb b 95) refl (is_digit b) (eqb b 34) refl
@@ -321,6 +356,7 @@ token_sound b bs from = go (is_letter b || eqb b 95) refl (is_digit b) (eqb b 34
     go false ep false true er = literal_sound false [] bs (quoted er)
     go false ep false false er = mark_sound b bs
 
+-- behind the first token
 token_end : (b : ℕ) (bs : Bytes) → IsEnd (token_at b bs).1 (b ∷ bs)
 unfolding token_at
 token_end b bs = go (is_letter b || eqb b 95) refl (is_digit b) (eqb b 34)
@@ -331,6 +367,7 @@ token_end b bs = go (is_letter b || eqb b 95) refl (is_digit b) (eqb b 34)
     go false ep false true = end_cons b (literal_from false (Some []) bs).1 bs (end_literal false (Some []) bs)
     go false ep false false = end_cons b (mark_at b bs).1 bs (end_mark b bs)
 
+-- the first token behind blanks is sound, and a text ends with what is behind it
 next_sound : (bs : Bytes) (t : Token × Bytes) → next bs ≡ Some t → FromText bs → IsSound t.0 × FromText t.1
 unfolding token_of
 next_sound bs t e from = go (behind class.Blank bs) (from_end (behind class.Blank bs) bs (end_behind class.Blank bs) from) e
@@ -343,6 +380,7 @@ next_sound bs t e from = go (behind class.Blank bs) (from_end (behind class.Blan
     go [] from h = absurd cc
     go (b ∷ us) from h = pick b us from (eqb b 47 && is_slash_next us) h
 
+-- the tokens of what is left of a line
 scan_sound : (n : ℕ) (bs : Bytes) → FromText bs → AreSound (scan n bs)
 unfolding scan
 scan_sound zero bs from = tt
@@ -352,10 +390,12 @@ scan_sound (suc n) bs from = go (next bs) refl (scan_sound n)
     go None e ih = tt
     go (Some t) e ih = let found = next_sound bs t e from in (found.0, ih t.1 found.1)
 
+-- the tokens of bytes with which a text ends
 scanned_sound : (bs : Bytes) → FromText bs → AreSound (scanned bs)
 unfolding scanned
 scanned_sound bs from = scan_sound (length bs) bs from
 
+-- the tokens of a line
 line_sound : (inside : Bool) (line : Bytes) → AreSound (line_tokens inside line)
 unfolding line_tokens
 line_sound inside line = go (is_utf8 line) refl inside
@@ -368,17 +408,21 @@ line_sound inside line = go (is_utf8 line) refl inside
     go true e false = scanned_sound line (whole e)
     go false e b = ((λ stray. absurd cc), tt)
 
+-- the tokens of lines
 lines_sound : (inside : Bool) (lines : List Bytes) → AreSound (tokens_of_lines inside lines)
 unfolding tokens_of_lines
 lines_sound inside [] = tt
 lines_sound inside (line ∷ lines) = AreSound-append (line_tokens inside line) (tokens_of_lines (ends_open false (line_tokens inside line)) lines) (line_sound inside line) (lines_sound (ends_open false (line_tokens inside line)) lines)
 
+-- the tokens of a text
 pub sound_tokens : (bytes : Bytes) → AreSound (tokens_of bytes)
 sound_tokens bytes = lines_sound false (lines_of bytes)
 
+-- what is sound and not stray has a spelling
 have_spelling : (ts : List Token) → AreSound ts → NoneStray ts → HaveSpelling ts
 have_spelling [] h k = tt
 have_spelling (t ∷ ts) h k = (h.0 k.0, have_spelling ts h.1 k.1)
 
+-- the tokens of a text are read back
 pub text_read_back : (bytes : Bytes) → IsReadBack bytes
 text_read_back bytes none = read_back (tokens_of bytes) (have_spelling (tokens_of bytes) (sound_tokens bytes) none)

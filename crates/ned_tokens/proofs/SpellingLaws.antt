@@ -14,14 +14,17 @@ use Rattle.ned_tokens.proofs.SpellingLemmas.{Parted, no_end, NoNumber, Over, tok
 
 -- ---- lines
 
+-- the first line, empty where there is none
 abbrev first_of : List Bytes → Bytes
 first_of [] = []
 first_of (line ∷ lines) = line
 
+-- the lines behind the first
 abbrev others_of : List Bytes → List Bytes
 others_of [] = []
 others_of (line ∷ lines) = lines
 
+-- a byte in front stands in the first line
 add_front_is : (b : ℕ) (lines : List Bytes) → add_front b lines ≡ (b ∷ first_of lines) ∷ others_of lines
 add_front_is b [] = refl
 add_front_is b (line ∷ lines) = refl
@@ -41,20 +44,24 @@ front_line (b ∷ c ∷ w) rest some h = go (eqb b 10) h (λ h. front_line (c �
     go true h ih = absurd cc
     go false h ih = ap (add_front b) (ih h)
 
+-- LF ends a line
 end_line : (rest : Bytes) → lines_of (10 ∷ rest) ≡ [] ∷ lines_of rest
 unfolding lines_of
 end_line rest = refl
 
+-- a space stands in the first line
 space_line : (rest : Bytes) → lines_of (32 ∷ rest) ≡ (32 ∷ first_of (lines_of rest)) ∷ others_of (lines_of rest)
 unfolding lines_of
 space_line rest = add_front_is 32 (lines_of rest)
 
 -- ---- the tokens of a line
 
+-- nothing has no token
 nothing_next : next [] ≡ None
 unfolding token_of
 nothing_next = refl
 
+-- a space in front changes no token
 space_scanned : (us : Bytes) → scanned (32 ∷ us) ≡ scanned us
 space_scanned us = go (next us) refl
   where
@@ -62,6 +69,7 @@ space_scanned us = go (next us) refl
     go None e = scanned-none (32 ∷ us) e ∙ sym (scanned-none us e)
     go (Some t) e = scanned-some (32 ∷ us) t e ∙ sym (scanned-some us t e)
 
+-- the tokens of a line that is UTF-8
 text_tokens : (line : Bytes) → IsUtf8 line → line_tokens false line ≡ scanned line
 unfolding line_tokens
 text_tokens line h = rw (is_utf8-from_IsUtf8 line h) refl
@@ -70,11 +78,13 @@ text_tokens line h = rw (is_utf8-from_IsUtf8 line h) refl
 abbrev then_lines : List Token → List Bytes → List Token
 then_lines ts lines = ts ++ tokens_of_lines (ends_open false ts) lines
 
+-- the tokens of lines are those of the first, and of the others
 tokens_first : (lines : List Bytes) → IsUtf8 (first_of lines) → tokens_of_lines false lines ≡ then_lines (scanned (first_of lines)) (others_of lines)
 unfolding tokens_of_lines scanned scan
 tokens_first [] h = refl
 tokens_first (line ∷ lines) h = tokens_cons false line lines ∙ ap (λ (ts : List Token). then_lines ts lines) (text_tokens line h)
 
+-- a token that ends on its line comes first
 token_first : (t : Token) (ts : List Token) (lines : List Bytes) → is_open t ≡ false → then_lines (t ∷ ts) lines ≡ t ∷ then_lines ts lines
 token_first t ts lines h = ap (λ (b : Bool). t ∷ (ts ++ tokens_of_lines (ends_open b ts) lines)) h
 
@@ -85,27 +95,34 @@ record Reads (ts : List Token) : Type 0 where
   no_number : begins_number ts ≡ false → NoNumber (first_of (lines_of (spell ts)))
   parted : begins_closing ts ≡ true → Parted (first_of (lines_of (spell ts)))
 
+-- a quantity whose line goes on has no number behind it
 over_gap : (t : Token) (ts : List Token) (us : Bytes) → ends_line t ts ≡ false → (begins_number ts ≡ false → NoNumber us) → Over t us
 over_gap (token.Quantity d n) ts us e h = h e
 over_gap _ ts us e h = tt
 
+-- nothing comes behind the last token of a line
 over_end : (t : Token) → Over t []
 over_end (token.Quantity d n) = refl
 over_end _ = tt
 
 module _ (t : Token) (ts : List Token) (spelled : HasSpelling t) (ih : Reads ts) where
+  -- the token's bytes
   abbrev text : Bytes
   text = token_text t
 
+  -- what is written behind it
   abbrev rest : Bytes
   rest = spell ts
 
+  -- the first line of that
   abbrev first : Bytes
   first = first_of (lines_of rest)
 
+  -- the lines behind that
   abbrev others : List Bytes
   others = others_of (lines_of rest)
 
+  -- the token is read first, and then what is behind it
   scanned_first : (us : Bytes) → next (text ++ us) ≡ Some (t, us) → scanned us ≡ scanned first → scanned (text ++ us) ≡ t ∷ scanned first
   scanned_first us reads same = scanned-some (text ++ us) (t, us) reads ∙ ap (λ (l : List Token). t ∷ l) same
 
@@ -137,6 +154,7 @@ module _ (t : Token) (ts : List Token) (spelled : HasSpelling t) (ih : Reads ts)
   reads_next e true opening h = opening_reads t opening first
   reads_next e false opening h = token_reads t spelled first (ih.parted h) (over_gap t ts first e ih.no_number)
 
+  -- the line goes on behind this token
   line_goes_on : ends_line t ts ≡ false → (b : Bool) → is_opening t || begins_closing ts ≡ b → Reads (t ∷ ts)
   unfolding spell
   line_goes_on e true g =
@@ -147,6 +165,7 @@ module _ (t : Token) (ts : List Token) (spelled : HasSpelling t) (ih : Reads ts)
       let lines : lines_of (spell (t ∷ ts)) ≡ (text ++ 32 ∷ first) ∷ others = rw (e, g) (front ∙ ap (λ (ls : List Bytes). (text ++ first_of ls) ∷ others_of ls) (space_line rest)) in
       beside (32 ∷ first) lines (around_ascii [] first 32 refl (ascii_text [] refl) ih.is_text) (token_reads t spelled (32 ∷ first) (inl refl) (over_gap t ts (32 ∷ first) e ih.no_number)) (space_scanned first)
 
+  -- the line ends behind this token, or goes on
   front_reads : (b : Bool) → ends_line t ts ≡ b → Reads (t ∷ ts)
   unfolding spell
   front_reads true e =
@@ -155,10 +174,12 @@ module _ (t : Token) (ts : List Token) (spelled : HasSpelling t) (ih : Reads ts)
       alone lines
   front_reads false e = line_goes_on e (is_opening t || begins_closing ts) refl
 
+-- the spelling of tokens is read as them
 all_reads : (ts : List Token) → HaveSpelling ts → Reads ts
 unfolding spell lines_of tokens_of_lines
 all_reads [] h = record { is_text = ascii_text [] refl; tokens = refl; no_number = λ e. refl; parted = λ e. absurd cc }
 all_reads (t ∷ ts) h = front_reads t ts h.0 (all_reads ts h.1) (ends_line t ts) refl
 
+-- tokens in their standard spelling are read as themselves
 pub read_back : (ts : List Token) → AreReadBack ts
 read_back ts h = (all_reads ts h).tokens

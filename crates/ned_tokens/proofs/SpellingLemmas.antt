@@ -41,6 +41,7 @@ abbrev Each : (ℕ → Type 0) → Bytes → Type 0
 Each P [] = Unit {0}
 Each P (b ∷ bs) = P b × Each P bs
 
+-- what holds of each holds of one of them
 each_of : (P : ℕ → Type 0) (b : ℕ) (cs : Bytes) → Each P cs → OneOf b cs → P b
 each_of P b [] all h = absurd h
 each_of P b (c ∷ cs) all (inl e) = subst P (sym e) all.0
@@ -67,15 +68,19 @@ differs p b c pass fail = go (eqb b c) refl
 abbrev Apart : Class → Type 0
 Apart c = Each (λ b. is_in c b ≡ false) parting
 
+-- names have none of them
 name_apart : Apart class.Name
 name_apart = (refl, (refl, (refl, (refl, (refl, (refl, (refl, (refl, (refl, tt)))))))))
 
+-- digits are none of them
 digit_apart : Apart class.Digit
 digit_apart = (refl, (refl, (refl, (refl, (refl, (refl, (refl, (refl, (refl, tt)))))))))
 
+-- letters are none of them
 letter_apart : Apart class.Letter
 letter_apart = (refl, (refl, (refl, (refl, (refl, (refl, (refl, (refl, (refl, tt)))))))))
 
+-- what parts tokens begins no run of the class
 parted_begins : (c : Class) (us : Bytes) → Apart c → Parted us → begins c us ≡ false
 parted_begins c [] none h = refl
 parted_begins c (b ∷ bs) none h = each_of (λ b. is_in c b ≡ false) b parting none h
@@ -90,6 +95,7 @@ run_is c (b ∷ bs) us all ends = go (is_in c b) all (λ h. run_is c bs us h end
     go true h ih = ap (λ (l : Bytes). b ∷ l) (ih h)
     go false h ih = absurd cc
 
+-- behind that run the rest is left
 behind_is : (c : Class) (text us : Bytes) → all_in c text ≡ true → begins c us ≡ false → behind c (text ++ us) ≡ us
 behind_is c [] [] all ends = refl
 behind_is c [] (u ∷ us) all ends = rw ends refl
@@ -101,16 +107,19 @@ behind_is c (b ∷ bs) us all ends = go (is_in c b) all (λ h. behind_is c bs us
 
 -- ---- marks
 
+-- a mark at the end of its line is read
 mark_ends : (w : Mark) → next (mark_text w) ≡ Some (token.Mark w, [])
 unfolding mark_text token_of token_at mark_at mark_of arrow_of pair_of bracket_of operator_of
 mark_ends m.Open = refl
 mark_ends _ = refl
 
+-- a mark is read before each byte that parts tokens
 mark_parts : (w : Mark) (us : Bytes) → Each (λ b. next (mark_text w ++ b ∷ us) ≡ Some (token.Mark w, b ∷ us)) parting
 unfolding mark_text token_of token_at mark_at mark_of arrow_of pair_of bracket_of operator_of
 mark_parts m.Open us = (refl, (refl, (refl, (refl, (refl, (refl, (refl, (refl, (refl, tt)))))))))
 mark_parts _ us = (refl, (refl, (refl, (refl, (refl, (refl, (refl, (refl, (refl, tt)))))))))
 
+-- a mark is read
 mark_reads : (w : Mark) (us : Bytes) → Parted us → next (mark_text w ++ us) ≡ Some (token.Mark w, us)
 mark_reads w [] h = ap next (append-nil (mark_text w)) ∙ mark_ends w
 mark_reads w (u ∷ us) h = each_of (λ b. next (mark_text w ++ b ∷ us) ≡ Some (token.Mark w, b ∷ us)) u parting (mark_parts w us) h
@@ -126,24 +135,29 @@ opening_reads _ h us = absurd cc
 
 -- ---- words and names
 
+-- a word is read as itself
 keyword_is : (w : Keyword) → keyword_of (word_text w) ≡ Some w
 unfolding word_text keyword_of head_word section_word member_word value_word
 keyword_is k.Package = refl
 keyword_is _ = refl
 
+-- a word begins as a name does
 word_begins : (w : Keyword) → begins_name (word_text w) ≡ true
 unfolding word_text
 word_begins k.Package = refl
 word_begins _ = refl
 
+-- a word has a name's bytes
 word_all : (w : Keyword) → all_in class.Name (word_text w) ≡ true
 unfolding word_text
 word_all k.Package = refl
 word_all _ = refl
 
+-- a letter or `_`
 abbrev begins_word : ℕ → Bool
 begins_word b = is_letter b || eqb b 95
 
+-- a name or a word is read
 name_reads : (text us : Bytes) → begins_name text ≡ true → all_in class.Name text ≡ true → Parted us → next (text ++ us) ≡ Some (named (keyword_of text) text, us)
 unfolding token_of token_at word_at
 name_reads [] us begun all parted = absurd cc
@@ -157,11 +171,13 @@ name_reads (b ∷ bs) us begun all parted =
     let after = behind_is class.Name (b ∷ bs) us all ends in
     rw (no_space, no_tab, no_return, no_slash, begun, is, after) refl
 
+-- a word is read
 word_reads : (w : Keyword) (us : Bytes) → Parted us → next (word_text w ++ us) ≡ Some (token.Word w, us)
 word_reads w us parted = name_reads (word_text w) us (word_begins w) (word_all w) parted ∙ rw (keyword_is w) refl
 
 -- ---- numbers
 
+-- a digit is at most `9`
 digit_below : (b : ℕ) → is_digit b ≡ true → b ≤ 57
 digit_below b e = go (leb 48 b) (leb b 57) refl e
   where
@@ -184,6 +200,7 @@ abbrev begins_x : Bytes → Bool
 begins_x [] = false
 begins_x (b ∷ bs) = eqb b 120
 
+-- what parts tokens is no `x`
 parted_no_x : (us : Bytes) → Parted us → begins_x us ≡ false
 parted_no_x [] h = refl
 parted_no_x (u ∷ us) h = each_of (λ b. eqb b 120 ≡ false) u parting (refl, (refl, (refl, (refl, (refl, (refl, (refl, (refl, (refl, tt))))))))) h
@@ -198,10 +215,12 @@ no_prefix d (e ∷ ds) us all ends = go (is_digit e) refl all
     go true et h = rw (and_right (eqb d 48) (eqb e 120) (differs is_digit e 120 et refl)) refl
     go false et h = absurd cc
 
+-- what parts tokens makes no quantity of digits
 no_quantity : (us : Bytes) → Parted us → begins_quantity us ≡ false
 no_quantity [] h = refl
 no_quantity (u ∷ us) h = each_of (λ b. begins_quantity (b ∷ us) ≡ false) u parting (refl, (refl, (refl, (refl, (refl, (refl, (refl, (refl, (refl, tt))))))))) h
 
+-- digits are read as their value
 number_reads : (text us : Bytes) (n : ℕ) → 0 < length text → all_in class.Digit text ≡ true → below_limit (value_of class.Digit text) ≡ Some n → Parted us → next (text ++ us) ≡ Some (token.Number n, us)
 unfolding token_of token_at number_at number_of
 number_reads [] us n some all value parted = absurd (omega (arith, some))
@@ -223,6 +242,7 @@ number_reads (d ∷ ds) us n some all value parted = go (is_digit d) refl all
 
 -- ---- decimal digits
 
+-- digits by value are digits by class
 digits_all : (ds : Bytes) → AllDigits 10 ds → all_in class.Digit ds ≡ true
 digits_all [] h = refl
 digits_all (d ∷ ds) h =
@@ -231,6 +251,7 @@ digits_all (d ∷ ds) h =
     let high : leb d 57 ≡ true = le-leb d 57 range.1 in
     rw (low, high) (digits_all ds h.1)
 
+-- both ways to count digits agree
 digits_same : (n : ℕ) (ds : Bytes) → AllDigits 10 ds → value_from 10 n ds ≡ digits_value_after 10 n ds
 digits_same n [] h = refl
 digits_same n (d ∷ ds) h =
@@ -240,21 +261,27 @@ digits_same n (d ∷ ds) h =
     ap (λ (k : ℕ). value_from 10 (n * 10 + k) ds) same ∙ digits_same (n * 10 + digit_value d) ds h.1
 
 module _ (n : ℕ) (h : ltb n (2 ^ 63) ≡ true) where
+  -- a number below the limit has decimal digits
   decimal_small : n < 2 ^ 64
   decimal_small = omega (arith, ltb-true n (2 ^ 63) h)
 
+  -- at least one digit
   decimal_some : 0 < length (decimal n)
   decimal_some = (decimal_is_IsNumeral n decimal_small).0.0
 
+  -- nothing but digits
   decimal_all : all_in class.Digit (decimal n) ≡ true
   decimal_all = digits_all (decimal n) (decimal_is_IsNumeral n decimal_small).0.1
 
+  -- they count the number
   decimal_value : value_of class.Digit (decimal n) ≡ n
   decimal_value = digits_same 0 (decimal n) (decimal_is_IsNumeral n decimal_small).0.1 ∙ (decimal_is_IsNumeral n decimal_small).1
 
+  -- which is below the limit
   decimal_limit : below_limit (value_of class.Digit (decimal n)) ≡ Some n
   decimal_limit = ap below_limit decimal_value ∙ rw h refl
 
+  -- and is read
   decimal_reads : (us : Bytes) → Parted us → next (decimal n ++ us) ≡ Some (token.Number n, us)
   decimal_reads us parted = number_reads (decimal n) us n decimal_some decimal_all decimal_limit parted
 
@@ -270,11 +297,13 @@ record IsUnit (d : Dimension) (us : Bytes) : Type 0 where
   after : behind class.Letter (unit_text d ++ us) ≡ us
   unit : unit_of (unit_text d) ≡ Some (d, 1)
 
+-- a unit is letters
 unit_all : (d : Dimension) → all_in class.Letter (unit_text d) ≡ true
 unfolding unit_text
 unit_all dimension.Time = refl
 unit_all _ = refl
 
+-- the smallest unit is read, and is one
 unit_is : (d : Dimension) (us : Bytes) → Parted us → IsUnit d us
 unfolding unit_text unit_of time_unit rate_unit length_unit
 unit_is d us parted = go d (run_is class.Letter (unit_text d) us (unit_all d) ends) (behind_is class.Letter (unit_text d) us (unit_all d) ends)
@@ -289,6 +318,7 @@ unit_is d us parted = go d (run_is class.Letter (unit_text d) us (unit_all d) en
 
 -- digits and then a unit are one quantity
 module _ (d : Dimension) (text us : Bytes) (n : ℕ) (all : all_in class.Digit text ≡ true) (value : value_of class.Digit text ≡ n) (limit : below_limit n ≡ Some n) (is : IsUnit d us) where
+  -- they are a quantity
   piece_is : piece_at (text ++ (unit_text d ++ us)) ≡ (Some (d, n), us)
   piece_is =
       let digits = run_is class.Digit text (unit_text d ++ us) all is.no_digit in
@@ -299,10 +329,12 @@ module _ (d : Dimension) (text us : Bytes) (n : ℕ) (all : all_in class.Digit t
       ∙ ap (piece_from text) is.no_fraction
       ∙ rw (is.word, is.after, is.unit, value, sum, limit) refl
 
+  -- with nothing to sum it is the token
   quantity_is : begins class.Digit (behind class.Space us) ≡ false → quantity_at (text ++ (unit_text d ++ us)) ≡ (token.Quantity d n, us)
   unfolding quantity_at
   quantity_is over = ap (λ (p : Option (Dimension × ℕ) × Bytes). row_token (row_from p.0 p.1)) piece_is ∙ ap row_token (row_end (Some (d, n)) us over)
 
+-- a quantity is read, where no number comes behind it
 quantity_reads : (d : Dimension) (text us : Bytes) (n : ℕ) → 0 < length text → all_in class.Digit text ≡ true → value_of class.Digit text ≡ n → below_limit n ≡ Some n → begins class.Digit (behind class.Space us) ≡ false → IsUnit d us → next (text ++ (unit_text d ++ us)) ≡ Some (token.Quantity d n, us)
 unfolding token_of token_at number_at
 quantity_reads d [] us n some all value limit over is = absurd (omega (arith, some))
@@ -322,9 +354,11 @@ quantity_reads d (c ∷ cs) us n some all value limit over is = go (is_digit c) 
 
 -- ---- texts in quotes
 
+-- behind any bytes so far, these bytes and a rest are read as the text and the rest
 abbrev to_literal : Bytes → Bytes → Bytes → Type 0
 to_literal text rest us = (acc : Bytes) → literal_from false (Some acc) (rest ++ us) ≡ (token.Literal (acc ++ text), us)
 
+-- a text in quotes is read from its escapes
 literal_is : (text us : Bytes) → to_literal text (quoted text) us
 literal_is [] us acc = ap (λ (l : Bytes). (token.Literal l, us)) (sym (append-nil acc))
 literal_is (b ∷ bs) us acc = go (eqb b 34) refl (eqb b 92) refl (eqb b 10) refl (eqb b 9) refl (literal_is bs us (acc ++ b ∷ []))
@@ -336,6 +370,7 @@ literal_is (b ∷ bs) us acc = go (eqb b 34) refl (eqb b 92) refl (eqb b 10) ref
     go false ep false eq false er true es ih = subst (λ (c : ℕ). literal_from false (Some (acc ++ c ∷ [])) (quoted bs ++ us) ≡ (token.Literal (acc ++ b ∷ bs), us)) (eqb-true b 9 es) (ih ∙ ap (λ (l : Bytes). (token.Literal l, us)) (append_assoc acc (b ∷ []) bs))
     go false ep false eq false er false es ih = rw (ep, eq) (ih ∙ ap (λ (l : Bytes). (token.Literal l, us)) (append_assoc acc (b ∷ []) bs))
 
+-- a text in quotes is read
 literal_reads : (text us : Bytes) → next (34 ∷ (quoted text ++ us)) ≡ Some (token.Literal text, us)
 unfolding token_of token_at
 literal_reads text us = ap (λ (p : Token × Bytes). Some p) (literal_is text us [])
@@ -347,6 +382,7 @@ abbrev pub no_end : Bytes → Bool
 no_end [] = true
 no_end (b ∷ bs) = cond (eqb b 10) false (no_end bs)
 
+-- two in a row end no line either
 no_end-append : (a c : Bytes) → no_end a ≡ true → no_end c ≡ true → no_end (a ++ c) ≡ true
 no_end-append [] c h e = e
 no_end-append (b ∷ a) c h e = go (eqb b 10) h (λ h. no_end-append a c h e)
@@ -355,6 +391,7 @@ no_end-append (b ∷ a) c h e = go (eqb b 10) h (λ h. no_end-append a c h e)
     go true h ih = absurd cc
     go false h ih = ih h
 
+-- a class without LF ends no line
 class_line : (c : Class) (text : Bytes) → is_in c 10 ≡ false → all_in c text ≡ true → no_end text ≡ true
 class_line c [] none h = refl
 class_line c (b ∷ bs) none h = go (is_in c b) refl h (class_line c bs none)
@@ -363,6 +400,7 @@ class_line c (b ∷ bs) none h = go (is_in c b) refl h (class_line c bs none)
     go true e h ih = rw (differs (is_in c) b 10 e none) (ih h)
     go false e h ih = absurd cc
 
+-- a class of ASCII is ASCII
 class_ascii : (c : Class) (text : Bytes) → ((b : ℕ) → is_in c b ≡ true → ltb b 128 ≡ true) → all_in c text ≡ true → all_ascii text ≡ true
 class_ascii c [] low h = refl
 class_ascii c (b ∷ bs) low h = go (is_in c b) refl h (class_ascii c bs low)
@@ -379,9 +417,11 @@ low_from p b high pass = go (ltb b 128) refl
     go true e = refl
     go false e = let fails = high (ltb-false b 128 e) in absurd cc
 
+-- no digit is above ASCII
 digit_high : (b : ℕ) → 128 ≤ b → is_in class.Digit b ≡ false
 digit_high b h = and_right (leb 48 b) (leb b 57) (lt-leb b 57 (omega (arith, h)))
 
+-- no byte of a name is above ASCII
 name_high : (b : ℕ) → 128 ≤ b → is_in class.Name b ≡ false
 name_high b h =
     let upper : (leb 65 b && leb b 90) ≡ false = and_right (leb 65 b) (leb b 90) (lt-leb b 90 (omega (arith, h))) in
@@ -390,32 +430,39 @@ name_high b h =
     let line : eqb b 95 ≡ false = ne_eqb b 95 (λ e. omega (arith, h, e)) in
     rw (upper, lower, digit, line) refl
 
+-- a name is a text
 name_text : (text : Bytes) → all_in class.Name text ≡ true → IsUtf8 text
 name_text text h = ascii_text text (class_ascii class.Name text (λ b. low_from (is_in class.Name) b (name_high b)) h)
 
+-- digits are a text
 digits_text : (text : Bytes) → all_in class.Digit text ≡ true → IsUtf8 text
 digits_text text h = ascii_text text (class_ascii class.Digit text (λ b. low_from (is_in class.Digit) b (digit_high b)) h)
 
+-- a mark ends no line
 mark_line : (w : Mark) → no_end (mark_text w) ≡ true
 unfolding mark_text
 mark_line m.Open = refl
 mark_line _ = refl
 
+-- a mark is ASCII
 mark_ascii : (w : Mark) → all_ascii (mark_text w) ≡ true
 unfolding mark_text
 mark_ascii m.Open = refl
 mark_ascii _ = refl
 
+-- a unit ends no line
 unit_line : (d : Dimension) → no_end (unit_text d) ≡ true
 unfolding unit_text
 unit_line dimension.Time = refl
 unit_line _ = refl
 
+-- a unit is ASCII
 unit_ascii : (d : Dimension) → all_ascii (unit_text d) ≡ true
 unfolding unit_text
 unit_ascii dimension.Time = refl
 unit_ascii _ = refl
 
+-- LF has an escape, so that a text in quotes ends no line
 quoted_line : (text : Bytes) → no_end (quoted text) ≡ true
 quoted_line [] = refl
 quoted_line (b ∷ bs) = go (eqb b 34) (eqb b 92) (eqb b 10) refl (eqb b 9) (quoted_line bs)
@@ -450,9 +497,11 @@ quoted_text seen (b ∷ bs) h = go (eqb b 34) refl (eqb b 92) refl (eqb b 10) re
 
 -- ---- one token
 
+-- a word ends no line
 word_line : (w : Keyword) → no_end (word_text w) ≡ true
 word_line w = class_line class.Name (word_text w) refl (word_all w)
 
+-- no token ends its line
 pub token_line : (t : Token) → HasSpelling t → no_end (token_text t) ≡ true
 token_line (token.Word w) h = word_line w
 token_line (token.Mark w) h = mark_line w
@@ -462,6 +511,7 @@ token_line (token.Quantity d n) h = no_end-append (decimal n) (unit_text d) (cla
 token_line (token.Literal text) h = quoted_line text
 token_line _ h = refl
 
+-- each token is a text
 pub token_is_text : (t : Token) → HasSpelling t → IsUtf8 (token_text t)
 token_is_text (token.Word w) h = name_text (word_text w) (word_all w)
 token_is_text (token.Mark w) h = ascii_text (mark_text w) (mark_ascii w)
@@ -480,6 +530,7 @@ abbrev pub Over : Token → Bytes → Type 0
 Over (token.Quantity d n) us = NoNumber us
 Over _ us = Unit {0}
 
+-- each token is read, before what parts it
 pub token_reads : (t : Token) → HasSpelling t → (us : Bytes) → Parted us → Over t us → next (token_text t ++ us) ≡ Some (t, us)
 token_reads (token.Word w) h us parted over = word_reads w us parted
 token_reads (token.Mark w) h us parted over = mark_reads w us parted
@@ -489,11 +540,13 @@ token_reads (token.Quantity d n) h us parted over = ap next (append_assoc (decim
 token_reads (token.Literal text) h us parted over = literal_reads text us
 token_reads _ h us parted over = absurd h
 
+-- no mark begins with a digit
 mark_front : (w : Mark) (us : Bytes) → NoNumber (mark_text w ++ us)
 unfolding mark_text
 mark_front m.Open us = refl
 mark_front _ us = refl
 
+-- no name begins with a digit
 name_front : (text us : Bytes) → begins_name text ≡ true → NoNumber (text ++ us)
 name_front [] us h = absurd cc
 name_front (b ∷ bs) us h =
@@ -515,6 +568,7 @@ token_front (token.Quantity d n) h plain us = absurd cc
 token_front (token.Literal text) h plain us = refl
 token_front _ h plain us = absurd h
 
+-- no token with a spelling goes on behind its line
 pub closed : (t : Token) → HasSpelling t → is_open t ≡ false
 closed token.OpenLiteral h = absurd h
 closed _ h = refl
@@ -533,15 +587,18 @@ closing_parts (token.Mark m.RightBracket) h us = inr (inr (inr (inr (inr (inr (i
 closing_parts (token.Mark _) h us = absurd cc
 closing_parts _ h us = absurd cc
 
+-- a mark has a byte
 mark_some : (w : Mark) → 0 < length (mark_text w)
 unfolding mark_text
 mark_some m.Open = omega arith
 mark_some _ = omega arith
 
+-- a name has a byte
 name_some : (text : Bytes) → begins_name text ≡ true → 0 < length text
 name_some [] h = absurd cc
 name_some (b ∷ bs) h = omega arith
 
+-- each token has a byte
 pub token_some : (t : Token) → HasSpelling t → 0 < length (token_text t)
 token_some (token.Word w) h = name_some (word_text w) (word_begins w)
 token_some (token.Mark w) h = mark_some w

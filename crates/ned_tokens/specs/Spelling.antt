@@ -121,11 +121,13 @@ token_text (token.Quantity d n) = decimal n ++ unit_text d
 token_text (token.Literal text) = 34 ∷ quoted text
 token_text _ = []
 
+-- a number or a quantity
 abbrev pub is_number : Token → Bool
 is_number (token.Number n) = true
 is_number (token.Quantity d n) = true
 is_number _ = false
 
+-- the first is a number or a quantity
 abbrev pub begins_number : List Token → Bool
 begins_number [] = false
 begins_number (t ∷ ts) = is_number t
@@ -157,6 +159,7 @@ is_closing (token.Mark m.Semi) = true
 is_closing (token.Mark m.Question) = true
 is_closing _ = false
 
+-- the first is a mark with no space before it
 abbrev pub begins_closing : List Token → Bool
 begins_closing [] = false
 begins_closing (t ∷ ts) = is_closing t
@@ -177,6 +180,7 @@ abbrev pub all_in : Class → Bytes → Bool
 all_in c [] = true
 all_in c (b ∷ bs) = if is_in c b then all_in c bs else false
 
+-- a letter or `_` comes first
 abbrev pub begins_name : Bytes → Bool
 begins_name [] = false
 begins_name (b ∷ bs) = is_letter b || b == 95
@@ -195,6 +199,7 @@ HasSpelling (token.Quantity d n) = nat_lt n (2 ^ 63) ≡ true
 HasSpelling (token.Literal text) = is_utf8 text ≡ true
 HasSpelling _ = ⊥
 
+-- each has a spelling
 abbrev pub HaveSpelling : List Token → Type 0
 HaveSpelling [] = Unit {0}
 HaveSpelling (t ∷ ts) = HasSpelling t × HaveSpelling ts
@@ -207,6 +212,7 @@ is_stray token.Broken = true
 is_stray (token.Stray b) = true
 is_stray _ = false
 
+-- none is stray
 abbrev pub NoneStray : List Token → Type 0
 NoneStray [] = Unit {0}
 NoneStray (t ∷ ts) = (is_stray t ≡ false) × NoneStray ts
