@@ -13,3 +13,4 @@ pub mod Balanced
 pub mod Meaning
 pub mod Viable
 pub mod Blank
+pub mod Spelling

@@ -12,6 +12,7 @@ mod numbers;
 mod quantity;
 pub mod refusal;
 mod runs;
+pub mod spelling;
 pub mod token;
 mod units;
 mod words;

@@ -1,0 +1,147 @@
+-- Each token of a standard spelling has a spelling.
+use Rattle.std.proofs.Common.{Bool, true, false, List, [], ◌∷◌, ◌++◌, Option, Some, None, pos, negsuc, refl}
+use Rattle.sim_values.specs.declared.value.Value.{Value}
+use Rattle.sim_values.specs.declared.value.Value.TheVariants as values
+use Rattle.sim_values.specs.declared.value.Dimension.{Dimension}
+use Rattle.sim_values.specs.declared.value.Dimension.TheVariants as dimension
+use Rattle.ned_tokens.specs.declared.token.Mark.TheVariants as m
+use Rattle.ned_tokens.specs.declared.token.Token.{Token}
+use Rattle.ned_tokens.specs.declared.token.Token.TheVariants as token
+use Rattle.ned_tokens.specs.Words.{keyword_of, head_word, section_word, member_word, value_word}
+use Rattle.ned_tokens.specs.Spelling.{unit_text, IsName, HaveSpelling}
+use Rattle.ned_syntax.specs.declared.ast.Expression.{Expression}
+use Rattle.ned_syntax.specs.declared.ast.Expression.TheVariants as expressions
+use Rattle.ned_syntax.specs.declared.ast.ParameterValue.{ParameterValue}
+use Rattle.ned_syntax.specs.declared.ast.ParameterValue.TheVariants as given
+use Rattle.ned_syntax.specs.declared.ast.Declaration.{Declaration}
+use Rattle.ned_syntax.specs.declared.ast.Mode.{Mode}
+use Rattle.ned_syntax.specs.declared.ast.Mode.TheVariants as modes_are
+use Rattle.ned_syntax.specs.declared.ast.RecordedMode.{RecordedMode}
+use Rattle.ned_syntax.specs.declared.ast.Statistic.{Statistic}
+use Rattle.ned_syntax.specs.declared.ast.SectionLine.{SectionLine}
+use Rattle.ned_syntax.specs.declared.ast.SectionLine.TheVariants as lines
+use Rattle.ned_syntax.specs.declared.ast.Submodule.{Submodule}
+use Rattle.ned_syntax.specs.declared.ast.TypeKind.{TypeKind}
+use Rattle.ned_syntax.specs.declared.ast.TypeKind.TheVariants as kinds
+use Rattle.ned_syntax.specs.declared.ast.TypeDeclaration.{TypeDeclaration}
+use Rattle.ned_syntax.specs.declared.ast.NedFile.{NedFile}
+use Rattle.ned_syntax.specs.Spelling.{listed_tokens, value_tokens, expression_tokens, given_tokens, valued_tokens, unit_tokens, declaration_tokens, mode_name, question_tokens, mode_tokens, next_mode_tokens, record_tokens, statistic_tokens, line_tokens, section_line_tokens, submodule_tokens, kind_tokens, type_tokens, file_tokens}
+use Rattle.ned_syntax.proofs.Spellable.{Each, IfThere, CanBeValue, CanBeExpression, CanBeGiven, CanBeDeclaration, CanBeStatistic, CanBeLine, CanBeSubmodule, CanBeParts, CanBeType, CanBeFile}
+
+-- two lists in a row
+have-append : (ts us : List Token) → HaveSpelling ts → HaveSpelling us → HaveSpelling (ts ++ us)
+have-append [] us h k = k
+have-append (t ∷ ts) us h k = (h.0, have-append ts us h.1 k)
+
+-- one element after the other
+have_listed : {X : Type 0} (f : X → List Token) (P : X → Type 0) → ((x : X) → P x → HaveSpelling (f x)) → (xs : List X) → Each P xs → HaveSpelling (listed_tokens f xs)
+have_listed f P h [] all = tt
+have_listed f P h (x ∷ xs) all = have-append (f x) (listed_tokens f xs) (h x all.0) (have_listed f P h xs all.1)
+
+-- ---- values
+
+-- a literal
+have_value : (v : Value) → CanBeValue v → HaveSpelling (value_tokens v)
+have_value (values.Whole (pos n)) h = (h, tt)
+have_value (values.Whole (negsuc n)) h = (tt, (h, tt))
+have_value (values.Truth true) h = (tt, tt)
+have_value (values.Truth false) h = (tt, tt)
+have_value (values.Text text) h = (h, tt)
+have_value (values.Quantity d (pos n)) h = (h, tt)
+have_value (values.Quantity d (negsuc n)) h = absurd h
+
+-- an expression
+pub have_expression : (e : Expression) → CanBeExpression e → HaveSpelling (expression_tokens e)
+have_expression (expressions.Literal v) h = have_value v h
+
+-- a value, or `default(..)`
+have_given : (g : ParameterValue) → CanBeGiven g → HaveSpelling (given_tokens g)
+have_given (given.Fixed e) h = have_expression e h
+have_given (given.Default e) h = (tt, (tt, have-append (expression_tokens e) (token.Mark m.RightParen ∷ []) (have_expression e h) (tt, tt)))
+
+-- `= ..`, where there is a value
+have_valued : (g : Option ParameterValue) → IfThere CanBeGiven g → HaveSpelling (valued_tokens g)
+have_valued None h = tt
+have_valued (Some g) h = (tt, have_given g h)
+
+-- ---- lines
+
+-- a unit is a name
+unit_is_name : (d : Dimension) → IsName (unit_text d)
+unfolding unit_text keyword_of head_word section_word member_word value_word
+unit_is_name dimension.Time = (refl, refl, refl)
+unit_is_name dimension.Rate = (refl, refl, refl)
+unit_is_name dimension.Length = (refl, refl, refl)
+
+-- `@unit(..)`, where there is a unit
+have_unit : (unit : Option Dimension) → HaveSpelling (unit_tokens unit)
+unfolding keyword_of head_word section_word member_word value_word
+have_unit None = tt
+have_unit (Some d) = (tt, ((refl, refl, refl), (tt, (unit_is_name d, (tt, tt)))))
+
+-- a declaration
+have_declaration : (d : Declaration) → CanBeDeclaration d → HaveSpelling (declaration_tokens d)
+have_declaration d h = (tt, (h.0, have-append (unit_tokens d.unit) (valued_tokens d.value) (have_unit d.unit) (have_valued d.value h.2)))
+
+-- the name of a mode is a name
+mode_is_name : (w : Mode) → IsName (mode_name w)
+unfolding keyword_of head_word section_word member_word value_word
+mode_is_name modes_are.Count = (refl, refl, refl)
+mode_is_name _ = (refl, refl, refl)
+
+-- `?`, or nothing
+have_question : (b : Bool) → HaveSpelling (question_tokens b)
+have_question true = (tt, tt)
+have_question false = tt
+
+-- a mode
+have_mode : (r : RecordedMode) → HaveSpelling (mode_tokens r)
+have_mode r = (mode_is_name r.mode, have_question r.optional)
+
+-- modes behind commas
+have_next_modes : (rs : List RecordedMode) → HaveSpelling (listed_tokens next_mode_tokens rs)
+have_next_modes [] = tt
+have_next_modes (r ∷ rs) = (tt, have-append (mode_tokens r) (listed_tokens next_mode_tokens rs) (have_mode r) (have_next_modes rs))
+
+-- the modes, where there are some
+have_record : (rs : List RecordedMode) → HaveSpelling (record_tokens rs)
+unfolding keyword_of head_word section_word member_word value_word
+have_record [] = tt
+have_record (r ∷ rs) = (tt, ((refl, refl, refl), (tt, have-append (mode_tokens r) (listed_tokens next_mode_tokens rs) (have_mode r) (have_next_modes rs))))
+
+-- a statistic
+have_statistic : (s : Statistic) → CanBeStatistic s → HaveSpelling (statistic_tokens s)
+unfolding keyword_of head_word section_word member_word value_word
+have_statistic s h = (tt, ((refl, refl, refl), (tt, (h.0, (tt, (tt, ((refl, refl, refl), (tt, (h.1, have-append (record_tokens s.modes) (token.Mark m.RightParen ∷ []) (have_record s.modes) (tt, tt))))))))))
+
+-- a line
+have_line : (line : SectionLine) → CanBeLine line → HaveSpelling (line_tokens line)
+unfolding keyword_of head_word section_word member_word value_word
+have_line (lines.Declaration d) h = have_declaration d h
+have_line (lines.Assignment a) h = (h.0, have_valued a.value h.1)
+have_line (lines.Statistic s) h = have_statistic s h
+have_line (lines.Class text) h = (tt, ((refl, refl, refl), (tt, (h, (tt, tt)))))
+have_line lines.Ignored h = (tt, ((refl, refl, refl), tt))
+
+-- a line with its `;`
+have_section_line : (line : SectionLine) → CanBeLine line → HaveSpelling (section_line_tokens line)
+have_section_line line h = have-append (line_tokens line) (token.Mark m.Semi ∷ []) (have_line line h) (tt, tt)
+
+-- ---- types
+
+-- a submodule
+have_submodule : (s : Submodule) → CanBeSubmodule s → HaveSpelling (submodule_tokens s)
+have_submodule s h = (h.0, (tt, (h.1, (tt, tt))))
+
+-- a type of each kind
+have_kind : (kind : TypeKind) (d : TypeDeclaration) → IsName d.name → CanBeParts kind d → HaveSpelling (kind_tokens kind d)
+have_kind kinds.Simple d h parts = (tt, (h, (tt, (tt, (tt, have-append (listed_tokens section_line_tokens d.lines) (token.Mark m.Close ∷ []) (have_listed section_line_tokens CanBeLine have_section_line d.lines parts.0) (tt, tt))))))
+have_kind kinds.Network d h parts = (tt, (h, (tt, (tt, (tt, have-append (listed_tokens submodule_tokens d.submodules) (token.Mark m.Close ∷ []) (have_listed submodule_tokens CanBeSubmodule have_submodule d.submodules parts.0) (tt, tt))))))
+
+-- a type
+have_type : (d : TypeDeclaration) → CanBeType d → HaveSpelling (type_tokens d)
+have_type d h = have_kind d.kind d h.0 h.1
+
+-- a file
+pub have_file : (f : NedFile) → CanBeFile f → HaveSpelling (file_tokens f)
+have_file f h = have_listed type_tokens CanBeType have_type f.types h

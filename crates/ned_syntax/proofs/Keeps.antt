@@ -1,0 +1,431 @@
+-- What a text declares can be declared.
+use Rattle.std.proofs.Common.{◌≡◌, ℕ, zero, suc, ◌^◌, Bool, true, false, cond, ltb, List, [], ◌∷◌, ◌++◌, Option, Some, None, inl, inr, pos, refl, sym, subst}
+use Rattle.std.specs.Prelude.{unwrap_or}
+use Rattle.sim_values.specs.declared.value.Value.{Value}
+use Rattle.sim_values.specs.declared.value.Value.TheVariants as values
+use Rattle.sim_values.specs.declared.value.Dimension.{Dimension}
+use Rattle.ned_tokens.specs.declared.token.Keyword.TheVariants as k
+use Rattle.ned_tokens.specs.declared.token.Mark.TheVariants as m
+use Rattle.ned_tokens.specs.declared.token.Token.{Token}
+use Rattle.ned_tokens.specs.declared.token.Token.TheVariants as token
+use Rattle.ned_tokens.specs.Rule.{Rule, token as one_token, ◌⊗◌, ◌◁◌, ◌▷◌, made, such_that, either, optional, many, many_is, optional_is}
+use Rattle.ned_tokens.specs.Balanced.{balanced}
+use Rattle.ned_tokens.specs.Units.{unit_of}
+use Rattle.ned_tokens.specs.Spelling.{IsName}
+use Rattle.ned_tokens.proofs.SoundTokens.{IsSound, AreSound}
+use Rattle.ned_syntax.specs.declared.ast.Expression.{Expression}
+use Rattle.ned_syntax.specs.declared.ast.ParameterWord.{ParameterWord}
+use Rattle.ned_syntax.specs.declared.ast.ParameterWord.TheVariants as words
+use Rattle.ned_syntax.specs.declared.ast.Declaration.{Declaration}
+use Rattle.ned_syntax.specs.declared.ast.SectionLine.{SectionLine}
+use Rattle.ned_syntax.specs.declared.ast.Submodule.{Submodule}
+use Rattle.ned_syntax.specs.declared.ast.NedFile.{NedFile}
+use Rattle.ned_syntax.specs.declared.properties.PropertyName.{PropertyName}
+use Rattle.ned_syntax.specs.declared.properties.PropertyName.TheVariants as names
+use Rattle.ned_syntax.specs.declared.properties.Effect.{Effect}
+use Rattle.ned_syntax.specs.declared.properties.Effect.TheVariants as effects
+use Rattle.ned_syntax.specs.declared.statistics.Part.{Part}
+use Rattle.ned_syntax.specs.declared.statistics.Part.TheVariants as part_is
+use Rattle.ned_syntax.specs.declared.statistics.Except.TheVariants as except_is
+use Rattle.ned_syntax.specs.declared.statistics.Said.{Said}
+use Rattle.ned_syntax.specs.declared.parameters.Valued.{Valued}
+use Rattle.ned_syntax.specs.declared.parameters.Tail.{Tail}
+use Rattle.ned_syntax.specs.Grammar.{word, mark, name, name_of, whole_of, whole_value, quantity_value, literal_of, number_of, negated, plain_literal, number, negative_literal, literal, expression, default_value, value_rule, in_parens, turn_of, bracketed, index, body, unit_effect, said_by_word, said, effect_of, property, modes, loose_text, no_value, source_value, record_value, source_tail, record_tail, source_word, record_word, source_part, record_part, part_or_other, other_part, record_or_other, any_part, part, next_part, nothing_said, over, over_all, statistic_body, optional_body, statistic_line, indexed_statistic, unnamed_statistic, named_or_not, line_or_ignored, statistic_tail, statistic_word, statistic, plain_name, line_of, plain_line, property_text, property_line, valued, tail, value_in, unit_in, parameter_word, volatile, any_declaration, is_measured_word, declaration, assignment, assigned_or_said, any_line, section_line, heading, section, simple, submodule, listed, submodules, network, type_rule, file}
+use Rattle.ned_syntax.proofs.Spellable.{Each, IfThere, IsSmall, CanBeValue, CanBeExpression, CanBeGiven, CanBeUnit, CanBeDeclaration, CanBeAssignment, CanBeLine, CanBeSubmodule, CanBeType, CanBeFile}
+
+-- what sound tokens spell by the rule is so
+record Keeps {X : Type 0} (r : Rule X) (P : X → Type 0) : Type 0 where
+  kept : (ts : List Token) (x : X) → AreSound ts → r.Is ts x → P x
+
+-- nothing is asked
+abbrev Any : {X : Type 0} → X → Type 0
+Any x = Unit {0}
+
+-- ---- rules put together
+
+-- the front of sound tokens is sound
+sound_front : (ts us : List Token) → AreSound (ts ++ us) → AreSound ts
+sound_front [] us h = tt
+sound_front (t ∷ ts) us h = (h.0, sound_front ts us h.1)
+
+-- the back of sound tokens is sound
+sound_back : (ts us : List Token) → AreSound (ts ++ us) → AreSound us
+sound_back [] us h = h
+sound_back (t ∷ ts) us h = sound_back ts us h.1
+
+-- a rule of which nothing is asked
+anything : {X : Type 0} (r : Rule X) → Keeps r Any
+anything r = record { kept = λ ts x h is. tt }
+
+-- one token
+one : {X : Type 0} (f : Token → Option X) (P : X → Type 0) → ((t : Token) (x : X) → IsSound t → f t ≡ Some x → P x) → Keeps (one_token f) P
+one f P h = record { kept = λ ts x sound is. h is.0 x (subst AreSound is.1 sound).0 is.2 }
+
+-- one after the other
+then : {X Y : Type 0} {a : Rule X} {b : Rule Y} {P : X → Type 0} {Q : Y → Type 0} → Keeps a P → Keeps b Q → Keeps (a ⊗ b) (λ p. P p.0 × Q p.1)
+then p q = record { kept = λ ts x h is. let sound = subst AreSound is.2 h in (p.kept is.0 x.0 (sound_front is.0 is.1 sound) is.3, q.kept is.1 x.1 (sound_back is.0 is.1 sound) is.4) }
+
+-- a value made of the value read
+mapped : {X Y : Type 0} {f : X → Y} {r : Rule X} {P : X → Type 0} {Q : Y → Type 0} → ((x : X) → P x → Q (f x)) → Keeps r P → Keeps (made f r) Q
+mapped {Q = Q} g p = record { kept = λ ts y h is. subst Q (sym is.2) (g is.0 (p.kept ts is.0 h is.1)) }
+
+-- the value of the second
+before : {X Y : Type 0} {b : Rule Y} {Q : Y → Type 0} (a : Rule X) → Keeps b Q → Keeps (a ▷ b) Q
+before a q = mapped (λ x h. h.1) (then (anything a) q)
+
+-- the value of the first
+after : {X Y : Type 0} {a : Rule X} {P : X → Type 0} (b : Rule Y) → Keeps a P → Keeps (a ◁ b) P
+after b p = mapped (λ x h. h.0) (then p (anything b))
+
+-- one or the other
+choice : {X : Type 0} {a b : Rule X} {P : X → Type 0} → Keeps a P → Keeps b P → Keeps (either a b) P
+choice {a = a} {b = b} {P = P} p q = record { kept = go }
+  where
+    go : (ts : List Token) (x : _) → AreSound ts → (either a b).Is ts x → P x
+    go ts x h (inl is) = p.kept ts x h is
+    go ts x h (inr is) = q.kept ts x h is
+
+-- a value or nothing
+perhaps : {X : Type 0} {r : Rule X} {P : X → Type 0} → Keeps r P → Keeps (optional r) (IfThere P)
+perhaps {r = r} {P = P} p = record { kept = go }
+  where
+    go : (ts : List Token) (x : Option _) → AreSound ts → optional_is r.Is ts x → IfThere P x
+    go ts None h is = tt
+    go ts (Some x) h is = p.kept ts x h is
+
+-- any number
+each : {X : Type 0} {r : Rule X} {P : X → Type 0} → Keeps r P → Keeps (many r) (Each P)
+each {r = r} {P = P} p = record { kept = λ ts xs h is. go xs ts h is }
+  where
+    go : (xs : List _) (ts : List Token) → AreSound ts → many_is r.Is xs ts → Each P xs
+    go [] ts h is = tt
+    go (x ∷ xs) ts h is = let sound = subst AreSound is.2 h in (p.kept is.0 x (sound_front is.0 is.1 sound) is.3, go xs is.1 (sound_back is.0 is.1 sound) is.4)
+
+-- a value that passes the test
+checked : {X : Type 0} {p : X → Bool} {r : Rule X} {P : X → Type 0} → Keeps r P → Keeps (such_that p r) (λ x. P x × (p x ≡ true))
+checked q = record { kept = λ ts x h is. (q.kept ts x h is.0, is.1) }
+
+-- less of the value
+weaker : {X : Type 0} {r : Rule X} {P Q : X → Type 0} → ((x : X) → P x → Q x) → Keeps r P → Keeps r Q
+weaker g p = record { kept = λ ts x h is. g x (p.kept ts x h is) }
+
+-- ---- tokens
+
+-- a name is a name
+keeps_name : Keeps name IsName
+unfolding name
+keeps_name = one name_of IsName go
+  where
+    go : (t : Token) (x : List ℕ) → IsSound t → name_of t ≡ Some x → IsName x
+    go (token.Name text) x h e = let same : text ≡ x = cc in subst IsName same (h refl)
+    go _ x h e = absurd cc
+
+-- ---- values
+
+-- a number that is read is within the limit
+small_is : (n k : ℕ) → whole_of n ≡ Some k → IsSmall k
+small_is n k e = go (ltb n (2 ^ 63)) refl e
+  where
+    go : (t : Bool) → ltb n (2 ^ 63) ≡ t → cond t (Some n) None ≡ Some k → IsSmall k
+    go true et h = let same : n ≡ k = cc in subst IsSmall same et
+    go false et h = absurd cc
+
+-- a number is within the limit
+keeps_number : Keeps number IsSmall
+unfolding number
+keeps_number = one number_of IsSmall go
+  where
+    go : (t : Token) (k : ℕ) → IsSound t → number_of t ≡ Some k → IsSmall k
+    go (token.Number n) k h e = small_is n k e
+    go _ k h e = absurd cc
+
+-- a whole number
+whole_can : (o : Option ℕ) (v : Value) → ((k : ℕ) → o ≡ Some k → IsSmall k) → whole_value o ≡ Some v → CanBeValue v
+whole_can None v h e = absurd cc
+whole_can (Some n) v h e = let same : values.Whole (pos n) ≡ v = cc in subst CanBeValue same (h n refl)
+
+-- an amount
+quantity_can : (d : Dimension) (o : Option ℕ) (v : Value) → ((k : ℕ) → o ≡ Some k → IsSmall k) → quantity_value d o ≡ Some v → CanBeValue v
+quantity_can d None v h e = absurd cc
+quantity_can d (Some n) v h e = let same : values.Quantity d (pos n) ≡ v = cc in subst CanBeValue same (h n refl)
+
+-- a literal without a sign
+keeps_plain : Keeps plain_literal CanBeValue
+unfolding plain_literal
+keeps_plain = one literal_of CanBeValue go
+  where
+    go : (t : Token) (v : Value) → IsSound t → literal_of t ≡ Some v → CanBeValue v
+    go (token.Number n) v h e = whole_can (whole_of n) v (small_is n) e
+    go (token.Word k.True) v h e = let same : values.Truth true ≡ v = cc in subst CanBeValue same tt
+    go (token.Word k.False) v h e = let same : values.Truth false ≡ v = cc in subst CanBeValue same tt
+    go (token.Literal text) v h e = let same : values.Text text ≡ v = cc in subst CanBeValue same (h refl)
+    go (token.Quantity d n) v h e = quantity_can d (whole_of n) v (small_is n) e
+    go _ v h e = absurd cc
+
+-- a number with a sign
+negated_can : (n : ℕ) → IsSmall n → CanBeValue (negated n)
+negated_can zero h = h
+negated_can (suc n) h = h
+
+-- a literal
+keeps_literal : Keeps literal CanBeValue
+unfolding literal negative_literal
+keeps_literal = choice (mapped negated_can (before (mark m.Minus) keeps_number)) keeps_plain
+
+-- an expression
+keeps_expression : Keeps expression CanBeExpression
+unfolding expression
+keeps_expression = mapped (λ v h. h) keeps_literal
+
+-- a value, or `default(..)`
+keeps_given : Keeps value_rule CanBeGiven
+unfolding value_rule default_value
+keeps_given = choice (mapped (λ e h. h) (before (word k.Default) (before (mark m.LeftParen) (after (mark m.RightParen) keeps_expression)))) (mapped (λ e h. h) keeps_expression)
+
+-- ---- properties
+
+-- a class is a name
+abbrev CanBeEffect : Effect → Type 0
+CanBeEffect (effects.Class text) = IsName text
+CanBeEffect _ = Unit {0}
+
+-- tokens in parentheses are sound
+keeps_parens : Keeps in_parens AreSound
+unfolding in_parens
+keeps_parens = before (mark m.LeftParen) (after (mark m.RightParen) inner)
+  where
+    inner : Keeps (balanced turn_of) AreSound
+    inner = record { kept = λ ts xs h is. subst AreSound (sym is.0) h }
+
+-- so are those of a body
+keeps_body : Keeps body (IfThere AreSound)
+unfolding body
+keeps_body = perhaps keeps_parens
+
+-- a unit
+unit_can : (o : Option (Dimension × ℕ)) → CanBeEffect (unit_effect o)
+unit_can None = tt
+unit_can (Some u) = tt
+
+-- what one token says
+word_can : (property : PropertyName) (t : Token) → IsSound t → CanBeEffect (said_by_word property t)
+word_can names.Class (token.Name text) h = h refl
+word_can names.Unit (token.Name text) h = unit_can (unit_of text)
+word_can _ _ h = tt
+
+-- what a body says
+said_can : (property : PropertyName) (ts : List Token) → AreSound ts → CanBeEffect (said property ts)
+said_can property [] h = tt
+said_can property (t ∷ []) h = word_can property t h.0
+said_can property (t ∷ u ∷ ts) h = tt
+
+-- what a property says
+effect_can : (property : PropertyName) (text : Option (List ℕ)) (tokens : Option (List Token)) → IfThere AreSound tokens → CanBeEffect (effect_of property text tokens)
+effect_can property (Some text) tokens h = tt
+effect_can property None None h = tt
+effect_can property None (Some ts) h = said_can property ts h
+
+-- a property as a line
+line_can : (e : Effect) → CanBeEffect e → CanBeLine (line_of e)
+line_can (effects.Class text) h = h
+line_can _ h = tt
+
+-- a property but a statistic, as a line
+keeps_plain_line : Keeps plain_line CanBeLine
+unfolding plain_line
+keeps_plain_line = mapped (λ p h. line_can (effect_of p.0 p.1.0 p.1.1) (effect_can p.0 p.1.0 p.1.1 h.1.1)) (then (anything plain_name) (then (anything index) keeps_body))
+
+-- ---- statistics
+
+-- a source is a name
+abbrev CanBePart : Part → Type 0
+CanBePart (part_is.Source text) = IsName text
+CanBePart _ = Unit {0}
+
+-- a part, or what has none
+part_can : (p : Option Part) → IfThere CanBePart p → CanBePart (part_or_other p)
+part_can None h = tt
+part_can (Some p) h = h
+
+-- a key without a value
+keeps_no_value : Keeps no_value CanBePart
+unfolding no_value
+keeps_no_value = mapped (λ x h. tt) (anything (loose_text except_is.Equals))
+
+-- a source
+keeps_source : Keeps source_part CanBePart
+unfolding source_part source_tail source_value
+keeps_source = mapped part_can (before source_word (perhaps (choice (mapped (λ text h. h) (before (mark m.Equals) keeps_name)) keeps_no_value)))
+
+-- modes
+keeps_record : Keeps record_part CanBePart
+unfolding record_part record_tail record_value
+keeps_record = mapped part_can (before record_word (perhaps (choice (mapped (λ list h. tt) (before (mark m.Equals) (anything modes))) keeps_no_value)))
+
+-- other text
+keeps_other : Keeps other_part CanBePart
+unfolding other_part
+keeps_other = mapped (λ x h. tt) (anything (loose_text except_is.Keys))
+
+-- a part
+keeps_part : Keeps part (IfThere CanBePart)
+unfolding part any_part record_or_other
+keeps_part = perhaps (choice keeps_source (choice keeps_record keeps_other))
+
+-- a part behind a `;`
+keeps_next_part : Keeps next_part (IfThere CanBePart)
+unfolding next_part
+keeps_next_part = before (mark m.Semi) keeps_part
+
+-- a source that is said is a name
+abbrev CanBeSaid : Said → Type 0
+CanBeSaid s = IfThere IsName s.source
+
+-- what a part says over those behind it
+over_can : (p : Option Part) (later : Said) → IfThere CanBePart p → CanBeSaid later → CanBeSaid (over p later)
+over_can (Some (part_is.Source text)) later h k = h
+over_can (Some (part_is.Record list)) later h k = k
+over_can (Some part_is.Other) later h k = k
+over_can None later h k = k
+
+-- what parts say
+over_all_can : (ps : List (Option Part)) → Each (IfThere CanBePart) ps → CanBeSaid (over_all ps nothing_said)
+over_all_can [] h = tt
+over_all_can (p ∷ ps) h = over_can p (over_all ps nothing_said) h.0 (over_all_can ps h.1)
+
+-- what a body says
+keeps_said : Keeps optional_body (IfThere CanBeSaid)
+unfolding optional_body statistic_body
+keeps_said = perhaps (before (mark m.LeftParen) (after (mark m.RightParen) (mapped (λ p h. over_all_can (p.0 ∷ p.1) h) (then keeps_part (each keeps_next_part)))))
+
+-- the source, or else the name
+source_can : (text : List ℕ) (source : Option (List ℕ)) → IsName text → IfThere IsName source → IsName (unwrap_or source text)
+source_can text None h k = h
+source_can text (Some source) h k = k
+
+-- a statistic
+statistic_can : (text : List ℕ) (s : Option Said) → IsName text → IfThere CanBeSaid s → CanBeLine (statistic_line text s)
+statistic_can text None h k = (h, h)
+statistic_can text (Some s) h k = (h, source_can text s.source h k)
+
+-- `[name]`
+keeps_bracketed : Keeps bracketed IsName
+unfolding bracketed
+keeps_bracketed = before (mark m.LeftBracket) (after (mark m.RightBracket) keeps_name)
+
+-- a line, or one without effect
+ignored_can : (line : Option SectionLine) → IfThere CanBeLine line → CanBeLine (line_or_ignored line)
+ignored_can None h = tt
+ignored_can (Some line) h = h
+
+-- a statistic as a line
+keeps_statistic : Keeps statistic CanBeLine
+unfolding statistic statistic_tail named_or_not indexed_statistic unnamed_statistic
+keeps_statistic = before statistic_word (mapped ignored_can (perhaps (choice (mapped (λ p h. statistic_can p.0 p.1 h.0 h.1) (then keeps_bracketed keeps_said)) (mapped (λ x h. tt) (anything in_parens)))))
+
+-- a property as a line
+keeps_property_line : Keeps property_line CanBeLine
+unfolding property_line property_text
+keeps_property_line = before (mark m.At) (choice keeps_statistic keeps_plain_line)
+
+-- ---- the lines of a section
+
+-- the value behind `=`
+abbrev CanBeValued : Valued → Type 0
+CanBeValued v = CanBeGiven v.value
+
+-- the value of a tail
+keeps_tail : Keeps tail (λ t. IfThere CanBeValued t.valued)
+unfolding tail valued
+keeps_tail = mapped (λ p h. h.1) (then (anything (many property)) (perhaps (mapped (λ p h. h.0) (then (before (mark m.Equals) keeps_given) (anything (many property))))))
+
+-- the value, where there is one
+value_can : (v : Option Valued) → IfThere CanBeValued v → IfThere CanBeGiven (value_in v)
+value_can None h = tt
+value_can (Some v) h = h
+
+-- a unit, before it is asked whether a `double` has one
+abbrev MayBeUnit : ParameterWord → Option Dimension → Type 0
+MayBeUnit words.Bool unit = unit ≡ None
+MayBeUnit words.Text unit = unit ≡ None
+MayBeUnit _ unit = Unit {0}
+
+-- the unit that a tail says
+unit_may : (w : ParameterWord) (t : Tail) → MayBeUnit w (unit_in w t)
+unit_may words.Bool t = refl
+unit_may words.Int t = tt
+unit_may words.Text t = refl
+unit_may words.Double t = tt
+
+-- a unit that passes the test
+unit_can_be : (w : ParameterWord) (unit : Option Dimension) → MayBeUnit w unit → is_measured_word w unit ≡ true → CanBeUnit w unit
+unit_can_be words.Bool unit h e = h
+unit_can_be words.Int unit h e = tt
+unit_can_be words.Text unit h e = h
+unit_can_be words.Double unit h e = e
+
+-- a declaration, before that is asked
+abbrev MayBeDeclaration : Declaration → Type 0
+MayBeDeclaration d = IsName d.name × MayBeUnit d.word d.unit × IfThere CanBeGiven d.value
+
+-- a declaration, before that is asked
+keeps_any_declaration : Keeps any_declaration MayBeDeclaration
+unfolding any_declaration
+keeps_any_declaration = mapped (λ p h. (h.1.0, unit_may p.0 p.1.1, value_can p.1.1.valued h.1.1)) (before volatile (then (anything parameter_word) (then keeps_name keeps_tail)))
+
+-- a declaration
+keeps_declaration : Keeps declaration CanBeDeclaration
+unfolding declaration
+keeps_declaration = weaker (λ d h. (h.0.0, unit_can_be d.word d.unit h.0.1 h.1, h.0.2)) (checked keeps_any_declaration)
+
+-- an assignment
+keeps_assignment : Keeps assignment CanBeAssignment
+unfolding assignment
+keeps_assignment = mapped (λ p h. (h.0, value_can p.1.valued h.1)) (then keeps_name keeps_tail)
+
+-- a line
+keeps_line : Keeps any_line CanBeLine
+unfolding any_line assigned_or_said
+keeps_line = choice (mapped (λ d h. h) keeps_declaration) (choice (mapped (λ a h. h) keeps_assignment) keeps_property_line)
+
+-- the lines of a section
+keeps_section : Keeps section (Each CanBeLine)
+unfolding section section_line
+keeps_section = before heading (each (after (mark m.Semi) keeps_line))
+
+-- ---- types
+
+-- a submodule
+keeps_submodule : Keeps submodule CanBeSubmodule
+unfolding submodule
+keeps_submodule = mapped (λ p h. h) (then keeps_name (before (mark m.Colon) (after (mark m.Semi) keeps_name)))
+
+-- submodules, or none
+listed_can : (ss : Option (List Submodule)) → IfThere (Each CanBeSubmodule) ss → Each CanBeSubmodule (listed ss)
+listed_can None h = tt
+listed_can (Some ss) h = h
+
+-- the submodules
+keeps_submodules : Keeps submodules (Each CanBeSubmodule)
+unfolding submodules
+keeps_submodules = mapped listed_can (perhaps (before (word k.Submodules) (before (mark m.Colon) (each keeps_submodule))))
+
+-- a type
+keeps_type : Keeps type_rule CanBeType
+unfolding type_rule simple network
+keeps_type = choice
+    (mapped (λ p h. (h.0, (h.1, refl))) (before (word k.Simple) (then keeps_name (before (mark m.Open) (after (mark m.Close) keeps_section)))))
+    (mapped (λ p h. (h.0, (h.1, refl))) (before (word k.Network) (then keeps_name (before (mark m.Open) (after (mark m.Close) keeps_submodules)))))
+
+-- a file
+keeps_file : Keeps file CanBeFile
+unfolding file
+keeps_file = mapped (λ ts h. h) (each keeps_type)
+
+-- what a text declares can be declared
+pub file_can : (ts : List Token) (f : NedFile) → AreSound ts → file.Is ts f → CanBeFile f
+file_can ts f h is = keeps_file.kept ts f h is
+
+-- what an expression's text says can be said
+pub expression_can : (ts : List Token) (e : Expression) → AreSound ts → expression.Is ts e → CanBeExpression e
+expression_can ts e h is = keeps_expression.kept ts e h is

@@ -1,0 +1,458 @@
+-- The standard tokens of declarations say them.
+use Rattle.std.proofs.Common.{◌≡◌, ℕ, suc, Bool, true, false, List, [], ◌∷◌, ◌++◌, Option, Some, None, inl, inr, pos, negsuc, refl, sym, ap, subst, append-nil, codes}
+use Rattle.sim_values.specs.declared.value.Value.{Value}
+use Rattle.sim_values.specs.declared.value.Value.TheVariants as values
+use Rattle.sim_values.specs.declared.value.Dimension.{Dimension}
+use Rattle.sim_values.specs.declared.value.Dimension.TheVariants as dimension
+use Rattle.ned_tokens.specs.declared.token.Keyword.{Keyword}
+use Rattle.ned_tokens.specs.declared.token.Keyword.TheVariants as k
+use Rattle.ned_tokens.specs.declared.token.Mark.{Mark}
+use Rattle.ned_tokens.specs.declared.token.Mark.TheVariants as m
+use Rattle.ned_tokens.specs.declared.token.Token.{Token}
+use Rattle.ned_tokens.specs.declared.token.Token.TheVariants as token
+use Rattle.ned_tokens.specs.Rule.{Rule, token as one_token, ◌⊗◌, ◌◁◌, ◌▷◌, made, such_that, either, optional, many}
+use Rattle.ned_tokens.specs.Units.{unit_of, time_unit, rate_unit, length_unit}
+use Rattle.ned_tokens.specs.Spelling.{unit_text}
+use Rattle.ned_syntax.specs.declared.ast.Expression.{Expression}
+use Rattle.ned_syntax.specs.declared.ast.Expression.TheVariants as expressions
+use Rattle.ned_syntax.specs.declared.ast.ParameterValue.{ParameterValue}
+use Rattle.ned_syntax.specs.declared.ast.ParameterValue.TheVariants as given
+use Rattle.ned_syntax.specs.declared.ast.ParameterWord.{ParameterWord}
+use Rattle.ned_syntax.specs.declared.ast.ParameterWord.TheVariants as words
+use Rattle.ned_syntax.specs.declared.ast.Declaration.{Declaration}
+use Rattle.ned_syntax.specs.declared.ast.Assignment.{Assignment}
+use Rattle.ned_syntax.specs.declared.ast.Mode.{Mode}
+use Rattle.ned_syntax.specs.declared.ast.Mode.TheVariants as modes_are
+use Rattle.ned_syntax.specs.declared.ast.RecordedMode.{RecordedMode}
+use Rattle.ned_syntax.specs.declared.ast.Statistic.{Statistic}
+use Rattle.ned_syntax.specs.declared.ast.SectionLine.{SectionLine}
+use Rattle.ned_syntax.specs.declared.ast.SectionLine.TheVariants as lines
+use Rattle.ned_syntax.specs.declared.ast.Submodule.{Submodule}
+use Rattle.ned_syntax.specs.declared.ast.TypeKind.{TypeKind}
+use Rattle.ned_syntax.specs.declared.ast.TypeKind.TheVariants as kinds
+use Rattle.ned_syntax.specs.declared.ast.TypeDeclaration.{TypeDeclaration}
+use Rattle.ned_syntax.specs.declared.ast.NedFile.{NedFile}
+use Rattle.ned_syntax.specs.declared.properties.Effect.{Effect}
+use Rattle.ned_syntax.specs.declared.properties.Effect.TheVariants as effects
+use Rattle.ned_syntax.specs.declared.properties.PropertyName.TheVariants as names
+use Rattle.ned_syntax.specs.declared.statistics.Part.{Part}
+use Rattle.ned_syntax.specs.declared.statistics.Part.TheVariants as part_is
+use Rattle.ned_syntax.specs.declared.parameters.Valued.{Valued}
+use Rattle.ned_tokens.specs.Words.{or_else}
+use Rattle.ned_tokens.specs.Balanced.{balanced}
+use Rattle.ned_syntax.specs.Grammar.{turn_of, effect_of, said_in, statistic_line, other_part, first_unit, unit_behind, value_in, unit_in, is_measured_word, valued, tail, parameter_word, volatile, any_declaration, declaration, assignment, source_word, source_value, source_tail, source_part, record_word, record_value, record_tail, record_part, no_value, record_or_other, any_part, part, next_part, statistic_body, optional_body, indexed_statistic, unnamed_statistic, named_or_not, statistic_tail, statistic_word, statistic, plain_name, plain_line, property_text, property_line, assigned_or_said, any_line, section_line, heading, section, simple, submodule, submodules, network, type_rule, file, word, mark, name, is_word, is_mark, whole_of, plain_literal, number, negative_literal, literal, expression, default_value, value_rule, in_parens, property_name, bracketed, index, body, property, mode_word, question, mode_rule, next_mode, modes}
+use Rattle.ned_syntax.specs.Spelling.{listed_tokens, value_tokens, expression_tokens, given_tokens, valued_tokens, unit_tokens, parameter_keyword, declaration_tokens, assignment_tokens, mode_name, question_tokens, mode_tokens, next_mode_tokens, record_tokens, statistic_tokens, line_tokens, section_line_tokens, submodule_tokens, kind_tokens, type_tokens, file_tokens}
+use Rattle.ned_syntax.proofs.Spellable.{Each, IfThere, IsSmall, CanBeValue, CanBeExpression, CanBeGiven, CanBeUnit, CanBeDeclaration, CanBeAssignment, CanBeLine, CanBeSubmodule, CanBeParts, CanBeType, CanBeFile}
+
+-- these tokens spell this value by the rule
+record Spells {X : Type 0} (r : Rule X) (ts : List Token) (x : X) : Type 0 where
+  is : r.Is ts x
+
+-- ---- rules put together
+
+-- one token
+one : {X : Type 0} {f : Token → Option X} {x : X} (t : Token) → f t ≡ Some x → Spells (one_token f) (t ∷ []) x
+one t e = record { is = (t, refl, e) }
+
+-- one after the other
+then : {X Y : Type 0} {a : Rule X} {b : Rule Y} {ts us : List Token} {x : X} {y : Y} → Spells a ts x → Spells b us y → Spells (a ⊗ b) (ts ++ us) (x, y)
+then {ts = ts} {us = us} p q = record { is = (ts, us, refl, p.is, q.is) }
+
+-- a value made of the value spelled
+mapped : {X Y : Type 0} {f : X → Y} {r : Rule X} {ts : List Token} {x : X} → Spells r ts x → Spells (made f r) ts (f x)
+mapped {x = x} p = record { is = (x, p.is, refl) }
+
+-- the value of the second
+before : {X Y : Type 0} {a : Rule X} {b : Rule Y} {ts us : List Token} {x : X} {y : Y} → Spells a ts x → Spells b us y → Spells (a ▷ b) (ts ++ us) y
+before p q = mapped (then p q)
+
+-- the value of the first
+after : {X Y : Type 0} {a : Rule X} {b : Rule Y} {ts us : List Token} {x : X} {y : Y} → Spells a ts x → Spells b us y → Spells (a ◁ b) (ts ++ us) x
+after p q = mapped (then p q)
+
+-- the first of two ways
+this : {X : Type 0} {a : Rule X} {ts : List Token} {x : X} (b : Rule X) → Spells a ts x → Spells (either a b) ts x
+this b p = record { is = inl p.is }
+
+-- the second of two ways
+that : {X : Type 0} {b : Rule X} {ts : List Token} {x : X} (a : Rule X) → Spells b ts x → Spells (either a b) ts x
+that a p = record { is = inr p.is }
+
+-- a value, where it is optional
+some : {X : Type 0} {r : Rule X} {ts : List Token} {x : X} → Spells r ts x → Spells (optional r) ts (Some x)
+some p = record { is = p.is }
+
+-- no value, where it is optional
+nothing : {X : Type 0} (r : Rule X) → Spells (optional r) [] None
+nothing r = record { is = refl }
+
+-- a value that passes the test
+checked : {X : Type 0} {p : X → Bool} {r : Rule X} {ts : List Token} {x : X} → Spells r ts x → p x ≡ true → Spells (such_that p r) ts x
+checked q e = record { is = (q.is, e) }
+
+-- none of any number
+none : {X : Type 0} (r : Rule X) → Spells (many r) [] []
+none r = record { is = refl }
+
+-- one, and others
+more : {X : Type 0} {r : Rule X} {ts us : List Token} {x : X} {xs : List X} → Spells r ts x → Spells (many r) us xs → Spells (many r) (ts ++ us) (x ∷ xs)
+more {ts = ts} {us = us} p q = record { is = (ts, us, refl, p.is, q.is) }
+
+-- just one
+only : {X : Type 0} {ts : List Token} {x : X} (r : Rule X) → Spells r ts x → Spells (many r) ts (x ∷ [])
+only {ts = ts} {x = x} r p = subst (λ (us : List Token). Spells (many r) us (x ∷ [])) (append-nil ts) (more p (none r))
+
+-- nothing behind it
+then_none : {X Y : Type 0} {a : Rule X} {ts : List Token} {x : X} (r : Rule Y) → Spells a ts x → Spells (a ⊗ many r) ts (x, [])
+then_none {a = a} {ts = ts} {x = x} r p = subst (λ (us : List Token). Spells (a ⊗ many r) us (x, [])) (append-nil ts) (then p (none r))
+
+-- the value that is made
+to : {X : Type 0} {r : Rule X} {ts : List Token} {x y : X} → Spells r ts x → x ≡ y → Spells r ts y
+to {r = r} {ts = ts} p e = subst (λ (z : _). Spells r ts z) e p
+
+-- any number, each of which is spelled
+each : {X : Type 0} (r : Rule X) (f : X → List Token) (P : X → Type 0) → ((x : X) → P x → Spells r (f x) x) → (xs : List X) → Each P xs → Spells (many r) (listed_tokens f xs) xs
+each r f P h [] all = none r
+each r f P h (x ∷ xs) all = more (h x all.0) (each r f P h xs all.1)
+
+-- ---- tokens
+
+-- a word is itself
+same_word_is : (w : Keyword) → is_word w (token.Word w) ≡ Some tt
+same_word_is k.Package = refl
+same_word_is _ = refl
+
+-- a mark is itself
+same_mark_is : (w : Mark) → is_mark w (token.Mark w) ≡ Some tt
+same_mark_is m.Open = refl
+same_mark_is _ = refl
+
+-- a word
+a_word : (w : Keyword) → Spells (word w) (token.Word w ∷ []) tt
+unfolding word
+a_word w = one (token.Word w) (same_word_is w)
+
+-- a mark
+a_mark : (w : Mark) → Spells (mark w) (token.Mark w ∷ []) tt
+unfolding mark
+a_mark w = one (token.Mark w) (same_mark_is w)
+
+-- a name
+a_name : (text : List ℕ) → Spells name (token.Name text ∷ []) text
+unfolding name
+a_name text = one (token.Name text) refl
+
+-- ---- values
+
+-- a number within the limit
+whole_is : (n : ℕ) → IsSmall n → whole_of n ≡ Some n
+whole_is n h = rw h refl
+
+-- a number
+a_number : (n : ℕ) → IsSmall n → Spells number (token.Number n ∷ []) n
+unfolding number
+a_number n h = one (token.Number n) (whole_is n h)
+
+-- a literal
+a_value : (v : Value) → CanBeValue v → Spells literal (value_tokens v) v
+unfolding literal negative_literal plain_literal
+a_value (values.Whole (pos n)) h = that negative_literal (one (token.Number n) (rw h refl))
+a_value (values.Whole (negsuc n)) h = this plain_literal (mapped (before (a_mark m.Minus) (a_number (suc n) h)))
+a_value (values.Truth true) h = that negative_literal (one (token.Word k.True) refl)
+a_value (values.Truth false) h = that negative_literal (one (token.Word k.False) refl)
+a_value (values.Text text) h = that negative_literal (one (token.Literal text) refl)
+a_value (values.Quantity d (pos n)) h = that negative_literal (one (token.Quantity d n) (rw h refl))
+a_value (values.Quantity d (negsuc n)) h = absurd h
+
+-- an expression
+an_expression : (e : Expression) → CanBeExpression e → Spells expression (expression_tokens e) e
+unfolding expression
+an_expression (expressions.Literal v) h = mapped (a_value v h)
+
+-- a value, or `default(..)`
+a_given : (g : ParameterValue) → CanBeGiven g → Spells value_rule (given_tokens g) g
+unfolding value_rule default_value
+a_given (given.Fixed e) h = that default_value (mapped (an_expression e h))
+a_given (given.Default e) h = this (made given.Fixed expression) (mapped (before (a_word k.Default) (before (a_mark m.LeftParen) (after (an_expression e h) (a_mark m.RightParen)))))
+
+-- ---- properties
+
+-- one name between parentheses
+a_body : (text : List ℕ) → Spells in_parens (token.Mark m.LeftParen ∷ token.Name text ∷ token.Mark m.RightParen ∷ []) (token.Name text ∷ [])
+unfolding in_parens
+a_body text = before (a_mark m.LeftParen) (after inner (a_mark m.RightParen))
+  where
+    inner : Spells (balanced turn_of) (token.Name text ∷ []) (token.Name text ∷ [])
+    inner = record { is = (refl, tt) }
+
+-- `@unit` with the smallest unit says its dimension
+unit_said : (d : Dimension) → effect_of names.Unit None (Some (token.Name (unit_text d) ∷ [])) ≡ effects.Unit d
+unfolding unit_text unit_of time_unit rate_unit length_unit
+unit_said dimension.Time = refl
+unit_said dimension.Rate = refl
+unit_said dimension.Length = refl
+
+-- `@unit` with the smallest unit
+a_unit : (d : Dimension) → Spells property (unit_tokens (Some d)) (effects.Unit d)
+unfolding property property_name index body
+a_unit d = to (before (a_mark m.At) (mapped (then unit_name (then (nothing bracketed) (some (a_body (unit_text d))))))) (unit_said d)
+  where
+    unit_name : Spells property_name (token.Name (codes "unit") ∷ []) names.Unit
+    unit_name = one (token.Name (codes "unit")) refl
+
+-- ---- the lines of a section
+
+-- what the properties in front of the value say
+abbrev effects_in : Option Dimension → List Effect
+effects_in None = []
+effects_in (Some d) = effects.Unit d ∷ []
+
+-- the unit, where there is one
+units : (unit : Option Dimension) → Spells (many property) (unit_tokens unit) (effects_in unit)
+units None = none property
+units (Some d) = only property (a_unit d)
+
+-- the value, with no properties behind it
+abbrev valued_in : Option ParameterValue → Option Valued
+valued_in None = None
+valued_in (Some g) = Some (record { value = g; behind = [] })
+
+-- `= ..`, where there is a value
+a_valued : (g : Option ParameterValue) → IfThere CanBeGiven g → Spells (optional valued) (valued_tokens g) (valued_in g)
+unfolding valued
+a_valued None h = nothing valued
+a_valued (Some g) h = some (mapped (then_none property (before (a_mark m.Equals) (a_given g h))))
+
+-- unit and value
+a_tail : (unit : Option Dimension) (g : Option ParameterValue) → IfThere CanBeGiven g → Spells tail (unit_tokens unit ++ valued_tokens g) (record { before = effects_in unit; valued = valued_in g })
+unfolding tail
+a_tail unit g h = mapped (then (units unit) (a_valued g h))
+
+-- the value is the one that was given
+value_same : (g : Option ParameterValue) → value_in (valued_in g) ≡ g
+value_same None = refl
+value_same (Some g) = refl
+
+-- no unit is behind the value
+no_unit_behind : (g : Option ParameterValue) → unit_behind (valued_in g) ≡ None
+no_unit_behind None = refl
+no_unit_behind (Some g) = refl
+
+-- the first unit is the one in front
+unit_found : (unit : Option Dimension) (g : Option ParameterValue) → or_else (first_unit (effects_in unit)) (unit_behind (valued_in g)) ≡ unit
+unit_found None g = no_unit_behind g
+unit_found (Some d) g = refl
+
+-- the unit is the one that was given
+unit_same : (w : ParameterWord) (unit : Option Dimension) (g : Option ParameterValue) → CanBeUnit w unit → unit_in w (record { before = effects_in unit; valued = valued_in g }) ≡ unit
+unit_same words.Bool unit g h = sym h
+unit_same words.Int unit g h = unit_found unit g
+unit_same words.Text unit g h = sym h
+unit_same words.Double unit g h = unit_found unit g
+
+-- a `double` has its unit
+measured_is : (w : ParameterWord) (unit : Option Dimension) → CanBeUnit w unit → is_measured_word w unit ≡ true
+measured_is words.Bool unit h = refl
+measured_is words.Int unit h = refl
+measured_is words.Text unit h = refl
+measured_is words.Double unit h = h
+
+-- the word of a parameter
+a_parameter_word : (w : ParameterWord) → Spells parameter_word (token.Word (parameter_keyword w) ∷ []) w
+unfolding parameter_word
+a_parameter_word words.Bool = one (token.Word k.Bool) refl
+a_parameter_word words.Int = one (token.Word k.Int) refl
+a_parameter_word words.Text = one (token.Word k.Text) refl
+a_parameter_word words.Double = one (token.Word k.Double) refl
+
+-- no `volatile`
+not_volatile : Spells volatile [] tt
+unfolding volatile
+not_volatile = mapped (nothing (word k.Volatile))
+
+-- a declaration
+a_declaration : (d : Declaration) → CanBeDeclaration d → Spells declaration (declaration_tokens d) d
+unfolding declaration any_declaration
+a_declaration d h =
+    let unit = unit_same d.word d.unit d.value h.1 in
+    let value = value_same d.value in
+    checked (to (mapped (before not_volatile (then (a_parameter_word d.word) (then (a_name d.name) (a_tail d.unit d.value h.2))))) (λ i. record { name = d.name; word = d.word; unit = unit i; value = value i })) (measured_is d.word d.unit h.1)
+
+-- an assignment
+an_assignment : (a : Assignment) → CanBeAssignment a → Spells assignment (assignment_tokens a) a
+unfolding assignment
+an_assignment a h =
+    let value = value_same a.value in
+    to (mapped (then (a_name a.name) (a_tail None a.value h.1))) (λ i. record { name = a.name; value = value i })
+
+-- ---- statistics
+
+-- the name of a mode
+a_mode_word : (w : Mode) → Spells mode_word (token.Name (mode_name w) ∷ []) w
+unfolding mode_word
+a_mode_word modes_are.Count = one (token.Name (codes "count")) refl
+a_mode_word modes_are.Sum = one (token.Name (codes "sum")) refl
+a_mode_word modes_are.Min = one (token.Name (codes "min")) refl
+a_mode_word modes_are.Max = one (token.Name (codes "max")) refl
+a_mode_word modes_are.Last = one (token.Name (codes "last")) refl
+a_mode_word modes_are.Vector = one (token.Name (codes "vector")) refl
+
+-- `?`, or nothing
+a_question : (b : Bool) → Spells question (question_tokens b) b
+unfolding question
+a_question true = mapped (some (a_mark m.Question))
+a_question false = mapped (nothing (mark m.Question))
+
+-- a mode
+a_mode : (r : RecordedMode) → Spells mode_rule (mode_tokens r) r
+unfolding mode_rule
+a_mode r = mapped (then (a_mode_word r.mode) (a_question r.optional))
+
+-- a mode behind a comma
+a_next_mode : (r : RecordedMode) → Spells next_mode (next_mode_tokens r) r
+unfolding next_mode
+a_next_mode r = before (a_mark m.Comma) (a_mode r)
+
+-- nothing is asked of modes
+any_modes : (rs : List RecordedMode) → Each (λ r. Unit {0}) rs
+any_modes [] = tt
+any_modes (r ∷ rs) = (tt, any_modes rs)
+
+-- modes
+the_modes : (r : RecordedMode) (rs : List RecordedMode) → Spells modes (mode_tokens r ++ listed_tokens next_mode_tokens rs) (r ∷ rs)
+unfolding modes
+the_modes r rs = mapped (then (a_mode r) (each next_mode next_mode_tokens (λ r. Unit {0}) (λ r h. a_next_mode r) rs (any_modes rs)))
+
+-- `source`
+source_key : Spells source_word (token.Name (codes "source") ∷ []) tt
+unfolding source_word
+source_key = one (token.Name (codes "source")) refl
+
+-- `record`
+record_key : Spells record_word (token.Name (codes "record") ∷ []) tt
+unfolding record_word
+record_key = one (token.Name (codes "record")) refl
+
+-- `source = ..`
+a_source : (text : List ℕ) → Spells part (token.Name (codes "source") ∷ token.Mark m.Equals ∷ token.Name text ∷ []) (Some (part_is.Source text))
+unfolding part any_part source_part source_tail source_value
+a_source text = some (this record_or_other (mapped (before source_key (some (this no_value (mapped (before (a_mark m.Equals) (a_name text))))))))
+
+-- `; record = ..`
+a_record : (r : RecordedMode) (rs : List RecordedMode) → Spells next_part (record_tokens (r ∷ rs)) (Some (part_is.Record (r ∷ rs)))
+unfolding next_part part any_part record_or_other record_part record_tail record_value
+a_record r rs = before (a_mark m.Semi) (some (that source_part (this other_part (mapped (before record_key (some (this no_value (mapped (before (a_mark m.Equals) (the_modes r rs))))))))))
+
+-- the parts behind the source
+abbrev parts_in : List RecordedMode → List (Option Part)
+parts_in [] = []
+parts_in (r ∷ rs) = Some (part_is.Record (r ∷ rs)) ∷ []
+
+-- the modes, where there are some
+the_records : (rs : List RecordedMode) → Spells (many next_part) (record_tokens rs) (parts_in rs)
+the_records [] = none next_part
+the_records (r ∷ rs) = only next_part (a_record r rs)
+
+-- source and modes in parentheses
+a_statistic_body : (text : List ℕ) (rs : List RecordedMode) → Spells statistic_body (token.Mark m.LeftParen ∷ token.Name (codes "source") ∷ token.Mark m.Equals ∷ token.Name text ∷ (record_tokens rs ++ token.Mark m.RightParen ∷ [])) (said_in (Some (part_is.Source text) ∷ parts_in rs))
+unfolding statistic_body
+a_statistic_body text rs = before (a_mark m.LeftParen) (after (mapped (then (a_source text) (the_records rs))) (a_mark m.RightParen))
+
+-- `[name]`
+a_bracketed : (text : List ℕ) → Spells bracketed (token.Mark m.LeftBracket ∷ token.Name text ∷ token.Mark m.RightBracket ∷ []) text
+unfolding bracketed
+a_bracketed text = before (a_mark m.LeftBracket) (after (a_name text) (a_mark m.RightBracket))
+
+-- `statistic`
+statistic_key : Spells statistic_word (token.Name (codes "statistic") ∷ []) tt
+unfolding statistic_word
+statistic_key = one (token.Name (codes "statistic")) refl
+
+-- the statistic is the one that was given
+statistic_same : (text source : List ℕ) (rs : List RecordedMode) → statistic_line text (Some (said_in (Some (part_is.Source source) ∷ parts_in rs))) ≡ lines.Statistic (record { name = text; source = source; modes = rs })
+statistic_same text source [] = refl
+statistic_same text source (r ∷ rs) = refl
+
+-- a statistic
+a_statistic : (s : Statistic) → Spells property_line (statistic_tokens s) (lines.Statistic s)
+unfolding property_line property_text statistic statistic_tail named_or_not indexed_statistic optional_body
+a_statistic s = to (before (a_mark m.At) (this plain_line (before statistic_key (mapped (some (this unnamed_statistic (mapped (then (a_bracketed s.name) (some (a_statistic_body s.source s.modes)))))))))) (statistic_same s.name s.source s.modes)
+
+-- `@class(..)`
+a_class : (text : List ℕ) → Spells property_line (line_tokens (lines.Class text)) (lines.Class text)
+unfolding property_line property_text plain_line plain_name index body
+a_class text = before (a_mark m.At) (that statistic (mapped (then class_name (then (nothing bracketed) (some (a_body text))))))
+  where
+    class_name : Spells plain_name (token.Name (codes "class") ∷ []) names.Class
+    class_name = one (token.Name (codes "class")) refl
+
+-- `@ignored`
+an_ignored : Spells property_line (line_tokens lines.Ignored) lines.Ignored
+unfolding property_line property_text plain_line plain_name index body
+an_ignored = before (a_mark m.At) (that statistic (mapped (then other_name (then (nothing bracketed) (nothing in_parens)))))
+  where
+    other_name : Spells plain_name (token.Name (codes "ignored") ∷ []) names.Other
+    other_name = one (token.Name (codes "ignored")) refl
+
+-- a line
+a_line : (line : SectionLine) → CanBeLine line → Spells any_line (line_tokens line) line
+unfolding any_line assigned_or_said
+a_line (lines.Declaration d) h = this assigned_or_said (mapped (a_declaration d h))
+a_line (lines.Assignment a) h = that (made lines.Declaration declaration) (this property_line (mapped (an_assignment a h)))
+a_line (lines.Statistic s) h = that (made lines.Declaration declaration) (that (made lines.Assignment assignment) (a_statistic s))
+a_line (lines.Class text) h = that (made lines.Declaration declaration) (that (made lines.Assignment assignment) (a_class text))
+a_line lines.Ignored h = that (made lines.Declaration declaration) (that (made lines.Assignment assignment) an_ignored)
+
+-- a line with its `;`
+a_section_line : (line : SectionLine) → CanBeLine line → Spells section_line (section_line_tokens line) line
+unfolding section_line
+a_section_line line h = after (a_line line h) (a_mark m.Semi)
+
+-- `parameters:`
+a_heading : Spells heading (token.Word k.Parameters ∷ token.Mark m.Colon ∷ []) tt
+unfolding heading
+a_heading = mapped (some (before (a_word k.Parameters) (a_mark m.Colon)))
+
+-- the lines of a section
+a_section : (ls : List SectionLine) → Each CanBeLine ls → Spells section (token.Word k.Parameters ∷ token.Mark m.Colon ∷ listed_tokens section_line_tokens ls) ls
+unfolding section
+a_section ls h = before a_heading (each section_line section_line_tokens CanBeLine a_section_line ls h)
+
+-- ---- types
+
+-- a submodule
+a_submodule : (s : Submodule) → CanBeSubmodule s → Spells submodule (submodule_tokens s) s
+unfolding submodule
+a_submodule s h = mapped (then (a_name s.name) (before (a_mark m.Colon) (after (a_name s.type_name) (a_mark m.Semi))))
+
+-- the submodules
+the_submodules : (ss : List Submodule) → Each CanBeSubmodule ss → Spells submodules (token.Word k.Submodules ∷ token.Mark m.Colon ∷ listed_tokens submodule_tokens ss) ss
+unfolding submodules
+the_submodules ss h = mapped (some (before (a_word k.Submodules) (before (a_mark m.Colon) (each submodule submodule_tokens CanBeSubmodule a_submodule ss h))))
+
+-- a type of these parts
+abbrev type_with : TypeKind → List ℕ → List SectionLine → List Submodule → TypeDeclaration
+type_with kind text ls ss = record { kind = kind; name = text; lines = ls; submodules = ss }
+
+-- a type of each kind
+kind_spells : (kind : TypeKind) (text : List ℕ) (ls : List SectionLine) (ss : List Submodule) → CanBeParts kind (type_with kind text ls ss) → Spells type_rule (kind_tokens kind (type_with kind text ls ss)) (type_with kind text ls ss)
+unfolding type_rule simple network
+kind_spells kinds.Simple text ls ss h = this network (to (mapped (before (a_word k.Simple) (then (a_name text) (before (a_mark m.Open) (after (a_section ls h.0) (a_mark m.Close)))))) (ap (type_with kinds.Simple text ls) (sym h.1)))
+kind_spells kinds.Network text ls ss h = that simple (to (mapped (before (a_word k.Network) (then (a_name text) (before (a_mark m.Open) (after (the_submodules ss h.0) (a_mark m.Close)))))) (ap (λ (l : List SectionLine). type_with kinds.Network text l ss) (sym h.1)))
+
+-- a type
+a_type : (d : TypeDeclaration) → CanBeType d → Spells type_rule (type_tokens d) d
+a_type d h = kind_spells d.kind d.name d.lines d.submodules h.1
+
+-- a file
+a_file : (f : NedFile) → CanBeFile f → Spells file (file_tokens f) f
+unfolding file
+a_file f h = mapped (each type_rule type_tokens CanBeType a_type f.types h)
+
+-- the standard tokens of a file spell it
+pub file_is : (f : NedFile) → CanBeFile f → file.Is (file_tokens f) f
+file_is f h = (a_file f h).is
+
+-- the standard tokens of an expression spell it
+pub expression_is : (e : Expression) → CanBeExpression e → expression.Is (expression_tokens e) e
+expression_is e h = (an_expression e h).is

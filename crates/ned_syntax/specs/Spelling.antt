@@ -1,0 +1,177 @@
+-- The standard spelling of declarations: the tokens that say them, and the text of these.
+use Rattle.std.specs.Prelude.{◌≡◌, ℕ, suc, ◌≤◌, pos, negsuc, Bool, true, false, List, [], ◌∷◌, ◌++◌, length, Option, Some, None, codes}
+use Rattle.sim_values.specs.declared.value.Value.{Value}
+use Rattle.sim_values.specs.declared.value.Value.TheVariants as values
+use Rattle.sim_values.specs.declared.value.Dimension.{Dimension}
+use Rattle.ned_tokens.specs.declared.token.Keyword.{Keyword}
+use Rattle.ned_tokens.specs.declared.token.Keyword.TheVariants as k
+use Rattle.ned_tokens.specs.declared.token.Mark.TheVariants as m
+use Rattle.ned_tokens.specs.declared.token.Token.{Token}
+use Rattle.ned_tokens.specs.declared.token.Token.TheVariants as token
+use Rattle.ned_tokens.specs.Lines.{tokens_of}
+use Rattle.ned_tokens.specs.Meaning.{max_length}
+use Rattle.ned_tokens.specs.Spelling.{unit_text, spell}
+use Rattle.ned_syntax.specs.declared.ast.Expression.{Expression}
+use Rattle.ned_syntax.specs.declared.ast.Expression.TheVariants as expressions
+use Rattle.ned_syntax.specs.declared.ast.ParameterValue.{ParameterValue}
+use Rattle.ned_syntax.specs.declared.ast.ParameterValue.TheVariants as given
+use Rattle.ned_syntax.specs.declared.ast.ParameterWord.{ParameterWord}
+use Rattle.ned_syntax.specs.declared.ast.ParameterWord.TheVariants as words
+use Rattle.ned_syntax.specs.declared.ast.Declaration.{Declaration}
+use Rattle.ned_syntax.specs.declared.ast.Assignment.{Assignment}
+use Rattle.ned_syntax.specs.declared.ast.Mode.{Mode}
+use Rattle.ned_syntax.specs.declared.ast.Mode.TheVariants as modes_are
+use Rattle.ned_syntax.specs.declared.ast.RecordedMode.{RecordedMode}
+use Rattle.ned_syntax.specs.declared.ast.Statistic.{Statistic}
+use Rattle.ned_syntax.specs.declared.ast.SectionLine.{SectionLine}
+use Rattle.ned_syntax.specs.declared.ast.SectionLine.TheVariants as lines
+use Rattle.ned_syntax.specs.declared.ast.Submodule.{Submodule}
+use Rattle.ned_syntax.specs.declared.ast.TypeKind.{TypeKind}
+use Rattle.ned_syntax.specs.declared.ast.TypeKind.TheVariants as kinds
+use Rattle.ned_syntax.specs.declared.ast.TypeDeclaration.{TypeDeclaration}
+use Rattle.ned_syntax.specs.declared.ast.NedFile.{NedFile}
+use Rattle.ned_syntax.specs.Grammar.{file}
+use Rattle.ned_syntax.specs.NedText.{IsNedFile, IsExpressionText}
+
+-- the tokens of a list, one element after the other
+abbrev pub listed_tokens : {X : Type 0} → (X → List Token) → List X → List Token
+listed_tokens f [] = []
+listed_tokens f (x ∷ xs) = f x ++ listed_tokens f xs
+
+-- ---- values
+
+-- A literal; a quantity is a number of the smallest unit. No text says an amount below zero.
+abbrev pub value_tokens : Value → List Token
+value_tokens (values.Whole (pos n)) = token.Number n ∷ []
+value_tokens (values.Whole (negsuc n)) = token.Mark m.Minus ∷ token.Number (suc n) ∷ []
+value_tokens (values.Truth true) = token.Word k.True ∷ []
+value_tokens (values.Truth false) = token.Word k.False ∷ []
+value_tokens (values.Text text) = token.Literal text ∷ []
+value_tokens (values.Quantity d (pos n)) = token.Quantity d n ∷ []
+value_tokens (values.Quantity d (negsuc n)) = []
+
+-- an expression is so far a literal
+abbrev pub expression_tokens : Expression → List Token
+expression_tokens (expressions.Literal v) = value_tokens v
+
+-- the value, or `default(..)`
+abbrev pub given_tokens : ParameterValue → List Token
+given_tokens (given.Fixed e) = expression_tokens e
+given_tokens (given.Default e) = token.Word k.Default ∷ token.Mark m.LeftParen ∷ (expression_tokens e ++ token.Mark m.RightParen ∷ [])
+
+-- `= ..`, where there is a value
+abbrev pub valued_tokens : Option ParameterValue → List Token
+valued_tokens None = []
+valued_tokens (Some v) = token.Mark m.Equals ∷ given_tokens v
+
+-- ---- lines of a section
+
+-- `@unit(..)` with the smallest unit, where there is one
+abbrev pub unit_tokens : Option Dimension → List Token
+unit_tokens None = []
+unit_tokens (Some d) = token.Mark m.At ∷ token.Name (codes "unit") ∷ token.Mark m.LeftParen ∷ token.Name (unit_text d) ∷ token.Mark m.RightParen ∷ []
+
+-- the word that declares a parameter
+abbrev pub parameter_keyword : ParameterWord → Keyword
+parameter_keyword words.Bool = k.Bool
+parameter_keyword words.Int = k.Int
+parameter_keyword words.Text = k.Text
+parameter_keyword words.Double = k.Double
+
+-- word name [unit] [value]
+abbrev pub declaration_tokens : Declaration → List Token
+declaration_tokens d = token.Word (parameter_keyword d.word) ∷ token.Name d.name ∷ (unit_tokens d.unit ++ valued_tokens d.value)
+
+-- name [value]
+abbrev pub assignment_tokens : Assignment → List Token
+assignment_tokens a = token.Name a.name ∷ valued_tokens a.value
+
+-- the name of a mode
+abbrev pub mode_name : Mode → List ℕ
+mode_name modes_are.Count = codes "count"
+mode_name modes_are.Sum = codes "sum"
+mode_name modes_are.Min = codes "min"
+mode_name modes_are.Max = codes "max"
+mode_name modes_are.Last = codes "last"
+mode_name modes_are.Vector = codes "vector"
+
+-- `?`, where it is asked for
+abbrev pub question_tokens : Bool → List Token
+question_tokens true = token.Mark m.Question ∷ []
+question_tokens false = []
+
+-- mode ["?"]
+abbrev pub mode_tokens : RecordedMode → List Token
+mode_tokens r = token.Name (mode_name r.mode) ∷ question_tokens r.optional
+
+-- "," mode
+abbrev pub next_mode_tokens : RecordedMode → List Token
+next_mode_tokens r = token.Mark m.Comma ∷ mode_tokens r
+
+-- `; record = ..`, where there are modes
+abbrev pub record_tokens : List RecordedMode → List Token
+record_tokens [] = []
+record_tokens (r ∷ rs) = token.Mark m.Semi ∷ token.Name (codes "record") ∷ token.Mark m.Equals ∷ (mode_tokens r ++ listed_tokens next_mode_tokens rs)
+
+-- `@statistic[name](source = .. ; record = ..)`
+abbrev pub statistic_tokens : Statistic → List Token
+statistic_tokens s =
+    token.Mark m.At ∷ token.Name (codes "statistic") ∷ token.Mark m.LeftBracket ∷ token.Name s.name ∷ token.Mark m.RightBracket
+    ∷ token.Mark m.LeftParen ∷ token.Name (codes "source") ∷ token.Mark m.Equals ∷ token.Name s.source ∷ (record_tokens s.modes ++ token.Mark m.RightParen ∷ [])
+
+-- A property without effect is written `@ignored`.
+abbrev pub line_tokens : SectionLine → List Token
+line_tokens (lines.Declaration d) = declaration_tokens d
+line_tokens (lines.Assignment a) = assignment_tokens a
+line_tokens (lines.Statistic s) = statistic_tokens s
+line_tokens (lines.Class text) = token.Mark m.At ∷ token.Name (codes "class") ∷ token.Mark m.LeftParen ∷ token.Name text ∷ token.Mark m.RightParen ∷ []
+line_tokens lines.Ignored = token.Mark m.At ∷ token.Name (codes "ignored") ∷ []
+
+-- line ";"
+abbrev pub section_line_tokens : SectionLine → List Token
+section_line_tokens line = line_tokens line ++ token.Mark m.Semi ∷ []
+
+-- ---- types
+
+-- name ":" name ";"
+abbrev pub submodule_tokens : Submodule → List Token
+submodule_tokens s = token.Name s.name ∷ token.Mark m.Colon ∷ token.Name s.type_name ∷ token.Mark m.Semi ∷ []
+
+-- A simple module has parameters, a network has submodules.
+abbrev pub kind_tokens : TypeKind → TypeDeclaration → List Token
+kind_tokens kinds.Simple d = token.Word k.Simple ∷ token.Name d.name ∷ token.Mark m.Open ∷ token.Word k.Parameters ∷ token.Mark m.Colon ∷ (listed_tokens section_line_tokens d.lines ++ token.Mark m.Close ∷ [])
+kind_tokens kinds.Network d = token.Word k.Network ∷ token.Name d.name ∷ token.Mark m.Open ∷ token.Word k.Submodules ∷ token.Mark m.Colon ∷ (listed_tokens submodule_tokens d.submodules ++ token.Mark m.Close ∷ [])
+
+-- a type, as its kind has it
+abbrev pub type_tokens : TypeDeclaration → List Token
+type_tokens d = kind_tokens d.kind d
+
+-- one type behind the other
+abbrev pub file_tokens : NedFile → List Token
+file_tokens f = listed_tokens type_tokens f.types
+
+-- THE STANDARD SPELLING of what a text declares
+unfoldable pub spelled : NedFile → List ℕ
+spelled f = spell (file_tokens f)
+
+-- the standard spelling of an expression
+unfoldable pub spelled_expression : Expression → List ℕ
+spelled_expression e = spell (expression_tokens e)
+
+-- ---- what is read back
+
+-- What a text declares is what its standard spelling declares, where that is small enough to be read.
+abbrev pub IsReadBack : List ℕ → Type 0
+IsReadBack bytes = (declared : NedFile) → IsNedFile bytes declared → length (spelled declared) ≤ max_length → IsNedFile (spelled declared) declared
+
+-- However long the standard spelling is, its tokens say what the text declares.
+abbrev pub SaysTheSame : List ℕ → Type 0
+SaysTheSame bytes = (declared : NedFile) → IsNedFile bytes declared → file.Is (tokens_of (spelled declared)) declared
+
+-- What an expression's text says is what its standard spelling says, where that is small enough to be read.
+abbrev pub ExpressionIsReadBack : List ℕ → Type 0
+ExpressionIsReadBack bytes = (e : Expression) → IsExpressionText bytes e → length (spelled_expression e) ≤ max_length → IsExpressionText (spelled_expression e) e
+
+-- What two texts declare is the same where it is spelled the same.
+abbrev pub SpellingDecides : List ℕ → List ℕ → Type 0
+SpellingDecides first second = (one other : NedFile) → IsNedFile first one → IsNedFile second other → spelled one ≡ spelled other → one ≡ other

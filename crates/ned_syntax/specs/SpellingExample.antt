@@ -1,0 +1,40 @@
+-- A file and its standard spelling.
+use Rattle.std.specs.Prelude.{◌≡◌, List, ℕ, [], ◌∷◌, Some, None, true, false, pos, negsuc, codes}
+use Rattle.sim_values.specs.declared.value.Value.TheVariants as values
+use Rattle.sim_values.specs.declared.value.Dimension.TheVariants as dimension
+use Rattle.ned_syntax.specs.declared.ast.Expression.TheVariants as expressions
+use Rattle.ned_syntax.specs.declared.ast.ParameterValue.TheVariants as given
+use Rattle.ned_syntax.specs.declared.ast.ParameterWord.TheVariants as words
+use Rattle.ned_syntax.specs.declared.ast.Mode.TheVariants as modes_are
+use Rattle.ned_syntax.specs.declared.ast.SectionLine.TheVariants as lines
+use Rattle.ned_syntax.specs.declared.ast.TypeKind.TheVariants as kinds
+use Rattle.ned_syntax.specs.declared.ast.NedFile.{NedFile}
+use Rattle.ned_syntax.specs.Spelling.{spelled}
+
+-- a simple module with a line of each kind, and a network
+abbrev pub example : NedFile
+example = record {
+  types =
+      record {
+        kind = kinds.Simple;
+        name = codes "Source";
+        lines =
+            lines.Declaration (record { name = codes "interval"; word = words.Double; unit = Some dimension.Time; value = Some (given.Default (expressions.Literal (values.Quantity dimension.Time (pos 1000000000000)))) })
+            ∷ lines.Declaration (record { name = codes "offset"; word = words.Int; unit = None; value = Some (given.Fixed (expressions.Literal (values.Whole (negsuc 4)))) })
+            ∷ lines.Assignment (record { name = codes "label"; value = Some (given.Fixed (expressions.Literal (values.Text (codes "a\tb")))) })
+            ∷ lines.Class (codes "Src")
+            ∷ lines.Ignored
+            ∷ lines.Statistic (record { name = codes "sent"; source = codes "packetSent"; modes = record { mode = modes_are.Count; optional = false } ∷ record { mode = modes_are.Sum; optional = true } ∷ [] })
+            ∷ [];
+        submodules = [];
+      }
+      ∷ record { kind = kinds.Network; name = codes "Net"; lines = []; submodules = record { name = codes "a"; type_name = codes "Source" } ∷ [] }
+      ∷ [];
+}
+
+abbrev pub example_text : List ℕ
+example_text = codes "simple Source {\nparameters: double interval @unit(ps) = default(1000000000000ps);\nint offset = - 5;\nlabel = \"a\\tb\";\n@class(Src);\n@ignored;\n@statistic[sent](source = packetSent;\nrecord = count, sum?);\n}\nnetwork Net {\nsubmodules: a: Source;\n}\n"
+
+-- The example is spelled so.
+abbrev pub ExampleIsSpelled : Type 0
+ExampleIsSpelled = spelled example ≡ example_text
