@@ -199,7 +199,7 @@ next_started (Running v) (Over w outcome) g k f = tt
 next_started (Over v outcome) t g k f = k v outcome refl
 
 started_after : (b : Behaviour) (m : Model) (n : ℕ) → IfRunning AreStarted (after b m n)
-started_after b m zero = begin_started b m (ready b m) (orderly_none (in_flow (ready b m)) (ready_none b m)) (ready_ready b m)
+started_after b m zero = begin_started b m (ready b m) (orderly_none (in_flow (ready b m)) (ready_none b m).0) (ready_ready b m)
 started_after b m (suc n) = next_started (after b m n) (after b m (suc n)) (after_follows b m n) (λ w outcome e. rw e tt) (started_after b m n)
 
 -- ---- calls

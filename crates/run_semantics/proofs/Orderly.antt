@@ -1,5 +1,5 @@
 -- In every world of a run the events to come are in order, none is late, each has a number of its own, and each is for a
--- module that stands.
+-- module that stands; and what was emitted stands in the order of events.
 use Rattle.std.proofs.Common.{◌≡◌, ◌≢◌, inl, inr, ℕ, zero, suc, ◌+◌, ◌≤◌, ◌<◌, ◌==◌, cond, Bool, true, false, List, [], ◌∷◌, ◌++◌, Option, Some, None, refl, sym, ap, ◌∙◌, arith, subst, append_assoc, append-nil, slice_get, slice_set, length, map, if◌then◌else◌, nat_lt, nat_le, eqb-true}
 use Rattle.std.specs.List.{list_any, position_from}
 use Rattle.sim_time.specs.Time.{time_sum}
@@ -22,16 +22,17 @@ use Rattle.run_semantics.specs.declared.outcome.Outcome.{Outcome}
 use Rattle.run_semantics.specs.declared.outcome.Outcome.TheVariants.{Ended}
 use Rattle.run_semantics.specs.declared.pending.Happening.TheVariants.{Timer}
 use Rattle.run_semantics.specs.declared.pending.Pending.{Pending}
+use Rattle.run_semantics.specs.declared.traces.Emission.{Emission}
 use Rattle.run_semantics.specs.declared.traces.Instance.{Instance}
 use Rattle.run_semantics.specs.World.{World, empty, asked}
 use Rattle.run_semantics.specs.Order.{inserted}
 use Rattle.run_semantics.specs.Perform.{Flow, On, Stopped, Broken, ◌>>=◌, is_timer, scheduled, perform, perform_all, ask_all, question_of, acted, read_fault, unless_fault, answered}
 use Rattle.run_semantics.specs.Event.{call_of, place_in, with_state, called, call_at, call_module, begun, event, message_of}
 use Rattle.run_semantics.specs.Run.{rooted, built, unless_many, root_asked, inside_asked, prepared, Part, parts_of, place, place_all, place_parts, ready, standing, most_stages, initialize, one_stage, stages_from, initialize_all, with_started, part_of, Stage, Running, Over, world_at, settled, picked, next_stage, after}
-use Rattle.run_semantics.specs.Laws.{Each, AreInOrder, HaveOwnNumbers, IsAmong, ids_of, GoesOn}
+use Rattle.run_semantics.specs.Laws.{Each, AreInOrder, AreInTurn, HaveOwnNumbers, IsAmong, ids_of, GoesOn}
 use Rattle.run_semantics.proofs.Sound.{in_flow}
 use Rattle.run_semantics.proofs.Counts.{event_count}
-use Rattle.run_semantics.proofs.Order.{before_time, each_map, each_inserted, ordered_inserted, own_inserted}
+use Rattle.run_semantics.proofs.Order.{before_time, each_map, each_append, each_inserted, ordered_inserted, own_inserted}
 
 -- what holds of the events to come of a world
 pub record IsOrderly (w : World) : Type 0 where
@@ -41,15 +42,21 @@ pub record IsOrderly (w : World) : Type 0 where
   pub due : Each (λ e. w.clock ≤ e.time) w.pending
   pub modules : Each (λ e. IsAmong e.id (ids_of w.modules)) w.pending
 
+-- all were emitted in that event, at that time
+abbrev pub AreOf : ℕ → ℕ → List Emission → Type 0
+AreOf event time es = Each (λ e. (e.event ≡ event) × (e.time ≡ time)) es
+
 -- from the first world to the second, within one event
 pub record Leads (old new : World) : Type 0 where
   pub clock : new.clock ≡ old.clock
+  pub count : new.count ≡ old.count
   pub next : old.next ≤ new.next
   pub records : new.records ≡ old.records
   pub same : standing new.modules ≡ standing old.modules
   pub started : new.started ≡ old.started
   pub live : new.live ≡ old.live
   pub emissions : GoesOn old.emissions new.emissions
+  pub present : AreOf old.count old.clock emissions.0
   pub orderly : IsOrderly new
 
 ids_standing : (is : List Instance) → map (λ (p : Part). p.id) (standing is) ≡ ids_of is
@@ -60,24 +67,26 @@ ids_standing (i ∷ is) = ap (λ ids. i.id ∷ ids) (ids_standing is)
 pub same_ids : (is js : List Instance) → standing is ≡ standing js → ids_of is ≡ ids_of js
 same_ids is js e = sym (ids_standing is) ∙ (ap (map (λ (p : Part). p.id)) e ∙ ids_standing js)
 
-pub on_same : {X : Type 0} (xs : List X) → GoesOn xs xs
+abbrev pub on_same : {X : Type 0} (xs : List X) → GoesOn xs xs
 on_same xs = ([], append-nil xs)
 
-pub on_more : {X : Type 0} (xs ys zs : List X) → GoesOn xs ys → GoesOn ys zs → GoesOn xs zs
+abbrev pub on_more : {X : Type 0} (xs ys zs : List X) → GoesOn xs ys → GoesOn ys zs → GoesOn xs zs
 on_more xs ys zs f g = (f.0 ++ g.0, sym (append_assoc xs f.0 g.0) ∙ (ap (λ us. us ++ g.0) f.1 ∙ g.1))
 
 leads_same : (w : World) → IsOrderly w → Leads w w
-leads_same w f = record { clock = refl; next = omega arith; records = refl; same = refl; started = refl; live = refl; emissions = on_same w.emissions; orderly = f }
+leads_same w f = record { clock = refl; count = refl; present = tt; next = omega arith; records = refl; same = refl; started = refl; live = refl; emissions = on_same w.emissions; orderly = f }
 
 leads_on : {u v w : World} → Leads u v → Leads v w → Leads u w
 leads_on {u} {v} {w} f g = record {
   clock = g.clock ∙ f.clock;
+  count = g.count ∙ f.count;
   next = omega (arith, f.next, g.next);
   records = g.records ∙ f.records;
   same = g.same ∙ f.same;
   started = g.started ∙ f.started;
   live = g.live ∙ f.live;
   emissions = on_more u.emissions v.emissions w.emissions f.emissions g.emissions;
+  present = each_append (λ (e : Emission). (e.event ≡ u.count) × (e.time ≡ u.clock)) f.emissions.0 g.emissions.0 f.present (rw (← f.count, ← f.clock) g.present);
   orderly = g.orderly;
 }
 
@@ -116,6 +125,8 @@ leads_inserted e w f number time stands =
     let ne : Each (λ g. g.number ≢ e.number) w.pending = each_map (λ g. g.number < w.next) (λ g. g.number ≢ e.number) w.pending (λ g l x. absurd (omega (arith, l, x, number))) f.below in
     record {
       clock = refl;
+      count = refl;
+      present = tt;
       next = omega arith;
       records = refl;
       same = refl;
@@ -140,6 +151,8 @@ scheduled_leads id s w (Some time) e f h =
 perform_leads : (id : ℕ) (action : Action) (w : World) → IsOrderly w → StandsIn id w → Leads w (in_flow (perform id action w))
 perform_leads id (Emit signal value) w f h = record {
   clock = refl;
+  count = refl;
+  present = ((refl, refl), tt);
   next = omega arith;
   records = refl;
   same = refl;
@@ -163,9 +176,11 @@ acted_leads id actions w f h = either_leads w (nat_lt 1000 (length actions)) _ _
 -- ---- replies and calls
 
 -- what changes neither clock, modules, events nor emissions
-leads_beside : (u v : World) → IsOrderly u → v.clock ≡ u.clock → v.next ≡ u.next → v.pending ≡ u.pending → v.records ≡ u.records → standing v.modules ≡ standing u.modules → v.started ≡ u.started → v.live ≡ u.live → v.emissions ≡ u.emissions → Leads u v
-leads_beside u v f clock next pending records same started live emissions = record {
+leads_beside : (u v : World) → IsOrderly u → v.clock ≡ u.clock → v.next ≡ u.next → v.pending ≡ u.pending → v.records ≡ u.records → standing v.modules ≡ standing u.modules → v.started ≡ u.started → v.live ≡ u.live → v.emissions ≡ u.emissions → v.count ≡ u.count → Leads u v
+leads_beside u v f clock next pending records same started live emissions count = record {
   clock = clock;
+  count = count;
+  present = tt;
   next = omega (arith, next);
   records = records;
   same = same;
@@ -184,7 +199,7 @@ leads_beside u v f clock next pending records same started live emissions = reco
 ask_all_leads : (id : ℕ) (reads : List Read) (w : World) → IsOrderly w → Leads w (ask_all id reads w)
 ask_all_leads id [] w f = leads_same w f
 ask_all_leads id (r ∷ rs) w f =
-    let g : Leads w (asked (question_of id r) w) = leads_beside w _ f refl refl refl refl refl refl refl refl in
+    let g : Leads w (asked (question_of id r) w) = leads_beside w _ f refl refl refl refl refl refl refl refl refl in
     leads_on g (ask_all_leads id rs (asked (question_of id r) w) g.orderly)
 
 unless_leads : (w : World) (id : ℕ) (found : Option Fault) (go : World → Flow) → IsOrderly w → Leads w (in_flow (go w)) → Leads w (in_flow (unless_fault id found go w))
@@ -208,7 +223,7 @@ called_leads b m id p w place None e f h = leads_same w f
 called_leads b m id p w place (Some i) e f h =
     let r : Replied = (b.naming i.kind).reply i.state (call_of m id p w) in
     let v : World = with_state place i r.state w in
-    let g : Leads w v = leads_beside w v f refl refl refl refl (standing_set w.modules place i r.state e) refl refl refl in
+    let g : Leads w v = leads_beside w v f refl refl refl refl (standing_set w.modules place i r.state e) refl refl refl refl in
     leads_on g (answered_leads m id r.reply v g.orderly (stands_on id w v g h))
 
 -- a module that has a place stands
@@ -248,40 +263,43 @@ orderly_started w f = record { order = f.order; own = f.own; below = f.below; du
 pub initialize_all_leads : (b : Behaviour) (m : Model) (w : World) → IsOrderly w → Leads (with_started w) (in_flow (initialize_all b m w))
 initialize_all_leads b m w f = stages_lead b m (standing w.modules) 0 (most_stages b (standing w.modules)) (with_started w) (orderly_started w f)
 
--- ---- setup: no event is to come
+-- ---- setup: no event is to come, and nothing was emitted
 
-then_none : (fl : Flow) (k : World → Flow) → (in_flow fl).pending ≡ [] → ((w : World) → w.pending ≡ [] → (in_flow (k w)).pending ≡ []) → (in_flow (fl >>= k)).pending ≡ []
+abbrev IsQuiet : World → Type 0
+IsQuiet w = (w.pending ≡ []) × (w.emissions ≡ [])
+
+then_none : (fl : Flow) (k : World → Flow) → IsQuiet (in_flow fl) → ((w : World) → IsQuiet w → IsQuiet (in_flow (k w))) → IsQuiet (in_flow (fl >>= k))
 then_none (On w) k e h = h w e
 then_none (Stopped w) k e h = e
 then_none (Broken w path f) k e h = e
 
-either_none : (c : Bool) (f g : Flow) → (in_flow f).pending ≡ [] → (in_flow g).pending ≡ [] → (in_flow (if c then f else g)).pending ≡ []
+either_none : (c : Bool) (f g : Flow) → IsQuiet (in_flow f) → IsQuiet (in_flow g) → IsQuiet (in_flow (if c then f else g))
 either_none true f g e d = e
 either_none false f g e d = d
 
-root_none : (found : Answer) → (in_flow (rooted found (asked Root empty))).pending ≡ []
-root_none (answer.Root name) = refl
-root_none (answer.Inside bs) = refl
-root_none (answer.Value v) = refl
-root_none (answer.Fault path f) = refl
-root_none answer.Absent = refl
+root_none : (found : Answer) → IsQuiet (in_flow (rooted found (asked Root empty)))
+root_none (answer.Root name) = (refl, refl)
+root_none (answer.Inside bs) = (refl, refl)
+root_none (answer.Value v) = (refl, refl)
+root_none (answer.Fault path f) = (refl, refl)
+root_none answer.Absent = (refl, refl)
 
-many_none : (parent : ℕ) (bs : List Built) (w : World) (one : Option Built) → w.pending ≡ [] → (in_flow (unless_many parent bs w one)).pending ≡ []
+many_none : (parent : ℕ) (bs : List Built) (w : World) (one : Option Built) → IsQuiet w → IsQuiet (in_flow (unless_many parent bs w one))
 many_none parent bs w (Some b) e = e
 many_none parent bs w None e = e
 
-built_none : (parent : ℕ) (found : Answer) (w : World) → w.pending ≡ [] → (in_flow (built parent found w)).pending ≡ []
+built_none : (parent : ℕ) (found : Answer) (w : World) → IsQuiet w → IsQuiet (in_flow (built parent found w))
 built_none parent (answer.Inside bs) w e = many_none parent bs w (slice_get bs 65535) e
 built_none parent (answer.Root name) w e = e
 built_none parent (answer.Value v) w e = e
 built_none parent (answer.Fault path f) w e = e
 built_none parent answer.Absent w e = e
 
-place_all_none : (b : Behaviour) (ps : List Part) (w : World) → w.pending ≡ [] → (in_flow (place_all b ps w)).pending ≡ []
+place_all_none : (b : Behaviour) (ps : List Part) (w : World) → IsQuiet w → IsQuiet (in_flow (place_all b ps w))
 place_all_none b [] w e = e
 place_all_none b (p ∷ ps) w e = then_none (place b p w) (place_all b ps) (either_none (b.known p.kind) _ _ e e) (place_all_none b ps)
 
-pub ready_none : (b : Behaviour) (m : Model) → (in_flow (ready b m)).pending ≡ []
+pub ready_none : (b : Behaviour) (m : Model) → IsQuiet (in_flow (ready b m))
 ready_none b m =
     then_none (prepared m) (place_parts b)
     (then_none (root_asked m) (inside_asked m) (root_none (answer_of m [] Root)) (λ w e. built_none 1 (answer_of m w.records (Build 1)) (asked (Build 1) w) e))
@@ -302,10 +320,11 @@ pub record Follows (old new : World) : Type 0 where
   pub started : new.started ≡ old.started
   pub live : new.live ≡ old.live
   pub emissions : GoesOn old.emissions new.emissions
+  pub present : AreOf new.count new.clock emissions.0
   pub orderly : IsOrderly new
 
 follows_same : (w : World) → IsOrderly w → Follows w w
-follows_same w f = record { clock = omega arith; count = omega arith; next = omega arith; records = refl; same = refl; started = refl; live = refl; emissions = on_same w.emissions; orderly = f }
+follows_same w f = record { present = tt; clock = omega arith; count = omega arith; next = omega arith; records = refl; same = refl; started = refl; live = refl; emissions = on_same w.emissions; orderly = f }
 
 -- the first event is taken out, and none that is left is before it
 orderly_begun : (p : Pending) (rest : List Pending) (w : World) → w.pending ≡ p ∷ rest → IsOrderly w → IsOrderly (begun p rest w)
@@ -336,6 +355,7 @@ event_follows b m p rest w e f =
       started = g.started;
       live = g.live;
       emissions = g.emissions;
+      present = rw (g.count, g.clock) g.present;
       orderly = g.orderly;
     })
 
@@ -356,10 +376,75 @@ orderly_then b m (On w) f = (initialize_all_leads b m w f).orderly
 orderly_then b m (Stopped w) f = f
 orderly_then b m (Broken w path fault) f = f
 
+-- ---- emissions
+
+-- none was emitted after that event or that time, and along them neither falls
+record AreTold (event time : ℕ) (es : List Emission) : Type 0 where
+  past : Each (λ e. (e.event ≤ event) × (e.time ≤ time)) es
+  turn : AreInTurn es
+
+turn_of : (event time : ℕ) (es : List Emission) → AreOf event time es → AreInTurn es
+turn_of event time [] h = tt
+turn_of event time (e ∷ es) h =
+    let n = h.0.0 in
+    let t = h.0.1 in
+    (each_map (λ f. (f.event ≡ event) × (f.time ≡ time)) (λ f. (e.event ≤ f.event) × (e.time ≤ f.time)) es (λ f k. (omega (arith, n, k.0), omega (arith, t, k.1))) h.1, turn_of event time es h.1)
+
+turn_append : (event time : ℕ) (xs ys : List Emission) → Each (λ e. (e.event ≤ event) × (e.time ≤ time)) xs → AreInTurn xs → AreOf event time ys → AreInTurn (xs ++ ys)
+turn_append event time [] ys p h k = turn_of event time ys k
+turn_append event time (e ∷ es) ys p h k =
+    let n = p.0.0 in
+    let t = p.0.1 in (
+      each_append (λ f. (e.event ≤ f.event) × (e.time ≤ f.time)) es ys h.0 (each_map (λ f. (f.event ≡ event) × (f.time ≡ time)) (λ f. (e.event ≤ f.event) × (e.time ≤ f.time)) ys (λ f m. (omega (arith, n, m.0), omega (arith, t, m.1))) k),
+      turn_append event time es ys p.1 h.1 k,
+    )
+
+-- more are told, of a later event
+told_more : (old new was is : ℕ) (xs ys : List Emission) → old ≤ new → was ≤ is → AreTold old was xs → AreOf new is ys → AreTold new is (xs ++ ys)
+told_more old new was is xs ys l k f g =
+    let later : Each (λ e. (e.event ≤ new) × (e.time ≤ is)) xs = each_map (λ e. (e.event ≤ old) × (e.time ≤ was)) (λ e. (e.event ≤ new) × (e.time ≤ is)) xs (λ e h. (omega (arith, l, h.0), omega (arith, k, h.1))) f.past in
+    record {
+      past = each_append (λ e. (e.event ≤ new) × (e.time ≤ is)) xs ys later (each_map (λ e. (e.event ≡ new) × (e.time ≡ is)) (λ e. (e.event ≤ new) × (e.time ≤ is)) ys (λ e h. (omega (arith, h.0), omega (arith, h.1))) g);
+      turn = turn_append new is xs ys later f.turn g;
+    }
+
+abbrev ToldIn : World → Type 0
+ToldIn w = AreTold w.count w.clock w.emissions
+
+told_none : (w : World) → w.emissions ≡ [] → ToldIn w
+told_none w e = record { past = rw e tt; turn = rw e tt }
+
+told_then : (b : Behaviour) (m : Model) (fl : Flow) → IsOrderly (in_flow fl) → ToldIn (in_flow fl) → ToldIn (in_flow (fl >>= initialize_all b m))
+told_then b m (On w) f h =
+    let v : World = in_flow (initialize_all b m w) in
+    let g = initialize_all_leads b m w f in
+    subst (AreTold v.count v.clock) g.emissions.1 (told_more w.count v.count w.clock v.clock w.emissions g.emissions.0 (omega (arith, g.count)) (omega (arith, g.clock)) h (rw (g.count, g.clock) g.present))
+told_then b m (Stopped w) f h = h
+told_then b m (Broken w path fault) f h = h
+
+-- ---- every world
+
 -- every world of a run is orderly
 pub orderly_after : (b : Behaviour) (m : Model) (n : ℕ) → IsOrderly (world_at (after b m n))
-orderly_after b m zero = subst IsOrderly (sym (settled_at (ready b m >>= initialize_all b m))) (orderly_then b m (ready b m) (orderly_none (in_flow (ready b m)) (ready_none b m)))
+orderly_after b m zero = subst IsOrderly (sym (settled_at (ready b m >>= initialize_all b m))) (orderly_then b m (ready b m) (orderly_none (in_flow (ready b m)) (ready_none b m).0))
 orderly_after b m (suc n) = (next_follows b m (after b m n) (orderly_after b m n)).orderly
 
 pub after_follows : (b : Behaviour) (m : Model) (n : ℕ) → Follows (world_at (after b m n)) (world_at (after b m (suc n)))
 after_follows b m n = next_follows b m (after b m n) (orderly_after b m n)
+
+-- and its emissions are in their turn
+told_after : (b : Behaviour) (m : Model) (n : ℕ) → ToldIn (world_at (after b m n))
+told_after b m zero =
+    let quiet = ready_none b m in
+    subst ToldIn (sym (settled_at (ready b m >>= initialize_all b m))) (told_then b m (ready b m) (orderly_none (in_flow (ready b m)) quiet.0) (told_none (in_flow (ready b m)) quiet.1))
+told_after b m (suc n) =
+    let u : World = world_at (after b m n) in
+    let v : World = world_at (after b m (suc n)) in
+    let g = after_follows b m n in
+    subst (AreTold v.count v.clock) g.emissions.1 (told_more u.count v.count u.clock v.clock u.emissions g.emissions.0 g.count g.clock (told_after b m n) g.present)
+
+pub turn_after : (b : Behaviour) (m : Model) (n : ℕ) → AreInTurn (world_at (after b m n)).emissions
+turn_after b m n = (told_after b m n).turn
+
+pub past_after : (b : Behaviour) (m : Model) (n : ℕ) → Each (λ e. (e.event ≤ (world_at (after b m n)).count) × (e.time ≤ (world_at (after b m n)).clock)) (world_at (after b m n)).emissions
+past_after b m n = (told_after b m n).past

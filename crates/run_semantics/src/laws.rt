@@ -8,7 +8,7 @@ ghost use Rattle.model_answers.specs.Answering.{answer_of};
 ghost use Rattle.run_semantics.specs.declared.outcome.Outcome.{Outcome};
 ghost use Rattle.run_semantics.specs.Agreement.{Agrees, AgreesUpTo};
 ghost use Rattle.run_semantics.specs.Event.{place_in};
-ghost use Rattle.run_semantics.specs.Laws.{Each, AreInOrder, HaveOwnNumbers, HasGrown, CanBeCalled, gone_on};
+ghost use Rattle.run_semantics.specs.Laws.{Each, AreInOrder, AreInTurn, HaveOwnNumbers, HasGrown, CanBeCalled, gone_on};
 ghost use Rattle.run_semantics.specs.World.{World};
 ghost use Rattle.run_semantics.specs.Run.{Running, Over, IsReached, next_stage, after, stopped, run_to, world_at, standing, parts_of};
 
@@ -98,6 +98,15 @@ pub fn no_two_events_share_a_number()
 pub fn no_event_is_late()
     ensures { (b : Behaviour) (m : Model) (n : ℕ)
         → Each (λ e. (world_at (after b m n)).clock ≤ e.time) (world_at (after b m n)).pending }
+{}
+
+/// What was emitted stands in the order of events: along it neither event numbers nor times fall, and
+/// none is above the count or the clock.
+pub fn emissions_are_in_turn()
+    ensures turn { (b : Behaviour) (m : Model) (n : ℕ) → AreInTurn (world_at (after b m n)).emissions }
+    ensures past { (b : Behaviour) (m : Model) (n : ℕ)
+        → Each (λ e. (e.event ≤ (world_at (after b m n)).count) × (e.time ≤ (world_at (after b m n)).clock))
+        (world_at (after b m n)).emissions }
 {}
 
 /// Each event to come is for a module that its call finds; and in a run that goes on that module was
