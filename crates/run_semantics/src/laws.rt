@@ -24,7 +24,7 @@ pub fn over_is_over()
 {}
 
 /// Two models that answer alike all that the run of the first one asked up to an event have the same
-/// run up to there: the same world, its questions included, and the same end where it is over.
+/// run up to there: the same world, its questions included, and the same outcome where it is over.
 pub fn equal_answers_equal_runs()
     ensures { (b : Behaviour) → IsLawful b → (m n : Model) (v : ℕ)
         → Agrees m n (world_at (after b m v)).records (world_at (after b m v)).questions
