@@ -28,15 +28,18 @@ abbrev pub AreNested : ℕ → List Record → Type 0
 AreNested k [] = Unit {0}
 AreNested k (r ∷ rs) = (r.parent ≤ k) × AreNested (suc k) rs
 
+-- an element of the first of two lists
 get_front : {X : Type 0} (xs ys : List X) (i : ℕ) → i < length xs → slice_get (xs ++ ys) i ≡ slice_get xs i
 get_front [] ys i h = absurd (omega arith)
 get_front (x ∷ xs) ys zero h = refl
 get_front (x ∷ xs) ys (suc i) h = get_front xs ys i (omega arith)
 
+-- the record of a module that is there stays
 record_at_more : (rs more : List Record) (id : ℕ) → id ≤ length rs → record_at (rs ++ more) id ≡ record_at rs id
 record_at_more rs more zero h = refl
 record_at_more rs more (suc k) h = get_front rs more k (omega arith)
 
+-- the module around one at that place
 parent_by : (k : ℕ) (rs : List Record) (i : ℕ) (r : Record) → AreNested k rs → slice_get rs i ≡ Some r → r.parent ≤ k + i
 parent_by k [] i r h e = cc
 parent_by k (s ∷ rs) zero r h e = let same : s ≡ r = cc in let p : s.parent ≤ k = h.0 in omega (arith, p, ap (λ (x : Record). x.parent) same)
@@ -47,20 +50,24 @@ parent_within : (rs : List Record) (id : ℕ) (r : Record) → AreNested 0 rs �
 parent_within rs zero r h l e = cc
 parent_within rs (suc k) r h l e = let f = parent_by 0 rs k r h e in omega (arith, f)
 
+-- a path, by that of the module around it
 by_path : (f g : ℕ → List ℕ) (o : Option Record) → ((r : Record) → o ≡ Some r → f r.parent ≡ g r.parent) → path_by f o ≡ path_by g o
 by_path f g None h = refl
 by_path f g (Some r) h = ap (λ path. if r.parent == 0 then own_name r.name r.index else path_under path (own_name r.name r.index)) (h r refl)
 
+-- the names above a module that is there stay
 path_up_more : (rs more : List Record) → AreNested 0 rs → (depth id : ℕ) → id ≤ length rs → path_up depth (rs ++ more) id ≡ path_up depth rs id
 path_up_more rs more h zero id l = refl
 path_up_more rs more h (suc depth) id l =
     ap (path_by (path_up depth (rs ++ more))) (record_at_more rs more id l)
     ∙ by_path (path_up depth (rs ++ more)) (path_up depth rs) (record_at rs id) (λ r e. path_up_more rs more h depth r.parent (parent_within rs id r h l e))
 
+-- its path stays
 path_of_more : (rs more : List Record) → AreNested 0 rs → (id : ℕ) → id ≤ length rs → path_of (rs ++ more) id ≡ path_of rs id
 unfolding path_of
 path_of_more rs more h id l = path_up_more rs more h 32 id l
 
+-- its type stays
 type_at_more : (m : Model) (rs more : List Record) (id : ℕ) → id ≤ length rs → type_at m (rs ++ more) id ≡ type_at m rs id
 type_at_more m rs more id l = ap (option_and_then (type_of_record m)) (record_at_more rs more id l)
 
@@ -86,6 +93,7 @@ answer_more m rs more h (question.GateSize id name) l = refl
 
 -- ---- the parameters that a call shows
 
+-- the value that an answer has, if any
 abbrev value_in : Answer → Option Value
 value_in (answer.Value v) = Some v
 value_in _ = None
@@ -95,10 +103,12 @@ abbrev given : Option Declaration → Answer → Option Value
 given None a = None
 given (Some d) a = value_in a
 
+-- an answer with no value gives none
 given_none : (found : Option Declaration) (a : Answer) → value_in a ≡ None → given found a ≡ None
 given_none None a e = refl
 given_none (Some d) a e = e
 
+-- a name that stands first, with its answer
 shown_first : (name other : List ℕ) (a : Answer) (rest : List Parameter) (found : Option Declaration) → bytes_eq other name ≡ true → value_of name rest ≡ given found a → value_of name (with_value other a rest) ≡ value_in a
 shown_first name other (answer.Value v) rest found e h = rw e refl
 shown_first name other (answer.Root t) rest found e h = h ∙ given_none found (answer.Root t) refl
@@ -106,6 +116,7 @@ shown_first name other (answer.Inside bs) rest found e h = h ∙ given_none foun
 shown_first name other (answer.Fault path f) rest found e h = h ∙ given_none found (answer.Fault path f) refl
 shown_first name other answer.Absent rest found e h = h ∙ given_none found answer.Absent refl
 
+-- another name stands first
 shown_later : (name other : List ℕ) (a : Answer) (rest : List Parameter) → bytes_eq other name ≡ false → value_of name (with_value other a rest) ≡ value_of name rest
 shown_later name other (answer.Value v) rest e = rw e refl
 shown_later name other (answer.Root t) rest e = refl
@@ -113,12 +124,14 @@ shown_later name other (answer.Inside bs) rest e = refl
 shown_later name other (answer.Fault path f) rest e = refl
 shown_later name other answer.Absent rest e = refl
 
+-- by whether the first name is the one
 shown_by : (answers : List ℕ → Answer) (name : List ℕ) (d : Declaration) (rest : List Parameter) (found : Option Declaration) (same : Bool) → bytes_eq d.name name ≡ same → value_of name rest ≡ given found (answers name) → value_of name (with_value d.name (answers d.name) rest) ≡ given (if same then Some d else found) (answers name)
 shown_by answers name d rest found true e h =
     let same : d.name ≡ name = (bytes_eq-Decides d.name name).0 e in
     ap (λ (x : List ℕ). value_of name (with_value d.name (answers x) rest)) same ∙ shown_first name d.name (answers name) rest found e h
 shown_by answers name d rest found false e h = shown_later name d.name (answers d.name) rest e ∙ h
 
+-- what the lines show of a name is its answer, where they declare it
 shown : (answers : List ℕ → Answer) (name : List ℕ) (ls : List SectionLine) → value_of name (with_lines answers ls) ≡ given (declaration_named name ls) (answers name)
 shown answers name [] = refl
 shown answers name (line.Declaration d ∷ ls) = shown_by answers name d (with_lines answers ls) (declaration_named name ls) (bytes_eq d.name name) refl (shown answers name ls)
@@ -127,10 +140,12 @@ shown answers name (line.Statistic s ∷ ls) = shown answers name ls
 shown answers name (line.Class c ∷ ls) = shown answers name ls
 shown answers name (line.Ignored ∷ ls) = shown answers name ls
 
+-- what is not declared has no value
 given_declared : (entries : List Entry) (path : List ℕ) (ls : List SectionLine) (found : Option Declaration) → given found (declared_answer entries path ls found) ≡ value_in (declared_answer entries path ls found)
 given_declared entries path ls None = refl
 given_declared entries path ls (Some d) = refl
 
+-- what has no type has no value
 given_typed : (m : Model) (path : List ℕ) (t : Option TypeDeclaration) (name : List ℕ) → given (declaration_named name (lines_of t)) (param_answer m path t name) ≡ value_in (param_answer m path t name)
 given_typed m path None name = refl
 given_typed m path (Some t) name = given_declared (entries_in m) path t.lines (declaration_named name t.lines)

@@ -117,19 +117,23 @@ count_at_most b m (suc n) = omega (arith, next_count b m (after b m n), count_at
 abbrev pub RunsOn : ℕ → Stage → Type 0
 RunsOn n s = (u : World) → s ≡ Running u → u.count ≡ n
 
+-- the end of an event leaves the count
 settled_runs : (n : ℕ) (fl : Flow) → (in_flow fl).count ≡ n → RunsOn n (settled fl)
 settled_runs n (On v) at u e = let same : v ≡ u = cc in ap (λ (x : World). x.count) (sym same) ∙ at
 settled_runs n (Stopped v) at u e = let same : v ≡ u = cc in ap (λ (x : World). x.count) (sym same) ∙ at
 settled_runs n (Broken v path f) at u e = cc
 
+-- where the run is over it does not go on
 either_runs : (c : Bool) (n : ℕ) (w : World) (outcome : Outcome) (s : Stage) → RunsOn n s → RunsOn n (if c then Over w outcome else s)
 either_runs true n w outcome s f u e = cc
 either_runs false n w outcome s f u e = f u e
 
+-- the next event is counted
 picked_runs : (b : Behaviour) (m : Model) (w : World) (pending : List Pending) → RunsOn (w.count + 1) (picked b m w pending)
 picked_runs b m w [] u e = cc
 picked_runs b m w (p ∷ rest) u e = settled_runs (w.count + 1) (event b m p rest w) (event_count b m p rest w) u e
 
+-- one turn of a run
 next_runs : (b : Behaviour) (m : Model) (n : ℕ) (s : Stage) → RunsOn n s → RunsOn (suc n) (next_stage b m s)
 next_runs b m n (Running w) f u e =
     let at = f w refl in

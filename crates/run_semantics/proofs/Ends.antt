@@ -43,5 +43,6 @@ gone_from b n v k s e = gone_after b n v k ∙ ap (gone_on b n k) (sym e)
 pub one_more : (b : Behaviour) (m : Model) (n : ℕ) (w : World) → after b m n ≡ Running w → run_to b m (suc n) ≡ stopped (next_stage b m (Running w))
 one_more b m n w e = ap (λ s. stopped (next_stage b m s)) e
 
+-- a run that is over has none
 pub no_more : (b : Behaviour) (m : Model) (n : ℕ) (w : World) (outcome : Outcome) → after b m n ≡ Over w outcome → run_to b m (suc n) ≡ run_to b m n
 no_more b m n w outcome e = ap (λ s. stopped (next_stage b m s)) e ∙ ap stopped (sym e)

@@ -23,9 +23,11 @@ use Rattle.run_semantics.proofs.Orderly.{IsOrderly, Follows, same_ids, on_same, 
 
 -- ---- growth
 
+-- nothing happened
 grown_same : (w : World) → HasGrown w w
 grown_same w = record { clock = omega arith; count = omega arith; next = omega arith; records = on_same w.records; emissions = on_same w.emissions; questions = on_same w.questions }
 
+-- one growth and then another
 grown_on : (u v w : World) → HasGrown u v → HasGrown v w → HasGrown u w
 grown_on u v w f g = record {
   clock = omega (arith, f.clock, g.clock);
@@ -36,6 +38,7 @@ grown_on u v w f g = record {
   questions = on_more u.questions v.questions w.questions f.questions g.questions;
 }
 
+-- one turn of a run
 grown_next : (b : Behaviour) (m : Model) (n : ℕ) → HasGrown (world_at (after b m n)) (world_at (after b m (suc n)))
 grown_next b m n =
     let f = after_follows b m n in
@@ -59,6 +62,7 @@ OnlyOn P (On w) = P w
 OnlyOn P (Stopped w) = ⊥
 OnlyOn P (Broken w path f) = Unit {0}
 
+-- the next part, where the flow goes on
 only_then : (P Q : World → Type 0) (fl : Flow) (k : World → Flow) → OnlyOn P fl → ((w : World) → P w → OnlyOn Q (k w)) → OnlyOn Q (fl >>= k)
 only_then P Q (On w) k p h = h w p
 only_then P Q (Stopped w) k p h = p
@@ -69,6 +73,7 @@ record IsBuilt (w : World) : Type 0 where
   live : w.live ≡ ids_from 1 w.records
   modules : w.modules ≡ []
 
+-- ids of these and of more that are created
 ids_from-append : (k : ℕ) (rs : List Record) (parent : ℕ) (bs : List Built) → ids_from k rs ++ ids_from (k + length rs) bs ≡ ids_from k (rs ++ map (record_under parent) bs)
 ids_from-append k [] parent [] = refl
 ids_from-append k [] parent (b ∷ bs) =
@@ -79,6 +84,7 @@ ids_from-append k (r ∷ rs) parent bs =
     let same : k + suc (length rs) ≡ suc k + length rs = omega arith in
     ap (λ i. k ∷ ids_from (suc k) rs ++ ids_from i bs) same ∙ ap (λ is. k ∷ is) (ids_from-append (suc k) rs parent bs)
 
+-- the network is created
 root_built : (found : Answer) → OnlyOn IsBuilt (rooted found (asked Root empty))
 root_built (answer.Root name) = record { live = refl; modules = refl }
 root_built (answer.Inside bs) = tt
@@ -86,6 +92,7 @@ root_built (answer.Value v) = tt
 root_built (answer.Fault path f) = tt
 root_built answer.Absent = tt
 
+-- submodules are created, unless they are too many
 many_built : (parent : ℕ) (bs : List Built) (w : World) (one : Option Built) → IsBuilt w → OnlyOn IsBuilt (unless_many parent bs w one)
 many_built parent bs w (Some b) f = tt
 many_built parent bs w None f =
@@ -95,6 +102,7 @@ many_built parent bs w None f =
       modules = f.modules;
     }
 
+-- submodules are created, as was answered
 built_built : (parent : ℕ) (found : Answer) (w : World) → IsBuilt w → OnlyOn IsBuilt (built parent found w)
 built_built parent (answer.Inside bs) w f = many_built parent bs w (slice_get bs 65535) f
 built_built parent (answer.Root name) w f = tt
@@ -102,9 +110,11 @@ built_built parent (answer.Value v) w f = tt
 built_built parent (answer.Fault path fault) w f = tt
 built_built parent answer.Absent w f = tt
 
+-- the second question, and what follows it
 inside_built : (m : Model) (w : World) → IsBuilt w → OnlyOn IsBuilt (inside_asked m w)
 inside_built m w f = built_built 1 (answer_of m w.records (Build 1)) (asked (Build 1) w) (record { live = f.live; modules = f.modules })
 
+-- so it is after setup
 prepared_built : (m : Model) → OnlyOn IsBuilt (prepared m)
 prepared_built m = only_then IsBuilt IsBuilt (root_asked m) (inside_asked m) (root_built (answer_of m [] Root)) (inside_built m)
 
@@ -119,20 +129,24 @@ record StandAll (ps : List Part) (u w : World) : Type 0 where
   live : w.live ≡ u.live
   records : w.records ≡ u.records
 
+-- one more stands
 standing_one_more : (is : List Instance) (i : Instance) (ps : List Part) → standing (is ++ i ∷ []) ++ ps ≡ standing is ++ part_of i ∷ ps
 standing_one_more [] i ps = refl
 standing_one_more (j ∷ js) i ps = ap (λ qs. part_of j ∷ qs) (standing_one_more js i ps)
 
+-- where the kind is known the module is placed
 place_stands : (b : Behaviour) (all ps : List Part) (u : World) (p : Part) (w : World) (c : Bool) (g : Flow) → (OnlyOn (StandAll all u) (On (placed p (b.naming p.kind).initial w) >>= place_all b ps)) → OnlyOn (StandAll all u) (g >>= place_all b ps) → OnlyOn (StandAll all u) ((if c then On (placed p (b.naming p.kind).initial w) else g) >>= place_all b ps)
 place_stands b all ps u p w true g h l = h
 place_stands b all ps u p w false g h l = l
 
+-- all parts are placed
 place_all_stands : (b : Behaviour) (all ps : List Part) (u w : World) → standing w.modules ++ ps ≡ all → w.live ≡ u.live → w.records ≡ u.records → OnlyOn (StandAll all u) (place_all b ps w)
 place_all_stands b all [] u w e live records = record { parts = sym (append-nil (standing w.modules)) ∙ e; live = live; records = records }
 place_all_stands b all (p ∷ ps) u w e live records =
     let v : World = placed p (b.naming p.kind).initial w in
     place_stands b all ps u p w (b.known p.kind) _ (place_all_stands b all ps u v (standing_one_more w.modules _ ps ∙ e) live records) tt
 
+-- those of the records
 place_parts_ready : (b : Behaviour) (w : World) → IsBuilt w → OnlyOn IsReady (place_parts b w)
 place_parts_ready b w f = by (place_parts b w) (place_all_stands b (parts_of w) (parts_of w) w w (rw f.modules refl) refl refl)
   where
@@ -141,9 +155,11 @@ place_parts_ready b w f = by (place_parts b w) (place_all_stands b (parts_of w) 
     by (Stopped v) h = h
     by (Broken v path fault) h = tt
 
+-- so it is when all boxes are there
 ready_ready : (b : Behaviour) (m : Model) → OnlyOn IsReady (ready b m)
 ready_ready b m = only_then IsBuilt IsReady (prepared m) (place_parts b) (prepared_built m) (place_parts_ready b)
 
+-- the ids of parts are those of records
 parts_among : (id : ℕ) (rs : List Record) → Each (λ p. IsAmong p.id (ids_from id rs)) (parts_from id rs)
 parts_among id [] = tt
 parts_among id (r ∷ rs) = by r.class (each_map (λ p. IsAmong p.id (ids_from (suc id) rs)) (λ p. IsAmong p.id (ids_from id (r ∷ rs))) (parts_from (suc id) rs) (λ p h. inr h) (parts_among (suc id) rs))
@@ -152,6 +168,7 @@ parts_among id (r ∷ rs) = by r.class (each_map (λ p. IsAmong p.id (ids_from (
     by None h = h
     by (Some kind) h = (inl refl, h)
 
+-- what holds of the ids of what stands
 each_id : (live : List ℕ) (is : List Instance) → Each (λ p. IsAmong p.id live) (standing is) → Each (λ id. IsAmong id live) (ids_of is)
 each_id live [] h = tt
 each_id live (i ∷ is) h = (h.0, each_id live is h.1)
@@ -168,10 +185,12 @@ record AreStarted (w : World) : Type 0 where
   modules : Each (λ id. IsAmong id w.started) (ids_of w.modules)
   live : w.started ≡ w.live
 
+-- a run that goes on has the property
 abbrev IfRunning : (World → Type 0) → Stage → Type 0
 IfRunning P (Running w) = P w
 IfRunning P (Over w outcome) = Unit {0}
 
+-- what stands, was started and lives stays so
 started_kept : (v w : World) → w.records ≡ v.records → standing w.modules ≡ standing v.modules → w.started ≡ v.started → w.live ≡ v.live → AreStarted v → AreStarted w
 started_kept v w records same started live f = record {
   parts = same ∙ (f.parts ∙ ap (parts_from 1) (sym records));
@@ -179,6 +198,7 @@ started_kept v w records same started live f = record {
   live = started ∙ (f.live ∙ sym live);
 }
 
+-- the end of an event leaves it
 settled_started : (fl : Flow) → AreStarted (in_flow fl) → IfRunning AreStarted (settled fl)
 settled_started (On w) f = f
 settled_started (Stopped w) f = f
@@ -193,17 +213,20 @@ begin_started b m (On w) f h =
 begin_started b m (Stopped w) f h = absurd h
 begin_started b m (Broken w path fault) f h = tt
 
+-- one turn of a run leaves it
 next_started : (s t : Stage) → Follows (world_at s) (world_at t) → ((w : World) (outcome : Outcome) → s ≡ Over w outcome → IfRunning AreStarted t) → IfRunning AreStarted s → IfRunning AreStarted t
 next_started (Running v) (Running w) g k f = started_kept v w g.records g.same g.started g.live f
 next_started (Running v) (Over w outcome) g k f = tt
 next_started (Over v outcome) t g k f = k v outcome refl
 
+-- so it is in each run that goes on
 started_after : (b : Behaviour) (m : Model) (n : ℕ) → IfRunning AreStarted (after b m n)
-started_after b m zero = begin_started b m (ready b m) (orderly_none (in_flow (ready b m)) (ready_none b m)) (ready_ready b m)
+started_after b m zero = begin_started b m (ready b m) (orderly_none (in_flow (ready b m)) (ready_none b m).0) (ready_ready b m)
 started_after b m (suc n) = next_started (after b m n) (after b m (suc n)) (after_follows b m n) (λ w outcome e. rw e tt) (started_after b m n)
 
 -- ---- calls
 
+-- a call finds what stands
 found_in : (id k : ℕ) (is : List Instance) → IsAmong id (ids_of is) → IsSome (position_from (λ (i : Instance). i.id == id) k is)
 found_in id k [] h = absurd h
 found_in id k (i ∷ is) h = by (i.id == id) refl h (found_in id (k + 1) is)
@@ -213,11 +236,13 @@ found_in id k (i ∷ is) h = by (i.id == id) refl h (found_in id (k + 1) is)
     by false t (inl same) later = absurd (true≢false (sym (eq-eqb i.id id same) ∙ t))
     by false t (inr there) later = later there
 
+-- one of these, all of which are among others
 among_of : (ids : List ℕ) (xs : List ℕ) (id : ℕ) → Each (λ x. IsAmong x ids) xs → IsAmong id xs → IsAmong id ids
 among_of ids [] id f h = absurd h
 among_of ids (x ∷ xs) id f (inl same) = subst (λ y. IsAmong y ids) same f.0
 among_of ids (x ∷ xs) id f (inr there) = among_of ids xs id f.1 there
 
+-- what stands can be called
 can_be_called : (w : World) (id : ℕ) → AreStarted w → IsAmong id (ids_of w.modules) → CanBeCalled w id
 can_be_called w id f h =
     let started = among_of w.started (ids_of w.modules) id f.modules h in

@@ -45,6 +45,7 @@ abbrev pub AllWithin : ℕ → List Instance → Type 0
 AllWithin n [] = Unit {0}
 AllWithin n (i ∷ rest) = (i.id ≤ n) × AllWithin n rest
 
+-- the same, of parts
 abbrev pub PartsWithin : ℕ → List Part → Type 0
 PartsWithin n [] = Unit {0}
 PartsWithin n (p ∷ ps) = (p.id ≤ n) × PartsWithin n ps
@@ -55,31 +56,38 @@ pub record Fits (w : World) : Type 0 where
   pub modules : AllWithin (length w.records) w.modules
   pub questions : AllAbout (length w.records) w.questions
 
+-- two lists of questions of one event
 AllOfEvent-append : (n : ℕ) (xs ys : List Asked) → AllOfEvent n xs → AllOfEvent n ys → AllOfEvent n (xs ++ ys)
 AllOfEvent-append n [] ys f g = g
 AllOfEvent-append n (x ∷ xs) ys f g = (f.0, AllOfEvent-append n xs ys f.1 g)
 
+-- two lists of questions about these modules
 AllAbout-append : (n : ℕ) (xs ys : List Asked) → AllAbout n xs → AllAbout n ys → AllAbout n (xs ++ ys)
 AllAbout-append n [] ys f g = g
 AllAbout-append n (x ∷ xs) ys f g = (f.0, AllAbout-append n xs ys f.1 g)
 
+-- more modules were created
 AllAbout-more : (n k : ℕ) (xs : List Asked) → n ≤ k → AllAbout n xs → AllAbout k xs
 AllAbout-more n k [] h f = tt
 AllAbout-more n k (x ∷ xs) h f = (omega (arith, f.0), AllAbout-more n k xs h f.1)
 
+-- more ids were given
 AllWithin-more : (n k : ℕ) (xs : List Instance) → n ≤ k → AllWithin n xs → AllWithin k xs
 AllWithin-more n k [] h f = tt
 AllWithin-more n k (x ∷ xs) h f = (omega (arith, f.0), AllWithin-more n k xs h f.1)
 
+-- two lists of modules
 AllWithin-append : (n : ℕ) (xs ys : List Instance) → AllWithin n xs → AllWithin n ys → AllWithin n (xs ++ ys)
 AllWithin-append n [] ys f g = g
 AllWithin-append n (x ∷ xs) ys f g = (f.0, AllWithin-append n xs ys f.1 g)
 
+-- the module at a place
 AllWithin-at : (n : ℕ) (xs : List Instance) (i : ℕ) (x : Instance) → slice_get xs i ≡ Some x → AllWithin n xs → x.id ≤ n
 AllWithin-at n [] i x e f = cc
 AllWithin-at n (y ∷ xs) zero x e f = let same : y ≡ x = cc in subst (λ (z : Instance). z.id ≤ n) same f.0
 AllWithin-at n (y ∷ xs) (suc i) x e f = AllWithin-at n xs i x e f.1
 
+-- a module is put at a place
 AllWithin-set : (n : ℕ) (xs : List Instance) (i : ℕ) (x : Instance) → x.id ≤ n → AllWithin n xs → AllWithin n (slice_set xs i x)
 AllWithin-set n [] i x h f = tt
 AllWithin-set n (y ∷ xs) zero x h f = (h, f.1)
@@ -107,9 +115,11 @@ pub record IsGrown (old new : World) : Type 0 where
   pub records : old.records ++ more ≡ new.records
   pub fits : Fits new
 
+-- nothing was added
 pub grown_same : (w : World) → Fits w → IsGrown w w
 grown_same w f = record { rest = []; joined = append-nil w.questions; present = tt; count = refl; more = []; records = append-nil w.records; fits = f }
 
+-- one growth and then another
 pub grown_on : {u v w : World} → IsGrown u v → IsGrown v w → IsGrown u w
 grown_on {u} {v} {w} f g = record {
   rest = f.rest ++ g.rest;
@@ -137,6 +147,7 @@ grown_beside u v f records modules questions count = record {
   };
 }
 
+-- the next part adds, where the flow goes on
 pub then_grows : (fl : Flow) (k : World → Flow) → Fits (in_flow fl) → ((w : World) → Fits w → IsGrown w (in_flow (k w))) → IsGrown (in_flow fl) (in_flow (fl >>= k))
 then_grows (On w) k f h = h w f
 then_grows (Stopped w) k f h = grown_same w f
@@ -146,30 +157,36 @@ then_grows (Broken w path fault) k f h = grown_same w f
 pub grown_then : (w : World) (fl : Flow) (k : World → Flow) → IsGrown w (in_flow fl) → ((w : World) → Fits w → IsGrown w (in_flow (k w))) → IsGrown w (in_flow (fl >>= k))
 grown_then w fl k f h = grown_on f (then_grows fl k f.fits h)
 
+-- of two ways on, whichever is taken
 pub either_grows : (w : World) (c : Bool) (f g : Flow) → IsGrown w (in_flow f) → IsGrown w (in_flow g) → IsGrown w (in_flow (if c then f else g))
 either_grows w true f g h k = h
 either_grows w false f g h k = k
 
 -- ---- actions: one line for each
 
+-- an event to come is no question
 scheduled_grows : (id : ℕ) (s : Schedule) (w : World) (time : Option ℕ) → Fits w → IsGrown w (in_flow (scheduled id s w time))
 scheduled_grows id s w None f = grown_same w f
 scheduled_grows id s w (Some time) f = either_grows w (list_any (λ p. is_timer id s.timer p) w.pending) _ _ (grown_same w f) (grown_beside w _ f refl refl refl refl)
 
+-- an action asks nothing
 perform_grows : (id : ℕ) (action : Action) (w : World) → Fits w → IsGrown w (in_flow (perform id action w))
 perform_grows id (Emit signal value) w f = grown_beside w _ f refl refl refl refl
 perform_grows id (ScheduleAfter s) w f = scheduled_grows id s w (time_sum w.clock s.delay) f
 perform_grows id (Fail text) w f = grown_same w f
 
+-- nor do all actions of a reply
 perform_all_grows : (id : ℕ) (actions : List Action) (w : World) → Fits w → IsGrown w (in_flow (perform_all id actions w))
 perform_all_grows id [] w f = grown_same w f
 perform_all_grows id (action ∷ actions) w f = grown_then w (perform id action w) (perform_all id actions) (perform_grows id action w f) (perform_all_grows id actions)
 
+-- nor do they where there may be too many
 acted_grows : (id : ℕ) (actions : List Action) (w : World) → Fits w → IsGrown w (in_flow (acted id actions w))
 acted_grows id actions w f = either_grows w (nat_lt 1000 (length actions)) _ _ (grown_same w f) (perform_all_grows id actions w f)
 
 -- ---- questions
 
+-- one question about a module that is there
 pub asked_grows : (q : Question) (w : World) → Fits w → about q ≤ length w.records → IsGrown w (asked q w)
 asked_grows q w f l = record {
   rest = record { event = w.count; question = q } ∷ [];
@@ -190,9 +207,11 @@ about_read : (id : ℕ) (r : Read) → about (question_of id r) ≡ id
 about_read id (read.Parameter name) = refl
 about_read id (read.Gate name) = refl
 
+-- the question of one read
 pub asked_read_grows : (id : ℕ) (r : Read) (w : World) → Fits w → id ≤ length w.records → IsGrown w (asked (question_of id r) w)
 asked_read_grows id r w f l = asked_grows (question_of id r) w f (omega (arith, l, about_read id r))
 
+-- the questions of all reads
 pub ask_all_grows : (id : ℕ) (reads : List Read) (w : World) → Fits w → id ≤ length w.records → IsGrown w (ask_all id reads w)
 ask_all_grows id [] w f l = grown_same w f
 ask_all_grows id (r ∷ rs) w f l =
@@ -201,6 +220,7 @@ ask_all_grows id (r ∷ rs) w f l =
 
 -- ---- replies and calls
 
+-- a fault asks nothing
 unless_grows : (w : World) (id : ℕ) (found : Option Fault) (go : World → Flow) → Fits w → IsGrown w (in_flow (go w)) → IsGrown w (in_flow (unless_fault id found go w))
 unless_grows w id (Some fault) go f h = grown_same w f
 unless_grows w id None go f h = h
@@ -209,6 +229,7 @@ unless_grows w id None go f h = h
 pub answered_on : (id : ℕ) (found : Option Fault) (actions : List Action) (w : World) → Fits w → IsGrown w (in_flow (unless_fault id found (acted id actions) w))
 answered_on id found actions w f = unless_grows w id found (acted id actions) f (acted_grows id actions w f)
 
+-- a new state leaves the ids
 pub fits_with_state : (place : ℕ) (i : Instance) (state : List ℕ) (w : World) → Fits w → slice_get w.modules place ≡ Some i → Fits (with_state place i state w)
 fits_with_state place i state w f e = record {
   nested = f.nested;
@@ -216,6 +237,7 @@ fits_with_state place i state w f e = record {
   questions = f.questions;
 }
 
+-- what follows a reply asks for its reads
 pub replied_grows : (m : Model) (id place : ℕ) (i : Instance) (r : Replied) (w : World) → Fits w → id ≤ length w.records → slice_get w.modules place ≡ Some i → IsGrown w (in_flow (replied m id place i r w))
 replied_grows m id place i r w f l e =
     let v : World = with_state place i r.state w in
@@ -223,14 +245,17 @@ replied_grows m id place i r w f l e =
     let g = grown_on asks (answered_on id (read_fault m w.records id r.reply.reads) r.reply.actions (ask_all id r.reply.reads v) asks.fits) in
     record { rest = g.rest; joined = g.joined; present = g.present; count = g.count; more = g.more; records = g.records; fits = g.fits }
 
+-- so does a call of a module that may stand
 called_grows : (b : Behaviour) (m : Model) (id : ℕ) (p : Prompt) (w : World) (place : ℕ) (found : Option Instance) → Fits w → id ≤ length w.records → slice_get w.modules place ≡ found → IsGrown w (in_flow (called b m id p w place found))
 called_grows b m id p w place None f l e = grown_same w f
 called_grows b m id p w place (Some i) f l e = replied_grows m id place i ((b.naming i.kind).reply i.state (call_of m id p w)) w f l e
 
+-- at a place that it may have
 call_at_grows : (b : Behaviour) (m : Model) (id : ℕ) (p : Prompt) (w : World) (found : Option ℕ) → Fits w → place_in id w.modules ≡ found → IsGrown w (in_flow (call_at b m id p w found))
 call_at_grows b m id p w None f e = grown_same w f
 call_at_grows b m id p w (Some place) f e = called_grows b m id p w place (slice_get w.modules place) f (placed_within (length w.records) id 0 place w.modules f.modules e) refl
 
+-- one call
 pub call_grows : (b : Behaviour) (m : Model) (id : ℕ) (p : Prompt) (w : World) → Fits w → IsGrown w (in_flow (call_module b m id p w))
 call_grows b m id p w f = call_at_grows b m id p w (place_in id w.modules) f refl
 
@@ -240,6 +265,7 @@ within_of_place id place w f e = placed_within (length w.records) id 0 place w.m
 
 -- ---- boxes and initialization
 
+-- the parts have ids of their records
 parts_within : (id : ℕ) (rs : List Record) (n : ℕ) → id + length rs ≤ n + 1 → PartsWithin n (parts_from id rs)
 parts_within id [] n l = tt
 parts_within id (r ∷ rs) n l = by r.class (parts_within (suc id) rs n (omega (arith, l)))
@@ -248,6 +274,7 @@ parts_within id (r ∷ rs) n l = by r.class (parts_within (suc id) rs n (omega (
     by None h = h
     by (Some kind) h = (omega (arith, l), h)
 
+-- a module is placed
 place_grows : (b : Behaviour) (p : Part) (w : World) → Fits w → p.id ≤ length w.records → IsGrown w (in_flow (place b p w))
 place_grows b p w f l = either_grows w (b.known p.kind) _ _ (record {
   rest = [];
@@ -259,10 +286,12 @@ place_grows b p w f l = either_grows w (b.known p.kind) _ _ (record {
   fits = record { nested = f.nested; modules = AllWithin-append (length w.records) w.modules _ f.modules (l, tt); questions = f.questions };
 }) (grown_same w f)
 
+-- more ids were given
 PartsWithin-more : (n k : ℕ) (ps : List Part) → n ≤ k → PartsWithin n ps → PartsWithin k ps
 PartsWithin-more n k [] h f = tt
 PartsWithin-more n k (p ∷ ps) h f = (omega (arith, f.0), PartsWithin-more n k ps h f.1)
 
+-- records become more
 pub longer : (u v : World) → IsGrown u v → length u.records ≤ length v.records
 longer u v g = omega (arith, length-append u.records g.more, ap (λ (rs : List Record). length rs) g.records)
 
@@ -272,26 +301,32 @@ then_grows_where n (On w) k f l h = h w f l
 then_grows_where n (Stopped w) k f l h = grown_same w f
 then_grows_where n (Broken w path fault) k f l h = grown_same w f
 
+-- all modules are placed
 place_all_grows : (b : Behaviour) (n : ℕ) (ps : List Part) (w : World) → PartsWithin n ps → Fits w → n ≤ length w.records → IsGrown w (in_flow (place_all b ps w))
 place_all_grows b n [] w h f l = grown_same w f
 place_all_grows b n (p ∷ ps) w h f l =
     let g = place_grows b p w f (omega (arith, h.0, l)) in
     grown_on g (then_grows_where n (place b p w) (place_all b ps) g.fits (omega (arith, longer w (in_flow (place b p w)) g, l)) (λ v. place_all_grows b n ps v h.1))
 
+-- those of the records
 pub place_parts_grows : (b : Behaviour) (w : World) → Fits w → IsGrown w (in_flow (place_parts b w))
 place_parts_grows b w f = place_all_grows b (length w.records) (parts_of w) w (parts_within 1 w.records (length w.records) (omega arith)) f (omega arith)
 
+-- one module is initialized, where it has the stage
 initialize_grows : (b : Behaviour) (m : Model) (stage : ℕ) (p : Part) (w : World) → Fits w → IsGrown w (in_flow (initialize b m stage p w))
 initialize_grows b m stage p w f = either_grows w (nat_lt stage (b.naming p.kind).stages) _ _ (call_grows b m p.id (prompt.Initialize stage) w f) (grown_same w f)
 
+-- one stage of all modules
 one_stage_grows : (b : Behaviour) (m : Model) (stage : ℕ) (ps : List Part) (w : World) → Fits w → IsGrown w (in_flow (one_stage b m stage ps w))
 one_stage_grows b m stage [] w f = grown_same w f
 one_stage_grows b m stage (p ∷ ps) w f = grown_then w (initialize b m stage p w) (one_stage b m stage ps) (initialize_grows b m stage p w f) (one_stage_grows b m stage ps)
 
+-- the stages that are left
 stages_grow : (b : Behaviour) (m : Model) (ps : List Part) (stage left : ℕ) (w : World) → Fits w → IsGrown w (in_flow (stages_from b m ps stage left w))
 stages_grow b m ps stage zero w f = grown_same w f
 stages_grow b m ps stage (suc left) w f = grown_then w (one_stage b m stage ps w) (stages_from b m ps (suc stage) left) (one_stage_grows b m stage ps w f) (stages_grow b m ps (suc stage) left)
 
+-- all stages
 pub initialize_all_grows : (b : Behaviour) (m : Model) (w : World) → Fits w → IsGrown w (in_flow (initialize_all b m w))
 initialize_all_grows b m w f =
     let fits : Fits (with_started w) = record { nested = f.nested; modules = f.modules; questions = f.questions } in
@@ -300,9 +335,11 @@ initialize_all_grows b m w f =
 
 -- ---- setup
 
+-- at first nothing stands and nothing was asked
 pub fits_empty : Fits empty
 fits_empty = record { nested = tt; modules = tt; questions = tt }
 
+-- the network is created, as was answered
 pub rooted_grows : (found : Answer) → IsGrown (asked Root empty) (in_flow (rooted found (asked Root empty)))
 rooted_grows (answer.Root name) = record {
   rest = [];
@@ -318,14 +355,17 @@ rooted_grows (answer.Value v) = grown_same _ (asked_grows Root empty fits_empty 
 rooted_grows (answer.Fault path f) = grown_same _ (asked_grows Root empty fits_empty (omega arith)).fits
 rooted_grows answer.Absent = grown_same _ (asked_grows Root empty fits_empty (omega arith)).fits
 
+-- the first question, and what follows it
 pub root_grows : (m : Model) → IsGrown empty (in_flow (root_asked m))
 root_grows m = grown_on (asked_grows Root empty fits_empty (omega arith)) (rooted_grows (answer_of m [] Root))
 
+-- submodules are created after the module around them
 nested_more : (k : ℕ) (rs : List Record) (parent : ℕ) (bs : List Built) → AreNested k rs → parent ≤ k + length rs → AreNested k (rs ++ map (record_under parent) bs)
 nested_more k [] parent [] h l = tt
 nested_more k [] parent (b ∷ bs) h l = (omega (arith, l), nested_more (suc k) [] parent bs tt (omega (arith, l)))
 nested_more k (r ∷ rs) parent bs h l = (h.0, nested_more (suc k) rs parent bs h.1 (omega (arith, l)))
 
+-- submodules are created, unless they are too many
 many_grows : (parent : ℕ) (bs : List Built) (w : World) (one : Option Built) → Fits w → parent ≤ length w.records → IsGrown w (in_flow (unless_many parent bs w one))
 many_grows parent bs w (Some b) f l = grown_same w f
 many_grows parent bs w None f l =
@@ -344,6 +384,7 @@ many_grows parent bs w None f l =
       };
     }
 
+-- submodules are created, as was answered
 pub built_grows : (parent : ℕ) (found : Answer) (w : World) → Fits w → parent ≤ length w.records → IsGrown w (in_flow (built parent found w))
 built_grows parent (answer.Inside bs) w f l = many_grows parent bs w (slice_get bs 65535) f l
 built_grows parent (answer.Root name) w f l = grown_same w f
@@ -351,6 +392,7 @@ built_grows parent (answer.Value v) w f l = grown_same w f
 built_grows parent (answer.Fault path fault) w f l = grown_same w f
 built_grows parent answer.Absent w f l = grown_same w f
 
+-- the second question, and what follows it
 pub inside_grows : (m : Model) (w : World) → Fits w → 1 ≤ length w.records → IsGrown w (in_flow (inside_asked m w))
 inside_grows m w f l =
     let g = asked_grows (Build 1) w f l in

@@ -1,5 +1,5 @@
 -- In every world of a run the events to come are in order, none is late, each has a number of its own, and each is for a
--- module that stands.
+-- module that stands; and what was emitted stands in the order of events.
 use Rattle.std.proofs.Common.{◌≡◌, ◌≢◌, inl, inr, ℕ, zero, suc, ◌+◌, ◌≤◌, ◌<◌, ◌==◌, cond, Bool, true, false, List, [], ◌∷◌, ◌++◌, Option, Some, None, refl, sym, ap, ◌∙◌, arith, subst, append_assoc, append-nil, slice_get, slice_set, length, map, if◌then◌else◌, nat_lt, nat_le, eqb-true}
 use Rattle.std.specs.List.{list_any, position_from}
 use Rattle.sim_time.specs.Time.{time_sum}
@@ -22,16 +22,17 @@ use Rattle.run_semantics.specs.declared.outcome.Outcome.{Outcome}
 use Rattle.run_semantics.specs.declared.outcome.Outcome.TheVariants.{Ended}
 use Rattle.run_semantics.specs.declared.pending.Happening.TheVariants.{Timer}
 use Rattle.run_semantics.specs.declared.pending.Pending.{Pending}
+use Rattle.run_semantics.specs.declared.traces.Emission.{Emission}
 use Rattle.run_semantics.specs.declared.traces.Instance.{Instance}
 use Rattle.run_semantics.specs.World.{World, empty, asked}
 use Rattle.run_semantics.specs.Order.{inserted}
 use Rattle.run_semantics.specs.Perform.{Flow, On, Stopped, Broken, ◌>>=◌, is_timer, scheduled, perform, perform_all, ask_all, question_of, acted, read_fault, unless_fault, answered}
 use Rattle.run_semantics.specs.Event.{call_of, place_in, with_state, called, call_at, call_module, begun, event, message_of}
 use Rattle.run_semantics.specs.Run.{rooted, built, unless_many, root_asked, inside_asked, prepared, Part, parts_of, place, place_all, place_parts, ready, standing, most_stages, initialize, one_stage, stages_from, initialize_all, with_started, part_of, Stage, Running, Over, world_at, settled, picked, next_stage, after}
-use Rattle.run_semantics.specs.Laws.{Each, AreInOrder, HaveOwnNumbers, IsAmong, ids_of, GoesOn}
+use Rattle.run_semantics.specs.Laws.{Each, AreInOrder, AreInTurn, HaveOwnNumbers, IsAmong, ids_of, GoesOn}
 use Rattle.run_semantics.proofs.Sound.{in_flow}
 use Rattle.run_semantics.proofs.Counts.{event_count}
-use Rattle.run_semantics.proofs.Order.{before_time, each_map, each_inserted, ordered_inserted, own_inserted}
+use Rattle.run_semantics.proofs.Order.{before_time, each_map, each_append, each_inserted, ordered_inserted, own_inserted}
 
 -- what holds of the events to come of a world
 pub record IsOrderly (w : World) : Type 0 where
@@ -41,17 +42,24 @@ pub record IsOrderly (w : World) : Type 0 where
   pub due : Each (λ e. w.clock ≤ e.time) w.pending
   pub modules : Each (λ e. IsAmong e.id (ids_of w.modules)) w.pending
 
+-- all were emitted in that event, at that time
+abbrev pub AreOf : ℕ → ℕ → List Emission → Type 0
+AreOf event time es = Each (λ e. (e.event ≡ event) × (e.time ≡ time)) es
+
 -- from the first world to the second, within one event
 pub record Leads (old new : World) : Type 0 where
   pub clock : new.clock ≡ old.clock
+  pub count : new.count ≡ old.count
   pub next : old.next ≤ new.next
   pub records : new.records ≡ old.records
   pub same : standing new.modules ≡ standing old.modules
   pub started : new.started ≡ old.started
   pub live : new.live ≡ old.live
   pub emissions : GoesOn old.emissions new.emissions
+  pub present : AreOf old.count old.clock emissions.0
   pub orderly : IsOrderly new
 
+-- the ids of what stands
 ids_standing : (is : List Instance) → map (λ (p : Part). p.id) (standing is) ≡ ids_of is
 ids_standing [] = refl
 ids_standing (i ∷ is) = ap (λ ids. i.id ∷ ids) (ids_standing is)
@@ -60,24 +68,30 @@ ids_standing (i ∷ is) = ap (λ ids. i.id ∷ ids) (ids_standing is)
 pub same_ids : (is js : List Instance) → standing is ≡ standing js → ids_of is ≡ ids_of js
 same_ids is js e = sym (ids_standing is) ∙ (ap (map (λ (p : Part). p.id)) e ∙ ids_standing js)
 
-pub on_same : {X : Type 0} (xs : List X) → GoesOn xs xs
+-- a list goes on from itself
+abbrev pub on_same : {X : Type 0} (xs : List X) → GoesOn xs xs
 on_same xs = ([], append-nil xs)
 
-pub on_more : {X : Type 0} (xs ys zs : List X) → GoesOn xs ys → GoesOn ys zs → GoesOn xs zs
+-- and from what it went on from
+abbrev pub on_more : {X : Type 0} (xs ys zs : List X) → GoesOn xs ys → GoesOn ys zs → GoesOn xs zs
 on_more xs ys zs f g = (f.0 ++ g.0, sym (append_assoc xs f.0 g.0) ∙ (ap (λ us. us ++ g.0) f.1 ∙ g.1))
 
+-- nothing happened
 leads_same : (w : World) → IsOrderly w → Leads w w
-leads_same w f = record { clock = refl; next = omega arith; records = refl; same = refl; started = refl; live = refl; emissions = on_same w.emissions; orderly = f }
+leads_same w f = record { clock = refl; count = refl; present = tt; next = omega arith; records = refl; same = refl; started = refl; live = refl; emissions = on_same w.emissions; orderly = f }
 
+-- one part and then another
 leads_on : {u v w : World} → Leads u v → Leads v w → Leads u w
 leads_on {u} {v} {w} f g = record {
   clock = g.clock ∙ f.clock;
+  count = g.count ∙ f.count;
   next = omega (arith, f.next, g.next);
   records = g.records ∙ f.records;
   same = g.same ∙ f.same;
   started = g.started ∙ f.started;
   live = g.live ∙ f.live;
   emissions = on_more u.emissions v.emissions w.emissions f.emissions g.emissions;
+  present = each_append (λ (e : Emission). (e.event ≡ u.count) × (e.time ≡ u.clock)) f.emissions.0 g.emissions.0 f.present (rw (← f.count, ← f.clock) g.present);
   orderly = g.orderly;
 }
 
@@ -85,23 +99,28 @@ leads_on {u} {v} {w} f g = record {
 abbrev StandsIn : ℕ → World → Type 0
 StandsIn id w = IsAmong id (ids_of w.modules)
 
+-- what stands stays
 stands_on : (id : ℕ) (u v : World) → Leads u v → StandsIn id u → StandsIn id v
 stands_on id u v f h = subst (IsAmong id) (sym (same_ids v.modules u.modules f.same)) h
 
+-- the next part, where the flow goes on
 on_leads : (P : World → Type 0) (fl : Flow) (k : World → Flow) → IsOrderly (in_flow fl) → P (in_flow fl) → ((v : World) → IsOrderly v → P v → Leads v (in_flow (k v))) → Leads (in_flow fl) (in_flow (fl >>= k))
 on_leads P (On w) k f p h = h w f p
 on_leads P (Stopped w) k f p h = leads_same w f
 on_leads P (Broken w path fault) k f p h = leads_same w f
 
+-- one part, and the next, which may rely on what the first leaves
 leads_then : (P : World → Type 0) (w : World) (fl : Flow) (k : World → Flow) → Leads w (in_flow fl) → P (in_flow fl) → ((v : World) → IsOrderly v → P v → Leads v (in_flow (k v))) → Leads w (in_flow (fl >>= k))
 leads_then P w fl k f p h = leads_on f (on_leads P fl k f.orderly p h)
 
+-- of two ways on, whichever is taken
 either_leads : (w : World) (c : Bool) (f g : Flow) → Leads w (in_flow f) → Leads w (in_flow g) → Leads w (in_flow (if c then f else g))
 either_leads w true f g h k = h
 either_leads w false f g h k = k
 
 -- ---- actions: one line for each
 
+-- by whether the sum is a time
 sum_by : (c : Bool) (n a time : ℕ) → a ≤ n → (if c then Some n else None) ≡ Some time → a ≤ time
 sum_by true n a time l e = let same : n ≡ time = cc in omega (arith, l, same)
 sum_by false n a time l e = cc
@@ -116,6 +135,8 @@ leads_inserted e w f number time stands =
     let ne : Each (λ g. g.number ≢ e.number) w.pending = each_map (λ g. g.number < w.next) (λ g. g.number ≢ e.number) w.pending (λ g l x. absurd (omega (arith, l, x, number))) f.below in
     record {
       clock = refl;
+      count = refl;
+      present = tt;
       next = omega arith;
       records = refl;
       same = refl;
@@ -131,15 +152,19 @@ leads_inserted e w f number time stands =
       };
     }
 
+-- an event is scheduled, unless its timer is pending or its time is none
 scheduled_leads : (id : ℕ) (s : Schedule) (w : World) (found : Option ℕ) → time_sum w.clock s.delay ≡ found → IsOrderly w → StandsIn id w → Leads w (in_flow (scheduled id s w found))
 scheduled_leads id s w None e f h = leads_same w f
 scheduled_leads id s w (Some time) e f h =
     either_leads w (list_any (λ p. is_timer id s.timer p) w.pending) _ _ (leads_same w f)
     (leads_inserted (record { time = time; priority = s.priority; number = w.next; id = id; what = Timer s.timer s.kind }) w f refl (sum_is_after w.clock s.delay time e) h)
 
+-- one action
 perform_leads : (id : ℕ) (action : Action) (w : World) → IsOrderly w → StandsIn id w → Leads w (in_flow (perform id action w))
 perform_leads id (Emit signal value) w f h = record {
   clock = refl;
+  count = refl;
+  present = ((refl, refl), tt);
   next = omega arith;
   records = refl;
   same = refl;
@@ -151,21 +176,25 @@ perform_leads id (Emit signal value) w f h = record {
 perform_leads id (ScheduleAfter s) w f h = scheduled_leads id s w (time_sum w.clock s.delay) refl f h
 perform_leads id (Fail text) w f h = leads_same w f
 
+-- all actions of a reply
 perform_all_leads : (id : ℕ) (actions : List Action) (w : World) → IsOrderly w → StandsIn id w → Leads w (in_flow (perform_all id actions w))
 perform_all_leads id [] w f h = leads_same w f
 perform_all_leads id (action ∷ actions) w f h =
     let g = perform_leads id action w f h in
     leads_then (StandsIn id) w (perform id action w) (perform_all id actions) g (stands_on id w (in_flow (perform id action w)) g h) (perform_all_leads id actions)
 
+-- unless they are too many
 acted_leads : (id : ℕ) (actions : List Action) (w : World) → IsOrderly w → StandsIn id w → Leads w (in_flow (acted id actions w))
 acted_leads id actions w f h = either_leads w (nat_lt 1000 (length actions)) _ _ (leads_same w f) (perform_all_leads id actions w f h)
 
 -- ---- replies and calls
 
 -- what changes neither clock, modules, events nor emissions
-leads_beside : (u v : World) → IsOrderly u → v.clock ≡ u.clock → v.next ≡ u.next → v.pending ≡ u.pending → v.records ≡ u.records → standing v.modules ≡ standing u.modules → v.started ≡ u.started → v.live ≡ u.live → v.emissions ≡ u.emissions → Leads u v
-leads_beside u v f clock next pending records same started live emissions = record {
+leads_beside : (u v : World) → IsOrderly u → v.clock ≡ u.clock → v.next ≡ u.next → v.pending ≡ u.pending → v.records ≡ u.records → standing v.modules ≡ standing u.modules → v.started ≡ u.started → v.live ≡ u.live → v.emissions ≡ u.emissions → v.count ≡ u.count → Leads u v
+leads_beside u v f clock next pending records same started live emissions count = record {
   clock = clock;
+  count = count;
+  present = tt;
   next = omega (arith, next);
   records = records;
   same = same;
@@ -181,16 +210,19 @@ leads_beside u v f clock next pending records same started live emissions = reco
   };
 }
 
+-- the questions of a reply
 ask_all_leads : (id : ℕ) (reads : List Read) (w : World) → IsOrderly w → Leads w (ask_all id reads w)
 ask_all_leads id [] w f = leads_same w f
 ask_all_leads id (r ∷ rs) w f =
-    let g : Leads w (asked (question_of id r) w) = leads_beside w _ f refl refl refl refl refl refl refl refl in
+    let g : Leads w (asked (question_of id r) w) = leads_beside w _ f refl refl refl refl refl refl refl refl refl in
     leads_on g (ask_all_leads id rs (asked (question_of id r) w) g.orderly)
 
+-- a fault changes nothing
 unless_leads : (w : World) (id : ℕ) (found : Option Fault) (go : World → Flow) → IsOrderly w → Leads w (in_flow (go w)) → Leads w (in_flow (unless_fault id found go w))
 unless_leads w id (Some fault) go f h = leads_same w f
 unless_leads w id None go f h = h
 
+-- what follows a reply
 answered_leads : (m : Model) (id : ℕ) (reply : Reply) (w : World) → IsOrderly w → StandsIn id w → Leads w (in_flow (answered m id reply w))
 answered_leads m id reply w f h =
     let v : World = ask_all id reply.reads w in
@@ -203,12 +235,13 @@ standing_set [] place i state e = refl
 standing_set (j ∷ js) zero i state e = let same : j ≡ i = cc in ap (λ (x : Instance). part_of x ∷ standing js) (sym same)
 standing_set (j ∷ js) (suc place) i state e = ap (λ ps. part_of j ∷ ps) (standing_set js place i state e)
 
+-- a call of a module that may stand
 called_leads : (b : Behaviour) (m : Model) (id : ℕ) (p : Prompt) (w : World) (place : ℕ) (found : Option Instance) → slice_get w.modules place ≡ found → IsOrderly w → StandsIn id w → Leads w (in_flow (called b m id p w place found))
 called_leads b m id p w place None e f h = leads_same w f
 called_leads b m id p w place (Some i) e f h =
     let r : Replied = (b.naming i.kind).reply i.state (call_of m id p w) in
     let v : World = with_state place i r.state w in
-    let g : Leads w v = leads_beside w v f refl refl refl refl (standing_set w.modules place i r.state e) refl refl refl in
+    let g : Leads w v = leads_beside w v f refl refl refl refl (standing_set w.modules place i r.state e) refl refl refl refl in
     leads_on g (answered_leads m id r.reply v g.orderly (stands_on id w v g h))
 
 -- a module that has a place stands
@@ -220,73 +253,92 @@ placed_stands id k place (i ∷ is) e = by (i.id == id) refl (placed_stands id (
     by true t later e = inl (eqb-true i.id id t)
     by false t later e = inr (later e)
 
+-- at a place that it may have
 call_at_leads : (b : Behaviour) (m : Model) (id : ℕ) (p : Prompt) (w : World) (found : Option ℕ) → place_in id w.modules ≡ found → IsOrderly w → Leads w (in_flow (call_at b m id p w found))
 call_at_leads b m id p w None e f = leads_same w f
 call_at_leads b m id p w (Some place) e f = called_leads b m id p w place (slice_get w.modules place) refl f (placed_stands id 0 place w.modules e)
 
+-- one call
 pub call_leads : (b : Behaviour) (m : Model) (id : ℕ) (p : Prompt) (w : World) → IsOrderly w → Leads w (in_flow (call_module b m id p w))
 call_leads b m id p w f = call_at_leads b m id p w (place_in id w.modules) refl f
 
 -- ---- initialization
 
+-- one module is initialized, where it has the stage
 initialize_leads : (b : Behaviour) (m : Model) (stage : ℕ) (p : Part) (w : World) → IsOrderly w → Leads w (in_flow (initialize b m stage p w))
 initialize_leads b m stage p w f = either_leads w (nat_lt stage (b.naming p.kind).stages) _ _ (call_leads b m p.id (prompt.Initialize stage) w f) (leads_same w f)
 
+-- one stage of all modules
 one_stage_leads : (b : Behaviour) (m : Model) (stage : ℕ) (ps : List Part) (w : World) → IsOrderly w → Leads w (in_flow (one_stage b m stage ps w))
 one_stage_leads b m stage [] w f = leads_same w f
 one_stage_leads b m stage (p ∷ ps) w f =
     leads_then (λ v. Unit {0}) w (initialize b m stage p w) (one_stage b m stage ps) (initialize_leads b m stage p w f) tt (λ v g u. one_stage_leads b m stage ps v g)
 
+-- the stages that are left
 stages_lead : (b : Behaviour) (m : Model) (ps : List Part) (stage left : ℕ) (w : World) → IsOrderly w → Leads w (in_flow (stages_from b m ps stage left w))
 stages_lead b m ps stage zero w f = leads_same w f
 stages_lead b m ps stage (suc left) w f =
     leads_then (λ v. Unit {0}) w (one_stage b m stage ps w) (stages_from b m ps (suc stage) left) (one_stage_leads b m stage ps w f) tt (λ v g u. stages_lead b m ps (suc stage) left v g)
 
+-- modules that count as started change no event
 orderly_started : (w : World) → IsOrderly w → IsOrderly (with_started w)
 orderly_started w f = record { order = f.order; own = f.own; below = f.below; due = f.due; modules = f.modules }
 
+-- all stages
 pub initialize_all_leads : (b : Behaviour) (m : Model) (w : World) → IsOrderly w → Leads (with_started w) (in_flow (initialize_all b m w))
 initialize_all_leads b m w f = stages_lead b m (standing w.modules) 0 (most_stages b (standing w.modules)) (with_started w) (orderly_started w f)
 
--- ---- setup: no event is to come
+-- ---- setup: no event is to come, and nothing was emitted
 
-then_none : (fl : Flow) (k : World → Flow) → (in_flow fl).pending ≡ [] → ((w : World) → w.pending ≡ [] → (in_flow (k w)).pending ≡ []) → (in_flow (fl >>= k)).pending ≡ []
+-- no event is to come, and nothing was emitted
+abbrev IsQuiet : World → Type 0
+IsQuiet w = (w.pending ≡ []) × (w.emissions ≡ [])
+
+-- the next part, where the flow goes on
+then_none : (fl : Flow) (k : World → Flow) → IsQuiet (in_flow fl) → ((w : World) → IsQuiet w → IsQuiet (in_flow (k w))) → IsQuiet (in_flow (fl >>= k))
 then_none (On w) k e h = h w e
 then_none (Stopped w) k e h = e
 then_none (Broken w path f) k e h = e
 
-either_none : (c : Bool) (f g : Flow) → (in_flow f).pending ≡ [] → (in_flow g).pending ≡ [] → (in_flow (if c then f else g)).pending ≡ []
+-- of two ways on, whichever is taken
+either_none : (c : Bool) (f g : Flow) → IsQuiet (in_flow f) → IsQuiet (in_flow g) → IsQuiet (in_flow (if c then f else g))
 either_none true f g e d = e
 either_none false f g e d = d
 
-root_none : (found : Answer) → (in_flow (rooted found (asked Root empty))).pending ≡ []
-root_none (answer.Root name) = refl
-root_none (answer.Inside bs) = refl
-root_none (answer.Value v) = refl
-root_none (answer.Fault path f) = refl
-root_none answer.Absent = refl
+-- the network is created
+root_none : (found : Answer) → IsQuiet (in_flow (rooted found (asked Root empty)))
+root_none (answer.Root name) = (refl, refl)
+root_none (answer.Inside bs) = (refl, refl)
+root_none (answer.Value v) = (refl, refl)
+root_none (answer.Fault path f) = (refl, refl)
+root_none answer.Absent = (refl, refl)
 
-many_none : (parent : ℕ) (bs : List Built) (w : World) (one : Option Built) → w.pending ≡ [] → (in_flow (unless_many parent bs w one)).pending ≡ []
+-- submodules are created, unless they are too many
+many_none : (parent : ℕ) (bs : List Built) (w : World) (one : Option Built) → IsQuiet w → IsQuiet (in_flow (unless_many parent bs w one))
 many_none parent bs w (Some b) e = e
 many_none parent bs w None e = e
 
-built_none : (parent : ℕ) (found : Answer) (w : World) → w.pending ≡ [] → (in_flow (built parent found w)).pending ≡ []
+-- submodules are created, as was answered
+built_none : (parent : ℕ) (found : Answer) (w : World) → IsQuiet w → IsQuiet (in_flow (built parent found w))
 built_none parent (answer.Inside bs) w e = many_none parent bs w (slice_get bs 65535) e
 built_none parent (answer.Root name) w e = e
 built_none parent (answer.Value v) w e = e
 built_none parent (answer.Fault path f) w e = e
 built_none parent answer.Absent w e = e
 
-place_all_none : (b : Behaviour) (ps : List Part) (w : World) → w.pending ≡ [] → (in_flow (place_all b ps w)).pending ≡ []
+-- modules are placed
+place_all_none : (b : Behaviour) (ps : List Part) (w : World) → IsQuiet w → IsQuiet (in_flow (place_all b ps w))
 place_all_none b [] w e = e
 place_all_none b (p ∷ ps) w e = then_none (place b p w) (place_all b ps) (either_none (b.known p.kind) _ _ e e) (place_all_none b ps)
 
-pub ready_none : (b : Behaviour) (m : Model) → (in_flow (ready b m)).pending ≡ []
+-- so it is when all boxes are there
+pub ready_none : (b : Behaviour) (m : Model) → IsQuiet (in_flow (ready b m))
 ready_none b m =
     then_none (prepared m) (place_parts b)
     (then_none (root_asked m) (inside_asked m) (root_none (answer_of m [] Root)) (λ w e. built_none 1 (answer_of m w.records (Build 1)) (asked (Build 1) w) e))
     (λ w e. place_all_none b (parts_of w) w e)
 
+-- with no event to come all is in order
 pub orderly_none : (w : World) → w.pending ≡ [] → IsOrderly w
 orderly_none w e = record { order = rw e tt; own = rw e tt; below = rw e tt; due = rw e tt; modules = rw e tt }
 
@@ -302,10 +354,12 @@ pub record Follows (old new : World) : Type 0 where
   pub started : new.started ≡ old.started
   pub live : new.live ≡ old.live
   pub emissions : GoesOn old.emissions new.emissions
+  pub present : AreOf new.count new.clock emissions.0
   pub orderly : IsOrderly new
 
+-- no event was executed
 follows_same : (w : World) → IsOrderly w → Follows w w
-follows_same w f = record { clock = omega arith; count = omega arith; next = omega arith; records = refl; same = refl; started = refl; live = refl; emissions = on_same w.emissions; orderly = f }
+follows_same w f = record { present = tt; clock = omega arith; count = omega arith; next = omega arith; records = refl; same = refl; started = refl; live = refl; emissions = on_same w.emissions; orderly = f }
 
 -- the first event is taken out, and none that is left is before it
 orderly_begun : (p : Pending) (rest : List Pending) (w : World) → w.pending ≡ p ∷ rest → IsOrderly w → IsOrderly (begun p rest w)
@@ -316,11 +370,13 @@ orderly_begun p rest w e f =
     let modules : Each (λ g. IsAmong g.id (ids_of w.modules)) (p ∷ rest) = subst (Each (λ (g : Pending). IsAmong g.id (ids_of w.modules))) e f.modules in
     record { order = order.1; own = own.1; below = below.1; due = each_map _ (λ g. p.time ≤ g.time) rest (λ g b. before_time p g b) order.0; modules = modules.1 }
 
+-- the end of an event changes nothing of the world
 settled_at : (fl : Flow) → world_at (settled fl) ≡ in_flow fl
 settled_at (On w) = refl
 settled_at (Stopped w) = refl
 settled_at (Broken w path f) = refl
 
+-- one event
 event_follows : (b : Behaviour) (m : Model) (p : Pending) (rest : List Pending) (w : World) → w.pending ≡ p ∷ rest → IsOrderly w → Follows w (world_at (settled (event b m p rest w)))
 event_follows b m p rest w e f =
     let due : Each (λ g. w.clock ≤ g.time) (p ∷ rest) = subst (Each (λ (g : Pending). w.clock ≤ g.time)) e f.due in
@@ -336,30 +392,108 @@ event_follows b m p rest w e f =
       started = g.started;
       live = g.live;
       emissions = g.emissions;
+      present = rw (g.count, g.clock) g.present;
       orderly = g.orderly;
     })
 
+-- the next event, where there is one
 picked_follows : (b : Behaviour) (m : Model) (w : World) (pending : List Pending) → w.pending ≡ pending → IsOrderly w → Follows w (world_at (picked b m w pending))
 picked_follows b m w [] e f = follows_same w f
 picked_follows b m w (p ∷ rest) e f = event_follows b m p rest w e f
 
+-- where the run is over nothing happens
 either_follows : (c : Bool) (w : World) (outcome : Outcome) (s : Stage) → IsOrderly w → Follows w (world_at s) → Follows w (world_at (if c then Over w outcome else s))
 either_follows true w outcome s f g = follows_same w f
 either_follows false w outcome s f g = g
 
+-- one turn of a run
 next_follows : (b : Behaviour) (m : Model) (s : Stage) → IsOrderly (world_at s) → Follows (world_at s) (world_at (next_stage b m s))
 next_follows b m (Running w) f = either_follows w.ended w Ended (picked b m w w.pending) f (picked_follows b m w w.pending refl f)
 next_follows b m (Over w outcome) f = follows_same w f
 
+-- initialization, where the flow goes on
 orderly_then : (b : Behaviour) (m : Model) (fl : Flow) → IsOrderly (in_flow fl) → IsOrderly (in_flow (fl >>= initialize_all b m))
 orderly_then b m (On w) f = (initialize_all_leads b m w f).orderly
 orderly_then b m (Stopped w) f = f
 orderly_then b m (Broken w path fault) f = f
 
+-- ---- emissions
+
+-- none was emitted after that event or that time, and along them neither falls
+record AreTold (event time : ℕ) (es : List Emission) : Type 0 where
+  past : Each (λ e. (e.event ≤ event) × (e.time ≤ time)) es
+  turn : AreInTurn es
+
+-- emissions of one event and time
+turn_of : (event time : ℕ) (es : List Emission) → AreOf event time es → AreInTurn es
+turn_of event time [] h = tt
+turn_of event time (e ∷ es) h =
+    let n = h.0.0 in
+    let t = h.0.1 in
+    (each_map (λ f. (f.event ≡ event) × (f.time ≡ time)) (λ f. (e.event ≤ f.event) × (e.time ≤ f.time)) es (λ f k. (omega (arith, n, k.0), omega (arith, t, k.1))) h.1, turn_of event time es h.1)
+
+-- emissions, and then those of a later event
+turn_append : (event time : ℕ) (xs ys : List Emission) → Each (λ e. (e.event ≤ event) × (e.time ≤ time)) xs → AreInTurn xs → AreOf event time ys → AreInTurn (xs ++ ys)
+turn_append event time [] ys p h k = turn_of event time ys k
+turn_append event time (e ∷ es) ys p h k =
+    let n = p.0.0 in
+    let t = p.0.1 in (
+      each_append (λ f. (e.event ≤ f.event) × (e.time ≤ f.time)) es ys h.0 (each_map (λ f. (f.event ≡ event) × (f.time ≡ time)) (λ f. (e.event ≤ f.event) × (e.time ≤ f.time)) ys (λ f m. (omega (arith, n, m.0), omega (arith, t, m.1))) k),
+      turn_append event time es ys p.1 h.1 k,
+    )
+
+-- more are told, of a later event
+told_more : (old new was is : ℕ) (xs ys : List Emission) → old ≤ new → was ≤ is → AreTold old was xs → AreOf new is ys → AreTold new is (xs ++ ys)
+told_more old new was is xs ys l k f g =
+    let later : Each (λ e. (e.event ≤ new) × (e.time ≤ is)) xs = each_map (λ e. (e.event ≤ old) × (e.time ≤ was)) (λ e. (e.event ≤ new) × (e.time ≤ is)) xs (λ e h. (omega (arith, l, h.0), omega (arith, k, h.1))) f.past in
+    record {
+      past = each_append (λ e. (e.event ≤ new) × (e.time ≤ is)) xs ys later (each_map (λ e. (e.event ≡ new) × (e.time ≡ is)) (λ e. (e.event ≤ new) × (e.time ≤ is)) ys (λ e h. (omega (arith, h.0), omega (arith, h.1))) g);
+      turn = turn_append new is xs ys later f.turn g;
+    }
+
+-- the same, of a world
+abbrev ToldIn : World → Type 0
+ToldIn w = AreTold w.count w.clock w.emissions
+
+-- nothing was emitted
+told_none : (w : World) → w.emissions ≡ [] → ToldIn w
+told_none w e = record { past = rw e tt; turn = rw e tt }
+
+-- initialization, where the flow goes on
+told_then : (b : Behaviour) (m : Model) (fl : Flow) → IsOrderly (in_flow fl) → ToldIn (in_flow fl) → ToldIn (in_flow (fl >>= initialize_all b m))
+told_then b m (On w) f h =
+    let v : World = in_flow (initialize_all b m w) in
+    let g = initialize_all_leads b m w f in
+    subst (AreTold v.count v.clock) g.emissions.1 (told_more w.count v.count w.clock v.clock w.emissions g.emissions.0 (omega (arith, g.count)) (omega (arith, g.clock)) h (rw (g.count, g.clock) g.present))
+told_then b m (Stopped w) f h = h
+told_then b m (Broken w path fault) f h = h
+
+-- ---- every world
+
 -- every world of a run is orderly
 pub orderly_after : (b : Behaviour) (m : Model) (n : ℕ) → IsOrderly (world_at (after b m n))
-orderly_after b m zero = subst IsOrderly (sym (settled_at (ready b m >>= initialize_all b m))) (orderly_then b m (ready b m) (orderly_none (in_flow (ready b m)) (ready_none b m)))
+orderly_after b m zero = subst IsOrderly (sym (settled_at (ready b m >>= initialize_all b m))) (orderly_then b m (ready b m) (orderly_none (in_flow (ready b m)) (ready_none b m).0))
 orderly_after b m (suc n) = (next_follows b m (after b m n) (orderly_after b m n)).orderly
 
+-- from each world of a run to the next
 pub after_follows : (b : Behaviour) (m : Model) (n : ℕ) → Follows (world_at (after b m n)) (world_at (after b m (suc n)))
 after_follows b m n = next_follows b m (after b m n) (orderly_after b m n)
+
+-- and its emissions are in their turn
+told_after : (b : Behaviour) (m : Model) (n : ℕ) → ToldIn (world_at (after b m n))
+told_after b m zero =
+    let quiet = ready_none b m in
+    subst ToldIn (sym (settled_at (ready b m >>= initialize_all b m))) (told_then b m (ready b m) (orderly_none (in_flow (ready b m)) quiet.0) (told_none (in_flow (ready b m)) quiet.1))
+told_after b m (suc n) =
+    let u : World = world_at (after b m n) in
+    let v : World = world_at (after b m (suc n)) in
+    let g = after_follows b m n in
+    subst (AreTold v.count v.clock) g.emissions.1 (told_more u.count v.count u.clock v.clock u.emissions g.emissions.0 g.count g.clock (told_after b m n) g.present)
+
+-- in each world of a run emissions stand in the order of events
+pub turn_after : (b : Behaviour) (m : Model) (n : ℕ) → AreInTurn (world_at (after b m n)).emissions
+turn_after b m n = (told_after b m n).turn
+
+-- and none is above the count or the clock
+pub past_after : (b : Behaviour) (m : Model) (n : ℕ) → Each (λ e. (e.event ≤ (world_at (after b m n)).count) × (e.time ≤ (world_at (after b m n)).clock)) (world_at (after b m n)).emissions
+past_after b m n = (told_after b m n).past

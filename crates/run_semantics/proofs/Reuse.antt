@@ -36,10 +36,12 @@ use Rattle.run_semantics.proofs.Growth.{AllOfEvent, AllAbout, Fits, IsGrown, gro
 abbrev pub AgreesIn : Model → Model → World → Type 0
 AgreesIn m n w = Agrees m n w.records w.questions
 
+-- on the first questions of a list
 Agrees-front : (m n : Model) (rs : List Record) (xs ys : List Asked) → Agrees m n rs (xs ++ ys) → Agrees m n rs xs
 Agrees-front m n rs [] ys h = tt
 Agrees-front m n rs (x ∷ xs) ys h = (h.0, Agrees-front m n rs xs ys h.1)
 
+-- on its last question
 Agrees-last : (m n : Model) (rs : List Record) (xs : List Asked) (a : Asked) → Agrees m n rs (xs ++ a ∷ []) → answer_of m rs a.question ≡ answer_of n rs a.question
 Agrees-last m n rs [] a h = h.0
 Agrees-last m n rs (x ∷ xs) a h = Agrees-last m n rs xs a h.1
@@ -50,11 +52,13 @@ Agrees-fewer m n rs more h [] f a = tt
 Agrees-fewer m n rs more h (x ∷ xs) f a =
     (sym (answer_more m rs more h x.question f.0) ∙ (a.0 ∙ answer_more n rs more h x.question f.0), Agrees-fewer m n rs more h xs f.1 a.1)
 
+-- on what was asked before more was asked and created
 Agrees-grown : (m n : Model) (u : World) (rest : List Asked) (more rs : List Record) (qs : List Asked) → Fits u → u.questions ++ rest ≡ qs → u.records ++ more ≡ rs → Agrees m n rs qs → AgreesIn m n u
 Agrees-grown m n u rest more rs qs f joined records h =
     let all : Agrees m n (u.records ++ more) (u.questions ++ rest) = subst (λ xs. Agrees m n xs (u.questions ++ rest)) (sym records) (subst (Agrees m n rs) (sym joined) h) in
     Agrees-fewer m n u.records more f.nested u.questions f.questions (Agrees-front m n (u.records ++ more) u.questions rest all)
 
+-- the same, of a world that has grown
 Agrees-before : (m n : Model) (u w : World) → Fits u → IsGrown u w → AgreesIn m n w → AgreesIn m n u
 Agrees-before m n u w f g h = Agrees-grown m n u g.rest g.more w.records w.questions f g.joined g.records h
 
@@ -76,11 +80,13 @@ IfOn P (On w) = P w
 IfOn P (Stopped w) = Unit {0}
 IfOn P (Broken w path f) = Unit {0}
 
+-- the next part adds, where the flow goes on
 on_grows : (m n : Model) (P : World → Type 0) (fl : Flow) (k l : World → Flow) → Fits (in_flow fl) → IfOn P fl → ((v : World) → Fits v → P v → DoesSame m n v (k v) (l v)) → IsGrown (in_flow fl) (in_flow (fl >>= k))
 on_grows m n P (On w) k l f p h = (h w f p).grows
 on_grows m n P (Stopped w) k l f p h = grown_same w f
 on_grows m n P (Broken w path fault) k l f p h = grown_same w f
 
+-- the next part is the same, where the flow goes on
 on_same : (m n : Model) (P : World → Type 0) (fl : Flow) (k l : World → Flow) → Fits (in_flow fl) → IfOn P fl → ((v : World) → Fits v → P v → DoesSame m n v (k v) (l v)) → AgreesIn m n (in_flow (fl >>= k)) → (fl >>= k) ≡ (fl >>= l)
 on_same m n P (On w) k l f p h a = (h w f p).same a
 on_same m n P (Stopped w) k l f p h a = refl
@@ -95,14 +101,17 @@ does_then_where m n P w f g k l d p h =
       same = λ a. on_same m n P f k l d.grows.fits p h a ∙ ap (λ fl. fl >>= l) (d.same (Agrees-before m n (in_flow f) (in_flow (f >>= k)) d.grows.fits more a));
     }
 
+-- nothing is said of the world
 any_world : (fl : Flow) → IfOn (λ w. Unit {0}) fl
 any_world (On w) = tt
 any_world (Stopped w) = tt
 any_world (Broken w path f) = tt
 
+-- one part and then the next
 does_then : (m n : Model) (w : World) (f g : Flow) (k l : World → Flow) → DoesSame m n w f g → ((v : World) → Fits v → DoesSame m n v (k v) (l v)) → DoesSame m n w (f >>= k) (g >>= l)
 does_then m n w f g k l d h = does_then_where m n (λ w. Unit {0}) w f g k l d (any_world f) (λ v fits p. h v fits)
 
+-- of two ways on, whichever is taken
 either_does : (m n : Model) (w : World) (c : Bool) (f g h k : Flow) → DoesSame m n w f g → DoesSame m n w h k → DoesSame m n w (if c then f else h) (if c then g else k)
 either_does m n w true f g h k d e = d
 either_does m n w false f g h k d e = e
@@ -123,6 +132,7 @@ alike_asked m n id (r ∷ rs) w f l h =
     let here : AgreesIn m n v = Agrees-before m n v (ask_all id rs v) g.fits (ask_all_grows id rs v g.fits l) h in
     (Agrees-last m n w.records w.questions (record { event = w.count; question = question_of id r }) here, alike_asked m n id rs v g.fits l h)
 
+-- so they have the same fault of a read
 fault_alike : (m n : Model) (records : List Record) (id : ℕ) (reads : List Read) → AnswerAlike m n records id reads → read_fault m records id reads ≡ read_fault n records id reads
 fault_alike m n records id [] h = refl
 fault_alike m n records id (r ∷ rs) h =
@@ -135,6 +145,7 @@ shown_alike m n id p w [] h = tt
 shown_alike m n id p w (read.Parameter name ∷ rs) h = (same_value m n w.records id name h.0, shown_alike m n id p w rs h.1)
 shown_alike m n id p w (read.Gate name ∷ rs) h = (refl, shown_alike m n id p w rs h.1)
 
+-- a call has the same reply, since the law of reads holds, and the same follows
 called_same : (b : Behaviour) → IsLawful b → (m n : Model) (id : ℕ) (p : Prompt) (w : World) (place : ℕ) (found : Option Instance) → Fits w → id ≤ length w.records → slice_get w.modules place ≡ found → DoesSame m n w (called b m id p w place found) (called b n id p w place found)
 called_same b law m n id p w place None f l e = does_itself m n w (On w) (grown_same w f)
 called_same b law m n id p w place (Some i) f l e =
@@ -152,15 +163,18 @@ called_same b law m n id p w place (Some i) f l e =
           ∙ ap (λ (x : Replied). replied n id place i x w) (sym reply);
     }
 
+-- the same, at a place that the module may have
 call_at_same : (b : Behaviour) → IsLawful b → (m n : Model) (id : ℕ) (p : Prompt) (w : World) (found : Option ℕ) → Fits w → place_in id w.modules ≡ found → DoesSame m n w (call_at b m id p w found) (call_at b n id p w found)
 call_at_same b law m n id p w None f e = does_itself m n w (On w) (grown_same w f)
 call_at_same b law m n id p w (Some place) f e = called_same b law m n id p w place (slice_get w.modules place) f (within_of_place id place w f e) refl
 
+-- one call
 call_same : (b : Behaviour) → IsLawful b → (m n : Model) (id : ℕ) (p : Prompt) (w : World) → Fits w → DoesSame m n w (call_module b m id p w) (call_module b n id p w)
 call_same b law m n id p w f = call_at_same b law m n id p w (place_in id w.modules) f refl
 
 -- ---- setup, boxes and initialization
 
+-- the first question, and what follows it
 root_same : (m n : Model) → DoesSame m n empty (root_asked m) (root_asked n)
 root_same m n = record {
   grows = root_grows m;
@@ -174,6 +188,7 @@ root_same m n = record {
 abbrev HasRecord : World → Type 0
 HasRecord w = 1 ≤ length w.records
 
+-- a network that is created has its record
 rooted_on : (found : Answer) → IfOn HasRecord (rooted found (asked Root empty))
 rooted_on (answer.Root name) = omega arith
 rooted_on (answer.Inside bs) = tt
@@ -181,6 +196,7 @@ rooted_on (answer.Value v) = tt
 rooted_on (answer.Fault path f) = tt
 rooted_on answer.Absent = tt
 
+-- the second question, and what follows it
 inside_same : (m n : Model) (w : World) → Fits w → HasRecord w → DoesSame m n w (inside_asked m w) (inside_asked n w)
 inside_same m n w f l =
     let v : World = asked (Build 1) w in
@@ -192,27 +208,33 @@ inside_same m n w f l =
           ap (λ (a : Answer). built 1 a v) (Agrees-last m n w.records w.questions (record { event = w.count; question = Build 1 }) here);
     }
 
+-- setup
 prepared_same : (m n : Model) → DoesSame m n empty (prepared m) (prepared n)
 prepared_same m n = does_then_where m n HasRecord empty (root_asked m) (root_asked n) (inside_asked m) (inside_asked n) (root_same m n) (rooted_on (answer_of m [] Root)) (inside_same m n)
 
+-- setup and the boxes
 ready_same : (b : Behaviour) (m n : Model) → DoesSame m n empty (ready b m) (ready b n)
 ready_same b m n =
     does_then m n empty (prepared m) (prepared n) (place_parts b) (place_parts b) (prepared_same m n) (λ w f. does_itself m n w (place_parts b w) (place_parts_grows b w f))
 
+-- one module is initialized, where it has the stage
 initialize_same : (b : Behaviour) → IsLawful b → (m n : Model) (stage : ℕ) (p : Part) (w : World) → Fits w → DoesSame m n w (initialize b m stage p w) (initialize b n stage p w)
 initialize_same b law m n stage p w f =
     either_does m n w (nat_lt stage (b.naming p.kind).stages) _ _ (On w) (On w) (call_same b law m n p.id (prompt.Initialize stage) w f) (does_itself m n w (On w) (grown_same w f))
 
+-- one stage of all modules
 one_stage_same : (b : Behaviour) → IsLawful b → (m n : Model) (stage : ℕ) (ps : List Part) (w : World) → Fits w → DoesSame m n w (one_stage b m stage ps w) (one_stage b n stage ps w)
 one_stage_same b law m n stage [] w f = does_itself m n w (On w) (grown_same w f)
 one_stage_same b law m n stage (p ∷ ps) w f =
     does_then m n w (initialize b m stage p w) (initialize b n stage p w) (one_stage b m stage ps) (one_stage b n stage ps) (initialize_same b law m n stage p w f) (one_stage_same b law m n stage ps)
 
+-- the stages that are left
 stages_same : (b : Behaviour) → IsLawful b → (m n : Model) (ps : List Part) (stage left : ℕ) (w : World) → Fits w → DoesSame m n w (stages_from b m ps stage left w) (stages_from b n ps stage left w)
 stages_same b law m n ps stage zero w f = does_itself m n w (On w) (grown_same w f)
 stages_same b law m n ps stage (suc left) w f =
     does_then m n w (one_stage b m stage ps w) (one_stage b n stage ps w) (stages_from b m ps (suc stage) left) (stages_from b n ps (suc stage) left) (one_stage_same b law m n stage ps w f) (stages_same b law m n ps (suc stage) left)
 
+-- all stages
 initialize_all_same : (b : Behaviour) → IsLawful b → (m n : Model) (w : World) → Fits w → DoesSame m n w (initialize_all b m w) (initialize_all b n w)
 initialize_all_same b law m n w f =
     let fits : Fits (with_started w) = record { nested = f.nested; modules = f.modules; questions = f.questions } in
@@ -225,17 +247,21 @@ initialize_all_same b law m n w f =
 abbrev pub begins : Behaviour → Model → Flow
 begins b m = ready b m >>= initialize_all b m
 
+-- event zero is the same
 pub begins_same : (b : Behaviour) → IsLawful b → (m n : Model) → DoesSame m n empty (begins b m) (begins b n)
 begins_same b law m n = does_then m n empty (ready b m) (ready b n) (initialize_all b m) (initialize_all b n) (ready_same b m n) (initialize_all_same b law m n)
 
+-- and it only asks and creates, in every catalogue
 pub begins_grows : (b : Behaviour) (m : Model) → IsGrown empty (in_flow (begins b m))
 begins_grows b m = let g = (ready_same b m m).grows in grown_on g (then_grows (ready b m) (initialize_all b m) g.fits (initialize_all_grows b m))
 
+-- the end of an event changes nothing of the world
 settled_world : (fl : Flow) → world_at (settled fl) ≡ in_flow fl
 settled_world (On w) = refl
 settled_world (Stopped w) = refl
 settled_world (Broken w path f) = refl
 
+-- event zero, settled
 start_same : (b : Behaviour) → IsLawful b → (m n : Model) → AgreesIn m n (world_at (start b m)) → start b m ≡ start b n
 start_same b law m n h = ap settled ((begins_same b law m n).same (subst (AgreesIn m n) (settled_world (begins b m)) h))
 
@@ -250,50 +276,61 @@ pub record IsLater (event : ℕ) (old new : World) : Type 0 where
   pub records : old.records ++ more ≡ new.records
   pub fits : Fits new
 
+-- no event was executed
 later_same : (event : ℕ) (w : World) → Fits w → IsLater event w w
 later_same event w f = record { rest = []; joined = append-nil w.questions; later = tt; more = []; records = append-nil w.records; fits = f }
 
+-- an event that begins leaves ids
 fits_begun : (p : Pending) (rest : List Pending) (w : World) → Fits w → Fits (begun p rest w)
 fits_begun p rest w f = record { nested = f.nested; modules = f.modules; questions = f.questions }
 
+-- one event asks questions of its own number
 event_later : (b : Behaviour) (m : Model) (p : Pending) (rest : List Pending) (w : World) → Fits w → IsLater (w.count + 1) w (world_at (settled (event b m p rest w)))
 event_later b m p rest w f =
     let g = call_grows b m p.id (prompt.Message (message_of p)) (begun p rest w) (fits_begun p rest w f) in
     subst (IsLater (w.count + 1) w) (sym (settled_world (event b m p rest w))) (record { rest = g.rest; joined = g.joined; later = g.present; more = g.more; records = g.records; fits = g.fits })
 
+-- so does the next event, where there is one
 picked_later : (b : Behaviour) (m : Model) (w : World) (pending : List Pending) → Fits w → IsLater (w.count + 1) w (world_at (picked b m w pending))
 picked_later b m w [] f = later_same (w.count + 1) w f
 picked_later b m w (p ∷ rest) f = event_later b m p rest w f
 
+-- where the run is over nothing is asked
 either_later : (event : ℕ) (c : Bool) (w : World) (outcome : Outcome) (s : Stage) → Fits w → IsLater event w (world_at s) → IsLater event w (world_at (if c then Over w outcome else s))
 either_later event true w outcome s f g = later_same event w f
 either_later event false w outcome s f g = g
 
+-- one turn of a run
 next_later : (b : Behaviour) (m : Model) (n : ℕ) (s : Stage) → RunsOn n s → Fits (world_at s) → IsLater (suc n) (world_at s) (world_at (next_stage b m s))
 next_later b m n (Running w) at f =
     let e : w.count + 1 ≡ suc n = omega (arith, at w refl) in
     subst (λ event. IsLater event w (world_at (next_stage b m (Running w)))) e (either_later (w.count + 1) w.ended w Ended (picked b m w w.pending) f (picked_later b m w w.pending f))
 next_later b m n (Over w outcome) at f = later_same (suc n) w f
 
+-- the next event is the same
 picked_same : (b : Behaviour) → IsLawful b → (m n : Model) (w : World) (pending : List Pending) → Fits w → AgreesIn m n (world_at (picked b m w pending)) → picked b m w pending ≡ picked b n w pending
 picked_same b law m n w [] f h = refl
 picked_same b law m n w (p ∷ rest) f h =
     ap settled ((call_same b law m n p.id (prompt.Message (message_of p)) (begun p rest w) (fits_begun p rest w f)).same (subst (AgreesIn m n) (settled_world (event b m p rest w)) h))
 
+-- where the run is over it is so in both
 either_same : (m n : Model) (c : Bool) (w : World) (outcome : Outcome) (s t : Stage) → (AgreesIn m n (world_at s) → s ≡ t) → AgreesIn m n (world_at (if c then Over w outcome else s)) → (if c then Over w outcome else s) ≡ (if c then Over w outcome else t)
 either_same m n true w outcome s t k h = refl
 either_same m n false w outcome s t k h = k h
 
+-- one turn is the same
 next_same : (b : Behaviour) → IsLawful b → (m n : Model) (s : Stage) → Fits (world_at s) → AgreesIn m n (world_at (next_stage b m s)) → next_stage b m s ≡ next_stage b n s
 next_same b law m n (Running w) f h = either_same m n w.ended w Ended (picked b m w w.pending) (picked b n w w.pending) (picked_same b law m n w w.pending f) h
 next_same b law m n (Over w outcome) f h = refl
 
 -- ---- runs
 
+-- in each world of a run ids are those of records
 pub fits_after : (b : Behaviour) (m : Model) (n : ℕ) → Fits (world_at (after b m n))
 fits_after b m zero = subst Fits (sym (settled_world (begins b m))) (begins_grows b m).fits
 fits_after b m (suc n) = (next_later b m n (after b m n) (runs_on b m n) (fits_after b m n)).fits
 
+-- from each world of a run to the next
 pub after_later : (b : Behaviour) (m : Model) (n : ℕ) → IsLater (suc n) (world_at (after b m n)) (world_at (after b m (suc n)))
 after_later b m n = next_later b m n (after b m n) (runs_on b m n) (fits_after b m n)
 
@@ -312,14 +349,17 @@ abbrev AllUpTo : ℕ → List Asked → Type 0
 AllUpTo v [] = Unit {0}
 AllUpTo v (a ∷ rest) = (a.event ≤ v) × AllUpTo v rest
 
+-- two lists of such questions
 AllUpTo-append : (v : ℕ) (xs ys : List Asked) → AllUpTo v xs → AllUpTo v ys → AllUpTo v (xs ++ ys)
 AllUpTo-append v [] ys f g = g
 AllUpTo-append v (x ∷ xs) ys f g = (f.0, AllUpTo-append v xs ys f.1 g)
 
+-- a later event bounds them too
 AllUpTo-more : (u v : ℕ) (xs : List Asked) → u ≤ v → AllUpTo u xs → AllUpTo v xs
 AllUpTo-more u v [] h f = tt
 AllUpTo-more u v (x ∷ xs) h f = (omega (arith, f.0), AllUpTo-more u v xs h f.1)
 
+-- questions of one event that is not later
 AllUpTo-of : (v event : ℕ) (xs : List Asked) → event ≤ v → AllOfEvent event xs → AllUpTo v xs
 AllUpTo-of v event [] h f = tt
 AllUpTo-of v event (x ∷ xs) h f = (omega (arith, f.0), AllUpTo-of v event xs h f.1)
@@ -333,10 +373,12 @@ up_to_after b m (suc v) =
     let g = after_later b m v in
     subst (AllUpTo (suc v)) g.joined (AllUpTo-append (suc v) _ g.rest (AllUpTo-more v (suc v) _ (omega arith) (up_to_after b m v)) (AllUpTo-of (suc v) (suc v) g.rest (omega arith) g.later))
 
+-- where all questions are of the events up to v, the models agree on all
 Agrees-up_to : (v : ℕ) (m n : Model) (rs : List Record) (xs : List Asked) → AllUpTo v xs → AgreesUpTo v m n rs xs → Agrees m n rs xs
 Agrees-up_to v m n rs [] f a = tt
 Agrees-up_to v m n rs (x ∷ xs) f a = (a.0 f.0, Agrees-up_to v m n rs xs f.1 a.1)
 
+-- on the first questions of a list
 AgreesUpTo-front : (v : ℕ) (m n : Model) (rs : List Record) (xs ys : List Asked) → AgreesUpTo v m n rs (xs ++ ys) → AgreesUpTo v m n rs xs
 AgreesUpTo-front v m n rs [] ys h = tt
 AgreesUpTo-front v m n rs (x ∷ xs) ys h = (h.0, AgreesUpTo-front v m n rs xs ys h.1)
@@ -348,9 +390,11 @@ pub record IsPast (old new : World) : Type 0 where
   pub more : List Record
   pub records : old.records ++ more ≡ new.records
 
+-- a world is no earlier than itself
 past_same : (w : World) → IsPast w w
 past_same w = record { rest = []; joined = append-nil w.questions; more = []; records = append-nil w.records }
 
+-- one event more
 past_later : (event : ℕ) (u v w : World) → IsPast u v → IsLater event v w → IsPast u w
 past_later event u v w f g = record {
   rest = f.rest ++ g.rest;
@@ -359,6 +403,7 @@ past_later event u v w f g = record {
   records = sym (append_assoc u.records f.more g.more) ∙ (ap (λ ys. ys ++ g.more) f.records ∙ g.records);
 }
 
+-- a run of more events is no earlier
 past_after : (b : Behaviour) (m : Model) (v k : ℕ) → v ≤ k → IsPast (world_at (after b m v)) (world_at (after b m k))
 past_after b m v zero h = let e : v ≡ zero = omega arith in subst (λ n. IsPast (world_at (after b m v)) (world_at (after b m n))) e (past_same (world_at (after b m v)))
 past_after b m v (suc k) h =
@@ -367,6 +412,7 @@ past_after b m v (suc k) h =
     (λ (lt : v < suc k). past_later (suc k) (world_at (after b m v)) (world_at (after b m k)) (world_at (after b m (suc k))) (past_after b m v k (omega (arith, lt))) (after_later b m k))
     (eq-or-lt_of_le h)
 
+-- more modules change no answer about those that were there
 noted_stay : (m : Model) (rs more : List Record) → AreNested 0 rs → (qs : List Asked) → AllAbout (length rs) qs → Each (λ a. answer_of m (rs ++ more) a.question ≡ answer_of m rs a.question) qs
 noted_stay m rs more h [] f = tt
 noted_stay m rs more h (a ∷ qs) f = (answer_more m rs more h a.question f.0, noted_stay m rs more h qs f.1)

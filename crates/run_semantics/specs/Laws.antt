@@ -3,6 +3,7 @@ use Rattle.std.specs.Prelude.{◌≡◌, ◌≢◌, ◌⊎◌, ℕ, zero, suc, �
 use Rattle.module_api.specs.Behaviour.{Behaviour}
 use Rattle.model_answers.specs.declared.model.Model.{Model}
 use Rattle.run_semantics.specs.declared.pending.Pending.{Pending}
+use Rattle.run_semantics.specs.declared.traces.Emission.{Emission}
 use Rattle.run_semantics.specs.declared.traces.Instance.{Instance}
 use Rattle.run_semantics.specs.Order.{comes_before}
 use Rattle.run_semantics.specs.World.{World}
@@ -23,6 +24,11 @@ AreInOrder (e ∷ es) = Each (λ f. IsTrue (comes_before e f)) es × AreInOrder 
 abbrev pub HaveOwnNumbers : List Pending → Type 0
 HaveOwnNumbers [] = Unit {0}
 HaveOwnNumbers (e ∷ es) = Each (λ f. f.number ≢ e.number) es × HaveOwnNumbers es
+
+-- along emissions neither event numbers nor times fall
+abbrev pub AreInTurn : List Emission → Type 0
+AreInTurn [] = Unit {0}
+AreInTurn (e ∷ es) = Each (λ f. (e.event ≤ f.event) × (e.time ≤ f.time)) es × AreInTurn es
 
 -- it is one of these numbers
 abbrev pub IsAmong : ℕ → List ℕ → Type 0

@@ -8,7 +8,7 @@ ghost use Rattle.model_answers.specs.Answering.{answer_of};
 ghost use Rattle.run_semantics.specs.declared.outcome.Outcome.{Outcome};
 ghost use Rattle.run_semantics.specs.Agreement.{Agrees, AgreesUpTo};
 ghost use Rattle.run_semantics.specs.Event.{place_in};
-ghost use Rattle.run_semantics.specs.Laws.{Each, AreInOrder, HaveOwnNumbers, HasGrown, CanBeCalled, gone_on};
+ghost use Rattle.run_semantics.specs.Laws.{Each, AreInOrder, AreInTurn, HaveOwnNumbers, HasGrown, CanBeCalled, gone_on};
 ghost use Rattle.run_semantics.specs.World.{World};
 ghost use Rattle.run_semantics.specs.Run.{Running, Over, IsReached, next_stage, after, stopped, run_to, world_at, standing, parts_of};
 
@@ -24,7 +24,7 @@ pub fn over_is_over()
 {}
 
 /// Two models that answer alike all that the run of the first one asked up to an event have the same
-/// run up to there: the same world, its questions included, and the same end where it is over.
+/// run up to there: the same world, its questions included, and the same outcome where it is over.
 pub fn equal_answers_equal_runs()
     ensures { (b : Behaviour) → IsLawful b → (m n : Model) (v : ℕ)
         → Agrees m n (world_at (after b m v)).records (world_at (after b m v)).questions
@@ -98,6 +98,15 @@ pub fn no_two_events_share_a_number()
 pub fn no_event_is_late()
     ensures { (b : Behaviour) (m : Model) (n : ℕ)
         → Each (λ e. (world_at (after b m n)).clock ≤ e.time) (world_at (after b m n)).pending }
+{}
+
+/// What was emitted stands in the order of events: along it neither event numbers nor times fall, and
+/// none is above the count or the clock.
+pub fn emissions_are_in_turn()
+    ensures turn { (b : Behaviour) (m : Model) (n : ℕ) → AreInTurn (world_at (after b m n)).emissions }
+    ensures past { (b : Behaviour) (m : Model) (n : ℕ)
+        → Each (λ e. (e.event ≤ (world_at (after b m n)).count) × (e.time ≤ (world_at (after b m n)).clock))
+        (world_at (after b m n)).emissions }
 {}
 
 /// Each event to come is for a module that its call finds; and in a run that goes on that module was
