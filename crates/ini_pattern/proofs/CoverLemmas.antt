@@ -1,5 +1,5 @@
 -- What pieces take of a name, and what they leave.
-use Rattle.std.proofs.Common.{◌≡◌, ◌≢◌, ◌↔◌, ℕ, ◌≤◌, ◌⊎◌, inl, inr, Bool, true, false, not, ◌&&◌, cond, eqb, leb, ltb, Option, Some, None, List, [], ◌∷◌, ◌++◌, length, append_assoc, refl, sym, ap, subst, ◌∙◌}
+use Rattle.std.proofs.Common.{◌≡◌, ◌≢◌, ℕ, ◌≤◌, ◌⊎◌, inl, inr, Bool, true, false, not, ◌&&◌, cond, eqb, leb, ltb, Option, Some, None, List, [], ◌∷◌, ◌++◌, length, append_assoc, refl, sym, ap, subst, ◌∙◌}
 use Rattle.std.specs.Prelude.{option_and_then, IfSome}
 use Rattle.std.specs.Char.{is_ascii_digit}
 use Rattle.std.specs.List.{list_all}
@@ -8,9 +8,9 @@ use Rattle.std.proofs.lemmas.Bool.{and_parts, and_from, cases_Bool, not-true, eq
 use Rattle.ini_pattern.specs.declared.piece.CharRange.{CharRange}
 use Rattle.ini_pattern.specs.declared.piece.Piece.{Piece}
 use Rattle.ini_pattern.specs.declared.piece.Piece.TheVariants.{AnyPath, AnyName, AnyChar, Char, Set, Number}
-use Rattle.ini_pattern.specs.Matches.{has_no_dot, in_ranges, begins_with_digit, IsNumberIn, Covers}
+use Rattle.ini_pattern.specs.Matches.{in_ranges, begins_with_digit, IsNumberIn, Covers}
 use Rattle.ini_pattern.specs.PatternOf.{digits_front, after_digits}
-use Rattle.ini_pattern.specs.Reading.{is_any_path, is_any_name, is_fixed, left_by_char, is_up_to, is_number_in, left_by, left_by_all, EndsWith}
+use Rattle.ini_pattern.specs.Reading.{is_fixed, left_by_char, is_up_to, is_number_in, left_by, left_by_all, EndsWith}
 
 -- two ways to cut a text: one front goes further than the other
 pub cuts : (f s g t : List ℕ) → f ++ s ≡ g ++ t → ((z : List ℕ) × (g ≡ f ++ z) × (s ≡ z ++ t)) ⊎ ((z : List ℕ) × (f ≡ g ++ z) × (t ≡ z ++ s))
@@ -23,9 +23,6 @@ cuts (x ∷ f) s (y ∷ g) t e =
       | inl w ↦ inl (w.0, cc, w.2)
       | inr w ↦ inr (w.0, cc, w.2)
     ]
-
-pub ends_self : (n : List ℕ) → EndsWith n n
-ends_self n = ([], refl)
 
 pub ends_more : (f n r : List ℕ) → EndsWith n r → EndsWith (f ++ n) r
 ends_more f n r w = (f ++ w.0, rw w.1 (sym (append_assoc f w.0 r)))

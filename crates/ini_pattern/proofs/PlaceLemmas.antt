@@ -1,16 +1,16 @@
 -- Pieces are cut at their stars, and what is left of them is no longer than a floor.
-use Rattle.std.proofs.Common.{◌≡◌, ◌≢◌, ◌↔◌, ℕ, zero, suc, ◌+◌, ◌-◌, ◌<◌, ◌≤◌, ◌⊎◌, inl, inr, Bool, true, false, not, cond, Option, Some, None, List, [], ◌∷◌, ◌++◌, length, get_or, take, drop, take-suc, drop-cons, add-one, length-append, append-nil, append_assoc, refl, sym, ap, subst, ◌∙◌, arith}
+use Rattle.std.proofs.Common.{◌≡◌, ℕ, zero, suc, ◌+◌, ◌<◌, ◌≤◌, inl, inr, Bool, true, false, cond, Option, Some, None, List, [], ◌∷◌, ◌++◌, length, get_or, take, drop, take-suc, drop-cons, add-one, length-append, append_assoc, refl, sym, ap, subst, ◌∙◌, arith}
 use Rattle.std.specs.Prelude.{MatchOption, encode_utf8_all}
 use Rattle.std.specs.List.{list_all}
-use Rattle.std.proofs.lemmas.Bool.{and_parts, and_from, cases_Bool, cases_lt, not-true, false≢true}
+use Rattle.std.proofs.lemmas.Bool.{and_parts, and_from, cases_Bool, cases_lt, false≢true}
 use Rattle.std.proofs.lemmas.List.{append_cancel_right}
 use Rattle.std.proofs.lemmas.Str.{length-le-encodes, encodes-append}
 use Rattle.ini_pattern.specs.declared.piece.Piece.{Piece}
-use Rattle.ini_pattern.specs.declared.piece.Piece.TheVariants.{AnyPath, AnyName, AnyChar, Char, Set, Number}
+use Rattle.ini_pattern.specs.declared.piece.Piece.TheVariants.{AnyPath, AnyName}
 use Rattle.ini_pattern.specs.Matches.{has_no_dot, Covers}
-use Rattle.ini_pattern.specs.Reading.{is_any_path, is_any_name, is_no_name, is_fixed, EndsWith, IsEnd, IsLongestRest, HasNoRest, IsLongestAnywhere, HasNoRestAnywhere}
-use Rattle.ini_pattern.specs.Places.{opening, stars, is_no_path, to_star, after_star, size, MayBeLeft, IsLongestWithin, HasNoneWithin, IsFloor, IsStuck}
-use Rattle.ini_pattern.proofs.CoverLemmas.{cuts, covers_append, covers_split, covers_end, ends_self, ends_trans}
+use Rattle.ini_pattern.specs.Reading.{is_any_name, is_fixed, EndsWith, IsEnd, IsLongestRest, HasNoRest, IsLongestAnywhere, HasNoRestAnywhere}
+use Rattle.ini_pattern.specs.Places.{stars, is_no_path, to_star, after_star, size, MayBeLeft, IsLongestWithin, HasNoneWithin, IsFloor, IsStuck}
+use Rattle.ini_pattern.proofs.CoverLemmas.{cuts, covers_split, covers_end, ends_trans}
 use Rattle.ini_pattern.proofs.CrossLemmas.{cross, no_dot_front}
 use Rattle.ini_pattern.proofs.SteadyLemmas.{one_rest, no_dot_back}
 
@@ -131,10 +131,6 @@ paths_back (p ∷ front) back h = paths_back front back ((and_parts (is_no_path 
 pub paths_after : (n : ℕ) (l : List Piece) → list_all is_no_path l ≡ true → list_all is_no_path (after_star n l) ≡ true
 paths_after n l h =
     paths_back (to_star n l) (after_star n l) (subst (λ k. list_all is_no_path k ≡ true) (sym (star_whole n l)) h)
-
-pub front_paths : (left front back : List Piece) → list_all is_no_path left ≡ true → left ≡ front ++ (AnyName ∷ back) → list_all is_no_path front ≡ true
-front_paths left front back h e =
-    paths_front front (AnyName ∷ back) (subst (λ l. list_all is_no_path l ≡ true) e h)
 
 pub no_stars_fixed : (ps : List Piece) → list_all is_no_path ps ≡ true → stars ps ≡ 0 → list_all is_fixed ps ≡ true
 no_stars_fixed [] s n = refl

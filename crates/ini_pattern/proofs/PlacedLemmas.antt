@@ -1,5 +1,5 @@
 -- The places of the stars: no place is passed at which the pieces could leave what they have to.
-use Rattle.std.proofs.Common.{◌≡◌, ◌≢◌, ℕ, zero, suc, ◌+◌, ◌-◌, ◌*◌, ◌/◌, ◌<◌, ◌≤◌, ◌⊎◌, inl, inr, Bool, true, false, eqb, List, [], ◌∷◌, ◌++◌, length, get_or, set, replicate, Bor, le_of_suc-le-suc, eq-or-lt_of_le, lt_irrefl, lt_of_mul-lt-mul_right, suc-mul, length-set, length-append, append_assoc, refl, sym, ap, subst, ◌∙◌, arith}
+use Rattle.std.proofs.Common.{◌≡◌, ◌≢◌, ℕ, zero, suc, ◌+◌, ◌-◌, ◌*◌, ◌/◌, ◌<◌, ◌≤◌, inl, inr, Bool, true, false, eqb, List, [], ◌∷◌, ◌++◌, length, get_or, set, replicate, Bor, le_of_suc-le-suc, eq-or-lt_of_le, lt_irrefl, lt_of_mul-lt-mul_right, suc-mul, length-set, length-append, append_assoc, refl, sym, ap, subst, ◌∙◌, arith}
 use Rattle.std.specs.Str.{chars}
 use Rattle.std.specs.List.{list_all}
 use Rattle.std.proofs.lemmas.Bool.{cases_Bool, cases_lt, false≢true, eqb-true, eqb-false, ne_eqb}
@@ -8,10 +8,10 @@ use Rattle.ini_pattern.specs.declared.piece.Piece.{Piece}
 use Rattle.ini_pattern.specs.declared.piece.Piece.TheVariants.{AnyPath, AnyName}
 use Rattle.ini_pattern.specs.Matches.{Covers}
 use Rattle.ini_pattern.specs.Reading.{EndsWith}
-use Rattle.ini_pattern.specs.Places.{opening, stars, is_no_path, to_star, after_star, size, MayBeLeft, IsLongestWithin, HasNoneWithin, IsFloor, IsStuck, IsLastBlock, IsNextBlock}
+use Rattle.ini_pattern.specs.Places.{opening, stars, is_no_path, to_star, after_star, MayBeLeft, IsLongestWithin, HasNoneWithin, IsFloor, IsStuck, IsLastBlock, IsNextBlock}
 use Rattle.ini_pattern.proofs.CoverLemmas.{covers_append, covers_split, covers_end, ends_next, ends_none, ends_trans}
 use Rattle.ini_pattern.proofs.SteadyLemmas.{no_dot_both}
-use Rattle.ini_pattern.proofs.PlaceLemmas.{within_ends, star_whole, star_parts, star_none, stars_append, paths_after, floor_ends, floor_met, longest_later}
+use Rattle.ini_pattern.proofs.PlaceLemmas.{within_ends, star_whole, star_parts, stars_append, paths_after, floor_ends, floor_met, longest_later}
 
 -- texts and pieces in a table
 abbrev pub text_at : List (Bor (List ℕ)) → ℕ → List ℕ
@@ -62,11 +62,6 @@ text_same : (n j : ℕ) (v : Bor (List ℕ)) → j < n → text_at (replicate n 
 text_same zero j v h = absurd (omega (arith, h))
 text_same (suc n) zero v h = refl
 text_same (suc n) (suc j) v h = text_same n j v (le_of_suc-le-suc h)
-
-pieces_same : (n j : ℕ) (v : Bor (List Piece)) → j < n → pieces_at (replicate n v) j ≡ v.now
-pieces_same zero j v h = absurd (omega (arith, h))
-pieces_same (suc n) zero v h = refl
-pieces_same (suc n) (suc j) v h = pieces_same n j v (le_of_suc-le-suc h)
 
 -- how much is left of all texts
 abbrev pub total : List (Bor (List ℕ)) → ℕ

@@ -1,4 +1,4 @@
-//! Names against the pieces of a pattern, with no memory.
+//! Names against the pieces of a pattern; nothing is allocated.
 
 ghost use Rattle.std.specs.Prelude.{◌≡◌, ◌↔◌, [], ◌∷◌, ◌++◌, IsTrue, MatchOption, position, true, Some, None, option_and_then};
 ghost use Rattle.std.specs.List.{list_all};

@@ -65,7 +65,7 @@ impl Pattern {
         })
     }
 
-    /// Whether the pattern matches a name. It takes no memory.
+    /// Whether the pattern matches a name. It allocates nothing.
     pub fn matches(&self, name: &str) -> bool
         ensures { IsTrue result ↔ Matches self.now (chars name.now) }
     {

@@ -119,9 +119,9 @@ fn try_block<'p, 'a>(
 
 /// The longest rest that pieces can leave of a name, or of any end of it, where it may be left.
 ///
-/// Up to 63 of the `*`, evenly spread, have a place at which the pieces behind them are tried. No
-/// place ever moves back: where those pieces fit nowhere before the next dot, the `*` before has to
-/// be placed so that its pieces end behind that dot.
+/// The beginning and up to 63 of the `*`, evenly spread, have a place at which the pieces behind it
+/// are tried. No place ever moves back: where those pieces fit nowhere before the next dot, the `*`
+/// before has to be placed so that its pieces end behind that dot.
 #[cycle(places)]
 fn placed_rest<'a>(
     anywhere: bool,

@@ -3,7 +3,7 @@ use std::test::Fail;
 
 #[test]
 fn matches(rt: HostRuntime) -> Result<(), Fail> {
-    let table: [(&str, &str, bool); 42] = [
+    let table: [(&str, &str, bool); 54] = [
         ("N.h[1..2].count", "N.h[1].count", true),
         ("N.h[1..2].count", "N.h[2].count", true),
         ("N.h[1..2].count", "N.h[0].count", false),
@@ -46,11 +46,43 @@ fn matches(rt: HostRuntime) -> Result<(), Fail> {
         ("*a*b*", "xxaxxaxxbx", true),
         ("**b*d**", "a.b.d.bd.", true),
         ("{2..}", "999999999999999999", true),
+        ("**a*b.c", "a.ab.c", true),
+        ("**a*b.c", "a.b.c", false),
+        ("**.a*b**", "a.b.ab", true),
+        ("a*{^b}*c", "ax.c", true),
+        ("a*{^b}*c", "a.x.c", false),
+        ("a*{^b}*{^b}*c", "a.x.c", true),
+        ("**a*{^b}*{^b}*c", "a.x.y.c", false),
+        ("**a*{^b}*{^b}*c", "a.a.y.c", true),
+        ("**a*{^b}*c**", "a.x.a.c.b", true),
+        ("**a*{^b}*c**", "a.x.c.a", false),
+        ("**{1..2}b", "12b", true),
+        ("**{1..2}b", "13b", false),
     ];
     for (text, name, want) in table {
         let pattern = Pattern::parse(rt.alloc(), text)?;
         assert_eq!(rt; pattern.matches(name), want, "{text} {name}");
     }
+    Ok(())
+}
+
+#[test]
+fn many_stars(rt: HostRuntime) -> Result<(), Fail> {
+    let mut text = String::new(rt.alloc());
+    let mut dots = String::new(rt.alloc());
+    for _ in 0..80 {
+        text.push_str("{^b}*")?;
+        dots.push('.')?;
+    }
+    text.push('c')?;
+    let pattern = Pattern::parse(rt.alloc(), text.as_str())?;
+    assert!(rt; !pattern.matches(dots.as_str()));
+    dots.push('c')?;
+    assert!(rt; pattern.matches(dots.as_str()));
+    let mut more = String::new(rt.alloc());
+    more.push('.')?;
+    more.push_str(dots.as_str())?;
+    assert!(rt; !pattern.matches(more.as_str()));
     Ok(())
 }
 

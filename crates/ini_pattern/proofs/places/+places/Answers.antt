@@ -1,5 +1,4 @@
-use Rattle.std.proofs.Common.{◌≡◌, ◌≢◌, ◌∷◌, ◌<◌, ◌+◌, ◌/◌, length, true, refl, sym, ap, ◌∙◌, arith}
-use Rattle.std.specs.Str.{chars}
+use Rattle.std.proofs.Common.{◌≡◌, ◌≢◌, ◌<◌, ◌+◌, ◌/◌, true, refl, sym, ap, ◌∙◌, arith}
 use Rattle.ini_pattern.proofs.PlaceLemmas.{no_stars_fixed, stuck_last, stuck_next}
 use Rattle.ini_pattern.proofs.PlacedLemmas.{text_is, wide, placed_begin, placed_found, placed_next, placed_none, placed_on, placed_down, placed_out, smaller_next, smaller_on, told_paths, told_last, told_next, told_stuck}
 use Rattle.ini_pattern.proofs.places.+places.Goals as goal

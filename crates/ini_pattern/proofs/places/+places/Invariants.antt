@@ -1,4 +1,4 @@
-use Rattle.std.proofs.Common.{◌≡◌, ◌<◌, ◌+◌, ◌-◌, ◌*◌, max}
+use Rattle.std.proofs.Common.{◌+◌, ◌-◌, ◌*◌, max}
 use Rattle.std.specs.Str.{chars}
 use Rattle.ini_pattern.specs.Places.{stars}
 use Rattle.ini_pattern.proofs.PlacedLemmas.{Placed, total}
