@@ -4,6 +4,9 @@
 
 ghost use Rattle.worked_runs.specs.Runs.{ThreeTicks, NoTicks, TwoModules, TimeOverflow};
 
+#[cfg(test)]
+mod tests;
+
 /// Three ticks, a second apart.
 pub fn three_ticks()
     ensures { ThreeTicks }
