@@ -30,6 +30,7 @@ abbrev pub outcome_text : Outcome → List ℕ
 outcome_text outcome.Ended = codes "ended"
 outcome_text outcome.EventLimit = codes "event-limit"
 outcome_text outcome.NoMoreEvents = codes "no-more-events"
+outcome_text outcome.TimeLimit = codes "time-limit"
 outcome_text (outcome.Fault event path f) =
     codes "fault " ++ (decimal event ++ (codes " " ++ (path ++ (codes " " ++ (fault_name f ++ fault_detail f)))))
 

@@ -64,6 +64,7 @@ fn push_outcome(text: &mut Vec<u8>, outcome: &Outcome) -> Result<(), AllocError>
         Outcome::Ended => push(text, b"ended"),
         Outcome::EventLimit => push(text, b"event-limit"),
         Outcome::NoMoreEvents => push(text, b"no-more-events"),
+        Outcome::TimeLimit => push(text, b"time-limit"),
         Outcome::Fault(event, path, fault) => {
             push(text, b"fault ")?;
             push_number(text, *event)?;

@@ -38,6 +38,7 @@ root_goes (answer.Root name) = refl
 root_goes (answer.Inside bs) = tt
 root_goes (answer.Value v) = tt
 root_goes (answer.Fault path f) = tt
+root_goes (answer.Beyond beyond) = tt
 root_goes answer.Absent = tt
 
 many_goes : (parent : ℕ) (bs : List Built) (w : World) (one : Option Built) → w.next ≡ 0 → GoesOn (unless_many parent bs w one)
@@ -49,6 +50,7 @@ built_goes parent (answer.Inside bs) w e = many_goes parent bs w (slice_get bs 6
 built_goes parent (answer.Root name) w e = tt
 built_goes parent (answer.Value v) w e = tt
 built_goes parent (answer.Fault path f) w e = tt
+built_goes parent (answer.Beyond beyond) w e = tt
 built_goes parent answer.Absent w e = tt
 
 then_goes : (fl : Flow) (k : World → Flow) → GoesOn fl → ((w : World) → w.next ≡ 0 → GoesOn (k w)) → GoesOn (fl >>= k)

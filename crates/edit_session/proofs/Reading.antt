@@ -6,7 +6,7 @@ use Rattle.ned_syntax.specs.declared.ast.NedFile.{NedFile}
 use Rattle.ned_syntax.specs.NedText.{IsNedFile}
 use Rattle.edit_session.specs.declared.begin.BeginFault.{BeginFault}
 use Rattle.edit_session.specs.declared.begin.BeginFault.TheVariants as fault
-use Rattle.edit_session.specs.Models.{AreNedFiles, IsBlamed, RefusesFile, RefusesFiles, is_large}
+use Rattle.edit_session.specs.Models.{AreNedFiles, AreRead, IsBlamed, RefusesFile, RefusesFiles, RefusesConfig, Refuses, is_large}
 
 large_here : (ts : List (List ℕ)) (t : List ℕ) (o : Bool) → o ≡ true → (o || list_any is_large ts) ≡ true
 large_here ts t true e = refl
@@ -38,6 +38,7 @@ blames ts n t before fault.DuplicateType declared here is = absurd is
 blames ts n t before fault.UnknownType declared here is = absurd is
 blames ts n t before fault.KindClash declared here is = absurd is
 blames ts n t before fault.NoSuchConfig declared here is = absurd is
+blames ts n t before fault.ChainFault declared here is = absurd is
 blames ts n t before fault.NoSuchNetwork declared here is = absurd is
 
 -- one more file
@@ -46,6 +47,21 @@ one_more [] t [] f are is = (is, tt)
 one_more [] t (g ∷ fs) f are is = absurd are
 one_more (u ∷ ts) t [] f are is = absurd are
 one_more (u ∷ ts) t (g ∷ fs) f are is = (are.0, one_more ts t fs f are.1 is)
+
+-- ---- configurations
+
+-- why a configuration is refused, where all else is read
+pub config_refused : (texts : List (List ℕ)) (ini config : List ℕ) (read : AreRead texts ini) (f : BeginFault) → RefusesConfig read.lines config f → Refuses texts ini config f
+config_refused texts ini config read fault.NoSuchConfig is = record { read = read; missing = is }
+config_refused texts ini config read fault.ChainFault is = record { read = read; exists = is.0; none = is.1 }
+config_refused texts ini config read fault.NoMemory is = tt
+config_refused texts ini config read (fault.NedSyntax at line) is = absurd is
+config_refused texts ini config read fault.TooLarge is = absurd is
+config_refused texts ini config read (fault.IniSyntax line) is = absurd is
+config_refused texts ini config read fault.DuplicateType is = absurd is
+config_refused texts ini config read fault.UnknownType is = absurd is
+config_refused texts ini config read fault.KindClash is = absurd is
+config_refused texts ini config read fault.NoSuchNetwork is = absurd is
 
 -- ---- an answer by a test
 

@@ -3,6 +3,7 @@ use Rattle.std.specs.Prelude.{◌≡◌, ℕ, Bool, true, false, ◌||◌, List,
 use Rattle.std.specs.List.{list_any}
 use Rattle.ini_config.specs.declared.lines.IniLine.{IniLine}
 use Rattle.ini_config.specs.Meaning.{IsIniText, FirstBad}
+use Rattle.ini_config.specs.Sections.{IsChain, is_section}
 use Rattle.model_answers.specs.declared.model.Model.{Model}
 use Rattle.model_answers.specs.Models.{network_of}
 use Rattle.ned_tokens.specs.Meaning.{max_length}
@@ -35,10 +36,6 @@ AreNedFiles [] (f ∷ fs) = ⊥
 AreNedFiles (t ∷ ts) [] = ⊥
 AreNedFiles (t ∷ ts) (f ∷ fs) = IsNedFile t f × AreNedFiles ts fs
 
--- the name of the only configuration
-abbrev pub general : List ℕ
-general = codes "General"
-
 -- The texts are read, and their types go together.
 pub record AreRead (texts : List (List ℕ)) (ini : List ℕ) : Type 0 where
   pub small : is_too_large texts ini ≡ false
@@ -48,13 +45,14 @@ pub record AreRead (texts : List (List ℕ)) (ini : List ℕ) : Type 0 where
   pub said : IsIniText ini lines
   pub together : fault_of (types_of files) ≡ None
 
--- The model has what the texts say.
+-- The model has what the texts say, and the chain of the configuration, whose section is there.
 pub record IsReadAs (texts : List (List ℕ)) (ini config : List ℕ) (m : Model) : Type 0 where
   pub read : AreRead texts ini
   pub types : m.types ≡ types_of read.files
   pub lines : m.ini ≡ read.lines
   pub selected : m.config ≡ config
-  pub exists : config ≡ general
+  pub exists : is_section config read.lines ≡ true
+  pub chained : IsChain read.lines config m.chain
 
 -- THE MODEL of these texts and that configuration
 pub record IsModelOf (texts : List (List ℕ)) (ini config : List ℕ) (m : Model) : Type 0 where
@@ -116,7 +114,21 @@ pub record AreApart (texts : List (List ℕ)) (ini : List ℕ) (why : TypeFault)
 -- The texts are read, and the ini text has no configuration of that name.
 pub record IsNotSelected (texts : List (List ℕ)) (ini config : List ℕ) : Type 0 where
   pub read : AreRead texts ini
-  pub other : config ≡ general → ⊥
+  pub missing : is_section config read.lines ≡ false
+
+-- The texts are read, and the configuration extends what it can't, so that it has no chain.
+pub record HasNoChain (texts : List (List ℕ)) (ini config : List ℕ) : Type 0 where
+  pub read : AreRead texts ini
+  pub exists : is_section config read.lines ≡ true
+  pub none : (chain : List (List ℕ)) → IsChain read.lines config chain → ⊥
+
+-- why the lines make no configuration of that name
+abbrev pub RefusesConfig : List IniLine → List ℕ → BeginFault → Type 0
+RefusesConfig lines config fault.NoSuchConfig = is_section config lines ≡ false
+RefusesConfig lines config fault.ChainFault =
+    (is_section config lines ≡ true) × ((chain : List (List ℕ)) → IsChain lines config chain → ⊥)
+RefusesConfig lines config fault.NoMemory = Unit {0}
+RefusesConfig lines config _ = ⊥
 
 -- There is a model but for its network.
 pub record HasNoNetwork (texts : List (List ℕ)) (ini config : List ℕ) : Type 0 where
@@ -133,5 +145,6 @@ Refuses texts ini config fault.DuplicateType = (is_too_large texts ini ≡ false
 Refuses texts ini config fault.UnknownType = (is_too_large texts ini ≡ false) × AreApart texts ini types.UnknownType
 Refuses texts ini config fault.KindClash = (is_too_large texts ini ≡ false) × AreApart texts ini types.KindClash
 Refuses texts ini config fault.NoSuchConfig = IsNotSelected texts ini config
+Refuses texts ini config fault.ChainFault = HasNoChain texts ini config
 Refuses texts ini config fault.NoSuchNetwork = HasNoNetwork texts ini config
 Refuses texts ini config fault.NoMemory = Unit {0}

@@ -1,13 +1,14 @@
 //! The model that texts make.
 
-ghost use Rattle.std.specs.Prelude.{◌≡◌, ◌↔◌, ◌++◌, [], ◌∷◌, None, IsTrue, OnOk, IfOk, IfErr};
+ghost use Rattle.std.specs.Prelude.{◌≡◌, ◌++◌, [], ◌∷◌, None, true, OnOk, IfOk, IfErr};
 ghost use Rattle.std.specs.List.{list_any};
 ghost use Rattle.ini_config.specs.Meaning.{IsIniText};
+ghost use Rattle.ini_config.specs.Sections.{IsChain, is_section};
 ghost use Rattle.ned_syntax.specs.NedText.{IsNedFile};
 ghost use Rattle.ned_types.specs.Types.{types_of, fault_of};
-ghost use Rattle.edit_session.specs.Models.{AreNedFiles, IsModelOf, RefusesFile, RefusesFiles, RefusesIni, RefusesTypes, Refuses, general, is_large, is_too_large};
+ghost use Rattle.edit_session.specs.Models.{AreNedFiles, IsModelOf, RefusesFile, RefusesFiles, RefusesIni, RefusesTypes, RefusesConfig, Refuses, is_large, is_too_large};
 
-use ini_config::error::IniError;
+use ini_config::error::{ChainError, IniError};
 use ini_config::lines::IniText;
 use model_answers::model::Model;
 use ned_syntax::ast::NedFile;
@@ -16,6 +17,7 @@ use ned_syntax::parse::parse_ned;
 use ned_syntax::texts::NedTexts;
 use ned_types::table::{TypeFault, TypeTable};
 use sim_values::text::Text;
+use sqlite_items::Items;
 use std::alloc::{AllocError, Global};
 use thiserror::Error;
 
@@ -51,6 +53,9 @@ pub enum BeginFault {
     /// The configuration isn't in the ini text.
     #[error("NoSuchConfig")]
     NoSuchConfig,
+    /// The configuration extends one that isn't in the ini text, several, or in the end itself.
+    #[error("ChainFault")]
+    ChainFault,
     /// The option `network` names no network.
     #[error("NoSuchNetwork")]
     NoSuchNetwork,
@@ -88,13 +93,6 @@ fn is_too_large(texts: &NedTexts, ini: &[u8]) -> bool
     ensures { result ≡ is_too_large texts.now ini.now }
 {
     texts.len() > MAX_FILES || holds_large(texts.as_slice()) || is_large(ini)
-}
-
-/// Whether this is the name of the only configuration.
-fn is_general(config: &[u8]) -> bool
-    ensures { IsTrue result ↔ (config.now ≡ general) }
-{
-    config == b"General".as_slice()
 }
 
 /// What a NED text declares, which is the file of that number.
@@ -161,6 +159,19 @@ fn table_of(alloc: Global, files: Vec<NedFile>) -> Result<TypeTable, BeginFault>
     }
 }
 
+/// The chain of a configuration.
+fn chain_of(alloc: Global, lines: &IniText, config: &[u8]) -> Result<Items<Text>, BeginFault>
+    ensures accepted { IfOk result (λ chain. IsChain lines.now config.now chain × (is_section config.now lines.now ≡ true)) }
+    ensures refused { IfErr result (λ fault. RefusesConfig lines.now config.now fault) }
+{
+    match lines.chain(alloc, config) {
+        Ok(chain) => Ok(chain),
+        Err(ChainError::NoSuchConfig) => Err(BeginFault::NoSuchConfig),
+        Err(ChainError::ChainFault) => Err(BeginFault::ChainFault),
+        Err(ChainError::NoMemory) => Err(BeginFault::NoMemory),
+    }
+}
+
 /// The model that these texts make, or why they make none.
 pub fn model_of(
     alloc: Global,
@@ -177,14 +188,13 @@ pub fn model_of(
     let files = files_of(alloc, texts)?;
     let lines = lines_of(alloc, ini)?;
     let types = table_of(alloc, files)?;
-    if !is_general(config) {
-        return Err(BeginFault::NoSuchConfig);
-    }
+    let chain = chain_of(alloc, &lines, config)?;
     let config = Text::from_bytes(alloc, config)?;
     let model = Model {
         types,
         ini: lines,
         config,
+        chain,
     };
     if model.network().is_none() {
         return Err(BeginFault::NoSuchNetwork);

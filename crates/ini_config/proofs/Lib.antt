@@ -1,2 +1,11 @@
+pub mod ChainLaws
+pub mod EditLaws
+pub mod EditedLines
+pub mod EntryLaws
+pub mod KeyLaws
 pub mod MeaningLaws
+pub mod OptionLaws
 pub mod PieceLaws
+pub mod ScanLaws
+pub mod SectionLaws
+pub mod TextLaws

@@ -1,21 +1,20 @@
 -- Laws of what lines mean.
-use Rattle.std.proofs.Common.{◌≡◌, ℕ, suc, ◌+◌, ◌≤◌, Bool, true, false, cond, not, eqb, arith, ◌&&◌, ◌||◌, List, [], ◌∷◌, ◌++◌, length, take, drop, get_or, Some, None, Result, Ok, Err, MatchResult, refl, sym, ap, subst, ◌∙◌, inl, inr, append_assoc}
-use Rattle.std.specs.Prelude.{position, is_ok, codes}
-use Rattle.std.specs.Str.{IsUtf8, is_utf8, bytes_eq}
+use Rattle.std.proofs.Common.{◌≡◌, ℕ, suc, ◌+◌, ◌≤◌, Bool, true, false, cond, not, eqb, arith, ◌&&◌, List, [], ◌∷◌, ◌++◌, length, take, drop, Option, Some, None, Result, Ok, Err, MatchResult, refl, sym, ap, subst, ◌∙◌, inl, inr, append_assoc}
+use Rattle.std.specs.Prelude.{position, is_ok}
+use Rattle.std.specs.Str.{IsUtf8, is_utf8}
 use Rattle.std.proofs.lemmas.Str.{IsUtf8-from_is_utf8, is_utf8-from_IsUtf8}
 use Rattle.std.proofs.lemmas.List.{append-nil}
 use Rattle.ini_config.specs.declared.lines.Entry.{Entry}
 use Rattle.ini_config.specs.declared.lines.EntryMeaning.{EntryMeaning}
-use Rattle.ini_config.specs.declared.lines.EntryMeaning.TheVariants as meaning
-use Rattle.ini_config.specs.declared.lines.EntryValue.{EntryValue}
-use Rattle.ini_config.specs.declared.lines.EntryValue.TheVariants as value
 use Rattle.ini_config.specs.declared.lines.IniLine.{IniLine}
 use Rattle.ini_config.specs.declared.lines.LineMeaning.{LineMeaning}
 use Rattle.ini_config.specs.declared.lines.LineMeaning.TheVariants as line
 use Rattle.ini_config.specs.declared.error.IniError.TheVariants as errors
 use Rattle.ini_config.specs.Texts.{Bytes, lines_of_ini, before_blanks, value_text, is_blank, after_blanks}
-use Rattle.ned_syntax.proofs.OneExpression.{one_expression}
-use Rattle.ini_config.specs.Meaning.{IsIniText, IsEntryValue, any_path, word_network, is_key, is_value, begins_entry, IsParted, IsEntry, IsEntryMeaning, IsLine, IsIniLine, AreLines, FirstBadOf, Tells, Settles, opens}
+use Rattle.ini_config.specs.Meaning.{IsIniText, is_key, is_value, begins_entry, IsParted, IsEntry, IsEntryMeaning, IsLine, IsSection, IsIniLine, AreLines, FirstBadOf, Tells, Settles}
+use Rattle.ini_config.specs.Sections.{section_behind}
+use Rattle.ini_config.proofs.EntryLaws.{meaning_same}
+use Rattle.ini_config.proofs.SectionLaws.{section_begins, section_no_entry, section_same}
 
 pub text_tested : {S E : Type 0} (P : S → Type 0) (Q : E → Type 0) (bytes : Bytes) (r : Result S E) → MatchResult r (λ s. P s × IsUtf8 bytes) (λ e. ¬ (IsUtf8 bytes) × Q e) → is_ok r ≡ is_utf8 bytes
 text_tested P Q bytes (Ok s) h = sym (is_utf8-from_IsUtf8 bytes h.1)
@@ -26,9 +25,6 @@ text_tested P Q bytes (Err e) h = go (is_utf8 bytes) refl
     go false e = refl
 
 -- ---- keys and values
-
-pub not_parted : (bytes key text : Bytes) → position (λ b. eqb b 61) bytes ≡ None → IsParted bytes key text → ⊥
-not_parted bytes key text none p = let first = p.first in absurd cc
 
 place_same : (bytes : Bytes) (m n : ℕ) → position (λ b. eqb b 61) bytes ≡ Some m → position (λ b. eqb b 61) bytes ≡ Some n → m ≡ n
 place_same bytes m n p q = cc
@@ -78,48 +74,48 @@ one_entry bytes e other p only is =
 -- ---- texts
 
 -- what is read of the first lines, where these are left
-pub record Reached (bytes more : List Bytes) (front : List IniLine) (number : ℕ) (inside : Bool) : Type 0 where
-  pub accepted : (reads : List IniLine) → AreLines inside more reads → AreLines false bytes (front ++ reads)
-  pub complete : (whole : List IniLine) → AreLines false bytes whole → (reads : List IniLine) × (whole ≡ front ++ reads) × AreLines inside more reads
-  pub refused : (bad : ℕ) → FirstBadOf bad number inside more → FirstBadOf bad 1 false bytes
+pub record Reached (bytes more : List Bytes) (front : List IniLine) (number : ℕ) (section : Option Bytes) : Type 0 where
+  pub accepted : (reads : List IniLine) → AreLines section more reads → AreLines None bytes (front ++ reads)
+  pub complete : (whole : List IniLine) → AreLines None bytes whole → (reads : List IniLine) × (whole ≡ front ++ reads) × AreLines section more reads
+  pub refused : (bad : ℕ) → FirstBadOf bad number section more → FirstBadOf bad 1 None bytes
 
-pub start : (bytes : List Bytes) → Reached bytes bytes [] 1 false
+pub start : (bytes : List Bytes) → Reached bytes bytes [] 1 None
 start bytes = record { accepted = λ reads h. h; complete = λ whole h. (whole, refl, h); refused = λ bad h. h }
 
-pub advance : (bytes more : List Bytes) (b : Bytes) (front : List IniLine) (number : ℕ) (inside : Bool) (read : IniLine) → Reached bytes (b ∷ more) front number inside → Tells (IsIniLine inside b) (Some read) → Reached bytes more (front ++ read ∷ []) (suc number) (inside || opens read.meaning)
-advance bytes more b front number inside read r t = record {
-  accepted = λ reads h. subst (AreLines false bytes) (sym (append_assoc front (read ∷ []) reads)) (r.accepted (read ∷ reads) (t.0, h));
+pub advance : (bytes more : List Bytes) (b : Bytes) (front : List IniLine) (number : ℕ) (section : Option Bytes) (read : IniLine) → Reached bytes (b ∷ more) front number section → Tells (IsIniLine section b) (Some read) → Reached bytes more (front ++ read ∷ []) (suc number) (section_behind section read.meaning)
+advance bytes more b front number section read r t = record {
+  accepted = λ reads h. subst (AreLines None bytes) (sym (append_assoc front (read ∷ []) reads)) (r.accepted (read ∷ reads) (t.0, h));
   complete = λ whole h. parts whole (r.complete whole h);
   refused = λ bad h. r.refused bad (inr (read, t.0, h));
 }
   where
-    split : (whole reads : List IniLine) → whole ≡ front ++ reads → AreLines inside (b ∷ more) reads → (rest : List IniLine) × (whole ≡ (front ++ read ∷ []) ++ rest) × AreLines (inside || opens read.meaning) more rest
+    split : (whole reads : List IniLine) → whole ≡ front ++ reads → AreLines section (b ∷ more) reads → (rest : List IniLine) × (whole ≡ (front ++ read ∷ []) ++ rest) × AreLines (section_behind section read.meaning) more rest
     split whole [] e h = absurd h
     split whole (x ∷ xs) e h =
         let same : x ≡ read = t.1 x h.0 in
-        (xs, e ∙ ap (λ (y : IniLine). front ++ y ∷ xs) same ∙ sym (append_assoc front (read ∷ []) xs), subst (λ (y : IniLine). AreLines (inside || opens y.meaning) more xs) same h.1)
+        (xs, e ∙ ap (λ (y : IniLine). front ++ y ∷ xs) same ∙ sym (append_assoc front (read ∷ []) xs), subst (λ (y : IniLine). AreLines (section_behind section y.meaning) more xs) same h.1)
 
-    parts : (whole : List IniLine) → ((reads : List IniLine) × (whole ≡ front ++ reads) × AreLines inside (b ∷ more) reads) → (rest : List IniLine) × (whole ≡ (front ++ read ∷ []) ++ rest) × AreLines (inside || opens read.meaning) more rest
+    parts : (whole : List IniLine) → ((reads : List IniLine) × (whole ≡ front ++ reads) × AreLines section (b ∷ more) reads) → (rest : List IniLine) × (whole ≡ (front ++ read ∷ []) ++ rest) × AreLines (section_behind section read.meaning) more rest
     parts whole p = split whole p.0 p.1 p.2
 
-pub stuck : (bytes more : List Bytes) (b : Bytes) (front : List IniLine) (number : ℕ) (inside : Bool) → Reached bytes (b ∷ more) front number inside → Tells (IsIniLine inside b) None → Settles bytes (Err (errors.IniSyntax number))
-stuck bytes more b front number inside r t = (r.refused number (inl (refl, t)), λ whole h. let p = r.complete whole h in none p.0 p.2)
+pub stuck : (bytes more : List Bytes) (b : Bytes) (front : List IniLine) (number : ℕ) (section : Option Bytes) → Reached bytes (b ∷ more) front number section → Tells (IsIniLine section b) None → Settles bytes (Err (errors.IniSyntax number))
+stuck bytes more b front number section r t = (r.refused number (inl (refl, t)), λ whole h. let p = r.complete whole h in none p.0 p.2)
   where
-    none : (reads : List IniLine) → AreLines inside (b ∷ more) reads → ⊥
+    none : (reads : List IniLine) → AreLines section (b ∷ more) reads → ⊥
     none [] h = h
     none (x ∷ xs) h = t x h.0
 
-pub finished : (bytes : List Bytes) (front : List IniLine) (number : ℕ) (inside : Bool) → Reached bytes [] front number inside → Settles bytes (Ok front)
-finished bytes front number inside r = (subst (AreLines false bytes) (append-nil front) (r.accepted [] tt), λ whole h. let p = r.complete whole h in nothing whole p.0 p.1 p.2)
+pub finished : (bytes : List Bytes) (front : List IniLine) (number : ℕ) (section : Option Bytes) → Reached bytes [] front number section → Settles bytes (Ok front)
+finished bytes front number section r = (subst (AreLines None bytes) (append-nil front) (r.accepted [] tt), λ whole h. let p = r.complete whole h in nothing whole p.0 p.1 p.2)
   where
-    nothing : (whole reads : List IniLine) → whole ≡ front ++ reads → AreLines inside [] reads → whole ≡ front
+    nothing : (whole reads : List IniLine) → whole ≡ front ++ reads → AreLines section [] reads → whole ≡ front
     nothing whole [] e h = e ∙ append-nil front
     nothing whole (x ∷ xs) e h = absurd h
 
-pub read_all : (bytes rest : Bytes) (front : List IniLine) (number : ℕ) (inside : Bool) → length rest ≤ 0 → Reached (lines_of_ini bytes) (lines_of_ini rest) front number inside → Settles (lines_of_ini bytes) (Ok front)
+pub read_all : (bytes rest : Bytes) (front : List IniLine) (number : ℕ) (section : Option Bytes) → length rest ≤ 0 → Reached (lines_of_ini bytes) (lines_of_ini rest) front number section → Settles (lines_of_ini bytes) (Ok front)
 unfolding lines_of_ini
-read_all bytes [] front number inside h r = finished (lines_of_ini bytes) front number inside r
-read_all bytes (b ∷ bs) front number inside h r = absurd (omega (arith, h))
+read_all bytes [] front number section h r = finished (lines_of_ini bytes) front number section r
+read_all bytes (b ∷ bs) front number section h r = absurd (omega (arith, h))
 
 -- ---- lines
 
@@ -140,22 +136,11 @@ comment_begins (b ∷ bs) rest e h = go (is_blank b) (eqb b 35) refl h e
     go false true f h e = absurd cc
     go false false f h e = let same : b ≡ 35 = cc in let found : eqb b 35 ≡ true = rw same refl in absurd cc
 
-section_text : (bytes name : Bytes) → IsLine bytes (line.Section name) → bytes ≡ codes "[General]"
-section_text bytes name is = is.1 ∙ ap (λ (l : Bytes). 91 ∷ (l ++ 93 ∷ [])) is.0
-
-section_begins : (bytes name : Bytes) → IsLine bytes (line.Section name) → begins_entry bytes ≡ true
-section_begins bytes name is = ap begins_entry (section_text bytes name is)
-
-section_no_entry : (bytes name : Bytes) (e : Entry) → IsLine bytes (line.Section name) → IsEntry bytes e → ⊥
-section_no_entry bytes name e is entry = not_parted bytes e.key e.value (ap (λ (l : Bytes). position (λ b. eqb b 61) l) (section_text bytes name is)) entry.parted
-
 -- a line that begins as an entry, and is neither a section nor an entry
-pub no_line : (bytes : Bytes) → begins_entry bytes ≡ true → bytes_eq bytes (codes "[General]") ≡ false → ((e : Entry) → IsEntry bytes e → ⊥) → (m : LineMeaning) → IsLine bytes m → ⊥
+pub no_line : (bytes : Bytes) → begins_entry bytes ≡ true → ((name : Bytes) → IsSection bytes name → ⊥) → ((e : Entry) → IsEntry bytes e → ⊥) → (m : LineMeaning) → IsLine bytes m → ⊥
 no_line bytes begins other none line.Blank is = blank_begins bytes is begins
 no_line bytes begins other none line.Comment is = comment_begins bytes is.0 is.1 begins
-no_line bytes begins other none (line.Section name) is =
-    let found : bytes_eq bytes (codes "[General]") ≡ true = ap (λ (l : Bytes). bytes_eq l (codes "[General]")) (section_text bytes name is) in
-    absurd cc
+no_line bytes begins other none (line.Section name) is = other name is
 no_line bytes begins other none (line.Entry e) is = none e is
 
 -- an entry means nothing else
@@ -165,31 +150,10 @@ is_entry bytes e t = (t.0, only)
     only : (m : LineMeaning) → IsLine bytes m → m ≡ line.Entry e
     only line.Blank is = absurd (blank_begins bytes is t.0.begins)
     only line.Comment is = absurd (comment_begins bytes is.0 is.1 t.0.begins)
-    only (line.Section name) is = absurd (section_no_entry bytes name e is t.0)
+    only (line.Section name) is = absurd (section_no_entry bytes name e.key e.value is t.0.parted)
     only (line.Entry f) is = ap line.Entry (t.1 f is)
 
 -- ---- a text has at most one meaning
-
-value_same : (text : Bytes) (v w : EntryValue) → IsEntryValue text v → IsEntryValue text w → v ≡ w
-value_same text value.Default value.Default p q = refl
-value_same text value.Default (value.Given f) p q = absurd (q.0 p)
-value_same text (value.Given e) value.Default p q = absurd (p.0 q)
-value_same text (value.Given e) (value.Given f) p q = ap value.Given (one_expression text e f p.1 q.1)
-
-other_key : (name : Bytes) → word_network ≡ any_path ++ name → ⊥
-other_key name e = let first : 110 ≡ 42 = ap (λ (l : Bytes). get_or l 0 0) e in omega (arith, first)
-
-meaning_same : (key text : Bytes) (m n : EntryMeaning) → IsEntryMeaning key text m → IsEntryMeaning key text n → m ≡ n
-meaning_same key text (meaning.Network a) (meaning.Network b) p q = ap meaning.Network (p.1 ∙ sym q.1)
-meaning_same key text (meaning.Network a) (meaning.Parameter b) p q = absurd (other_key b.name (sym p.0 ∙ q.0))
-meaning_same key text (meaning.Parameter a) (meaning.Network b) p q = absurd (other_key a.name (sym q.0 ∙ p.0))
-meaning_same key text (meaning.Parameter a) (meaning.Parameter b) p q =
-    let e : any_path ++ a.name ≡ any_path ++ b.name = sym p.0 ∙ q.0 in
-    let names : a.name ≡ b.name = ap (drop 3) e in
-    made a.name b.name a.value b.value names (value_same text a.value b.value p.2 q.2)
-  where
-    made : (k l : Bytes) (v w : EntryValue) → k ≡ l → v ≡ w → meaning.Parameter (record { name = k; value = v }) ≡ meaning.Parameter (record { name = l; value = w })
-    made k l v w p q = cc
 
 line_same : (bytes : Bytes) (m n : LineMeaning) → IsLine bytes m → IsLine bytes n → m ≡ n
 line_same bytes line.Blank line.Blank p q = refl
@@ -202,28 +166,32 @@ line_same bytes line.Comment (line.Section b) p q = absurd (comment_begins bytes
 line_same bytes line.Comment (line.Entry f) p q = absurd (comment_begins bytes p.0 p.1 q.begins)
 line_same bytes (line.Section a) line.Blank p q = absurd (blank_begins bytes q (section_begins bytes a p))
 line_same bytes (line.Section a) line.Comment p q = absurd (comment_begins bytes q.0 q.1 (section_begins bytes a p))
-line_same bytes (line.Section a) (line.Section b) p q = ap line.Section (p.0 ∙ sym q.0)
-line_same bytes (line.Section a) (line.Entry f) p q = absurd (section_no_entry bytes a f p q)
+line_same bytes (line.Section a) (line.Section b) p q = ap line.Section (section_same bytes a b p q)
+line_same bytes (line.Section a) (line.Entry f) p q = absurd (section_no_entry bytes a f.key f.value p q.parted)
 line_same bytes (line.Entry e) line.Blank p q = absurd (blank_begins bytes q p.begins)
 line_same bytes (line.Entry e) line.Comment p q = absurd (comment_begins bytes q.0 q.1 p.begins)
-line_same bytes (line.Entry e) (line.Section b) p q = absurd (section_no_entry bytes b e q p)
+line_same bytes (line.Entry e) (line.Section b) p q = absurd (section_no_entry bytes b e.key e.value q p.parted)
 line_same bytes (line.Entry e) (line.Entry f) p q = ap line.Entry (one_entry bytes f e q.parted (λ m is. meaning_same f.key f.value m f.meaning is q.says) p)
 
-lines_same : (inside : Bool) (bytes : List Bytes) (xs ys : List IniLine) → AreLines inside bytes xs → AreLines inside bytes ys → xs ≡ ys
-lines_same inside [] [] [] p q = refl
-lines_same inside [] (x ∷ xs) ys p q = absurd p
-lines_same inside [] [] (y ∷ ys) p q = absurd q
-lines_same inside (b ∷ bs) [] ys p q = absurd p
-lines_same inside (b ∷ bs) (x ∷ xs) [] p q = absurd q
-lines_same inside (b ∷ bs) (x ∷ xs) (y ∷ ys) p q =
+-- a section means nothing else
+pub is_section : (bytes name : Bytes) → IsSection bytes name → Tells (IsLine bytes) (Some (line.Section name))
+is_section bytes name is = (is, λ m other. line_same bytes m (line.Section name) other is)
+
+lines_same : (section : Option Bytes) (bytes : List Bytes) (xs ys : List IniLine) → AreLines section bytes xs → AreLines section bytes ys → xs ≡ ys
+lines_same section [] [] [] p q = refl
+lines_same section [] (x ∷ xs) ys p q = absurd p
+lines_same section [] [] (y ∷ ys) p q = absurd q
+lines_same section (b ∷ bs) [] ys p q = absurd p
+lines_same section (b ∷ bs) (x ∷ xs) [] p q = absurd q
+lines_same section (b ∷ bs) (x ∷ xs) (y ∷ ys) p q =
     let means : x.meaning ≡ y.meaning = line_same b x.meaning y.meaning p.0.means q.0.means in
     let head : x ≡ y = made x.text y.text x.meaning y.meaning (p.0.text ∙ sym q.0.text) means in
-    let more : AreLines (inside || opens y.meaning) bs xs = subst (λ (m : LineMeaning). AreLines (inside || opens m) bs xs) means p.1 in
-    let tail : xs ≡ ys = lines_same (inside || opens y.meaning) bs xs ys more q.1 in
+    let more : AreLines (section_behind section y.meaning) bs xs = subst (λ (m : LineMeaning). AreLines (section_behind section m) bs xs) means p.1 in
+    let tail : xs ≡ ys = lines_same (section_behind section y.meaning) bs xs ys more q.1 in
     cc
   where
     made : (k l : Bytes) (v w : LineMeaning) → k ≡ l → v ≡ w → ◌≡◌ {A = IniLine} (record { text = k; meaning = v }) (record { text = l; meaning = w })
     made k l v w p q = cc
 
 pub text_same : (bytes : Bytes) (first second : List IniLine) → IsIniText bytes first → IsIniText bytes second → first ≡ second
-text_same bytes first second p q = lines_same false (lines_of_ini bytes) first second p.lines q.lines
+text_same bytes first second p q = lines_same None (lines_of_ini bytes) first second p.lines q.lines

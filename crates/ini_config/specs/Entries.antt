@@ -1,52 +1,84 @@
 -- What the entries of a configuration say.
-use Rattle.std.specs.Prelude.{ℕ, List, [], ◌∷◌, Option, Some, None, if◌then◌else◌}
-use Rattle.std.specs.Str.{bytes_eq}
+use Rattle.std.specs.Prelude.{ℕ, ◌==◌, Bool, false, not, ◌&&◌, List, [], ◌∷◌, Option, Some, None, filter, slice_get, if◌then◌else◌}
+use Rattle.std.specs.List.{after_last, list_any}
+use Rattle.std.specs.Option.{option_and_then}
+use Rattle.std.specs.Str.{bytes_eq, chars, is_utf8}
+use Rattle.ini_pattern.specs.Matched.{is_matched}
 use Rattle.ini_config.specs.declared.lines.Entry.{Entry}
 use Rattle.ini_config.specs.declared.lines.EntryMeaning.{EntryMeaning}
 use Rattle.ini_config.specs.declared.lines.EntryMeaning.TheVariants as meaning
 use Rattle.ini_config.specs.declared.lines.EntryValue.{EntryValue}
-use Rattle.ini_config.specs.declared.lines.IniLine.{IniLine}
-use Rattle.ini_config.specs.declared.lines.LineMeaning.{LineMeaning}
-use Rattle.ini_config.specs.declared.lines.LineMeaning.TheVariants as line
+use Rattle.ini_config.specs.declared.lines.ObjectOption.{ObjectOption}
+use Rattle.ini_config.specs.Keys.{word_typename}
+use Rattle.ini_config.specs.Texts.{Bytes}
 
--- the entries of the configuration General, in the order of their lines
-abbrev pub with_entry : LineMeaning → List Entry → List Entry
-with_entry (line.Entry entry) rest = entry ∷ rest
-with_entry _ rest = rest
-
-abbrev pub entries_of : List IniLine → List Entry
-entries_of [] = []
-entries_of (l ∷ ls) = with_entry l.meaning (entries_of ls)
+-- ---- options
 
 -- the first that is there
 abbrev pub or_else : {X : Type 0} → Option X → Option X → Option X
 or_else (Some x) other = Some x
 or_else None other = other
 
--- what an entry says of parameters of that name
-abbrev pub value_for : List ℕ → EntryMeaning → Option EntryValue
-value_for name (meaning.Parameter p) = if bytes_eq p.name name then Some p.value else None
-value_for name _ = None
+abbrev pub network_said : EntryMeaning → Option Bytes
+network_said (meaning.Network name) = Some name
+network_said _ = None
 
--- the value of the first entry that speaks of parameters of that name
-abbrev pub first_match : List ℕ → List Entry → Option EntryValue
-first_match name [] = None
-first_match name (e ∷ es) = or_else (value_for name e.meaning) (first_match name es)
-
-abbrev pub matched : List ℕ → LineMeaning → Option EntryValue
-matched name (line.Entry entry) = value_for name entry.meaning
-matched name _ = None
-
--- the network that an entry names
-abbrev pub network_named : EntryMeaning → Option (List ℕ)
-network_named (meaning.Network name) = Some name
-network_named _ = None
-
--- the network of the first entry of that option
-abbrev pub network_entry : List Entry → Option (List ℕ)
+-- the network that the first entry of the option `network` names
+abbrev pub network_entry : List Entry → Option Bytes
 network_entry [] = None
-network_entry (e ∷ es) = or_else (network_named e.meaning) (network_entry es)
+network_entry (e ∷ es) = or_else (network_said e.meaning) (network_entry es)
 
-abbrev pub network_in : LineMeaning → Option (List ℕ)
-network_in (line.Entry entry) = network_named entry.meaning
-network_in _ = None
+abbrev pub limit_said : EntryMeaning → Option ℕ
+limit_said (meaning.TimeLimit ps) = Some ps
+limit_said _ = None
+
+-- the time of the first entry of the option `sim-time-limit`, in picoseconds
+abbrev pub time_limit_entry : List Entry → Option ℕ
+time_limit_entry [] = None
+time_limit_entry (e ∷ es) = or_else (limit_said e.meaning) (time_limit_entry es)
+
+-- ---- the first match
+
+-- the last name of a path: that of a parameter or an option
+abbrev pub last_name : Bytes → Bytes
+last_name path = after_last (λ c. c == 46) path
+
+-- a parameter has a name without `-`, and other than `typename`
+abbrev pub is_parameter_name : Bytes → Bool
+is_parameter_name name = not (bytes_eq name word_typename) && not (list_any (λ b. b == 45) name)
+
+-- Whether an entry counts for a path, by the path's last name: for `typename` the entries of types, for one with a `-`
+-- the per-object options of that very name, for any other the entries of parameters; and its whole key matches the path.
+abbrev pub speaks : Bytes → EntryMeaning → Bool
+speaks path (meaning.Parameter p) = is_parameter_name (last_name path) && is_matched p.pattern (chars path)
+speaks path (meaning.Type p) = bytes_eq (last_name path) word_typename && is_matched p.pattern (chars path)
+speaks path (meaning.Object o) = bytes_eq o.option (last_name path) && is_matched o.pattern (chars path)
+speaks path _ = false
+
+abbrev pub speaks_of : Bytes → Entry → Bool
+speaks_of path e = speaks path e.meaning
+
+-- THE FIRST MATCH for a path: of the entries in their order the first that counts for it and matches it
+abbrev pub first_match : Bytes → List Entry → Option Entry
+first_match path entries = slice_get (filter (speaks_of path) entries) 0
+
+-- the value that an entry of a parameter or a type gives
+abbrev pub value_said : EntryMeaning → Option EntryValue
+value_said (meaning.Parameter p) = Some p.value
+value_said (meaning.Type p) = Some p.value
+value_said _ = None
+
+-- the value of the first match, where the path is a text
+abbrev pub value_for : Bytes → List Entry → Option EntryValue
+value_for path entries =
+    if is_utf8 path then option_and_then (λ (e : Entry). value_said e.meaning) (first_match path entries) else None
+
+-- what an entry of a per-object option says
+abbrev pub object_said : EntryMeaning → Option ObjectOption
+object_said (meaning.Object o) = Some o.says
+object_said _ = None
+
+-- what the first match says of a per-object option, whose name ends the path, where the path is a text
+abbrev pub object_for : Bytes → List Entry → Option ObjectOption
+object_for path entries =
+    if is_utf8 path then option_and_then (λ (e : Entry). object_said e.meaning) (first_match path entries) else None

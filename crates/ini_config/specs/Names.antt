@@ -1,8 +1,8 @@
--- Names of NED.
+-- Names of NED, and of sections.
 use Rattle.std.specs.Prelude.{ℕ, Bool, false, ◌||◌, ◌&&◌, not, List, [], ◌∷◌, ◌==◌, codes, nat_le}
 use Rattle.std.specs.List.{list_any, list_all}
 use Rattle.std.specs.Str.{bytes_eq}
-use Rattle.ini_config.specs.Texts.{Bytes}
+use Rattle.ini_config.specs.Texts.{Bytes, parts_at}
 
 abbrev pub is_letter : ℕ → Bool
 is_letter b = (nat_le 97 b && nat_le b 122) || (nat_le 65 b && nat_le b 90)
@@ -39,3 +39,16 @@ is_spelled (b ∷ bs) = begins_name b && list_all goes_on_name bs
 -- a letter or `_`, then letters, digits and `_`; not a reserved word
 abbrev pub is_name : Bytes → Bool
 is_name bytes = is_spelled bytes && not (is_reserved bytes)
+
+-- names parted by dots: that of a package and a type, or of a type alone
+abbrev pub is_dotted_name : Bytes → Bool
+is_dotted_name bytes = list_all is_name (parts_at 46 bytes)
+
+-- a letter, a digit, `_` or `-`
+unfoldable pub is_config_byte : ℕ → Bool
+is_config_byte b = goes_on_name b || b == 45
+
+-- the name of a section: such bytes, one at least
+abbrev pub is_config_name : Bytes → Bool
+is_config_name [] = false
+is_config_name (b ∷ bs) = list_all is_config_byte (b ∷ bs)

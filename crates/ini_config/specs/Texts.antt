@@ -1,5 +1,6 @@
 -- The parts of an ini text: its lines, its blanks, and what stands before a comment.
-use Rattle.std.specs.Prelude.{ℕ, zero, suc, Bool, false, ◌||◌, ◌&&◌, not, List, [], ◌∷◌, Option, Some, None, ◌==◌, if◌then◌else◌, option_map, unwrap_or}
+use Rattle.std.specs.Prelude.{ℕ, zero, suc, Bool, false, ◌||◌, ◌&&◌, not, List, [], ◌∷◌, Option, Some, None, ◌==◌, if◌then◌else◌, option_map, unwrap_or, map}
+use Rattle.std.specs.List.{slice_split}
 
 abbrev pub Bytes : Type 0
 Bytes = List ℕ
@@ -78,6 +79,22 @@ before_hash (b ∷ bs) = if b == 35 then [] else b ∷ before_hash bs
 -- the value, of what is behind the `=`
 abbrev pub value_text : Bytes → Bytes
 value_text bytes = before_blanks (after_blanks (uncommented 0 bytes))
+
+-- ---- lists
+
+-- what stands between the bytes of this kind
+unfoldable pub parts_at : ℕ → Bytes → List Bytes
+parts_at c bytes = slice_split (λ b. b == c) bytes
+
+-- the text without the blanks at its front and its end
+abbrev pub trimmed : Bytes → Bytes
+trimmed bytes = before_blanks (after_blanks bytes)
+
+-- the items of a list, which commas part; blanks around them don't count
+abbrev pub items_of : Bytes → List Bytes
+items_of bytes = map trimmed (parts_at 44 bytes)
+
+-- ---- variables
 
 -- whether `${` is in the text, behind this byte
 unfoldable pub holds_variable : ℕ → Bytes → Bool

@@ -27,3 +27,56 @@ impl From<AllocError> for IniError {
         IniError::NoMemory
     }
 }
+
+/// Why an edit of an ini text is refused. Of several reasons the first in this order is told, and want of memory in any
+/// place.
+#[derive(Clone, Copy, Debug, PartialEq, Eq, Error)]
+pub enum EditError {
+    /// The changed text, which is its lines, each followed by LF, is longer than 1 MiB.
+    #[error("the changed ini text is longer than 1 MiB")]
+    TooLarge,
+    /// There is no line of that number.
+    #[error("there is no such line")]
+    NoSuchLine,
+    /// The number, from 1, of the first line of the changed text that means nothing, or is an entry before the first
+    /// section.
+    #[error("line {0} of the changed text is no line of an ini text")]
+    IniSyntax(usize),
+    /// Memory ran out.
+    #[error("out of memory")]
+    NoMemory,
+}
+
+impl From<AllocError> for EditError {
+    ghost use Rattle.ini_config.specs.declared.error.EditError.TheVariants as refusals;
+
+    ghost from_gives = { λ _ e. e ≡ refusals.NoMemory };
+
+    fn from(_e: AllocError) -> EditError {
+        EditError::NoMemory
+    }
+}
+
+/// Why a configuration has no chain. Of several reasons the first in this order is told, and want of memory in any place.
+#[derive(Clone, Copy, Debug, PartialEq, Eq, Error)]
+pub enum ChainError {
+    /// There is no section of that name.
+    #[error("there is no such configuration")]
+    NoSuchConfig,
+    /// It extends a configuration that is not there, several of them, or, in the end, itself.
+    #[error("a configuration extends what it can't")]
+    ChainFault,
+    /// Memory ran out.
+    #[error("out of memory")]
+    NoMemory,
+}
+
+impl From<AllocError> for ChainError {
+    ghost use Rattle.ini_config.specs.declared.error.ChainError.TheVariants as faults;
+
+    ghost from_gives = { λ _ e. e ≡ faults.NoMemory };
+
+    fn from(_e: AllocError) -> ChainError {
+        ChainError::NoMemory
+    }
+}

@@ -1,4 +1,4 @@
-//! Names of NED.
+//! Names of NED, and of sections.
 
 ghost use Rattle.std.specs.Prelude.{◌≡◌};
 ghost use Rattle.std.specs.List.{list_all};
@@ -104,8 +104,38 @@ fn is_spelled(bytes: &[u8]) -> bool
 }
 
 /// Whether the bytes are a name of NED: a letter or `_`, then letters, digits and `_`, and no reserved word.
-pub(crate) fn is_name(bytes: &[u8]) -> bool
+fn is_name(bytes: &[u8]) -> bool
     ensures { result ≡ names.is_name bytes.now }
 {
     is_spelled(bytes) && !is_reserved(bytes)
+}
+
+/// Whether the bytes are names parted by dots.
+pub(crate) fn is_dotted_name(bytes: &[u8]) -> bool
+    ensures { result ≡ names.is_dotted_name bytes.now }
+{
+    bytes.split(|b| *b == b'.').all(|name| is_name(name))
+}
+
+#[tactic(auto, unfolding(crate::specs::Names::is_config_byte))]
+fn is_config_byte(byte: u8) -> bool
+    ensures { result ≡ names.is_config_byte byte }
+{
+    goes_on_name(byte) || byte == b'-'
+}
+
+fn are_config_bytes(bytes: &[u8]) -> bool
+    ensures { result ≡ list_all names.is_config_byte bytes.now }
+{
+    bytes.iter().all(|b| is_config_byte(*b))
+}
+
+/// Whether the bytes are the name of a section: letters, digits, `_` and `-`, one at least.
+pub(crate) fn is_config_name(bytes: &[u8]) -> bool
+    ensures { result ≡ names.is_config_name bytes.now }
+{
+    match bytes {
+        [] => false,
+        [_, ..] => are_config_bytes(bytes),
+    }
 }

@@ -4,19 +4,17 @@ ghost use Rattle.std.specs.Prelude.{◌≡◌, ◌<◌, ◌||◌, ◌++◌, ◌=
 ghost use Rattle.std.specs.List.{list_all};
 ghost use Rattle.std.specs.Str.{is_utf8};
 ghost use Rattle.ini_config.specs.Texts.{lines_of_ini};
-ghost use Rattle.ini_config.specs.Meaning.{IsIniText, IsIniLine, IsLine, IsEntry, IsParted, IsEntryMeaning, IsEntryValue, Settles, Tells, Answers, Explains, any_path, begins_entry, ends_with, is_key, is_key_byte, is_value, may_stand, opens, max_length, word_network};
+ghost use Rattle.ini_config.specs.Meaning.{IsIniText, IsIniLine, IsLine, IsEntry, IsNamed, IsParted, IsSection, Settles, Tells, Answers, Explains, begins_entry, ends_with, in_brackets, is_extends, is_key, is_key_byte, is_value, may_stand, max_length};
+ghost use Rattle.ini_config.specs.Sections.{section_behind};
 ghost use Rattle.ini_config.specs.declared.lines.IniLine.{IniLine};
 
 use crate::error::IniError;
-use crate::lines::{
-    Entry, EntryMeaning, EntryValue, IniLine, IniText, LineMeaning, ParameterEntry,
-};
-use crate::names::is_name;
+use crate::lines::{Entry, EntryMeaning, IniLine, IniText, LineMeaning};
+use crate::meaning::entry_meaning;
+use crate::names::is_config_name;
 use crate::pieces::{
     after_blanks, before_blanks, first_line, holds_variable, is_blank, value_text,
 };
-use ned_syntax::error::NedError;
-use ned_syntax::parse::parse_expression;
 use sim_values::text::Text;
 use sqlite_items::Items;
 use std::alloc::{AllocError, Global};
@@ -66,66 +64,6 @@ fn is_value(bytes: &[u8]) -> bool
     match bytes {
         [] => false,
         [_, ..] => is_text(bytes) && !ends_with_backslash(bytes) && !holds_variable(bytes),
-    }
-}
-
-/// The value that an entry gives a parameter.
-fn entry_value(alloc: Global, bytes: &[u8]) -> Result<Option<EntryValue>, AllocError>
-    ensures { IfOk result (λ found. Tells (IsEntryValue bytes.now) found) }
-{
-    if bytes == b"default".as_slice() {
-        return Ok(Some(EntryValue::Default));
-    }
-    match parse_expression(alloc, bytes) {
-        Ok(expression) => Ok(Some(EntryValue::Given(expression))),
-        Err(NedError::NoMemory) => Err(AllocError),
-        Err(_) => Ok(None),
-    }
-}
-
-/// What the option `network` says.
-fn network_meaning(alloc: Global, value: &[u8]) -> Result<Option<EntryMeaning>, AllocError>
-    ensures { IfOk result (λ found. Tells (IsEntryMeaning word_network value.now) found) }
-{
-    if is_name(value) {
-        Ok(Some(EntryMeaning::Network(Text::from_bytes(alloc, value)?)))
-    } else {
-        Ok(None)
-    }
-}
-
-/// What an entry for all parameters of a name says.
-fn parameter_meaning(
-    alloc: Global,
-    name: &[u8],
-    value: &[u8],
-) -> Result<Option<EntryMeaning>, AllocError>
-    ensures { IfOk result (λ found. Tells (IsEntryMeaning (any_path ++ name.now) value.now) found) }
-{
-    if !is_name(name) {
-        return Ok(None);
-    }
-    let Some(value) = entry_value(alloc, value)? else {
-        return Ok(None);
-    };
-    let name = Text::from_bytes(alloc, name)?;
-    Ok(Some(EntryMeaning::Parameter(ParameterEntry { name, value })))
-}
-
-/// What an entry says.
-fn entry_meaning(
-    alloc: Global,
-    key: &[u8],
-    value: &[u8],
-) -> Result<Option<EntryMeaning>, AllocError>
-    ensures { IfOk result (λ found. Tells (IsEntryMeaning key.now value.now) found) }
-{
-    if key == b"network".as_slice() {
-        return network_meaning(alloc, value);
-    }
-    match key {
-        [b'*', b'*', b'.', name @ ..] => parameter_meaning(alloc, name, value),
-        _ => Ok(None),
     }
 }
 
@@ -195,14 +133,48 @@ fn blank_or_comment(line: &[u8]) -> Option<LineMeaning>
     }
 }
 
+/// What stands between the brackets that a line begins and ends with.
+fn in_brackets(line: &[u8]) -> Option<&[u8]>
+    ensures { MatchOption result ((inner : List ℕ) → line.now ≡ in_brackets inner → ⊥) (λ inner. line.now ≡ in_brackets inner.now) }
+{
+    match line.strip_prefix(b"[".as_slice()) {
+        None => None,
+        Some(rest) => rest.strip_suffix(b"]".as_slice()),
+    }
+}
+
+/// The text without the word `Config` and a blank at its front.
+fn without_config(inner: &[u8]) -> &[u8]
+    ensures { IsNamed inner.now result.now }
+{
+    match inner.strip_prefix(b"Config ".as_slice()) {
+        None => inner,
+        Some(name) => name,
+    }
+}
+
+/// The name of the section that a line is.
+fn section_name(line: &[u8]) -> Option<&[u8]>
+    ensures { MatchOption result ((name : List ℕ) → IsSection line.now name → ⊥) (λ name. IsSection line.now name.now) }
+{
+    let Some(inner) = in_brackets(line) else {
+        return None;
+    };
+    let name = without_config(inner);
+    if is_config_name(name) {
+        Some(name)
+    } else {
+        None
+    }
+}
+
 /// What a line means that is a section or an entry.
 fn section_or_entry(alloc: Global, line: &[u8]) -> Result<Option<LineMeaning>, AllocError>
     requires { begins_entry line.now ≡ true }
     ensures { IfOk result (λ found. Tells (IsLine line.now) found) }
 {
-    if line == b"[General]".as_slice() {
-        let name = Text::from_bytes(alloc, b"General")?;
-        return Ok(Some(LineMeaning::Section(name)));
+    if let Some(name) = section_name(line) {
+        return Ok(Some(LineMeaning::Section(Text::from_bytes(alloc, name)?)));
     }
     match entry(alloc, line)? {
         None => Ok(None),
@@ -221,34 +193,52 @@ fn line_meaning(alloc: Global, line: &[u8]) -> Result<Option<LineMeaning>, Alloc
     }
 }
 
-/// Whether a section stands before the next line.
-fn opened(inside: bool, line: &LineMeaning) -> bool
-    ensures { result ≡ (inside || opens line.now) }
+/// The section that the lines behind a line stand in.
+fn section_behind(
+    alloc: Global,
+    section: Option<Text>,
+    line: &LineMeaning,
+) -> Result<Option<Text>, AllocError>
+    ensures { IfOk result (λ behind. behind ≡ section_behind section line.now) }
 {
     match line {
-        LineMeaning::Section(_) => true,
-        _ => inside,
+        LineMeaning::Section(name) => Ok(Some(name.copy(alloc)?)),
+        _ => Ok(section),
     }
 }
 
-/// Whether a line of that meaning may stand here: an entry stands in a section.
-fn may_stand(inside: bool, line: &LineMeaning) -> bool
-    ensures { result ≡ may_stand inside line.now }
+/// Whether an entry says what a configuration extends.
+fn is_extends(meaning: &EntryMeaning) -> bool
+    ensures { result ≡ is_extends meaning.now }
 {
-    match line {
-        LineMeaning::Entry(_) => inside,
+    matches!(meaning, EntryMeaning::Extends(_))
+}
+
+/// Whether a line of that meaning may stand here: an entry stands in a section, and General extends nothing.
+fn may_stand(section: &Option<Text>, line: &LineMeaning) -> bool
+    ensures { result ≡ may_stand section.now line.now }
+{
+    match (section, line) {
+        (None, LineMeaning::Entry(_)) => false,
+        (Some(name), LineMeaning::Entry(entry)) => {
+            !(name.is(b"General") && is_extends(&entry.meaning))
+        }
         _ => true,
     }
 }
 
 /// A line.
-fn ini_line(alloc: Global, inside: bool, line: &[u8]) -> Result<Option<IniLine>, AllocError>
-    ensures { IfOk result (λ found. Tells (IsIniLine inside line.now) found) }
+fn ini_line(
+    alloc: Global,
+    section: &Option<Text>,
+    line: &[u8],
+) -> Result<Option<IniLine>, AllocError>
+    ensures { IfOk result (λ found. Tells (IsIniLine section.now line.now) found) }
 {
     let Some(meaning) = line_meaning(alloc, line)? else {
         return Ok(None);
     };
-    if !may_stand(inside, &meaning) {
+    if !may_stand(section, &meaning) {
         return Ok(None);
     }
     let text = Text::from_bytes(alloc, line)?;
@@ -262,13 +252,13 @@ fn read(alloc: Global, bytes: &[u8]) -> Result<Items<IniLine>, IniError>
     let mut lines = Items::new(alloc);
     let mut rest = bytes;
     let mut number: usize = 1;
-    let mut inside = false;
+    let mut section = None;
     'lines: while !rest.is_empty() {
         let (line, after) = first_line(rest);
-        let Some(read) = ini_line(alloc, inside, line)? else {
+        let Some(read) = ini_line(alloc, &section, line)? else {
             return Err(IniError::IniSyntax(number));
         };
-        inside = opened(inside, &read.meaning);
+        section = section_behind(alloc, section, &read.meaning)?;
         lines.push(read)?;
         rest = after;
         number += 1;

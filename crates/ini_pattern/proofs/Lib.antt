@@ -7,3 +7,4 @@ pub mod LawLemmas
 pub mod SteadyLemmas
 pub mod PlaceLemmas
 pub mod PlacedLemmas
+pub mod MatchedLemmas

@@ -1,3 +1,4 @@
+pub mod Matched
 pub mod Matches
 pub mod PatternOf
 pub mod Fault

@@ -1,13 +1,14 @@
 //! Patterns.
 
-ghost use Rattle.std.specs.Prelude.{◌≡◌, ◌↔◌, IsTrue, MatchResult, Some, None};
+ghost use Rattle.std.specs.Prelude.{◌≡◌, ◌↔◌, IsTrue, MatchResult, IfOk, Some, None};
 ghost use Rattle.std.specs.Str.{chars};
+ghost use Rattle.ini_pattern.specs.Matched.{is_matched};
 ghost use Rattle.ini_pattern.specs.Matches.{Matches};
 ghost use Rattle.ini_pattern.specs.PatternOf.{pattern_of};
 
 use crate::matching::matches_pieces;
 use crate::parse::parse_pieces;
-use crate::piece::Piece;
+use crate::piece::{Piece, copy_pieces};
 use sqlite_items::Items;
 use std::alloc::{AllocError, AllocFailed, Global};
 use std::marker::Model;
@@ -65,9 +66,19 @@ impl Pattern {
         })
     }
 
+    /// An equal pattern.
+    pub fn copy(&self, alloc: Global) -> Result<Pattern, AllocError>
+        ensures { IfOk result (λ copy. copy ≡ self.now) }
+    {
+        Ok(Pattern {
+            pieces: copy_pieces(alloc, self.pieces.as_slice())?,
+        })
+    }
+
     /// Whether the pattern matches a name. It allocates nothing.
     pub fn matches(&self, name: &str) -> bool
-        ensures { IsTrue result ↔ Matches self.now (chars name.now) }
+        ensures relation { IsTrue result ↔ Matches self.now (chars name.now) }
+        ensures test { result ≡ is_matched self.now (chars name.now) }
     {
         matches_pieces(self.pieces.as_slice(), name)
     }

@@ -109,3 +109,13 @@ fn bad_patterns(rt: HostRuntime) {
         }
     }
 }
+
+#[test]
+fn copies(rt: HostRuntime) -> Result<(), Fail> {
+    let pattern = Pattern::parse(rt.alloc(), "**.{^a-c}?x*{1..2}")?;
+    let copy = pattern.copy(rt.alloc())?;
+    assert!(rt; copy.matches("N.t.dyxz2"));
+    assert!(rt; !copy.matches("N.t.ayxz2"));
+    assert!(rt; !copy.matches("N.t.dyxz3"));
+    Ok(())
+}

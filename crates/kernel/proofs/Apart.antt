@@ -108,6 +108,7 @@ root_apart (answer.Root name) = refl
 root_apart (answer.Inside bs) = refl
 root_apart (answer.Value v) = refl
 root_apart (answer.Fault path f) = refl
+root_apart (answer.Beyond beyond) = refl
 root_apart answer.Absent = refl
 
 many_apart : (ms : List Instance) (parent : ℕ) (bs : List Built) (w : World) (one : Option Built) → unless_many parent bs (with_modules ms w) one ≡ flow_with ms (unless_many parent bs w one)
@@ -119,6 +120,7 @@ built_apart ms parent (answer.Inside bs) w = many_apart ms parent bs w (slice_ge
 built_apart ms parent (answer.Root name) w = refl
 built_apart ms parent (answer.Value v) w = refl
 built_apart ms parent (answer.Fault path f) w = refl
+built_apart ms parent (answer.Beyond beyond) w = refl
 built_apart ms parent answer.Absent w = refl
 
 -- setup places no module

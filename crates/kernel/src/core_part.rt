@@ -5,11 +5,12 @@ ghost use Rattle.run_semantics.specs.World.{empty, asked};
 ghost use Rattle.run_semantics.specs.Perform.{flow_of, perform, perform_all, scheduled, scheduled_at, ask_all, question_of, fault_of_read, parameter_fault, read_fault, acted, answered, broken};
 ghost use Rattle.run_semantics.specs.Ending.{is_last_action, perform_last, perform_last_all, acted_last, answered_last, with_finished};
 ghost use Rattle.run_semantics.specs.Event.{begun, call_of};
+ghost use Rattle.kernel.specs.Picks.{first_is_after_limit};
 ghost use Rattle.run_semantics.specs.Run.{rooted, built, unless_many, with_submodules, with_started, root_asked, inside_asked, prepared};
 
 use crate::event_list::EventList;
 use model_answers::answer::{Answer, Asked, Built, Question};
-use model_answers::answering::{answer, parameters_of};
+use model_answers::answering::{answer, is_beyond, parameters_of};
 use model_answers::model::Model as NetworkModel;
 use model_answers::record::{Record, index_of, path_of, submodule_path};
 use module_api::call::{Call, Prompt};
@@ -378,16 +379,30 @@ impl Core {
 
     // ---- events
 
-    /// Takes out the first event to come, which begins.
-    pub fn begin(&mut self) -> Option<Pending>
-        requires { self.old.count + 1 < 2 ^ 64 }
-        ensures { MatchOption result ((self.old.pending ≡ []) × (self.new ≡ self.old))
-            (λ p. (self.old.pending ≡ p ∷ drop 1 self.old.pending) × (self.new ≡ begun p (drop 1 self.old.pending) self.old)) }
+    /// Whether the first event to come is later than the option sim-time-limit allows.
+    pub fn is_after_limit(&self, model: &NetworkModel) -> bool
+        ensures { result ≡ first_is_after_limit model.now self.now.records self.now.pending }
     {
-        let event = self.pending.take_first()?;
+        match self.pending.first() {
+            Some(event) => is_beyond(model, event.time.ps()),
+            None => false,
+        }
+    }
+
+    /// Takes out the first event to come, which begins: its first question, whether the time limit
+    /// allows it, is noted.
+    pub fn begin(&mut self) -> Result<Option<Pending>, NoMemory>
+        requires { self.old.count + 1 < 2 ^ 64 }
+        ensures { IfOk result (λ found. MatchOption found ((self.old.pending ≡ []) × (self.new ≡ self.old))
+            (λ p. (self.old.pending ≡ p ∷ drop 1 self.old.pending) × (self.new ≡ begun p (drop 1 self.old.pending) self.old))) }
+    {
+        let Some(event) = self.pending.take_first() else {
+            return Ok(None);
+        };
         self.clock = event.time;
         self.count += 1;
-        Some(event)
+        self.ask(Question::BeyondLimit(event.time.ps()))?;
+        Ok(Some(event))
     }
 
     // ---- setup

@@ -1,7 +1,8 @@
 //! The events to come, the first one first.
 
-ghost use Rattle.std.specs.Prelude.{◌≡◌, [], ◌∷◌, ◌++◌, OnOk, OnErr, MatchOption, drop, take, ◌≤◌, length, insert};
+ghost use Rattle.std.specs.Prelude.{◌≡◌, [], ◌∷◌, ◌++◌, OnOk, OnErr, MatchOption, drop, take, ◌≤◌, length, insert, slice_get};
 ghost use Rattle.std.specs.List.{list_any};
+ghost use Rattle.std.specs.Option.{option_copied};
 ghost use Rattle.run_semantics.specs.Order.{comes_before, inserted};
 ghost use Rattle.run_semantics.specs.Perform.{is_timer, is_timer_number};
 
@@ -51,6 +52,13 @@ impl EventList {
             .as_slice()
             .iter()
             .any(|event| is_timer(id, timer, event))
+    }
+
+    /// The first event.
+    pub fn first(&self) -> Option<&Pending>
+        ensures { option_copied result ≡ slice_get self.now 0 }
+    {
+        self.held.as_slice().first()
     }
 
     /// Takes out the first event.

@@ -289,7 +289,10 @@ impl<C: Catalogue> Kernel<C> {
         if self.core.is_ended() {
             return Ok(Some(Outcome::Ended));
         }
-        let Some(event) = self.core.begin() else {
+        if self.core.is_after_limit(model) {
+            return Ok(Some(Outcome::TimeLimit));
+        }
+        let Some(event) = self.core.begin()? else {
             return Ok(Some(Outcome::NoMoreEvents));
         };
         let prompt = Prompt::Message(message_of(alloc, &event));

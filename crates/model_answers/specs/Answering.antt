@@ -1,5 +1,5 @@
 -- The answers of a model.
-use Rattle.std.specs.Prelude.{ℕ, List, [], ◌∷◌, Option, Some, None, Result, Ok, Err}
+use Rattle.std.specs.Prelude.{ℕ, nat_lt, Bool, false, List, [], ◌∷◌, Option, Some, None, Result, Ok, Err}
 use Rattle.ini_config.specs.declared.lines.Entry.{Entry}
 use Rattle.module_api.specs.declared.call.Parameter.{Parameter}
 use Rattle.ned_syntax.specs.declared.ast.Declaration.{Declaration}
@@ -20,7 +20,7 @@ use Rattle.model_answers.specs.declared.inside.PlacedFault.{PlacedFault}
 use Rattle.model_answers.specs.declared.model.Model.{Model}
 use Rattle.model_answers.specs.declared.record.Record.{Record}
 use Rattle.model_answers.specs.Inside.{built_all}
-use Rattle.model_answers.specs.Models.{entries_in, network_of, type_at}
+use Rattle.model_answers.specs.Models.{entries_in, network_of, type_at, time_limit_of}
 use Rattle.model_answers.specs.Parameters.{parameter_value}
 use Rattle.model_answers.specs.Records.{path_of}
 
@@ -51,12 +51,17 @@ value_answer path (Err fault) = answer.Fault path fault
 
 abbrev pub declared_answer : List Entry → List ℕ → List SectionLine → Option Declaration → Answer
 declared_answer entries path lines None = answer.Absent
-declared_answer entries path lines (Some d) = value_answer path (parameter_value entries lines d)
+declared_answer entries path lines (Some d) = value_answer path (parameter_value entries path lines d)
 
 -- the value of a parameter of a module of that path and type
 abbrev pub param_answer : Model → List ℕ → Option TypeDeclaration → List ℕ → Answer
 param_answer m path None name = answer.Absent
 param_answer m path (Some t) name = declared_answer (entries_in m) path t.lines (declaration_named name t.lines)
+
+-- whether a time is later than the limit, where there is one: a time equal to it is not
+abbrev pub is_beyond : Option ℕ → ℕ → Bool
+is_beyond None time = false
+is_beyond (Some limit) time = nat_lt limit time
 
 -- THE ANSWER of a model to a question, with the modules of these records; no type declares a gate yet
 abbrev pub answer_of : Model → List Record → Question → Answer
@@ -64,6 +69,7 @@ answer_of m records question.Root = root_answer (network_of m)
 answer_of m records (question.Build id) = inside_answer m (path_of records id) (type_at m records id)
 answer_of m records (question.Param id name) = param_answer m (path_of records id) (type_at m records id) name
 answer_of m records (question.GateSize id name) = answer.Absent
+answer_of m records (question.BeyondLimit time) = answer.Beyond (is_beyond (time_limit_of m) time)
 
 -- ---- the parameters of a module, as a call shows them
 

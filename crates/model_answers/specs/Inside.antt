@@ -22,19 +22,19 @@ abbrev pub fault_of_value : Result Value ModelFault → Option ModelFault
 fault_of_value (Ok v) = None
 fault_of_value (Err fault) = Some fault
 
--- the fault of the parameter that a line declares in a section of these lines
-abbrev pub fault_at : List Entry → List SectionLine → SectionLine → Option ModelFault
-fault_at entries lines (line.Declaration d) = fault_of_value (parameter_value entries lines d)
-fault_at entries lines _ = None
+-- the fault of the parameter that a line declares in a section of these lines, in the module of that path
+abbrev pub fault_at : List Entry → List ℕ → List SectionLine → SectionLine → Option ModelFault
+fault_at entries path lines (line.Declaration d) = fault_of_value (parameter_value entries path lines d)
+fault_at entries path lines _ = None
 
 abbrev pub first_of : Option ModelFault → Option ModelFault → Option ModelFault
 first_of (Some fault) other = Some fault
 first_of None other = other
 
 -- the first fault of the parameters, in the order of their declaration
-abbrev pub fault_in : List Entry → List SectionLine → List SectionLine → Option ModelFault
-fault_in entries lines [] = None
-fault_in entries lines (l ∷ ls) = first_of (fault_at entries lines l) (fault_in entries lines ls)
+abbrev pub fault_in : List Entry → List ℕ → List SectionLine → List SectionLine → Option ModelFault
+fault_in entries path lines [] = None
+fault_in entries path lines (l ∷ ls) = first_of (fault_at entries path lines l) (fault_in entries path lines ls)
 
 abbrev pub class_by : TypeKind → List ℕ → Option (List ℕ)
 class_by Simple class = Some class
@@ -45,16 +45,17 @@ abbrev pub class_to_build : TypeDeclaration → Option (List ℕ)
 class_to_build t = class_by t.kind (class_of t)
 
 abbrev pub built_without : List ℕ → List ℕ → TypeDeclaration → Option ModelFault → Result Built PlacedFault
-built_without path name t (Some fault) = Err (record { path = path_under path name; fault = fault })
+built_without path name t (Some fault) = Err (record { path = path; fault = fault })
 built_without path name t None = Ok (record { name = name; index = None; class = class_to_build t })
 
+-- a submodule of that path and name, by its type
 abbrev pub built_of : List Entry → List ℕ → List ℕ → Option TypeDeclaration → Result Built PlacedFault
-built_of entries path name None = Err (record { path = path_under path name; fault = UnknownType })
-built_of entries path name (Some t) = built_without path name t (fault_in entries t.lines t.lines)
+built_of entries path name None = Err (record { path = path; fault = UnknownType })
+built_of entries path name (Some t) = built_without path name t (fault_in entries path t.lines t.lines)
 
 -- one submodule of the module of that path, or its first fault: its type, then its parameters
 abbrev pub built_one : Model → List ℕ → Submodule → Result Built PlacedFault
-built_one m path s = built_of (entries_in m) path s.name (named_type m s.type_name)
+built_one m path s = built_of (entries_in m) (path_under path s.name) s.name (named_type m s.type_name)
 
 abbrev pub and_then : Result Built PlacedFault → Result (List Built) PlacedFault → Result (List Built) PlacedFault
 and_then (Err fault) rest = Err fault

@@ -2,7 +2,8 @@
 use Rattle.std.specs.Prelude.{ℕ, ◌==◌, List, Option, Some, None, if◌then◌else◌}
 use Rattle.std.specs.Option.{option_and_then}
 use Rattle.ini_config.specs.declared.lines.Entry.{Entry}
-use Rattle.ini_config.specs.Entries.{entries_of, network_entry}
+use Rattle.ini_config.specs.Entries.{last_name, network_entry, time_limit_entry}
+use Rattle.ini_config.specs.Sections.{entries_along}
 use Rattle.ned_syntax.specs.declared.ast.Submodule.{Submodule}
 use Rattle.ned_syntax.specs.declared.ast.TypeDeclaration.{TypeDeclaration}
 use Rattle.ned_syntax.specs.declared.ast.TypeKind.{TypeKind}
@@ -13,9 +14,9 @@ use Rattle.model_answers.specs.declared.model.Model.{Model}
 use Rattle.model_answers.specs.declared.record.Record.{Record}
 use Rattle.model_answers.specs.Records.{record_at}
 
--- the entries that count, in their order: those of the configuration's chain
+-- the entries that count, in their order: those of the sections of the configuration's chain
 abbrev pub entries_in : Model → List Entry
-entries_in m = entries_of m.ini
+entries_in m = entries_along m.chain m.ini
 
 abbrev pub of_kind : TypeKind → TypeDeclaration → Option TypeDeclaration
 of_kind Network t = Some t
@@ -27,9 +28,17 @@ as_network t = of_kind t.kind t
 abbrev pub named_type : Model → List ℕ → Option TypeDeclaration
 named_type m name = type_named name m.types
 
+-- the type that a name with its package, or without, names
+abbrev pub type_by_last_name : Model → List ℕ → Option TypeDeclaration
+type_by_last_name m name = named_type m (last_name name)
+
 -- the network that is to be run: the one that the first entry of the option `network` names
 abbrev pub network_of : Model → Option TypeDeclaration
-network_of m = option_and_then as_network (option_and_then (named_type m) (network_entry (entries_in m)))
+network_of m = option_and_then as_network (option_and_then (type_by_last_name m) (network_entry (entries_in m)))
+
+-- the time after which no event is executed, in picoseconds: that of the first entry of the option `sim-time-limit`
+unfoldable pub time_limit_of : Model → Option ℕ
+time_limit_of m = time_limit_entry (entries_in m)
 
 abbrev pub submodule_type : Model → Option Submodule → Option TypeDeclaration
 submodule_type m None = None

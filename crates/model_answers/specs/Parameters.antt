@@ -8,7 +8,7 @@ use Rattle.sim_values.specs.declared.value.Value.TheVariants as value
 use Rattle.ini_config.specs.declared.lines.Entry.{Entry}
 use Rattle.ini_config.specs.declared.lines.EntryValue.{EntryValue}
 use Rattle.ini_config.specs.declared.lines.EntryValue.TheVariants as entry
-use Rattle.ini_config.specs.Entries.{first_match}
+use Rattle.ini_config.specs.Entries.{value_for}
 use Rattle.ned_syntax.specs.declared.ast.Declaration.{Declaration}
 use Rattle.ned_syntax.specs.declared.ast.Expression.{Expression}
 use Rattle.ned_syntax.specs.declared.ast.Expression.TheVariants.{Literal}
@@ -20,6 +20,7 @@ use Rattle.ned_syntax.specs.declared.ast.SectionLine.{SectionLine}
 use Rattle.ned_types.specs.Flat.{last_value}
 use Rattle.model_answers.specs.declared.answer.ModelFault.{ModelFault}
 use Rattle.model_answers.specs.declared.answer.ModelFault.TheVariants.{Unassigned, Mismatch}
+use Rattle.model_answers.specs.Records.{path_under}
 
 -- the expression that gives a parameter its value, the first that exists of: the fixed one of the type; that of the
 -- first matching entry, where `default` means the next case; the default of the type
@@ -73,6 +74,7 @@ abbrev pub checked : Declaration → Option Expression → Result Value ModelFau
 checked d None = Err Unassigned
 checked d (Some e) = checked_value d (literal_of e)
 
--- the value of a parameter that a section of these lines declares, with these entries
-abbrev pub parameter_value : List Entry → List SectionLine → Declaration → Result Value ModelFault
-parameter_value entries lines d = checked d (chosen (last_value d.name lines) (first_match d.name entries))
+-- the value of a parameter that a section of these lines declares, of the module of that path, with these entries
+abbrev pub parameter_value : List Entry → List ℕ → List SectionLine → Declaration → Result Value ModelFault
+parameter_value entries path lines d =
+    checked d (chosen (last_value d.name lines) (value_for (path_under path d.name) entries))

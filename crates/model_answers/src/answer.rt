@@ -15,6 +15,8 @@ pub enum Question {
     Param(u32, Text),
     /// The direction and size of a gate of the module of that id.
     GateSize(u32, Text),
+    /// Whether an event at that time, in picoseconds, is later than the option sim-time-limit allows.
+    BeyondLimit(u64),
 }
 
 /// A question, with the number of the event in which it was asked.
@@ -55,6 +57,8 @@ pub enum Answer {
     Value(Value),
     /// The fault, with the path that it is told with.
     Fault(Text, ModelFault),
+    /// Whether the time is later than the limit.
+    Beyond(bool),
     /// There is no such thing.
     Absent,
 }

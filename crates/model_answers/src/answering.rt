@@ -1,8 +1,8 @@
 //! The answers of a model.
 
-ghost use Rattle.std.specs.Prelude.{◌≡◌, ◌++◌, [], IfOk, OnOk};
-ghost use Rattle.model_answers.specs.Answering.{answer_of, root_answer, inside_answer, inside_of, param_answer, parameters_of, with_line, answer_for};
-ghost use Rattle.model_answers.specs.Models.{network_of, type_at};
+ghost use Rattle.std.specs.Prelude.{◌≡◌, ◌++◌, [], Some, IfOk, OnOk};
+ghost use Rattle.model_answers.specs.Answering.{answer_of, is_beyond, root_answer, inside_answer, inside_of, param_answer, parameters_of, with_line, with_lines};
+ghost use Rattle.model_answers.specs.Models.{network_of, type_at, time_limit_of};
 ghost use Rattle.model_answers.specs.Records.{path_of};
 ghost use Rattle.std.specs.Option.{option_copied};
 
@@ -33,6 +33,18 @@ pub fn answer(
         Question::Build(id) => inside_answer(alloc, model, records, *id),
         Question::Param(id, name) => param_answer(alloc, model, records, *id, name.as_bytes()),
         Question::GateSize(_, _) => Ok(Answer::Absent),
+        Question::BeyondLimit(time) => Ok(Answer::Beyond(is_beyond(model, *time))),
+    }
+}
+
+/// Whether a time, in picoseconds, is later than the option sim-time-limit allows. A time equal to the
+/// limit is not.
+pub fn is_beyond(model: &Model, time: u64) -> bool
+    ensures { result ≡ is_beyond (time_limit_of model.now) time }
+{
+    match model.time_limit() {
+        Some(limit) => limit < time,
+        None => false,
     }
 }
 
@@ -95,12 +107,27 @@ fn param_answer(
     let Some(declared) = model.type_at(records, id) else {
         return Ok(Answer::Absent);
     };
-    let Some(declaration) = declaration_named(name, declared.lines.as_slice()) else {
+    let path = path_of(alloc, records, id)?;
+    typed_answer(alloc, model, path.as_bytes(), declared, name)
+}
+
+/// The value of a parameter of the module of that path and type.
+fn typed_answer(
+    alloc: Global,
+    model: &Model,
+    path: &[u8],
+    declared: &TypeDeclaration,
+    name: &[u8],
+) -> Result<Answer, NoMemory>
+    ensures { IfOk result (λ found. found ≡ param_answer model.now path.now (Some declared.now) name.now) }
+{
+    let lines = declared.lines.as_slice();
+    let Some(declaration) = declaration_named(name, lines) else {
         return Ok(Answer::Absent);
     };
-    match parameter_value(model, declared.lines.as_slice(), declaration) {
+    match parameter_value(alloc, model, path, lines, declaration)? {
         Ok(value) => Ok(Answer::Value(value.copy(alloc)?)),
-        Err(fault) => Ok(Answer::Fault(path_of(alloc, records, id)?, fault)),
+        Err(fault) => Ok(Answer::Fault(Text::from_bytes(alloc, path)?, fault)),
     }
 }
 
@@ -117,10 +144,25 @@ pub fn parameters_of(
     let Some(declared) = model.type_at(records, id) else {
         return Ok(parameters);
     };
-    for line in declared.lines.as_slice() {
-        push_line(&mut parameters, alloc, model, records, id, line)?;
-    }
+    let path = path_of(alloc, records, id)?;
+    push_lines(&mut parameters, alloc, model, path.as_bytes(), declared)?;
     Ok(parameters)
+}
+
+/// Adds all parameters of the module of that path and type.
+fn push_lines(
+    parameters: &mut Items<Parameter>,
+    alloc: Global,
+    model: &Model,
+    path: &[u8],
+    declared: &TypeDeclaration,
+) -> Result<(), NoMemory>
+    ensures { OnOk result (parameters.new ≡ parameters.old ++ with_lines (param_answer model.now path.now (Some declared.now)) declared.now.lines) }
+{
+    for line in declared.lines.as_slice() {
+        push_line(parameters, alloc, model, path, declared, line)?;
+    }
+    Ok(())
 }
 
 /// Adds the parameter that a line declares.
@@ -128,17 +170,17 @@ fn push_line(
     parameters: &mut Items<Parameter>,
     alloc: Global,
     model: &Model,
-    records: &[Record],
-    id: u32,
+    path: &[u8],
+    declared: &TypeDeclaration,
     line: &SectionLine,
 ) -> Result<(), NoMemory>
-    ensures { OnOk result (parameters.new ≡ parameters.old ++ with_line (answer_for model.now records.now id) line.now []) }
+    ensures { OnOk result (parameters.new ≡ parameters.old ++ with_line (param_answer model.now path.now (Some declared.now)) line.now []) }
 {
     let SectionLine::Declaration(declaration) = line else {
         return Ok(());
     };
     let name = declaration.name.as_bytes();
-    if let Answer::Value(value) = param_answer(alloc, model, records, id, name)? {
+    if let Answer::Value(value) = typed_answer(alloc, model, path, declared, name)? {
         parameters.push(Parameter {
             name: Text::from_bytes(alloc, name)?,
             value,

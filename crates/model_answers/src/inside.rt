@@ -22,30 +22,41 @@ pub struct PlacedFault {
     pub fault: ModelFault,
 }
 
-/// The first fault of the parameters that these lines declare, in their order.
-fn fault_in(model: &Model, lines: &[SectionLine]) -> Option<ModelFault>
-    ensures { result ≡ fault_in (entries_in model.now) lines.now lines.now }
+/// The first fault of the parameters that these lines declare, in their order, in the module of that path.
+fn fault_in(
+    alloc: Global,
+    model: &Model,
+    path: &[u8],
+    lines: &[SectionLine],
+) -> Result<Option<ModelFault>, NoMemory>
+    ensures { IfOk result (λ fault. fault ≡ fault_in (entries_in model.now) path.now lines.now lines.now) }
 {
     for line in lines {
-        if let Some(fault) = fault_at(model, lines, line) {
-            return Some(fault);
+        if let Some(fault) = fault_at(alloc, model, path, lines, line)? {
+            return Ok(Some(fault));
         }
     }
-    None
+    Ok(None)
 }
 
 /// The fault of the parameter that a line declares.
-fn fault_at(model: &Model, lines: &[SectionLine], line: &SectionLine) -> Option<ModelFault>
-    ensures { result ≡ fault_at (entries_in model.now) lines.now line.now }
+fn fault_at(
+    alloc: Global,
+    model: &Model,
+    path: &[u8],
+    lines: &[SectionLine],
+    line: &SectionLine,
+) -> Result<Option<ModelFault>, NoMemory>
+    ensures { IfOk result (λ fault. fault ≡ fault_at (entries_in model.now) path.now lines.now line.now) }
 {
     match line {
         SectionLine::Declaration(declaration) => {
-            match parameter_value(model, lines, declaration) {
-                Ok(_) => None,
-                Err(fault) => Some(fault),
+            match parameter_value(alloc, model, path, lines, declaration)? {
+                Ok(_) => Ok(None),
+                Err(fault) => Ok(Some(fault)),
             }
         }
-        _ => None,
+        _ => Ok(None),
     }
 }
 
@@ -68,16 +79,14 @@ fn built_one(
 ) -> Result<Result<Built, PlacedFault>, NoMemory>
     ensures { IfOk result (λ made. made ≡ built_one model.now path.now submodule.now) }
 {
-    let name = submodule.name.as_bytes();
+    let path = path_under(alloc, path, submodule.name.as_bytes())?;
     let Some(declared) = model.types.find(submodule.type_name.as_bytes()) else {
-        let path = path_under(alloc, path, name)?;
         return Ok(Err(PlacedFault {
             path,
             fault: ModelFault::UnknownType,
         }));
     };
-    if let Some(fault) = fault_in(model, declared.lines.as_slice()) {
-        let path = path_under(alloc, path, name)?;
+    if let Some(fault) = fault_in(alloc, model, path.as_bytes(), declared.lines.as_slice())? {
         return Ok(Err(PlacedFault { path, fault }));
     }
     let class = class_to_build(alloc, declared)?;

@@ -2,16 +2,17 @@
 
 ghost use Rattle.std.specs.Prelude.{◌≡◌};
 ghost use Rattle.std.specs.Option.{option_copied};
-ghost use Rattle.model_answers.specs.Models.{network_of, type_at, type_of_record, inner_type, as_network};
+ghost use Rattle.model_answers.specs.Models.{network_of, type_at, type_of_record, inner_type, as_network, type_by_last_name, time_limit_of};
 ghost use Rattle.model_answers.specs.Records.{record_at};
 
 use crate::record::{Record, record_at};
-use ini_config::entries::network_entry;
+use ini_config::entries::{last_name, network_entry, time_limit_entry};
 use ini_config::lines::IniText;
 use ned_syntax::ast::{TypeDeclaration, TypeKind};
 use ned_types::flat::submodule_named;
 use ned_types::table::TypeTable;
 use sim_values::text::Text;
+use sqlite_items::Items;
 
 /// What a run is made of: the declared types, the ini text, and the selected configuration.
 #[derive(Debug, Drop)]
@@ -19,6 +20,8 @@ pub struct Model {
     pub types: TypeTable,
     pub ini: IniText,
     pub config: Text,
+    /// The names of the sections that make the configuration, in the order in which their entries count.
+    pub chain: Items<Text>,
 }
 
 impl Model {
@@ -26,9 +29,17 @@ impl Model {
     pub fn network(&self) -> Option<&TypeDeclaration>
         ensures { option_copied result ≡ network_of self.now }
     {
-        let name = network_entry(self.ini.lines())?;
-        let declared = self.types.find(name)?;
+        let name = network_entry(self.ini.lines(), self.chain.as_slice())?;
+        let declared = self.types.find(last_name(name))?;
         as_network(declared)
+    }
+
+    #[tactic(auto, unfolding(crate::specs::Models::time_limit_of))]
+    /// The time after which no event is executed, in picoseconds: the option sim-time-limit.
+    pub fn time_limit(&self) -> Option<u64>
+        ensures { result ≡ time_limit_of self.now }
+    {
+        time_limit_entry(self.ini.lines(), self.chain.as_slice())
     }
 
     /// The type of the module of that id.

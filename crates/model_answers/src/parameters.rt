@@ -1,17 +1,22 @@
 //! Values of parameters.
 
-ghost use Rattle.std.specs.Prelude.{◌≡◌, Some, Ok, Err, MatchResult};
+ghost use Rattle.std.specs.Prelude.{◌≡◌, Some, Ok, Err, IfOk, MatchResult};
 ghost use Rattle.std.specs.Option.{option_copied};
+ghost use Rattle.ini_config.specs.Entries.{value_for};
 ghost use Rattle.model_answers.specs.Models.{entries_in};
 ghost use Rattle.model_answers.specs.Parameters.{literal_of, chosen, parameter_value, is_of_kind, checked};
+ghost use Rattle.model_answers.specs.Records.{path_under};
 
 use crate::answer::ModelFault;
 use crate::model::Model;
-use ini_config::entries::first_match;
+use crate::record::path_under;
+use ini_config::entries::value_for;
 use ini_config::lines::EntryValue;
 use ned_syntax::ast::{Declaration, Expression, ParameterValue, ParameterWord, SectionLine};
 use ned_types::flat::last_value;
+use sim_values::NoMemory;
 use sim_values::value::{Dimension, Value};
+use std::alloc::Global;
 
 /// The expression that gives a parameter its value: the first that exists of the fixed one of the
 /// type, the one of the ini text, and the default of the type.
@@ -29,20 +34,35 @@ fn chosen<'a>(
     }
 }
 
-/// The value of a parameter that a section of these lines declares.
-pub fn parameter_value<'a>(
+/// The value that the ini text has for the parameter of that name of the module of that path.
+fn entry_for<'a>(
+    alloc: Global,
     model: &'a Model,
+    path: &[u8],
+    name: &[u8],
+) -> Result<Option<&'a EntryValue>, NoMemory>
+    ensures { IfOk result (λ entry. option_copied entry ≡ value_for (path_under path.now name.now) (entries_in model.now)) }
+{
+    let path = path_under(alloc, path, name)?;
+    Ok(value_for(model.ini.lines(), model.chain.as_slice(), path.as_bytes()))
+}
+
+/// The value of a parameter that a section of these lines declares, of the module of that path.
+pub fn parameter_value<'a>(
+    alloc: Global,
+    model: &'a Model,
+    path: &[u8],
     lines: &'a [SectionLine],
     declaration: &Declaration,
-) -> Result<&'a Value, ModelFault>
-    ensures { MatchResult result
-        (λ v. parameter_value (entries_in model.now) lines.now declaration.now ≡ Ok v.now)
-        (λ e. parameter_value (entries_in model.now) lines.now declaration.now ≡ Err e) }
+) -> Result<Result<&'a Value, ModelFault>, NoMemory>
+    ensures { IfOk result (λ found. MatchResult found
+        (λ v. parameter_value (entries_in model.now) path.now lines.now declaration.now ≡ Ok v.now)
+        (λ e. parameter_value (entries_in model.now) path.now lines.now declaration.now ≡ Err e)) }
 {
     let name = declaration.name.as_bytes();
     let declared = last_value(name, lines);
-    let entry = first_match(name, model.ini.lines());
-    checked(declaration, chosen(declared, entry))
+    let entry = entry_for(alloc, model, path, name)?;
+    Ok(checked(declaration, chosen(declared, entry)))
 }
 
 /// The value of the expression, where it is of the parameter's kind.

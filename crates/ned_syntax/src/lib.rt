@@ -9,7 +9,7 @@ mod literals;
 mod parameters;
 pub mod parse;
 mod properties;
-mod statistics;
+pub mod statistics;
 #[cfg(test)]
 mod tests;
 pub mod texts;

@@ -26,7 +26,8 @@ pub(crate) enum Part {
 
 // ---- modes
 
-fn mode_named(text: &[u8]) -> Option<Mode>
+/// The mode of that name.
+pub fn mode_named(text: &[u8]) -> Option<Mode>
     ensures { result ≡ grammar.mode_named text.now }
 {
     if text == b"count".as_slice() {

@@ -20,17 +20,15 @@ fn say<R: Print>(rt: &R, line: &[u8]) -> io::Result<()> {
     out.write_all(b"\n".as_slice())
 }
 
-/// Prints what a command line led to, and writes the run's file into the directory.
-fn tell<R: Files + Print + AllocGlobal>(
-    rt: &R,
-    directory: &str,
-    reply: &Reply,
-) -> Result<(), Stop> {
+/// Prints what a command line led to, and writes the run's file, named by the configuration, into the directory.
+fn tell<R: Files + Print + AllocGlobal>(rt: &R, words: &Words, reply: &Reply) -> Result<(), Stop> {
     match reply {
         Reply::Done(answer, file) => {
             say(rt, answer.as_bytes())?;
+            let directory = words.directory.as_str();
+            let config = words.config.as_str();
             fs::create_dir_all(rt, directory)?;
-            let path = format!(in rt.alloc(); "{directory}/General-#0.vec")?;
+            let path = format!(in rt.alloc(); "{directory}/{config}-#0.vec")?;
             fs::write(rt, path.as_str(), file.as_bytes())?;
             Ok(say(rt, b"written".as_slice())?)
         }
@@ -53,8 +51,9 @@ fn work<R: Files + Env + Print + AllocGlobal>(rt: &R) -> Result<(), Stop> {
     let texts = files::read_texts(rt, words.texts.as_slice())?;
     let line = run_line(alloc, words.limit)?;
     let lines = std::slice::from_ref(&line);
-    for reply in &replies_to(alloc, &texts, ini.as_slice(), lines)? {
-        tell(rt, words.directory.as_str(), reply)?;
+    let config = words.config.as_bytes();
+    for reply in &replies_to(alloc, &texts, ini.as_slice(), config, lines)? {
+        tell(rt, &words, reply)?;
     }
     Ok(())
 }

@@ -85,6 +85,8 @@ impl<T: Drop> From<AllocFailed<T>> for Stop {
 /// What the program is asked for.
 #[derive(Drop)]
 pub struct Words {
+    /// The name of the configuration.
+    pub config: String,
     /// The run ends after so many events.
     pub limit: u64,
     /// Where the result file is written.
@@ -97,6 +99,11 @@ pub struct Words {
 
 /// The words that the program takes.
 fn command<'a>(alloc: Global) -> Result<Command<'a>, AllocError> {
+    let config = Arg::new(alloc, "config")
+        .short('c')
+        .value_name("CONFIG")
+        .default_value("General")
+        .help("The configuration of the ini file that is run");
     let limit = Arg::new(alloc, "limit")
         .short('l')
         .value_name("LIMIT")
@@ -120,6 +127,7 @@ fn command<'a>(alloc: Global) -> Result<Command<'a>, AllocError> {
         .help("The NED files");
     Command::new(alloc, "nedrun")
         .about("Runs a network of modules and writes its vector file")
+        .arg(config)?
         .arg(limit)?
         .arg(directory)?
         .arg(ini)?
@@ -137,6 +145,7 @@ impl Words {
             texts.push(String::from_str(alloc, path)?)?;
         }
         Ok(Words {
+            config: String::from_str(alloc, matches.get_str("config").unwrap_or("General"))?,
             limit: matches.get_one::<u64>("limit").unwrap_or(1000000),
             directory: String::from_str(alloc, matches.get_str("directory").unwrap_or("."))?,
             ini: String::from_str(alloc, matches.get_str("ini").unwrap_or(""))?,

@@ -1,3 +1,4 @@
 pub mod Modes
 pub mod Hearing
+pub mod Selection
 pub mod Vectors

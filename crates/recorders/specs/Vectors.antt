@@ -4,14 +4,13 @@ use Rattle.std.specs.List.{list_any}
 use Rattle.model_answers.specs.declared.model.Model.{Model}
 use Rattle.model_answers.specs.declared.record.Record.{Record}
 use Rattle.model_answers.specs.Answering.{lines_of}
-use Rattle.model_answers.specs.Models.{type_at}
+use Rattle.model_answers.specs.Models.{entries_in, type_at}
 use Rattle.model_answers.specs.Records.{path_of}
-use Rattle.ned_syntax.specs.declared.ast.Mode.TheVariants as mode
 use Rattle.ned_syntax.specs.declared.ast.Statistic.{Statistic}
 use Rattle.ned_types.specs.Flat.{statistics_of}
 use Rattle.recorders.specs.declared.vector_line.VectorLine.{VectorLine}
 use Rattle.recorders.specs.Hearing.{hears}
-use Rattle.recorders.specs.Modes.{is_recorded}
+use Rattle.recorders.specs.Selection.{records_vector}
 use Rattle.run_semantics.specs.declared.traces.Emission.{Emission}
 
 -- the vector of a statistic of the module of that id
@@ -22,19 +21,20 @@ vector_of records id s = record { id = id; path = path_of records id; statistic 
 abbrev pub hears_any : List Record → List Emission → VectorLine → Bool
 hears_any records emissions v = list_any (λ e. hears records v e) emissions
 
--- whether a statistic of the module of that id has a vector with at least one value
-abbrev pub has_vector : List Record → List Emission → ℕ → Statistic → Bool
-has_vector records emissions id s = is_recorded mode.Vector s.modes && hears_any records emissions (vector_of records id s)
+-- whether a statistic of the module of that id has a vector that is recorded and has at least one value
+abbrev pub has_vector : Model → List Record → List Emission → ℕ → Statistic → Bool
+has_vector m records emissions id s =
+    records_vector (entries_in m) (path_of records id) s && hears_any records emissions (vector_of records id s)
 
 -- the vectors of these statistics of the module of that id, in their order
-abbrev pub vectors_among : List Record → List Emission → ℕ → List Statistic → List VectorLine
-vectors_among records emissions id statistics =
-    map (vector_of records id) (filter (has_vector records emissions id) statistics)
+abbrev pub vectors_among : Model → List Record → List Emission → ℕ → List Statistic → List VectorLine
+vectors_among m records emissions id statistics =
+    map (vector_of records id) (filter (has_vector m records emissions id) statistics)
 
 -- the vectors of the module of that id, in the order of its type's statistics
 abbrev pub vectors_at : Model → List Record → List Emission → ℕ → List VectorLine
 vectors_at m records emissions id =
-    vectors_among records emissions id (statistics_of (lines_of (type_at m records id)))
+    vectors_among m records emissions id (statistics_of (lines_of (type_at m records id)))
 
 -- the vectors of the modules with these records, whose ids count up from this one
 abbrev pub vectors_from : Model → List Record → List Emission → ℕ → List Record → List VectorLine
@@ -42,7 +42,7 @@ vectors_from m records emissions id [] = []
 vectors_from m records emissions id (r ∷ rs) =
     vectors_at m records emissions id ++ vectors_from m records emissions (id + 1) rs
 
--- THE VECTORS that a run records, with the modules of these records and these emissions: all that hear at least one
--- value, by rising id of the module, then in the order of its type's statistics
+-- THE VECTORS that a run records, with the modules of these records and these emissions: all that the options let be
+-- recorded and that hear at least one value, by rising id of the module, then in the order of its type's statistics
 abbrev pub vectors_of : Model → List Record → List Emission → List VectorLine
 vectors_of m records emissions = vectors_from m records emissions 1 records

@@ -3,5 +3,6 @@
 
 pub mod hearing;
 pub mod modes;
+pub mod selection;
 pub mod vector_line;
 pub mod vectors;

@@ -4,11 +4,11 @@ ghost use Rattle.std.specs.Prelude.{◌≡◌, [], ◌∷◌, ◌++◌, IfOk, On
 ghost use Rattle.recorders.specs.Vectors.{vector_of, hears_any, vectors_among, vectors_at, vectors_of};
 
 use crate::hearing::hears;
-use crate::modes::is_recorded;
+use crate::selection::records_vector;
 use crate::vector_line::VectorLine;
 use model_answers::model::Model;
 use model_answers::record::{Record, path_of};
-use ned_syntax::ast::{Mode, Statistic};
+use ned_syntax::ast::Statistic;
 use ned_types::flat::statistics_of;
 use run_semantics::traces::Emission;
 use sim_values::NoMemory;
@@ -45,17 +45,18 @@ fn hears_any(records: &[Record], emissions: &[Emission], vector: &VectorLine) ->
 fn push_vector(
     found: &mut Items<VectorLine>,
     alloc: Global,
+    model: &Model,
     records: &[Record],
     emissions: &[Emission],
     id: u32,
     statistic: &Statistic,
 ) -> Result<(), NoMemory>
-    ensures { OnOk result (found.new ≡ found.old ++ vectors_among records.now emissions.now id (statistic.now ∷ [])) }
+    ensures { OnOk result (found.new ≡ found.old ++ vectors_among model.now records.now emissions.now id (statistic.now ∷ [])) }
 {
-    if !is_recorded(Mode::Vector, statistic.modes.as_slice()) {
+    let vector = vector_of(alloc, records, id, statistic)?;
+    if !records_vector(alloc, model, vector.path.as_bytes(), statistic)? {
         return Ok(());
     }
-    let vector = vector_of(alloc, records, id, statistic)?;
     if hears_any(records, emissions, &vector) {
         found.push(vector)?;
     }
@@ -66,15 +67,16 @@ fn push_vector(
 fn push_vectors(
     found: &mut Items<VectorLine>,
     alloc: Global,
+    model: &Model,
     records: &[Record],
     emissions: &[Emission],
     id: u32,
     statistics: &[Statistic],
 ) -> Result<(), NoMemory>
-    ensures { OnOk result (found.new ≡ found.old ++ vectors_among records.now emissions.now id statistics.now) }
+    ensures { OnOk result (found.new ≡ found.old ++ vectors_among model.now records.now emissions.now id statistics.now) }
 {
     for statistic in statistics {
-        push_vector(found, alloc, records, emissions, id, statistic)?;
+        push_vector(found, alloc, model, records, emissions, id, statistic)?;
     }
     Ok(())
 }
@@ -94,11 +96,19 @@ fn push_vectors_at(
         return Ok(());
     };
     let statistics = statistics_of(alloc, declared.lines.as_slice())?;
-    push_vectors(found, alloc, records, emissions, id, statistics.as_slice())
+    push_vectors(
+        found,
+        alloc,
+        model,
+        records,
+        emissions,
+        id,
+        statistics.as_slice(),
+    )
 }
 
 /// The vectors that a run records, with the modules of these records and these emissions: all that
-/// hear at least one value, by rising id of the module, then in the order of its type's statistics.
+/// the options let be recorded and that hear at least one value, by rising id of the module, then in the order of its type's statistics.
 /// More modules than ids of 32 bits are told as want of memory.
 /// See OMNeT++ Simulation Manual, "Result Recording".
 pub fn vectors(

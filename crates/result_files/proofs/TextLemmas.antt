@@ -1,13 +1,10 @@
 -- Parts of texts, and how long they are.
 use Rattle.std.proofs.Common.{◌≡◌, ◌≢◌, ℕ, zero, suc, ◌+◌, ◌-◌, ◌/◌, ◌%◌, ◌^◌, ◌≤◌, ◌<◌, List, [], ◌∷◌, ◌++◌, Bool, not, true, false, length, take, drop, get_or, refl, sym, ap, ◌∙◌, arith, append_assoc, length-append}
 use Rattle.std.specs.Prelude.{decimal, ◌==◌, if◌then◌else◌}
-use Rattle.std.specs.List.{suffix_len}
 use Rattle.std.proofs.Math.Seq.{take-add}
 use Rattle.std.proofs.lemmas.Bool.{ne_eqb, eq-eqb}
 use Rattle.std.proofs.lemmas.Fmt.{length-decimal-le}
 use Rattle.std.proofs.lemmas.List.{take_rest}
-use Rattle.std.proofs.lemmas.List.Sums.{suffix_len_is}
-use Rattle.result_files.specs.Header.{last_name}
 use Rattle.result_files.specs.Taken.{failures_after}
 use Rattle.sim_time.specs.Text.{low_digits, before_digits, without_last_zeros, part_text, text_of_time}
 
@@ -16,13 +13,6 @@ pub sent_more : (o m n p : List ℕ) (s k : ℕ) → m ≡ o ++ take s p → n �
 sent_more o m n p s k e f =
     f ∙ ap (λ (xs : List ℕ). m ++ take k xs) (take_rest p s) ∙ ap (λ (xs : List ℕ). xs ++ take k (drop s p)) e
     ∙ append_assoc o (take s p) (take k (drop s p)) ∙ ap (λ (xs : List ℕ). o ++ xs) (sym (take-add s k p))
-
--- what stands behind the last dot
-pub last_name_is : (name : List ℕ) (start : ℕ) → start ≤ length name → ((k : ℕ) → start ≤ k → k < length name → get_or name k 0 ≡ 46 → ⊥) → (0 < start → get_or name (start - 1) 0 ≡ 46) → drop start name ≡ last_name name
-last_name_is name start le past at =
-    let len : suffix_len (λ (c : ℕ). not (c == 46)) name ≡ length name - start = suffix_len_is (λ (c : ℕ). not (c == 46)) name start 0 le (λ k low high. ap not (ne_eqb (get_or name k 0) 46 (past k low high))) (λ pos. ap not (eq-eqb (get_or name (start - 1) 0) 46 (at pos))) in
-    let back : start ≡ length name - (length name - start) = omega arith in
-    ap (λ (k : ℕ). drop k name) (back ∙ ap (λ (k : ℕ). length name - k) (sym len))
 
 -- the text of a time is short
 length_low_digits : (k n : ℕ) → length (low_digits k n) ≡ k

@@ -1,8 +1,9 @@
 -- The header of a result file.
 use Rattle.std.specs.Prelude.{ℕ, ◌==◌, nat_le, Bool, not, ◌&&◌, ◌||◌, List, [], ◌∷◌, ◌++◌, codes, unwrap_or, if◌then◌else◌}
-use Rattle.std.specs.List.{list_all, flat_map, after_last}
+use Rattle.std.specs.List.{list_all, flat_map}
 use Rattle.ini_config.specs.declared.lines.Entry.{Entry}
-use Rattle.ini_config.specs.Entries.{network_entry}
+use Rattle.ini_config.specs.Entries.{last_name, network_entry}
+use Rattle.ini_config.specs.Meaning.{is_extends}
 use Rattle.model_answers.specs.declared.model.Model.{Model}
 use Rattle.model_answers.specs.Models.{entries_in}
 
@@ -25,10 +26,11 @@ value_text value = if list_all is_plain value then value else 34 ∷ (flat_map e
 unfoldable pub item_line : List ℕ → List ℕ → List ℕ → List ℕ
 item_line word key value = word ++ 32 ∷ (key ++ 32 ∷ (value_text value ++ 10 ∷ []))
 
+-- the line of an entry, but for one that says what is extended: the entries of a base stand there themselves
 abbrev pub config_line : Entry → List ℕ
-config_line e = item_line (codes "config") e.key e.value
+config_line e = if is_extends e.meaning then [] else item_line (codes "config") e.key e.value
 
--- a line for each entry of the configuration, in their order
+-- a line for each of these entries, in their order
 abbrev pub config_lines : List Entry → List ℕ
 config_lines entries = flat_map config_line entries
 
@@ -46,10 +48,6 @@ attribute_lines config network =
 abbrev pub header_text : List ℕ → List ℕ → List Entry → List ℕ
 header_text config network entries =
     run_lines config ++ (attribute_lines config network ++ (config_lines entries ++ 10 ∷ []))
-
--- what stands behind the last dot of a name, or all of it
-abbrev pub last_name : List ℕ → List ℕ
-last_name name = after_last (λ c. c == 46) name
 
 -- the name of the network without that of its package
 abbrev pub network_name : Model → List ℕ

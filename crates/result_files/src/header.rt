@@ -1,12 +1,12 @@
 //! The header of a result file.
 
-ghost use Rattle.std.specs.Prelude.{◌≡◌, [], ◌++◌, IfOk, OnOk};
+ghost use Rattle.std.specs.Prelude.{◌≡◌, ◌++◌, IfOk, OnOk};
 ghost use Rattle.std.specs.List.{flat_map, list_all};
-ghost use Rattle.ini_config.specs.Entries.{entries_of, with_entry};
-ghost use Rattle.result_files.specs.Header.{is_quoting, is_plain, escaped, value_text, item_line, run_lines, attribute_lines, config_lines, header_text, last_name, network_name, header_of};
+ghost use Rattle.ini_config.specs.Sections.{entries_along, entries_under};
+ghost use Rattle.result_files.specs.Header.{is_quoting, is_plain, escaped, value_text, item_line, run_lines, attribute_lines, config_line, config_lines, header_text, network_name, header_of};
 
-use ini_config::entries::network_entry;
-use ini_config::lines::{IniLine, LineMeaning};
+use ini_config::entries::{entry_in, last_name, network_entry, section_behind};
+use ini_config::lines::{Entry, EntryMeaning, IniLine};
 use model_answers::model::Model;
 use sim_values::text::Text;
 use std::alloc::{AllocError, Global};
@@ -80,49 +80,50 @@ fn push_item(header: &mut Vec<u8>, word: &[u8], key: &[u8], value: &[u8]) -> Res
     Ok(())
 }
 
-/// Adds the line of an entry of the configuration.
-fn push_entry(header: &mut Vec<u8>, line: &LineMeaning) -> Result<(), AllocError>
-    ensures { OnOk result (header.new.items ≡ header.old.items ++ config_lines (with_entry line.now [])) }
+/// Adds the line of an entry, but for one of the option `extends`.
+fn push_entry(header: &mut Vec<u8>, entry: &Entry) -> Result<(), AllocError>
+    ensures { OnOk result (header.new.items ≡ header.old.items ++ config_line entry.now) }
 {
-    match line {
-        LineMeaning::Entry(entry) => {
-            push_item(
-                header,
-                b"config",
-                entry.key.as_bytes(),
-                entry.value.as_bytes(),
-            )
-        }
-        _ => Ok(()),
+    match &entry.meaning {
+        EntryMeaning::Extends(_) => Ok(()),
+        _ => push_item(
+            header,
+            b"config",
+            entry.key.as_bytes(),
+            entry.value.as_bytes(),
+        ),
     }
 }
 
-/// Adds the lines of all entries of the configuration.
-fn push_entries(header: &mut Vec<u8>, lines: &[IniLine]) -> Result<(), AllocError>
-    ensures { OnOk result (header.new.items ≡ header.old.items ++ config_lines (entries_of lines.now)) }
+/// Adds the lines of the entries of the section of that name.
+fn push_section(header: &mut Vec<u8>, name: &[u8], lines: &[IniLine]) -> Result<(), AllocError>
+    ensures { OnOk result (header.new.items ≡ header.old.items ++ config_lines (entries_under name.now lines.now)) }
 {
+    let mut section = None;
     for line in lines {
-        push_entry(header, &line.meaning)?;
+        if let Some(entry) = entry_in(name, section, line) {
+            push_entry(header, entry)?;
+        }
+        section = section_behind(section, line);
     }
     Ok(())
 }
 
-/// What stands behind the last dot of a name, or all of it.
-fn last_name(name: &[u8]) -> &[u8]
-    ensures { result.now ≡ last_name name.now }
+/// Adds the lines of all entries of the chain.
+fn push_entries(header: &mut Vec<u8>, chain: &[Text], lines: &[IniLine]) -> Result<(), AllocError>
+    ensures { OnOk result (header.new.items ≡ header.old.items ++ config_lines (entries_along chain.now lines.now)) }
 {
-    let mut start = name.len();
-    while start > 0 && name[start - 1] != b'.' {
-        start -= 1;
+    for name in chain {
+        push_section(header, name.as_bytes(), lines)?;
     }
-    &name[start..]
+    Ok(())
 }
 
 /// The name of the network without that of its package.
 fn network_name(model: &Model) -> &[u8]
     ensures { result.now ≡ network_name model.now }
 {
-    match network_entry(model.ini.lines()) {
+    match network_entry(model.ini.lines(), model.chain.as_slice()) {
         Some(name) => last_name(name),
         None => last_name(b""),
     }
@@ -146,19 +147,20 @@ fn push_attributes(header: &mut Vec<u8>, config: &[u8], network: &[u8]) -> Resul
     push_item(header, b"attr", b"runnumber", b"0")
 }
 
-/// The header of the run with the number 0 of a configuration of that name, network and lines.
+/// The header of the run with the number 0 of a configuration of that name, network, chain and lines.
 pub(crate) fn header_text(
     alloc: Global,
     config: &[u8],
     network: &[u8],
+    chain: &[Text],
     lines: &[IniLine],
 ) -> Result<Text, AllocError>
-    ensures { IfOk result (λ header. header ≡ header_text config.now network.now (entries_of lines.now)) }
+    ensures { IfOk result (λ header. header ≡ header_text config.now network.now (entries_along chain.now lines.now)) }
 {
     let mut header = Vec::new(alloc);
     push_run(&mut header, config)?;
     push_attributes(&mut header, config, network)?;
-    push_entries(&mut header, lines)?;
+    push_entries(&mut header, chain, lines)?;
     header.push(b'\n')?;
     Ok(Text::from_vec(header))
 }
@@ -171,6 +173,7 @@ pub fn header(alloc: Global, model: &Model) -> Result<Text, AllocError>
         alloc,
         model.config.as_bytes(),
         network_name(model),
+        model.chain.as_slice(),
         model.ini.lines(),
     )
 }

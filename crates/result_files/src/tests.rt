@@ -101,12 +101,18 @@ fn devices(rt: HostRuntime) -> Result<(), Fail> {
 #[test]
 fn headers(rt: HostRuntime) -> Result<(), Fail> {
     let alloc = rt.alloc();
+    let general = Text::from_str(alloc, "General")?;
     let lines = vec![in alloc;
+        IniLine {
+            text: Text::from_str(alloc, "[General]")?,
+            meaning: LineMeaning::Section(general.copy(alloc)?),
+        },
         option_line(alloc, "network", "N")?,
         option_line(alloc, "**.count", "3")?,
         option_line(alloc, "**.name", "a\"b \\")?,
     ]?;
-    let header = header_text(alloc, b"General", b"N", lines.as_slice())?;
+    let chain = std::slice::from_ref(&general);
+    let header = header_text(alloc, b"General", b"N", chain, lines.as_slice())?;
     let want =
         "version 3\nrun General-0\nattr configname General\nattr network N\nattr runnumber 0\nconfig network N\nconfig **.count 3\nconfig **.name \"a\\\"b \\\\\"\n\n";
     assert_eq!(rt; header.as_bytes(), want.as_bytes());

@@ -9,12 +9,12 @@ use Rattle.model_answers.specs.declared.answer.Question.TheVariants.{Root, Build
 use Rattle.model_answers.specs.declared.model.Model.{Model}
 use Rattle.model_answers.specs.Answering.{answer_of}
 use Rattle.run_semantics.specs.declared.outcome.Outcome.{Outcome}
-use Rattle.run_semantics.specs.declared.outcome.Outcome.TheVariants.{Ended}
+use Rattle.run_semantics.specs.declared.outcome.Outcome.TheVariants.{Ended, TimeLimit}
 use Rattle.run_semantics.specs.declared.pending.Pending.{Pending}
 use Rattle.run_semantics.specs.World.{World, empty, asked}
 use Rattle.run_semantics.specs.Perform.{Flow, On, Stopped, Broken, ◌>>=◌}
 use Rattle.run_semantics.specs.Event.{begun, event, message_of}
-use Rattle.run_semantics.specs.Run.{rooted, built, unless_many, root_asked, inside_asked, prepared, Part, parts_of, place, place_all, place_parts, ready, standing, most_stages, initialize, one_stage, stages_from, initialize_all, with_started, Stage, Running, Over, world_at, settled, start, picked, next_stage, after, IsReached}
+use Rattle.run_semantics.specs.Run.{rooted, built, unless_many, root_asked, inside_asked, prepared, Part, parts_of, place, place_all, place_parts, ready, standing, most_stages, initialize, one_stage, stages_from, initialize_all, with_started, Stage, Running, Over, world_at, settled, start, is_after_limit, picked, next_stage, after, IsReached}
 use Rattle.run_semantics.proofs.Sound.{in_flow, call_keeps}
 
 pub then_count : (n : ℕ) (fl : Flow) (k : World → Flow) → (in_flow fl).count ≡ n → ((w : World) → w.count ≡ n → (in_flow (k w)).count ≡ n) → (in_flow (fl >>= k)).count ≡ n
@@ -33,6 +33,7 @@ root_count (answer.Root name) w = refl
 root_count (answer.Inside bs) w = refl
 root_count (answer.Value v) w = refl
 root_count (answer.Fault path f) w = refl
+root_count (answer.Beyond beyond) w = refl
 root_count answer.Absent w = refl
 
 many_count : (parent : ℕ) (bs : List Built) (w : World) (one : Option Built) → (in_flow (unless_many parent bs w one)).count ≡ w.count
@@ -44,6 +45,7 @@ built_count parent (answer.Inside bs) w = many_count parent bs w (slice_get bs 6
 built_count parent (answer.Root name) w = refl
 built_count parent (answer.Value v) w = refl
 built_count parent (answer.Fault path f) w = refl
+built_count parent (answer.Beyond beyond) w = refl
 built_count parent answer.Absent w = refl
 
 pub prepared_count : (m : Model) → (in_flow (prepared m)).count ≡ 0
@@ -94,13 +96,14 @@ start_count b m =
 pub event_count : (b : Behaviour) (m : Model) (p : Pending) (rest : List Pending) (w : World) → (in_flow (event b m p rest w)).count ≡ w.count + 1
 event_count b m p rest w = (call_keeps b m p.id (prompt.Message (message_of p)) (begun p rest w)).count
 
-picked_count : (b : Behaviour) (m : Model) (w : World) (pending : List Pending) → (world_at (picked b m w pending)).count ≤ w.count + 1
-picked_count b m w [] = omega arith
-picked_count b m w (p ∷ rest) = omega (arith, settled_count (event b m p rest w), event_count b m p rest w)
-
 either_at_most : (n : ℕ) (c : Bool) (s t : Stage) → (world_at s).count ≤ n → (world_at t).count ≤ n → (world_at (if c then s else t)).count ≤ n
 either_at_most n true s t h k = h
 either_at_most n false s t h k = k
+
+picked_count : (b : Behaviour) (m : Model) (w : World) (pending : List Pending) → (world_at (picked b m w pending)).count ≤ w.count + 1
+picked_count b m w [] = omega arith
+picked_count b m w (p ∷ rest) =
+    either_at_most (w.count + 1) (is_after_limit m w.records p) (Over w TimeLimit) (settled (event b m p rest w)) (omega arith) (omega (arith, settled_count (event b m p rest w), event_count b m p rest w))
 
 next_count : (b : Behaviour) (m : Model) (s : Stage) → (world_at (next_stage b m s)).count ≤ (world_at s).count + 1
 next_count b m (Running w) = either_at_most (w.count + 1) w.ended _ _ (omega arith) (picked_count b m w w.pending)
@@ -131,7 +134,8 @@ either_runs false n w outcome s f u e = f u e
 -- the next event is counted
 picked_runs : (b : Behaviour) (m : Model) (w : World) (pending : List Pending) → RunsOn (w.count + 1) (picked b m w pending)
 picked_runs b m w [] u e = cc
-picked_runs b m w (p ∷ rest) u e = settled_runs (w.count + 1) (event b m p rest w) (event_count b m p rest w) u e
+picked_runs b m w (p ∷ rest) u e =
+    either_runs (is_after_limit m w.records p) (w.count + 1) w TimeLimit (settled (event b m p rest w)) (settled_runs (w.count + 1) (event b m p rest w) (event_count b m p rest w)) u e
 
 -- one turn of a run
 next_runs : (b : Behaviour) (m : Model) (n : ℕ) (s : Stage) → RunsOn n s → RunsOn (suc n) (next_stage b m s)

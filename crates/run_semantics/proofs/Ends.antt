@@ -9,7 +9,7 @@ use Rattle.run_semantics.specs.Run.{Stage, Running, Over, world_at, next_stage, 
 use Rattle.run_semantics.specs.Laws.{gone_on}
 use Rattle.run_semantics.proofs.Counts.{count_at_most}
 
-over_stays : (b : Behaviour) (m : Model) (w : World) (outcome : Outcome) (k n : ℕ) → k ≤ n → after b m k ≡ Over w outcome → after b m n ≡ Over w outcome
+pub over_stays : (b : Behaviour) (m : Model) (w : World) (outcome : Outcome) (k n : ℕ) → k ≤ n → after b m k ≡ Over w outcome → after b m n ≡ Over w outcome
 over_stays b m w outcome k zero h e = let z : k ≡ zero = omega arith in subst (λ (n : ℕ). after b m n ≡ Over w outcome) z e
 over_stays b m w outcome k (suc n) h e =
     ⊎_elim (λ (x : k ≡ suc n). subst (λ (i : ℕ). after b m i ≡ Over w outcome) x e) (λ (l : k < suc n). ap (next_stage b m) (over_stays b m w outcome k n (omega arith) e)) (eq-or-lt_of_le h)

@@ -90,6 +90,7 @@ root_built (answer.Root name) = record { live = refl; modules = refl }
 root_built (answer.Inside bs) = tt
 root_built (answer.Value v) = tt
 root_built (answer.Fault path f) = tt
+root_built (answer.Beyond beyond) = tt
 root_built answer.Absent = tt
 
 -- submodules are created, unless they are too many
@@ -108,6 +109,7 @@ built_built parent (answer.Inside bs) w f = many_built parent bs w (slice_get bs
 built_built parent (answer.Root name) w f = tt
 built_built parent (answer.Value v) w f = tt
 built_built parent (answer.Fault path fault) w f = tt
+built_built parent (answer.Beyond beyond) w f = tt
 built_built parent answer.Absent w f = tt
 
 -- the second question, and what follows it

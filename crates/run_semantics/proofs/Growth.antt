@@ -353,6 +353,7 @@ rooted_grows (answer.Root name) = record {
 rooted_grows (answer.Inside bs) = grown_same _ (asked_grows Root empty fits_empty (omega arith)).fits
 rooted_grows (answer.Value v) = grown_same _ (asked_grows Root empty fits_empty (omega arith)).fits
 rooted_grows (answer.Fault path f) = grown_same _ (asked_grows Root empty fits_empty (omega arith)).fits
+rooted_grows (answer.Beyond beyond) = grown_same _ (asked_grows Root empty fits_empty (omega arith)).fits
 rooted_grows answer.Absent = grown_same _ (asked_grows Root empty fits_empty (omega arith)).fits
 
 -- the first question, and what follows it
@@ -390,6 +391,7 @@ built_grows parent (answer.Inside bs) w f l = many_grows parent bs w (slice_get 
 built_grows parent (answer.Root name) w f l = grown_same w f
 built_grows parent (answer.Value v) w f l = grown_same w f
 built_grows parent (answer.Fault path fault) w f l = grown_same w f
+built_grows parent (answer.Beyond beyond) w f l = grown_same w f
 built_grows parent answer.Absent w f l = grown_same w f
 
 -- the second question, and what follows it

@@ -19,7 +19,7 @@ use Rattle.model_answers.specs.declared.model.Model.{Model}
 use Rattle.model_answers.specs.Answering.{answer_of}
 use Rattle.run_semantics.specs.declared.outcome.Fault.{Fault}
 use Rattle.run_semantics.specs.declared.outcome.Outcome.{Outcome}
-use Rattle.run_semantics.specs.declared.outcome.Outcome.TheVariants.{Ended}
+use Rattle.run_semantics.specs.declared.outcome.Outcome.TheVariants.{Ended, TimeLimit}
 use Rattle.run_semantics.specs.declared.pending.Happening.TheVariants.{Timer}
 use Rattle.run_semantics.specs.declared.pending.Pending.{Pending}
 use Rattle.run_semantics.specs.declared.traces.Emission.{Emission}
@@ -28,7 +28,7 @@ use Rattle.run_semantics.specs.World.{World, empty, asked}
 use Rattle.run_semantics.specs.Order.{inserted}
 use Rattle.run_semantics.specs.Perform.{Flow, On, Stopped, Broken, ◌>>=◌, is_timer, scheduled, perform, perform_all, ask_all, question_of, acted, read_fault, unless_fault, answered}
 use Rattle.run_semantics.specs.Event.{call_of, place_in, with_state, called, call_at, call_module, begun, event, message_of}
-use Rattle.run_semantics.specs.Run.{rooted, built, unless_many, root_asked, inside_asked, prepared, Part, parts_of, place, place_all, place_parts, ready, standing, most_stages, initialize, one_stage, stages_from, initialize_all, with_started, part_of, Stage, Running, Over, world_at, settled, picked, next_stage, after}
+use Rattle.run_semantics.specs.Run.{rooted, built, unless_many, root_asked, inside_asked, prepared, Part, parts_of, place, place_all, place_parts, ready, standing, most_stages, initialize, one_stage, stages_from, initialize_all, with_started, part_of, Stage, Running, Over, world_at, settled, is_after_limit, picked, next_stage, after}
 use Rattle.run_semantics.specs.Laws.{Each, AreInOrder, AreInTurn, HaveOwnNumbers, IsAmong, ids_of, GoesOn}
 use Rattle.run_semantics.proofs.Sound.{in_flow}
 use Rattle.run_semantics.proofs.Counts.{event_count}
@@ -311,6 +311,7 @@ root_none (answer.Root name) = (refl, refl)
 root_none (answer.Inside bs) = (refl, refl)
 root_none (answer.Value v) = (refl, refl)
 root_none (answer.Fault path f) = (refl, refl)
+root_none (answer.Beyond beyond) = (refl, refl)
 root_none answer.Absent = (refl, refl)
 
 -- submodules are created, unless they are too many
@@ -324,6 +325,7 @@ built_none parent (answer.Inside bs) w e = many_none parent bs w (slice_get bs 6
 built_none parent (answer.Root name) w e = e
 built_none parent (answer.Value v) w e = e
 built_none parent (answer.Fault path f) w e = e
+built_none parent (answer.Beyond beyond) w e = e
 built_none parent answer.Absent w e = e
 
 -- modules are placed
@@ -396,15 +398,15 @@ event_follows b m p rest w e f =
       orderly = g.orderly;
     })
 
--- the next event, where there is one
-picked_follows : (b : Behaviour) (m : Model) (w : World) (pending : List Pending) → w.pending ≡ pending → IsOrderly w → Follows w (world_at (picked b m w pending))
-picked_follows b m w [] e f = follows_same w f
-picked_follows b m w (p ∷ rest) e f = event_follows b m p rest w e f
-
 -- where the run is over nothing happens
 either_follows : (c : Bool) (w : World) (outcome : Outcome) (s : Stage) → IsOrderly w → Follows w (world_at s) → Follows w (world_at (if c then Over w outcome else s))
 either_follows true w outcome s f g = follows_same w f
 either_follows false w outcome s f g = g
+
+-- the next event, where there is one
+picked_follows : (b : Behaviour) (m : Model) (w : World) (pending : List Pending) → w.pending ≡ pending → IsOrderly w → Follows w (world_at (picked b m w pending))
+picked_follows b m w [] e f = follows_same w f
+picked_follows b m w (p ∷ rest) e f = either_follows (is_after_limit m w.records p) w TimeLimit (settled (event b m p rest w)) f (event_follows b m p rest w e f)
 
 -- one turn of a run
 next_follows : (b : Behaviour) (m : Model) (s : Stage) → IsOrderly (world_at s) → Follows (world_at s) (world_at (next_stage b m s))

@@ -11,23 +11,25 @@ use Rattle.module_api.specs.declared.reply.Read.TheVariants as read
 use Rattle.model_answers.specs.declared.answer.Answer.{Answer}
 use Rattle.model_answers.specs.declared.answer.Answer.TheVariants as answer
 use Rattle.model_answers.specs.declared.answer.Asked.{Asked}
-use Rattle.model_answers.specs.declared.answer.Question.TheVariants.{Root, Build}
+use Rattle.model_answers.specs.declared.answer.Question.TheVariants.{Root, Build, BeyondLimit}
 use Rattle.model_answers.specs.declared.model.Model.{Model}
 use Rattle.model_answers.specs.declared.record.Record.{Record}
 use Rattle.model_answers.specs.Answering.{answer_of, parameters_of}
 use Rattle.model_answers.proofs.AnswerLemmas.{AreNested, answer_more, same_value}
 use Rattle.run_semantics.specs.declared.outcome.Outcome.{Outcome}
-use Rattle.run_semantics.specs.declared.outcome.Outcome.TheVariants.{Ended}
+use Rattle.run_semantics.specs.declared.outcome.Outcome.TheVariants.{Ended, EventLimit, NoMoreEvents, TimeLimit, Fault}
 use Rattle.run_semantics.specs.declared.pending.Pending.{Pending}
 use Rattle.run_semantics.specs.declared.traces.Instance.{Instance}
-use Rattle.run_semantics.specs.Agreement.{Agrees, AgreesUpTo}
+use Rattle.run_semantics.specs.Agreement.{Agrees, AgreesUpTo, not_begun, questions_of}
 use Rattle.run_semantics.specs.Laws.{Each}
 use Rattle.run_semantics.specs.World.{World, empty, asked}
 use Rattle.run_semantics.specs.Perform.{Flow, On, Stopped, Broken, ◌>>=◌, ask_all, question_of, acted, first_fault, fault_of_read, read_fault, unless_fault}
-use Rattle.run_semantics.specs.Event.{call_of, place_in, with_state, replied, called, call_at, call_module, begun, event, message_of}
-use Rattle.run_semantics.specs.Run.{rooted, built, root_asked, inside_asked, prepared, Part, place_parts, ready, standing, most_stages, initialize, one_stage, stages_from, initialize_all, with_started, Stage, Running, Over, world_at, settled, start, picked, next_stage, after}
+use Rattle.run_semantics.specs.Event.{call_of, place_in, with_state, replied, called, call_at, call_module, counted, begun, event, message_of}
+use Rattle.run_semantics.specs.Run.{rooted, built, root_asked, inside_asked, prepared, Part, place_parts, ready, standing, most_stages, initialize, one_stage, stages_from, initialize_all, with_started, Stage, Running, Over, world_at, settled, start, says_beyond, is_after_limit, picked, next_stage, after, IsReached}
 use Rattle.run_semantics.proofs.Sound.{in_flow}
 use Rattle.run_semantics.proofs.Counts.{RunsOn, runs_on}
+use Rattle.run_semantics.proofs.Ends.{over_stays}
+use Rattle.run_semantics.proofs.Order.{each_append}
 use Rattle.run_semantics.proofs.Growth.{AllOfEvent, AllAbout, Fits, IsGrown, grown_same, grown_on, fits_empty, root_grows, rooted_grows, inside_grows, built_grows, then_grows, asked_grows, asked_read_grows, ask_all_grows, answered_on, fits_with_state, replied_grows, within_of_place, call_grows, place_parts_grows, initialize_all_grows}
 
 -- ---- agreement on fewer questions
@@ -194,6 +196,7 @@ rooted_on (answer.Root name) = omega arith
 rooted_on (answer.Inside bs) = tt
 rooted_on (answer.Value v) = tt
 rooted_on (answer.Fault path f) = tt
+rooted_on (answer.Beyond beyond) = tt
 rooted_on answer.Absent = tt
 
 -- the second question, and what follows it
@@ -261,9 +264,28 @@ settled_world (On w) = refl
 settled_world (Stopped w) = refl
 settled_world (Broken w path f) = refl
 
+-- ---- all that was asked
+
+-- what is noted stands first of it
+noted_first : (P : List Asked → Type 0) → ((xs ys : List Asked) → P (xs ++ ys) → P xs) → (s : Stage) → P (questions_of s) → P (world_at s).questions
+noted_first P front (Running w) h = h
+noted_first P front (Over w Ended) h = h
+noted_first P front (Over w EventLimit) h = h
+noted_first P front (Over w NoMoreEvents) h = h
+noted_first P front (Over w TimeLimit) h = front w.questions (not_begun w w.pending) h
+noted_first P front (Over w (Fault event path f)) h = h
+
+-- the models agree on all that was asked up to that stage
+abbrev pub AgreesAt : Model → Model → Stage → Type 0
+AgreesAt m n s = Agrees m n (world_at s).records (questions_of s)
+
+-- so they agree on what is noted
+AgreesAt-noted : (m n : Model) (s : Stage) → AgreesAt m n s → AgreesIn m n (world_at s)
+AgreesAt-noted m n s h = noted_first (Agrees m n (world_at s).records) (Agrees-front m n (world_at s).records) s h
+
 -- event zero, settled
-start_same : (b : Behaviour) → IsLawful b → (m n : Model) → AgreesIn m n (world_at (start b m)) → start b m ≡ start b n
-start_same b law m n h = ap settled ((begins_same b law m n).same (subst (AgreesIn m n) (settled_world (begins b m)) h))
+start_same : (b : Behaviour) → IsLawful b → (m n : Model) → AgreesAt m n (start b m) → start b m ≡ start b n
+start_same b law m n h = ap settled ((begins_same b law m n).same (subst (AgreesIn m n) (settled_world (begins b m)) (AgreesAt-noted m n (start b m) h)))
 
 -- ---- events
 
@@ -280,25 +302,26 @@ pub record IsLater (event : ℕ) (old new : World) : Type 0 where
 later_same : (event : ℕ) (w : World) → Fits w → IsLater event w w
 later_same event w f = record { rest = []; joined = append-nil w.questions; later = tt; more = []; records = append-nil w.records; fits = f }
 
--- an event that begins leaves ids
-fits_begun : (p : Pending) (rest : List Pending) (w : World) → Fits w → Fits (begun p rest w)
-fits_begun p rest w f = record { nested = f.nested; modules = f.modules; questions = f.questions }
+-- an event that begins asks its first question
+begun_grows : (p : Pending) (rest : List Pending) (w : World) → Fits w → IsGrown (counted p rest w) (begun p rest w)
+begun_grows p rest w f = asked_grows (BeyondLimit p.time) (counted p rest w) (record { nested = f.nested; modules = f.modules; questions = f.questions }) (omega arith)
 
 -- one event asks questions of its own number
 event_later : (b : Behaviour) (m : Model) (p : Pending) (rest : List Pending) (w : World) → Fits w → IsLater (w.count + 1) w (world_at (settled (event b m p rest w)))
 event_later b m p rest w f =
-    let g = call_grows b m p.id (prompt.Message (message_of p)) (begun p rest w) (fits_begun p rest w f) in
+    let first = begun_grows p rest w f in
+    let g = grown_on first (call_grows b m p.id (prompt.Message (message_of p)) (begun p rest w) first.fits) in
     subst (IsLater (w.count + 1) w) (sym (settled_world (event b m p rest w))) (record { rest = g.rest; joined = g.joined; later = g.present; more = g.more; records = g.records; fits = g.fits })
+
+-- where the run is over nothing is noted
+either_later : (event : ℕ) (c : Bool) (w : World) (outcome : Outcome) (s : Stage) → Fits w → IsLater event w (world_at s) → IsLater event w (world_at (if c then Over w outcome else s))
+either_later event true w outcome s f g = later_same event w f
+either_later event false w outcome s f g = g
 
 -- so does the next event, where there is one
 picked_later : (b : Behaviour) (m : Model) (w : World) (pending : List Pending) → Fits w → IsLater (w.count + 1) w (world_at (picked b m w pending))
 picked_later b m w [] f = later_same (w.count + 1) w f
-picked_later b m w (p ∷ rest) f = event_later b m p rest w f
-
--- where the run is over nothing is asked
-either_later : (event : ℕ) (c : Bool) (w : World) (outcome : Outcome) (s : Stage) → Fits w → IsLater event w (world_at s) → IsLater event w (world_at (if c then Over w outcome else s))
-either_later event true w outcome s f g = later_same event w f
-either_later event false w outcome s f g = g
+picked_later b m w (p ∷ rest) f = either_later (w.count + 1) (is_after_limit m w.records p) w TimeLimit (settled (event b m p rest w)) f (event_later b m p rest w f)
 
 -- one turn of a run
 next_later : (b : Behaviour) (m : Model) (n : ℕ) (s : Stage) → RunsOn n s → Fits (world_at s) → IsLater (suc n) (world_at s) (world_at (next_stage b m s))
@@ -307,21 +330,51 @@ next_later b m n (Running w) at f =
     subst (λ event. IsLater event w (world_at (next_stage b m (Running w)))) e (either_later (w.count + 1) w.ended w Ended (picked b m w w.pending) f (picked_later b m w w.pending f))
 next_later b m n (Over w outcome) at f = later_same (suc n) w f
 
+-- where the limit stops an event, the models agree on it
+limit_agreed : (m n : Model) (w : World) (p : Pending) (rest : List Pending) → w.pending ≡ p ∷ rest → AgreesAt m n (Over w TimeLimit) → is_after_limit m w.records p ≡ is_after_limit n w.records p
+limit_agreed m n w p rest e h =
+    let all : Agrees m n w.records (w.questions ++ not_begun w (p ∷ rest)) = subst (λ ps. Agrees m n w.records (w.questions ++ not_begun w ps)) e h in
+    ap says_beyond (Agrees-last m n w.records w.questions (record { event = w.count + 1; question = BeyondLimit p.time }) all)
+
+-- where it begins, they agree on that
+begun_agreed : (b : Behaviour) (m n : Model) (p : Pending) (rest : List Pending) (w : World) → Fits w → AgreesIn m n (in_flow (event b m p rest w)) → is_after_limit m w.records p ≡ is_after_limit n w.records p
+begun_agreed b m n p rest w f h =
+    let fits = (begun_grows p rest w f).fits in
+    let here : AgreesIn m n (begun p rest w) = Agrees-before m n (begun p rest w) (in_flow (event b m p rest w)) fits (call_grows b m p.id (prompt.Message (message_of p)) (begun p rest w) fits) h in
+    ap says_beyond (Agrees-last m n w.records w.questions (record { event = w.count + 1; question = BeyondLimit p.time }) here)
+
+-- by whether the event is after the limit: in the first model and in the second
+picked_by : (m n : Model) (w : World) (c d : Bool) (s t : Stage) → (AgreesAt m n (Over w TimeLimit) → c ≡ d) → (AgreesAt m n s → c ≡ d) → (AgreesAt m n s → s ≡ t) → AgreesAt m n (if c then Over w TimeLimit else s) → (if c then Over w TimeLimit else s) ≡ (if d then Over w TimeLimit else t)
+picked_by m n w true d s t stops begins same h = ap (λ (x : Bool). if x then Over w TimeLimit else t) (stops h)
+picked_by m n w false d s t stops begins same h = same h ∙ ap (λ (x : Bool). if x then Over w TimeLimit else t) (begins h)
+
 -- the next event is the same
-picked_same : (b : Behaviour) → IsLawful b → (m n : Model) (w : World) (pending : List Pending) → Fits w → AgreesIn m n (world_at (picked b m w pending)) → picked b m w pending ≡ picked b n w pending
-picked_same b law m n w [] f h = refl
-picked_same b law m n w (p ∷ rest) f h =
-    ap settled ((call_same b law m n p.id (prompt.Message (message_of p)) (begun p rest w) (fits_begun p rest w f)).same (subst (AgreesIn m n) (settled_world (event b m p rest w)) h))
+picked_same : (b : Behaviour) → IsLawful b → (m n : Model) (w : World) (pending : List Pending) → w.pending ≡ pending → Fits w → AgreesAt m n (picked b m w pending) → picked b m w pending ≡ picked b n w pending
+picked_same b law m n w [] e f h = refl
+picked_same b law m n w (p ∷ rest) e f h =
+    let fits = (begun_grows p rest w f).fits in
+    let noted : AgreesAt m n (settled (event b m p rest w)) → AgreesIn m n (in_flow (event b m p rest w)) = λ a. subst (AgreesIn m n) (settled_world (event b m p rest w)) (AgreesAt-noted m n (settled (event b m p rest w)) a) in
+    picked_by m n w (is_after_limit m w.records p) (is_after_limit n w.records p) (settled (event b m p rest w)) (settled (event b n p rest w)) (limit_agreed m n w p rest e) (λ a. begun_agreed b m n p rest w f (noted a))
+    (λ a. ap settled ((call_same b law m n p.id (prompt.Message (message_of p)) (begun p rest w) fits).same (noted a)))
+    h
 
 -- where the run is over it is so in both
-either_same : (m n : Model) (c : Bool) (w : World) (outcome : Outcome) (s t : Stage) → (AgreesIn m n (world_at s) → s ≡ t) → AgreesIn m n (world_at (if c then Over w outcome else s)) → (if c then Over w outcome else s) ≡ (if c then Over w outcome else t)
+either_same : (m n : Model) (c : Bool) (w : World) (outcome : Outcome) (s t : Stage) → (AgreesAt m n s → s ≡ t) → AgreesAt m n (if c then Over w outcome else s) → (if c then Over w outcome else s) ≡ (if c then Over w outcome else t)
 either_same m n true w outcome s t k h = refl
 either_same m n false w outcome s t k h = k h
 
 -- one turn is the same
-next_same : (b : Behaviour) → IsLawful b → (m n : Model) (s : Stage) → Fits (world_at s) → AgreesIn m n (world_at (next_stage b m s)) → next_stage b m s ≡ next_stage b n s
-next_same b law m n (Running w) f h = either_same m n w.ended w Ended (picked b m w w.pending) (picked b n w w.pending) (picked_same b law m n w w.pending f) h
+next_same : (b : Behaviour) → IsLawful b → (m n : Model) (s : Stage) → Fits (world_at s) → AgreesAt m n (next_stage b m s) → next_stage b m s ≡ next_stage b n s
+next_same b law m n (Running w) f h = either_same m n w.ended w Ended (picked b m w w.pending) (picked b n w w.pending) (picked_same b law m n w w.pending refl f) h
 next_same b law m n (Over w outcome) f h = refl
+
+-- models that agree on all that was asked up to the next turn agree on all that was asked before
+AgreesAt-before : (b : Behaviour) (m n : Model) (k : ℕ) (s : Stage) → RunsOn k s → Fits (world_at s) → AgreesAt m n (next_stage b m s) → AgreesAt m n s
+AgreesAt-before b m n k (Running w) at f h =
+    let g = next_later b m k (Running w) at f in
+    let t : Stage = next_stage b m (Running w) in
+    Agrees-grown m n w g.rest g.more (world_at t).records (world_at t).questions f g.joined g.records (AgreesAt-noted m n t h)
+AgreesAt-before b m n k (Over w outcome) at f h = h
 
 -- ---- runs
 
@@ -335,12 +388,11 @@ pub after_later : (b : Behaviour) (m : Model) (n : ℕ) → IsLater (suc n) (wor
 after_later b m n = next_later b m n (after b m n) (runs_on b m n) (fits_after b m n)
 
 -- models that agree on all that was asked in the run of the first up to an event have the same run up to there
-pub after_same : (b : Behaviour) → IsLawful b → (m n : Model) (v : ℕ) → AgreesIn m n (world_at (after b m v)) → after b m v ≡ after b n v
+pub after_same : (b : Behaviour) → IsLawful b → (m n : Model) (v : ℕ) → AgreesAt m n (after b m v) → after b m v ≡ after b n v
 after_same b law m n zero h = start_same b law m n h
 after_same b law m n (suc v) h =
-    let g = after_later b m v in
-    let before : AgreesIn m n (world_at (after b m v)) = Agrees-grown m n (world_at (after b m v)) g.rest g.more (world_at (after b m (suc v))).records (world_at (after b m (suc v))).questions (fits_after b m v) g.joined g.records h in
-    next_same b law m n (after b m v) (fits_after b m v) h ∙ ap (next_stage b n) (after_same b law m n v before)
+    next_same b law m n (after b m v) (fits_after b m v) h
+    ∙ ap (next_stage b n) (after_same b law m n v (AgreesAt-before b m n v (after b m v) (runs_on b m v) (fits_after b m v) h))
 
 -- ---- the first events of a longer run
 
@@ -364,14 +416,68 @@ AllUpTo-of : (v event : ℕ) (xs : List Asked) → event ≤ v → AllOfEvent ev
 AllUpTo-of v event [] h f = tt
 AllUpTo-of v event (x ∷ xs) h f = (omega (arith, f.0), AllUpTo-of v event xs h f.1)
 
--- the questions of a run up to an event are of the events up to it
-up_to_after : (b : Behaviour) (m : Model) (v : ℕ) → AllUpTo v (world_at (after b m v)).questions
+-- from a world that goes on to the stage after the next turn, questions of that event were asked
+record HasAsked (event : ℕ) (w : World) (s : Stage) : Type 0 where
+  rest : List Asked
+  joined : w.questions ++ rest ≡ questions_of s
+  of_event : AllOfEvent event rest
+
+-- nothing more was asked at the end of an event
+settled_questions : (fl : Flow) → questions_of (settled fl) ≡ (in_flow fl).questions
+settled_questions (On w) = refl
+settled_questions (Stopped w) = refl
+settled_questions (Broken w path f) = refl
+
+-- the next event that did not begin is of the next number
+not_begun_of : (w : World) (ps : List Pending) → AllOfEvent (w.count + 1) (not_begun w ps)
+not_begun_of w [] = tt
+not_begun_of w (p ∷ rest) = (refl, tt)
+
+-- by whether the event is after the limit
+either_asked : (c : Bool) (w : World) (s : Stage) → HasAsked (w.count + 1) w s → HasAsked (w.count + 1) w (if c then Over w TimeLimit else s)
+either_asked true w s h = record { rest = not_begun w w.pending; joined = refl; of_event = not_begun_of w w.pending }
+either_asked false w s h = h
+
+-- one event
+event_asked : (b : Behaviour) (m : Model) (p : Pending) (rest : List Pending) (w : World) → Fits w → HasAsked (w.count + 1) w (settled (event b m p rest w))
+event_asked b m p rest w f =
+    let g = event_later b m p rest w f in
+    record { rest = g.rest; joined = g.joined ∙ (ap (λ (v : World). v.questions) (settled_world (event b m p rest w)) ∙ sym (settled_questions (event b m p rest w))); of_event = g.later }
+
+-- the next event, where there is one
+picked_asked : (b : Behaviour) (m : Model) (w : World) (pending : List Pending) → Fits w → HasAsked (w.count + 1) w (picked b m w pending)
+picked_asked b m w [] f = record { rest = []; joined = append-nil w.questions; of_event = tt }
+picked_asked b m w (p ∷ rest) f = either_asked (is_after_limit m w.records p) w (settled (event b m p rest w)) (event_asked b m p rest w f)
+
+-- unless the end was asked for
+ended_asked : (c : Bool) (event : ℕ) (w : World) (s : Stage) → HasAsked event w s → HasAsked event w (if c then Over w Ended else s)
+ended_asked true event w s h = record { rest = []; joined = append-nil w.questions; of_event = tt }
+ended_asked false event w s h = h
+
+-- one turn asks questions of the next event alone
+next_up_to : (b : Behaviour) (m : Model) (v : ℕ) (s : Stage) → RunsOn v s → Fits (world_at s) → AllUpTo v (questions_of s) → AllUpTo (suc v) (questions_of (next_stage b m s))
+next_up_to b m v (Running w) at f h =
+    let g = ended_asked w.ended (w.count + 1) w (picked b m w w.pending) (picked_asked b m w w.pending f) in
+    let count = at w refl in
+    subst (AllUpTo (suc v)) g.joined (AllUpTo-append (suc v) w.questions g.rest (AllUpTo-more v (suc v) w.questions (omega arith) h) (AllUpTo-of (suc v) (w.count + 1) g.rest (omega (arith, count)) g.of_event))
+next_up_to b m v (Over w outcome) at f h = AllUpTo-more v (suc v) (questions_of (Over w outcome)) (omega arith) h
+
+-- all that was asked in a run up to an event is of the events up to it
+up_to_after : (b : Behaviour) (m : Model) (v : ℕ) → AllUpTo v (questions_of (after b m v))
 up_to_after b m zero =
     let g = begins_grows b m in
-    subst (λ (w : World). AllUpTo 0 w.questions) (sym (settled_world (begins b m))) (subst (AllUpTo 0) g.joined (AllUpTo-of 0 0 g.rest (omega arith) g.present))
-up_to_after b m (suc v) =
-    let g = after_later b m v in
-    subst (AllUpTo (suc v)) g.joined (AllUpTo-append (suc v) _ g.rest (AllUpTo-more v (suc v) _ (omega arith) (up_to_after b m v)) (AllUpTo-of (suc v) (suc v) g.rest (omega arith) g.later))
+    subst (AllUpTo 0) (sym (settled_questions (begins b m))) (subst (AllUpTo 0) g.joined (AllUpTo-of 0 0 g.rest (omega arith) g.present))
+up_to_after b m (suc v) = next_up_to b m v (after b m v) (runs_on b m v) (fits_after b m v) (up_to_after b m v)
+
+-- the first of such questions
+AllUpTo-front : (v : ℕ) (xs ys : List Asked) → AllUpTo v (xs ++ ys) → AllUpTo v xs
+AllUpTo-front v [] ys h = tt
+AllUpTo-front v (x ∷ xs) ys h = (h.0, AllUpTo-front v xs ys h.1)
+
+-- the last of such questions
+AllUpTo-back : (v : ℕ) (xs ys : List Asked) → AllUpTo v (xs ++ ys) → AllUpTo v ys
+AllUpTo-back v [] ys h = h
+AllUpTo-back v (x ∷ xs) ys h = AllUpTo-back v xs ys h.1
 
 -- where all questions are of the events up to v, the models agree on all
 Agrees-up_to : (v : ℕ) (m n : Model) (rs : List Record) (xs : List Asked) → AllUpTo v xs → AgreesUpTo v m n rs xs → Agrees m n rs xs
@@ -417,21 +523,73 @@ noted_stay : (m : Model) (rs more : List Record) → AreNested 0 rs → (qs : Li
 noted_stay m rs more h [] f = tt
 noted_stay m rs more h (a ∷ qs) f = (answer_more m rs more h a.question f.0, noted_stay m rs more h qs f.1)
 
+-- what holds of what is noted, and of each question about the limit, holds of all that was asked
+each_asked : (P : Asked → Type 0) (s : Stage) → ((event time : ℕ) → P (record { event = event; question = BeyondLimit time })) → Each P (world_at s).questions → Each P (questions_of s)
+each_asked P (Running w) limit h = h
+each_asked P (Over w Ended) limit h = h
+each_asked P (Over w EventLimit) limit h = h
+each_asked P (Over w NoMoreEvents) limit h = h
+each_asked P (Over w TimeLimit) limit h = each_append P w.questions (not_begun w w.pending) h (by w.pending)
+  where
+    by : (ps : List Pending) → Each P (not_begun w ps)
+    by [] = tt
+    by (p ∷ rest) = (limit (w.count + 1) p.time, tt)
+each_asked P (Over w (Fault event path f)) limit h = h
+
 -- what was asked has the same answers with the modules of a later world
-pub noted_after : (b : Behaviour) (m other : Model) (n k : ℕ) → n ≤ k → Each (λ a. answer_of other (world_at (after b m k)).records a.question ≡ answer_of other (world_at (after b m n)).records a.question) (world_at (after b m n)).questions
+pub noted_after : (b : Behaviour) (m other : Model) (n k : ℕ) → n ≤ k → Each (λ a. answer_of other (world_at (after b m k)).records a.question ≡ answer_of other (world_at (after b m n)).records a.question) (questions_of (after b m n))
 noted_after b m other n k h =
     let u : World = world_at (after b m n) in
     let p = past_after b m n k h in
     let f = fits_after b m n in
-    subst (λ rs. Each (λ (a : Asked). answer_of other rs a.question ≡ answer_of other u.records a.question) u.questions) p.records (noted_stay other u.records p.more f.nested u.questions f.questions)
+    each_asked (λ a. answer_of other (world_at (after b m k)).records a.question ≡ answer_of other u.records a.question) (after b m n) (λ event time. refl)
+    (subst (λ rs. Each (λ (a : Asked). answer_of other rs a.question ≡ answer_of other u.records a.question) u.questions) p.records (noted_stay other u.records p.more f.nested u.questions f.questions))
 
--- the same, by the questions of the first events of a longer run
-pub after_same_up_to : (b : Behaviour) → IsLawful b → (m n : Model) (v k : ℕ) → v ≤ k → AgreesUpTo v m n (world_at (after b m k)).records (world_at (after b m k)).questions → after b m v ≡ after b n v
-after_same_up_to b law m n v k h a =
+-- by the first events of a longer run the models agree on what is noted
+noted_same : (b : Behaviour) (m n : Model) (v k : ℕ) → v ≤ k → AgreesUpTo v m n (world_at (after b m k)).records (world_at (after b m k)).questions → AgreesIn m n (world_at (after b m v))
+noted_same b m n v k h a =
     let u : World = world_at (after b m v) in
     let w : World = world_at (after b m k) in
     let p = past_after b m v k h in
     let own : AgreesUpTo v m n w.records u.questions = AgreesUpTo-front v m n w.records u.questions p.rest (subst (AgreesUpTo v m n w.records) (sym p.joined) a) in
-    let all : Agrees m n w.records u.questions = Agrees-up_to v m n w.records u.questions (up_to_after b m v) own in
+    let up_to : AllUpTo v u.questions = noted_first (AllUpTo v) (AllUpTo-front v) (after b m v) (up_to_after b m v) in
+    let all : Agrees m n w.records u.questions = Agrees-up_to v m n w.records u.questions up_to own in
     let f = fits_after b m v in
-    after_same b law m n v (Agrees-fewer m n u.records p.more f.nested u.questions f.questions (subst (λ rs. Agrees m n rs u.questions) (sym p.records) all))
+    Agrees-fewer m n u.records p.more f.nested u.questions f.questions (subst (λ rs. Agrees m n rs u.questions) (sym p.records) all)
+
+-- and on all that was asked, where the longer run is over the same way
+all_same : (v : ℕ) (m n : Model) (s t : Stage) → AllUpTo v (questions_of s) → ((w : World) (outcome : Outcome) → s ≡ Over w outcome → t ≡ Over w outcome) → AgreesUpTo v m n (world_at t).records (questions_of t) → AgreesIn m n (world_at s) → AgreesAt m n s
+all_same v m n (Running w) t up_to over a h = h
+all_same v m n (Over w outcome) t up_to over a h =
+    let own : AgreesUpTo v m n w.records (questions_of (Over w outcome)) = subst (λ x. AgreesUpTo v m n (world_at x).records (questions_of x)) (over w outcome refl) a in
+    Agrees-up_to v m n w.records (questions_of (Over w outcome)) up_to own
+
+-- the same, by the questions of the first events of a longer run
+pub after_same_up_to : (b : Behaviour) → IsLawful b → (m n : Model) (v k : ℕ) → v ≤ k → AgreesUpTo v m n (world_at (after b m k)).records (questions_of (after b m k)) → after b m v ≡ after b n v
+after_same_up_to b law m n v k h a =
+    let noted : AgreesUpTo v m n (world_at (after b m k)).records (world_at (after b m k)).questions = noted_first (AgreesUpTo v m n (world_at (after b m k)).records) (AgreesUpTo-front v m n (world_at (after b m k)).records) (after b m k) a in
+    after_same b law m n v (all_same v m n (after b m v) (after b m k) (up_to_after b m v) (λ w outcome e. over_stays b m w outcome v k h e) a (noted_same b m n v k h noted))
+
+-- ---- runs that got as far
+
+-- a run that got as far was not stopped by the time limit before
+none_stopped : (v : ℕ) (w : World) (ps : List Pending) → w.count ≡ v → AllUpTo v (w.questions ++ not_begun w ps) → w.questions ++ not_begun w ps ≡ w.questions
+none_stopped v w [] e h = append-nil w.questions
+none_stopped v w (p ∷ rest) e h = let l = (AllUpTo-back v w.questions (not_begun w (p ∷ rest)) h).0 in absurd (omega (arith, e, l))
+
+-- so all that it asked is noted
+all_noted : (v : ℕ) (s : Stage) → IsReached s v → AllUpTo v (questions_of s) → questions_of s ≡ (world_at s).questions
+all_noted v (Running w) e h = refl
+all_noted v (Over w Ended) e h = refl
+all_noted v (Over w EventLimit) e h = refl
+all_noted v (Over w NoMoreEvents) e h = refl
+all_noted v (Over w TimeLimit) e h = none_stopped v w w.pending e h
+all_noted v (Over w (Fault event path f)) e h = refl
+
+-- in a run that got as far the questions that are noted decide
+pub reached_same : (b : Behaviour) → IsLawful b → (m n : Model) (v : ℕ) → IsReached (after b m v) v → AgreesIn m n (world_at (after b m v)) → after b m v ≡ after b n v
+reached_same b law m n v e h = after_same b law m n v (subst (Agrees m n (world_at (after b m v)).records) (sym (all_noted v (after b m v) e (up_to_after b m v))) h)
+
+-- and those of a longer run
+pub reached_same_up_to : (b : Behaviour) → IsLawful b → (m n : Model) (v k : ℕ) → v ≤ k → IsReached (after b m v) v → AgreesUpTo v m n (world_at (after b m k)).records (world_at (after b m k)).questions → after b m v ≡ after b n v
+reached_same_up_to b law m n v k h e a = reached_same b law m n v e (noted_same b m n v k h a)

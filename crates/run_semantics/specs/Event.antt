@@ -7,6 +7,7 @@ use Rattle.module_api.specs.declared.call.Prompt.TheVariants as prompt
 use Rattle.module_api.specs.declared.message.Message.{Message}
 use Rattle.module_api.specs.declared.message.Origin.TheVariants as origin
 use Rattle.module_api.specs.Behaviour.{Behaviour, Replied}
+use Rattle.model_answers.specs.declared.answer.Question.TheVariants.{BeyondLimit}
 use Rattle.model_answers.specs.declared.model.Model.{Model}
 use Rattle.model_answers.specs.Answering.{parameters_of}
 use Rattle.model_answers.specs.Records.{path_of, record_at, index_of}
@@ -14,7 +15,7 @@ use Rattle.run_semantics.specs.declared.pending.Happening.{Happening}
 use Rattle.run_semantics.specs.declared.pending.Happening.TheVariants.{Timer}
 use Rattle.run_semantics.specs.declared.pending.Pending.{Pending}
 use Rattle.run_semantics.specs.declared.traces.Instance.{Instance}
-use Rattle.run_semantics.specs.World.{World}
+use Rattle.run_semantics.specs.World.{World, asked}
 use Rattle.run_semantics.specs.Perform.{Flow, On, answered}
 
 -- ---- calls
@@ -65,9 +66,13 @@ message_by priority (Timer timer kind) = record { kind = kind; priority = priori
 abbrev pub message_of : Pending → Message
 message_of p = message_by p.priority p.what
 
--- the event that is taken out begins: these are left
+-- the event that is taken out is counted: these are left
+abbrev pub counted : Pending → List Pending → World → World
+counted p rest w = record w { clock = p.time; count = w.count + 1; pending = rest }
+
+-- it begins: its first question is whether the time limit allows it
 abbrev pub begun : Pending → List Pending → World → World
-begun p rest w = record w { clock = p.time; count = w.count + 1; pending = rest }
+begun p rest w = asked (BeyondLimit p.time) (counted p rest w)
 
 -- ONE EVENT, the first of those to come
 abbrev pub event : Behaviour → Model → Pending → List Pending → World → Flow

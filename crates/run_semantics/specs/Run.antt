@@ -5,14 +5,14 @@ use Rattle.module_api.specs.Behaviour.{Behaviour}
 use Rattle.model_answers.specs.declared.answer.Answer.{Answer}
 use Rattle.model_answers.specs.declared.answer.Answer.TheVariants as answer
 use Rattle.model_answers.specs.declared.answer.Built.{Built}
-use Rattle.model_answers.specs.declared.answer.Question.TheVariants.{Root, Build}
+use Rattle.model_answers.specs.declared.answer.Question.TheVariants.{Root, Build, BeyondLimit}
 use Rattle.model_answers.specs.declared.model.Model.{Model}
 use Rattle.model_answers.specs.declared.record.Record.{Record}
 use Rattle.model_answers.specs.Answering.{answer_of}
 use Rattle.model_answers.specs.Records.{path_of, path_under, own_name}
 use Rattle.run_semantics.specs.declared.outcome.Fault.TheVariants as fault
 use Rattle.run_semantics.specs.declared.outcome.Outcome.{Outcome}
-use Rattle.run_semantics.specs.declared.outcome.Outcome.TheVariants.{Ended, EventLimit, NoMoreEvents, Fault}
+use Rattle.run_semantics.specs.declared.outcome.Outcome.TheVariants.{Ended, EventLimit, NoMoreEvents, TimeLimit, Fault}
 use Rattle.run_semantics.specs.declared.pending.Pending.{Pending}
 use Rattle.run_semantics.specs.declared.traces.Instance.{Instance}
 use Rattle.run_semantics.specs.World.{World, empty, asked}
@@ -159,10 +159,19 @@ ready b m = prepared m >>= place_parts b
 abbrev pub start : Behaviour → Model → Stage
 start b m = settled (ready b m >>= initialize_all b m)
 
--- the next event
+-- whether the answer says that a time is later than the limit
+abbrev pub says_beyond : Answer → Bool
+says_beyond (answer.Beyond beyond) = beyond
+says_beyond _ = false
+
+-- whether an event to come is later than the option sim-time-limit allows
+abbrev pub is_after_limit : Model → List Record → Pending → Bool
+is_after_limit m records p = says_beyond (answer_of m records (BeyondLimit p.time))
+
+-- THE NEXT EVENT, the first of those to come; where it is too late it stays among them, and nothing is noted
 abbrev pub picked : Behaviour → Model → World → List Pending → Stage
 picked b m w [] = Over w NoMoreEvents
-picked b m w (p ∷ rest) = settled (event b m p rest w)
+picked b m w (p ∷ rest) = if is_after_limit m w.records p then Over w TimeLimit else settled (event b m p rest w)
 
 abbrev pub next_stage : Behaviour → Model → Stage → Stage
 next_stage b m (Running w) = if w.ended then Over w Ended else picked b m w w.pending
@@ -195,4 +204,5 @@ abbrev pub is_fault : Outcome → Bool
 is_fault Ended = false
 is_fault EventLimit = false
 is_fault NoMoreEvents = false
+is_fault TimeLimit = false
 is_fault (Fault event path f) = true

@@ -6,7 +6,7 @@ ghost use Rattle.module_api.specs.Laws.{IsLawful};
 ghost use Rattle.model_answers.specs.declared.model.Model.{Model};
 ghost use Rattle.model_answers.specs.Answering.{answer_of};
 ghost use Rattle.run_semantics.specs.declared.outcome.Outcome.{Outcome};
-ghost use Rattle.run_semantics.specs.Agreement.{Agrees, AgreesUpTo};
+ghost use Rattle.run_semantics.specs.Agreement.{Agrees, AgreesUpTo, questions_of};
 ghost use Rattle.run_semantics.specs.Event.{place_in};
 ghost use Rattle.run_semantics.specs.Laws.{Each, AreInOrder, AreInTurn, HaveOwnNumbers, HasGrown, CanBeCalled, gone_on};
 ghost use Rattle.run_semantics.specs.World.{World};
@@ -25,16 +25,24 @@ pub fn over_is_over()
 
 /// Two models that answer alike all that the run of the first one asked up to an event have the same
 /// run up to there: the same world, its questions included, and the same outcome where it is over.
+/// Where the run got as far as that event, all that it asked is noted in its world.
 pub fn equal_answers_equal_runs()
-    ensures { (b : Behaviour) → IsLawful b → (m n : Model) (v : ℕ)
+    ensures all { (b : Behaviour) → IsLawful b → (m n : Model) (v : ℕ)
+        → Agrees m n (world_at (after b m v)).records (questions_of (after b m v))
+        → after b m v ≡ after b n v }
+    ensures reached { (b : Behaviour) → IsLawful b → (m n : Model) (v : ℕ) → IsReached (after b m v) v
         → Agrees m n (world_at (after b m v)).records (world_at (after b m v)).questions
         → after b m v ≡ after b n v }
 {}
 
 /// Of a run of k events, the questions of the first v events alone decide the run up to there: two
-/// models that answer those alike have it in common.
+/// models that answer those alike have it in common. Where the run got as far as event v, those that
+/// are noted are enough.
 pub fn equal_runs_up_to_an_event()
-    ensures { (b : Behaviour) → IsLawful b → (m n : Model) (v k : ℕ) → v ≤ k
+    ensures all { (b : Behaviour) → IsLawful b → (m n : Model) (v k : ℕ) → v ≤ k
+        → AgreesUpTo v m n (world_at (after b m k)).records (questions_of (after b m k))
+        → after b m v ≡ after b n v }
+    ensures reached { (b : Behaviour) → IsLawful b → (m n : Model) (v k : ℕ) → v ≤ k → IsReached (after b m v) v
         → AgreesUpTo v m n (world_at (after b m k)).records (world_at (after b m k)).questions
         → after b m v ≡ after b n v }
 {}
@@ -44,7 +52,7 @@ pub fn equal_runs_up_to_an_event()
 pub fn answers_stay()
     ensures { (b : Behaviour) (m other : Model) (n k : ℕ) → n ≤ k
         → Each (λ a. answer_of other (world_at (after b m k)).records a.question
-        ≡ answer_of other (world_at (after b m n)).records a.question) (world_at (after b m n)).questions }
+        ≡ answer_of other (world_at (after b m n)).records a.question) (questions_of (after b m n)) }
 {}
 
 /// What is to come rests on where the run stands alone: n + k events are k more from the stage after n.
@@ -55,7 +63,10 @@ pub fn runs_go_on()
 /// So a world that is kept after event v serves each model that answers alike what was asked up to v:
 /// the run of that model is the one that goes on from there.
 pub fn kept_worlds_serve()
-    ensures { (b : Behaviour) → IsLawful b → (m n : Model) (v k : ℕ) → v ≤ k
+    ensures all { (b : Behaviour) → IsLawful b → (m n : Model) (v k : ℕ) → v ≤ k
+        → AgreesUpTo v m n (world_at (after b m k)).records (questions_of (after b m k))
+        → (more : ℕ) → after b n (v + more) ≡ gone_on b n more (after b m v) }
+    ensures reached { (b : Behaviour) → IsLawful b → (m n : Model) (v k : ℕ) → v ≤ k → IsReached (after b m v) v
         → AgreesUpTo v m n (world_at (after b m k)).records (world_at (after b m k)).questions
         → (more : ℕ) → after b n (v + more) ≡ gone_on b n more (after b m v) }
 {}

@@ -56,6 +56,8 @@ pub enum Outcome {
     EventLimit,
     /// No event is left.
     NoMoreEvents,
+    /// The next event is later than the option sim-time-limit allows.
+    TimeLimit,
     /// The event of that number had a fault, told with a module's path.
     Fault(u64, Text, Fault),
 }
@@ -112,6 +114,7 @@ impl Outcome {
             Outcome::Ended => Ok(Outcome::Ended),
             Outcome::EventLimit => Ok(Outcome::EventLimit),
             Outcome::NoMoreEvents => Ok(Outcome::NoMoreEvents),
+            Outcome::TimeLimit => Ok(Outcome::TimeLimit),
             Outcome::Fault(event, path, fault) => Ok(Outcome::Fault(
                 *event,
                 path.copy(alloc)?,

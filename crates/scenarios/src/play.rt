@@ -1,5 +1,7 @@
 //! A scenario at a desk, with the stock modules.
 
+ghost use Rattle.std.specs.Prelude.{◌≡◌, ◌++◌, ◌∷◌, [], OnOk};
+
 use crate::scenario::Scenario;
 use edit_session::begin::BeginFault;
 use sim_values::NoMemory;
@@ -10,8 +12,10 @@ use stock_desk::replies::{Reply, replies_to};
 /// The line of a scenario that asks for the vector file of the last run.
 const VECTORS: &str = "vectors";
 
-/// Writes a line.
-fn say(told: &mut Vec<u8>, line: &[u8]) -> Result<(), NoMemory> {
+/// Writes a line, and its end.
+fn say(told: &mut Vec<u8>, line: &[u8]) -> Result<(), NoMemory>
+    ensures { OnOk result (told.new.items ≡ told.old.items ++ line.now ++ 10 ∷ []) }
+{
     told.extend_from_slice(line)?;
     told.push(b'\n')?;
     Ok(())
@@ -80,6 +84,7 @@ pub fn play(alloc: Global, scenario: &Scenario<'_>) -> Result<Vec<u8>, NoMemory>
         alloc,
         &scenario.texts,
         scenario.ini.as_bytes(),
+        scenario.config.as_bytes(),
         lines.as_slice(),
     ) {
         Ok(replies) => tell(alloc, scenario.asked, replies.as_slice()),

@@ -5,7 +5,7 @@ ghost use Rattle.module_api.specs.Meaning.{IsFresh};
 ghost use Rattle.model_answers.specs.declared.model.Model.{Model};
 ghost use Rattle.stock_modules.specs.Stock.{stock};
 ghost use Rattle.edit_session.specs.Editing.{wanted_of};
-ghost use Rattle.edit_session.specs.Models.{IsModelOf, Refuses, general};
+ghost use Rattle.edit_session.specs.Models.{IsModelOf, Refuses};
 ghost use Rattle.desk.specs.Commands.{command_of};
 ghost use Rattle.desk.specs.Turns.{editing_at, IsSettled, AnswersLine};
 ghost use Rattle.desk.specs.declared.desk.DeskTurn.{DeskTurn};
@@ -94,18 +94,16 @@ fn supply(desk: &mut Desk<Stock>, request: &Request, held: Box<dyn SimpleModule>
     }
 }
 
-/// Says that there is no box of the kind that is asked for. There is no reply yet.
-fn decline(desk: &mut Desk<Stock>, request: &Request) -> Option<Reply>
+/// Says that there is no box of the kind that is asked for.
+fn decline(desk: &mut Desk<Stock>, request: &Request)
     requires unknown { stock.known request.now.kind ≡ false }
     requires waits { wanted_of (editing_at (λ v. (⟦<dyn SimpleModule as SimpleModule>⟧ v).meaning) desk.old) ≡ Some request.now }
     requires sound { IsSettled stock (λ v. (⟦<dyn SimpleModule as SimpleModule>⟧ v).meaning) desk.old }
     ensures sound { IsSettled stock (λ v. (⟦<dyn SimpleModule as SimpleModule>⟧ v).meaning) desk.new }
     ensures model { (editing_at (λ v. (⟦<dyn SimpleModule as SimpleModule>⟧ v).meaning) desk.new).model ≡ (editing_at (λ v. (⟦<dyn SimpleModule as SimpleModule>⟧ v).meaning) desk.old).model }
-    ensures reply { IfSome result (λ reply. reply ≡ Reply.NoMemory) }
 {
     let _request = request;
-    let _declined = desk.decline().is_ok();
-    None
+    let _declined = desk.decline();
 }
 
 /// Adds a reply at the end.
@@ -119,19 +117,20 @@ fn keep(replies: &mut Vec<Reply>, reply: Reply) -> Result<(), BeginFault>
     }
 }
 
-/// The replies to command lines, one to each, of a session that these texts begin, with boxes of the
-/// stock modules; or why the texts begin none, or `NoMemory` where the replies have no room.
+/// The replies to command lines, one to each, of a session that these texts begin with the configuration of that name, with
+/// boxes of the stock modules; or why the texts begin none, or `NoMemory` where the replies have no room.
 pub fn replies_to(
     alloc: Global,
     texts: &NedTexts,
     ini: &[u8],
+    config: &[u8],
     lines: &[Text],
 ) -> Result<Vec<Reply>, BeginFault>
     // THE LAW OF COMMAND LISTS: whatever came before a line, its reply is that of a fresh run.
-    ensures replies { IfOk result (λ replies. (model : Model) × IsModelOf texts.now ini.now general model × AreReplies stock model lines.now replies.items) }
-    ensures refused { IfErr result (λ fault. Refuses texts.now ini.now general fault) }
+    ensures replies { IfOk result (λ replies. (model : Model) × IsModelOf texts.now ini.now config.now model × AreReplies stock model lines.now replies.items) }
+    ensures refused { IfErr result (λ fault. Refuses texts.now ini.now config.now fault) }
 {
-    let session = Session::<Stock>::begin(alloc, texts, ini, b"General".as_slice())?;
+    let session = Session::<Stock>::begin(alloc, texts, ini, config)?;
     let mut desk = Desk::of_session(alloc, session);
     let mut replies = Vec::new(alloc);
     let mut left = lines;
@@ -142,7 +141,10 @@ pub fn replies_to(
         let reply = match take_turn(&mut desk, alloc, line.as_bytes()) {
             Step::Replied(reply) => Some(reply),
             Step::Want(request) => match StockModule::of_kind(request.kind.as_bytes()) {
-                None => decline(&mut desk, &request),
+                None => {
+                    decline(&mut desk, &request);
+                    None
+                }
                 Some(made) => match Box::new(alloc, made) {
                     Ok(held) => {
                         let held: Box<dyn SimpleModule> = held;

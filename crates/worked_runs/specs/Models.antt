@@ -13,6 +13,8 @@ use Rattle.ned_syntax.specs.declared.ast.SectionLine.TheVariants as line
 use Rattle.ned_syntax.specs.declared.ast.Submodule.{Submodule}
 use Rattle.ned_syntax.specs.declared.ast.TypeDeclaration.{TypeDeclaration}
 use Rattle.ned_syntax.specs.declared.ast.TypeKind.TheVariants as kind
+use Rattle.ini_pattern.specs.declared.piece.Piece.{Piece}
+use Rattle.ini_pattern.specs.declared.piece.Piece.TheVariants.{AnyPath, Char}
 use Rattle.ini_config.specs.declared.lines.EntryValue.TheVariants as entry_value
 use Rattle.ini_config.specs.declared.lines.EntryMeaning.TheVariants as meaning
 use Rattle.ini_config.specs.declared.lines.IniLine.{IniLine}
@@ -68,6 +70,10 @@ tick_named name = record { name = name; type_name = codes "Tick" }
 abbrev pub network : List (List ℕ) → TypeDeclaration
 network names = record { kind = kind.Network; name = codes "N"; lines = []; submodules = map tick_named names }
 
+-- the pattern `**.NAME`
+abbrev pub any_path_to : List ℕ → List Piece
+any_path_to name = AnyPath ∷ Char 46 ∷ map Char name
+
 -- `**.NAME = VALUE`, with the value as it is written
 abbrev pub given : List ℕ → List ℕ → Value → IniLine
 given name written value = record {
@@ -75,7 +81,7 @@ given name written value = record {
   meaning = ini.Entry (record {
     key = codes "**." ++ name;
     value = written;
-    meaning = meaning.Parameter (record { name = name; value = entry_value.Given (expression.Literal value) });
+    meaning = meaning.Parameter (record { pattern = any_path_to name; value = entry_value.Given (expression.Literal value) });
   });
 }
 
@@ -91,4 +97,4 @@ ini_of more =
 
 -- the network of Ticks of these names, with these lines of the ini text
 abbrev pub ticks : List (List ℕ) → List IniLine → Model
-ticks names more = record { types = tick ∷ network names ∷ []; ini = ini_of more; config = codes "General" }
+ticks names more = record { types = tick ∷ network names ∷ []; ini = ini_of more; config = codes "General"; chain = codes "General" ∷ [] }

@@ -1,12 +1,13 @@
 use Rattle.std.proofs.Common.{◌≡◌, Bool, true, false, not, Option, Some, None, is_some, IsSome, subst, refl, sym, ap, ◌∙◌}
+use Rattle.std.proofs.lemmas.Result.{err_from_is_err_and}
 use Rattle.std.specs.Option.{option_copied}
 use Rattle.edit_session.specs.Models.{AreRead, IsReadAs, IsModelOf, HasNoNetwork}
-use Rattle.edit_session.proofs.Reading.{none_copied, some_copied}
+use Rattle.edit_session.proofs.Reading.{config_refused, none_copied, some_copied}
 use Rattle.edit_session.proofs.begin.model_of.Goals as goal
 
 pub returns-then-is_none-clause-refused : goal.returns-then-is_none-clause-refused
 returns-then-is_none-clause-refused c = record {
-  model = record { types = c.in_ok-types.types; ini = c.in_ok-lines.lines; config = c.in_ok-config.config };
+  model = record { types = c.in_ok-types.types; ini = c.in_ok-lines.lines; config = c.in_ok-config.config; chain = c.in_ok-chain.chain };
   read = record {
     read = record {
       small = sym c.is_too_large.ensures ∙ c.if-is_too_large.false;
@@ -19,7 +20,8 @@ returns-then-is_none-clause-refused c = record {
     types = c.in_ok-types.ensures.accepted.0;
     lines = refl;
     selected = c.in_ok-config.ensures;
-    exists = c.is_general.ensures.0 c.if-not-is_general.false;
+    exists = c.in_ok-chain.ensures.accepted.1;
+    chained = c.in_ok-chain.ensures.accepted.0;
   };
   none = sym c.network.ensures ∙ none_copied c.network.result (c.is_none.ensures ∙ ap not c.if-is_none.true);
 }
@@ -38,7 +40,21 @@ returns-clause-accepted c = record {
     types = c.in_ok-types.ensures.accepted.0;
     lines = refl;
     selected = c.in_ok-config.ensures;
-    exists = c.is_general.ensures.0 c.if-not-is_general.false;
+    exists = c.in_ok-chain.ensures.accepted.1;
+    chained = c.in_ok-chain.ensures.accepted.0;
   };
   network = subst IsSome c.network.ensures (some_copied c.network.result (c.is_none.ensures ∙ ap not c.if-is_none.false));
 }
+
+pub returns-in_err-chain-clause-refused : goal.returns-in_err-chain-clause-refused
+returns-in_err-chain-clause-refused c =
+    let p = err_from_is_err_and c.from_residual-in_err-chain.result c.from_residual-in_err-chain.ensures.1 in
+    let read : AreRead c.args.texts.now c.args.ini.now = record {
+      small = sym c.is_too_large.ensures ∙ c.if-is_too_large.false;
+      files = c.in_ok-files.files.items;
+      declared = c.in_ok-files.ensures.accepted;
+      lines = c.in_ok-lines.lines;
+      said = c.in_ok-lines.ensures.accepted;
+      together = c.in_ok-types.ensures.accepted.1;
+    } in
+    rw (p.1, p.2) (config_refused c.args.texts.now c.args.ini.now c.args.config.now read c.in_err-chain.field-0.0 c.in_err-chain.ensures.refused)

@@ -5,7 +5,7 @@ use Rattle.ini_config.proofs.parse.read.Given as goal
 
 abbrev pub invariant-lines : goal.invariant-lines
 invariant-lines l = record {
-  reached : Reached (lines_of_ini l.bytes) (lines_of_ini l.rest) l.lines l.number l.inside;
+  reached : Reached (lines_of_ini l.bytes) (lines_of_ini l.rest) l.lines l.number l.section;
   small : l.number + length l.rest ≤ length l.bytes + 1;
 }
 

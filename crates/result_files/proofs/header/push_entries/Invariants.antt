@@ -1,7 +1,9 @@
 use Rattle.std.proofs.Common.{◌≡◌, ◌++◌, drop}
-use Rattle.ini_config.specs.Entries.{entries_of}
+use Rattle.ini_config.specs.Sections.{entries_along}
 use Rattle.result_files.specs.Header.{config_lines}
 use Rattle.result_files.proofs.header.push_entries.Given as goal
 
-abbrev pub invariant-loop-line : goal.invariant-loop-line
-invariant-loop-line l = l.header.items ++ config_lines (entries_of (drop l.line-index l.lines)) ≡ l.fn.header.items ++ config_lines (entries_of l.lines)
+abbrev pub invariant-loop-name : goal.invariant-loop-name
+invariant-loop-name l =
+    l.header.items ++ config_lines (entries_along (drop l.name-index l.chain) l.lines)
+    ≡ l.fn.header.items ++ config_lines (entries_along l.chain l.lines)

@@ -1,4 +1,5 @@
 use Rattle.std.proofs.Common.{◌≡◌, ◌∙◌, rules, refl, sym, ap, subst, drop, take, length, ◌-◌, IfSome}
+use Rattle.std.proofs.lemmas.Result.{err_from_is_err_and}
 use denote.Param.Object.{read_made}
 use Rattle.module_api.specs.Meaning.{IsFresh}
 use Rattle.stock_modules.specs.Stock.{stock}
@@ -17,7 +18,7 @@ loop-turn-init c =
     let begun = c.in_ok-session.ensures.editing in
     record {
       sound = c.of_session-desk.ensures.sound;
-      model = rw (ap (λ (e : Editing). e.model) (c.of_session-desk.ensures.editing ∙ begun.2)) (subst (λ g. IsModelOf c.args.texts.now c.args.ini.now g begun.0) c.as_slice.ensures begun.1);
+      model = rw (ap (λ (e : Editing). e.model) (c.of_session-desk.ensures.editing ∙ begun.2)) begun.1;
       so_far = λ rs others. rw c.new-replies.ensures.items others;
     }
 
@@ -59,7 +60,7 @@ loop-turn-preserved c =
     let answers : IfSome c.match-take_turn.reply (λ r. IsReplyTo stock before line r) = elim c.match-take_turn.branch [
       | in-Replied w ↦ rw (w.reply-is, sym c.take_turn.ensures.model) w.in-Replied.ensures.step
       | in-Want w ↦ rw w.reply-is (elim w.match-of_kind.branch [
-        | in-None w' ↦ rw w'.reply-is (memory_for_all stock before line _ w'.decline.ensures.reply)
+        | in-None w' ↦ rw w'.reply-is tt
         | in-Some+in-Ok w' ↦ rw w'.reply-is (memory_for_all stock before line _ w'.supply.ensures.reply)
         | in-Some+in-Err w' ↦ rw w'.reply-is tt
       ])
@@ -74,3 +75,8 @@ loop-turn-preserved c =
       | in_default-reply w ↦
           rw (w.left-is, w.replies-is) (record { sound = sound; model = rw model c.loop-turn.invariant.model; so_far = rw model c.loop-turn.invariant.so_far })
     ]
+
+pub returns-in_err-keep-clause-refused : goal.returns-in_err-keep-clause-refused
+returns-in_err-keep-clause-refused c =
+    let p = err_from_is_err_and c.from_residual-in_err-keep.result c.from_residual-in_err-keep.ensures.1 in
+    rw (p.1, p.2, c.in_err-keep.ensures.err) tt

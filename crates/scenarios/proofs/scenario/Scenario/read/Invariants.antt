@@ -6,5 +6,6 @@ use Rattle.scenarios.proofs.scenario.Scenario.read.Given as goal
 abbrev pub invariant-loop-part : goal.invariant-loop-part
 invariant-loop-part l = record {
   ini : shadow (Utf8 l.ini);
+  config : shadow (Utf8 l.config);
   asked : shadow (Utf8 l.asked);
 }

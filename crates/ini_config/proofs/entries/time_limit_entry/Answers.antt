@@ -1,0 +1,18 @@
+use Rattle.std.proofs.Common.{sym, ap, ◌∙◌}
+use Rattle.ini_config.specs.Entries.{time_limit_entry}
+use Rattle.ini_config.specs.Sections.{entries_under}
+use Rattle.ini_config.specs.Texts.{Bytes}
+use Rattle.ini_config.proofs.ScanLaws.{said_first, said_behind, limit_along}
+use Rattle.ini_config.proofs.entries.time_limit_entry.Goals as goal
+
+pub returns-in-Some : goal.returns-in-Some
+returns-in-Some c =
+    let along = limit_along c.args.lines.now c.args.chain.now c.loop-name.name-index c.name-item.result c.loop-name-test.true in
+    let here = c.limit_under.ensures ∙ ap (λ (n : Bytes). time_limit_entry (entries_under n c.args.lines.now)) (c.as_bytes.ensures ∙ c.name-item.is) in
+    said_first _ _ _ _ _ (sym c.in-Some.is ∙ here) along c.loop-name.invariant
+
+pub loop-name-preserved : goal.loop-name-preserved
+loop-name-preserved c =
+    let along = limit_along c.args.lines.now c.args.chain.now c.loop-name.name-index c.name-item.result c.loop-name-test.true in
+    let here = c.limit_under.ensures ∙ ap (λ (n : Bytes). time_limit_entry (entries_under n c.args.lines.now)) (c.as_bytes.ensures ∙ c.name-item.is) in
+    said_behind _ _ _ _ (sym c.in_default.is ∙ here) along c.loop-name.invariant
