@@ -13,7 +13,7 @@ use Rattle.ini_config.specs.declared.lines.IniLine.{IniLine}
 use Rattle.ini_config.specs.declared.lines.LineMeaning.{LineMeaning}
 use Rattle.ini_config.specs.declared.lines.LineMeaning.TheVariants as line
 use Rattle.ini_config.specs.Sections.{general, is_section_line, is_section, bases_of, ends_chain, AreAncestors, IsChain, HasOneChain, RefusesChain, AnswersChain}
-use Rattle.ini_config.specs.Texts.{Bytes}
+use Rattle.ini_entries.specs.Texts.{Bytes}
 use Rattle.ini_config.specs.Walk.{holds, is_fresh, IsBase, IsStep, IsStepTo, SettlesWalk, SettlesChain}
 
 -- ---- names

@@ -3,7 +3,7 @@ use Rattle.std.proofs.Common.{◌≡◌, ℕ, ◌+◌, ◌<◌, ◌≤◌, true,
 use Rattle.std.specs.Prelude.{is_some}
 use Rattle.std.proofs.lemmas.List.{length-append}
 use Rattle.ini_config.specs.declared.lines.IniLine.{IniLine}
-use Rattle.ini_config.specs.Texts.{Bytes}
+use Rattle.ini_entries.specs.Texts.{Bytes}
 use Rattle.ini_config.specs.Edits.{bytes_of, texts_of, with_between}
 
 -- the bytes of lines and more lines

@@ -1,10 +1,7 @@
 pub mod ChainLaws
 pub mod EditLaws
 pub mod EditedLines
-pub mod EntryLaws
-pub mod KeyLaws
 pub mod MeaningLaws
-pub mod OptionLaws
 pub mod PieceLaws
 pub mod ScanLaws
 pub mod SectionLaws

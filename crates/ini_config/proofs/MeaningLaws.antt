@@ -5,15 +5,17 @@ use Rattle.std.specs.Str.{IsUtf8, is_utf8}
 use Rattle.std.proofs.lemmas.Str.{IsUtf8-from_is_utf8, is_utf8-from_IsUtf8}
 use Rattle.std.proofs.lemmas.List.{append-nil}
 use Rattle.ini_config.specs.declared.lines.Entry.{Entry}
-use Rattle.ini_config.specs.declared.lines.EntryMeaning.{EntryMeaning}
+use Rattle.ini_entries.specs.declared.entry.EntryMeaning.{EntryMeaning}
 use Rattle.ini_config.specs.declared.lines.IniLine.{IniLine}
 use Rattle.ini_config.specs.declared.lines.LineMeaning.{LineMeaning}
 use Rattle.ini_config.specs.declared.lines.LineMeaning.TheVariants as line
 use Rattle.ini_config.specs.declared.error.IniError.TheVariants as errors
-use Rattle.ini_config.specs.Texts.{Bytes, lines_of_ini, before_blanks, value_text, is_blank, after_blanks}
-use Rattle.ini_config.specs.Meaning.{IsIniText, is_key, is_value, begins_entry, IsParted, IsEntry, IsEntryMeaning, IsLine, IsSection, IsIniLine, AreLines, FirstBadOf, Tells, Settles}
+use Rattle.ini_entries.specs.Texts.{Bytes, before_blanks, is_blank, after_blanks}
+use Rattle.ini_config.specs.Texts.{lines_of_ini, value_text}
+use Rattle.ini_entries.specs.Meaning.{is_key, IsEntryMeaning, Tells}
+use Rattle.ini_config.specs.Meaning.{IsIniText, is_value, begins_entry, IsParted, IsEntry, IsLine, IsSection, IsIniLine, AreLines, FirstBadOf, Settles}
 use Rattle.ini_config.specs.Sections.{section_behind}
-use Rattle.ini_config.proofs.EntryLaws.{meaning_same}
+use Rattle.ini_entries.proofs.EntryLaws.{meaning_same}
 use Rattle.ini_config.proofs.SectionLaws.{section_begins, section_no_entry, section_same}
 
 pub text_tested : {S E : Type 0} (P : S → Type 0) (Q : E → Type 0) (bytes : Bytes) (r : Result S E) → MatchResult r (λ s. P s × IsUtf8 bytes) (λ e. ¬ (IsUtf8 bytes) × Q e) → is_ok r ≡ is_utf8 bytes

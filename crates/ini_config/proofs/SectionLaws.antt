@@ -6,8 +6,8 @@ use Rattle.std.proofs.lemmas.Bool.{eqb-true}
 use Rattle.std.proofs.lemmas.Bool.Decides.{nat_tests}
 use Rattle.std.proofs.lemmas.List.{append_cancel_right}
 use Rattle.ini_config.specs.Meaning.{IsParted, IsSection, IsNamed, IsSectionLine, begins_entry, in_brackets, word_config}
-use Rattle.ini_config.specs.Names.{begins_name, goes_on_name, is_config_byte, is_config_name}
-use Rattle.ini_config.specs.Texts.{Bytes}
+use Rattle.ini_entries.specs.Names.{begins_name, goes_on_name, is_config_byte, is_config_name}
+use Rattle.ini_entries.specs.Texts.{Bytes}
 
 pub not_parted : (bytes key text : Bytes) → position (λ b. eqb b 61) bytes ≡ None → IsParted bytes key text → ⊥
 not_parted bytes key text none p = let first = p.first in absurd cc

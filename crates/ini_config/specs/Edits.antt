@@ -4,7 +4,7 @@ use Rattle.std.specs.List.{list_any}
 use Rattle.ini_config.specs.declared.error.EditError.{EditError}
 use Rattle.ini_config.specs.declared.error.EditError.TheVariants as errors
 use Rattle.ini_config.specs.declared.lines.IniLine.{IniLine}
-use Rattle.ini_config.specs.Texts.{Bytes}
+use Rattle.ini_entries.specs.Texts.{Bytes}
 use Rattle.ini_config.specs.Meaning.{FirstBad, IsIniText, max_length}
 
 -- ---- the changed lines

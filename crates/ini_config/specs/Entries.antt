@@ -1,41 +1,40 @@
 -- What the entries of a configuration say.
-use Rattle.std.specs.Prelude.{ℕ, ◌==◌, Bool, false, not, ◌&&◌, List, [], ◌∷◌, Option, Some, None, filter, slice_get, if◌then◌else◌}
-use Rattle.std.specs.List.{after_last, list_any}
+use Rattle.std.specs.Prelude.{ℕ, ◌==◌, Bool, false, not, ◌&&◌, List, Option, Some, None, is_some, if◌then◌else◌}
+use Rattle.std.specs.List.{after_last, find, list_any}
 use Rattle.std.specs.Option.{option_and_then}
 use Rattle.std.specs.Str.{bytes_eq, chars, is_utf8}
 use Rattle.ini_pattern.specs.Matched.{is_matched}
 use Rattle.ini_config.specs.declared.lines.Entry.{Entry}
-use Rattle.ini_config.specs.declared.lines.EntryMeaning.{EntryMeaning}
-use Rattle.ini_config.specs.declared.lines.EntryMeaning.TheVariants as meaning
-use Rattle.ini_config.specs.declared.lines.EntryValue.{EntryValue}
-use Rattle.ini_config.specs.declared.lines.ObjectOption.{ObjectOption}
-use Rattle.ini_config.specs.Keys.{word_typename}
-use Rattle.ini_config.specs.Texts.{Bytes}
+use Rattle.ini_entries.specs.declared.entry.EntryMeaning.{EntryMeaning}
+use Rattle.ini_entries.specs.declared.entry.EntryMeaning.TheVariants as meaning
+use Rattle.ini_entries.specs.declared.entry.EntryValue.{EntryValue}
+use Rattle.ini_entries.specs.declared.entry.ObjectOption.{ObjectOption}
+use Rattle.ini_entries.specs.Keys.{word_typename}
+use Rattle.ini_entries.specs.Texts.{Bytes}
 
 -- ---- options
-
--- the first that is there
-abbrev pub or_else : {X : Type 0} → Option X → Option X → Option X
-or_else (Some x) other = Some x
-or_else None other = other
 
 abbrev pub network_said : EntryMeaning → Option Bytes
 network_said (meaning.Network name) = Some name
 network_said _ = None
 
+abbrev pub names_network : Entry → Bool
+names_network e = is_some (network_said e.meaning)
+
 -- the network that the first entry of the option `network` names
 abbrev pub network_entry : List Entry → Option Bytes
-network_entry [] = None
-network_entry (e ∷ es) = or_else (network_said e.meaning) (network_entry es)
+network_entry entries = option_and_then (λ (e : Entry). network_said e.meaning) (find names_network entries)
 
 abbrev pub limit_said : EntryMeaning → Option ℕ
 limit_said (meaning.TimeLimit ps) = Some ps
 limit_said _ = None
 
+abbrev pub names_limit : Entry → Bool
+names_limit e = is_some (limit_said e.meaning)
+
 -- the time of the first entry of the option `sim-time-limit`, in picoseconds
 abbrev pub time_limit_entry : List Entry → Option ℕ
-time_limit_entry [] = None
-time_limit_entry (e ∷ es) = or_else (limit_said e.meaning) (time_limit_entry es)
+time_limit_entry entries = option_and_then (λ (e : Entry). limit_said e.meaning) (find names_limit entries)
 
 -- ---- the first match
 
@@ -60,7 +59,7 @@ speaks_of path e = speaks path e.meaning
 
 -- THE FIRST MATCH for a path: of the entries in their order the first that counts for it and matches it
 abbrev pub first_match : Bytes → List Entry → Option Entry
-first_match path entries = slice_get (filter (speaks_of path) entries) 0
+first_match path entries = find (speaks_of path) entries
 
 -- the value that an entry of a parameter or a type gives
 abbrev pub value_said : EntryMeaning → Option EntryValue

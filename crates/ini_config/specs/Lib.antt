@@ -1,9 +1,6 @@
 pub mod Edits
 pub mod Entries
-pub mod Keys
 pub mod Meaning
-pub mod Names
-pub mod Options
 pub mod Scans
 pub mod Sections
 pub mod Texts

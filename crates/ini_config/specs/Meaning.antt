@@ -1,42 +1,25 @@
 -- What an ini text means.
-use Rattle.std.specs.Prelude.{◌≡◌, ◌≢◌, ℕ, suc, ◌+◌, ◌-◌, ◌<◌, ◌≤◌, ◌^◌, Bool, true, false, ◌&&◌, not, List, [], ◌∷◌, ◌++◌, length, take, drop, Option, Some, None, IsSome, Result, Ok, Err, ◌==◌, ◌⊎◌, position, codes, nat_lt, slice_index}
-use Rattle.std.specs.List.{list_all}
-use Rattle.std.specs.Str.{bytes_eq, chars, is_utf8}
-use Rattle.ini_pattern.specs.PatternOf.{pattern_of}
-use Rattle.ned_syntax.specs.NedText.{IsExpressionText}
+use Rattle.std.specs.Prelude.{◌≡◌, ℕ, suc, ◌+◌, ◌-◌, ◌<◌, ◌≤◌, ◌^◌, Bool, true, false, ◌&&◌, not, List, [], ◌∷◌, ◌++◌, length, take, drop, Option, Some, None, Result, Ok, Err, ◌==◌, ◌⊎◌, position, codes, nat_lt, slice_index}
+use Rattle.std.specs.Str.{bytes_eq, is_utf8}
 use Rattle.ini_config.specs.declared.lines.Entry.{Entry}
-use Rattle.ini_config.specs.declared.lines.EntryMeaning.{EntryMeaning}
-use Rattle.ini_config.specs.declared.lines.EntryMeaning.TheVariants as meaning
-use Rattle.ini_config.specs.declared.lines.EntryValue.{EntryValue}
-use Rattle.ini_config.specs.declared.lines.EntryValue.TheVariants as value
+use Rattle.ini_entries.specs.declared.entry.EntryMeaning.{EntryMeaning}
+use Rattle.ini_entries.specs.declared.entry.EntryMeaning.TheVariants as meaning
 use Rattle.ini_config.specs.declared.lines.IniLine.{IniLine}
 use Rattle.ini_config.specs.declared.lines.LineMeaning.{LineMeaning}
 use Rattle.ini_config.specs.declared.lines.LineMeaning.TheVariants as line
-use Rattle.ini_config.specs.declared.lines.ParameterEntry.{ParameterEntry}
 use Rattle.ini_config.specs.declared.error.IniError.{IniError}
 use Rattle.ini_config.specs.declared.error.IniError.TheVariants as errors
-use Rattle.ini_config.specs.Keys.{OptionKey, ObjectKey, TypeKey, ParameterKey, kind_of}
-use Rattle.ini_config.specs.Names.{is_dotted_name, is_config_name}
-use Rattle.ini_config.specs.Options.{word_network, word_extends, word_time_limit, is_other_option, time_literal, IsObjectOption}
+use Rattle.ini_entries.specs.Meaning.{IsEntryMeaning, is_key, Tells}
+use Rattle.ini_entries.specs.Names.{is_config_name}
 use Rattle.ini_config.specs.Sections.{general, section_behind}
-use Rattle.ini_config.specs.Texts.{Bytes, lines_of_ini, items_of, is_blank, after_blanks, before_blanks, value_text, holds_variable}
+use Rattle.ini_entries.specs.Texts.{Bytes, is_blank, after_blanks, before_blanks}
+use Rattle.ini_config.specs.Texts.{lines_of_ini, value_text, holds_variable}
 
 -- the longest text that is read: 1 MiB
 abbrev pub max_length : ℕ
 max_length = 2 ^ 20
 
 -- ---- entries
-
-abbrev pub word_default : Bytes
-word_default = codes "default"
-
--- ASCII, and no blank
-unfoldable pub is_key_byte : ℕ → Bool
-is_key_byte b = nat_lt b 128 && not (is_blank b)
-
-abbrev pub is_key : Bytes → Bool
-is_key [] = false
-is_key (b ∷ bs) = list_all is_key_byte (b ∷ bs)
 
 -- the last byte is this one
 unfoldable pub ends_with : ℕ → Bytes → Bool
@@ -46,31 +29,6 @@ ends_with c bytes = nat_lt 0 (length bytes) && slice_index bytes (length bytes -
 abbrev pub is_value : Bytes → Bool
 is_value [] = false
 is_value (b ∷ bs) = is_utf8 (b ∷ bs) && not (ends_with 92 (b ∷ bs)) && not (holds_variable 0 (b ∷ bs))
-
--- The value of a parameter: the word `default`, or what NED reads as an expression.
-abbrev pub IsEntryValue : Bytes → EntryValue → Type 0
-IsEntryValue bytes value.Default = bytes ≡ word_default
-IsEntryValue bytes (value.Given e) = (bytes ≢ word_default) × IsExpressionText bytes e
-
--- the pattern of a key, and a value
-abbrev pub IsPatternAndValue : Bytes → Bytes → ParameterEntry → Type 0
-IsPatternAndValue key bytes p = (pattern_of (chars key) ≡ Some p.pattern) × IsEntryValue bytes p.value
-
--- What the value of a key says. Each key is a pattern, whether it is used as one or not.
-abbrev pub IsEntryMeaning : Bytes → Bytes → EntryMeaning → Type 0
--- Options: the network; the bases of a configuration; the time limit; others have no effect.
-IsEntryMeaning key bytes (meaning.Network name) = (key ≡ word_network) × (name ≡ bytes) × (is_dotted_name bytes ≡ true)
-IsEntryMeaning key bytes (meaning.Extends names) =
-    (key ≡ word_extends) × (names ≡ items_of bytes) × (list_all is_config_name names ≡ true)
-IsEntryMeaning key bytes (meaning.TimeLimit ps) = (key ≡ word_time_limit) × IsExpressionText bytes (time_literal ps)
-IsEntryMeaning key bytes meaning.Other =
-    (kind_of key ≡ OptionKey) × (is_other_option key bytes ≡ true) × IsSome (pattern_of (chars key))
--- Per-object options.
-IsEntryMeaning key bytes (meaning.Object o) =
-    (kind_of key ≡ ObjectKey o.option) × (pattern_of (chars key) ≡ Some o.pattern) × IsObjectOption o.option bytes o.says
--- Types of submodules, and values of parameters.
-IsEntryMeaning key bytes (meaning.Type p) = (kind_of key ≡ TypeKey) × IsPatternAndValue key bytes p
-IsEntryMeaning key bytes (meaning.Parameter p) = (kind_of key ≡ ParameterKey) × IsPatternAndValue key bytes p
 
 -- the first byte is no blank, and begins no comment
 abbrev pub begins_entry : Bytes → Bool
@@ -170,11 +128,6 @@ abbrev pub FirstBad : ℕ → Bytes → Type 0
 FirstBad bad bytes = FirstBadOf bad 1 None (lines_of_ini bytes)
 
 -- ---- answers
-
--- What was found is the only one; where nothing was found there is none.
-abbrev pub Tells : {X : Type 0} → (X → Type 0) → Option X → Type 0
-Tells P (Some x) = P x × ((y : _) → P y → y ≡ x)
-Tells P None = (y : _) → P y → ⊥
 
 -- What was read of the lines of a text, or why it was refused.
 abbrev pub Settles : List Bytes → Result (List IniLine) IniError → Type 0

@@ -1,32 +1,24 @@
--- What a line says in its section.
-use Rattle.std.specs.Prelude.{Bool, true, false, Option, Some, None, ℕ, List, if◌then◌else◌}
-use Rattle.std.specs.Option.{option_and_then}
+-- Which entries are looked for.
+use Rattle.std.specs.Prelude.{Bool, Option, Some, None, is_some, List, if◌then◌else◌}
+use Rattle.std.specs.List.{find}
+use Rattle.ini_entries.specs.declared.entry.EntryMeaning.{EntryMeaning}
 use Rattle.ini_config.specs.declared.lines.Entry.{Entry}
-use Rattle.ini_config.specs.declared.lines.LineMeaning.{LineMeaning}
-use Rattle.ini_config.specs.declared.lines.LineMeaning.TheVariants as line
-use Rattle.ini_config.specs.Entries.{network_said, limit_said, speaks_of}
+use Rattle.ini_config.specs.declared.scan.Wanted.{Wanted}
+use Rattle.ini_config.specs.declared.scan.Wanted.TheVariants as want
+use Rattle.ini_config.specs.Entries.{network_said, limit_said, speaks}
 use Rattle.ini_config.specs.Sections.{bases_said}
-use Rattle.ini_config.specs.Texts.{Bytes}
 
--- the entry of a line, where it stands in the section
-abbrev pub entry_here : Bool → LineMeaning → Option Entry
-entry_here true (line.Entry entry) = Some entry
-entry_here true _ = None
-entry_here false _ = None
+-- an entry that says this is looked for
+abbrev pub is_wanted : Wanted → EntryMeaning → Bool
+is_wanted want.Bases m = is_some (bases_said m)
+is_wanted want.Network m = is_some (network_said m)
+is_wanted want.TimeLimit m = is_some (limit_said m)
+is_wanted (want.Path path) m = speaks path.now m
 
--- what it says
-abbrev pub said_here : {X : Type 0} → (Entry → Option X) → Bool → LineMeaning → Option X
-said_here said here m = option_and_then said (entry_here here m)
+-- the entry itself, where it is looked for
+abbrev pub wanted_of : Wanted → Entry → Option Entry
+wanted_of wanted e = if is_wanted wanted e.meaning then Some e else None
 
-abbrev pub network_of : Entry → Option Bytes
-network_of e = network_said e.meaning
-
-abbrev pub limit_of : Entry → Option ℕ
-limit_of e = limit_said e.meaning
-
-abbrev pub bases_named : Entry → Option (List Bytes)
-bases_named e = bases_said e.meaning
-
--- the entry itself, where it counts for the path and matches it
-abbrev pub spoken : Bytes → Entry → Option Entry
-spoken path e = if speaks_of path e then Some e else None
+-- the first entry that is looked for
+abbrev pub first_wanted : Wanted → List Entry → Option Entry
+first_wanted wanted entries = find (λ (e : Entry). is_wanted wanted e.meaning) entries

@@ -1,17 +1,18 @@
 -- Sections, and which of them make a configuration.
 -- OMNeT++ Simulation Manual, "Sections", "Section Inheritance".
-use Rattle.std.specs.Prelude.{◌≡◌, ◌≢◌, ◌⊎◌, Bool, true, false, ◌||◌, List, [], ◌∷◌, ◌++◌, Option, Some, None, codes, Result, Ok, Err}
-use Rattle.std.specs.List.{list_any, flat_map}
+use Rattle.std.specs.Prelude.{◌≡◌, ◌≢◌, ◌⊎◌, Bool, true, false, ◌||◌, List, [], ◌∷◌, ◌++◌, Option, Some, None, is_some, codes, Result, Ok, Err}
+use Rattle.std.specs.List.{cons_option, find, flat_map, list_any}
+use Rattle.std.specs.Option.{option_and_then}
 use Rattle.std.specs.Str.{bytes_eq}
 use Rattle.ini_config.specs.declared.error.ChainError.{ChainError}
 use Rattle.ini_config.specs.declared.error.ChainError.TheVariants as errors
 use Rattle.ini_config.specs.declared.lines.Entry.{Entry}
-use Rattle.ini_config.specs.declared.lines.EntryMeaning.{EntryMeaning}
-use Rattle.ini_config.specs.declared.lines.EntryMeaning.TheVariants as meaning
+use Rattle.ini_entries.specs.declared.entry.EntryMeaning.{EntryMeaning}
+use Rattle.ini_entries.specs.declared.entry.EntryMeaning.TheVariants as meaning
 use Rattle.ini_config.specs.declared.lines.IniLine.{IniLine}
 use Rattle.ini_config.specs.declared.lines.LineMeaning.{LineMeaning}
 use Rattle.ini_config.specs.declared.lines.LineMeaning.TheVariants as line
-use Rattle.ini_config.specs.Texts.{Bytes}
+use Rattle.ini_entries.specs.Texts.{Bytes}
 
 abbrev pub general : Bytes
 general = codes "General"
@@ -28,16 +29,17 @@ abbrev pub is_in : Bytes → Option Bytes → Bool
 is_in name None = false
 is_in name (Some section) = bytes_eq section name
 
--- an entry, where it stands in the section, and then the others
-abbrev pub with_entry : Bool → LineMeaning → List Entry → List Entry
-with_entry true (line.Entry entry) rest = entry ∷ rest
-with_entry true _ rest = rest
-with_entry false _ rest = rest
+-- the entry of a line, where it stands in the section
+abbrev pub entry_here : Bool → LineMeaning → Option Entry
+entry_here true (line.Entry entry) = Some entry
+entry_here true _ = None
+entry_here false _ = None
 
 -- the entries that lines have in the section of that name, where the first line stands in this section
 abbrev pub entries_from : Bytes → Option Bytes → List IniLine → List Entry
 entries_from name section [] = []
-entries_from name section (l ∷ ls) = with_entry (is_in name section) l.meaning (entries_from name (section_behind section l.meaning) ls)
+entries_from name section (l ∷ ls) =
+    cons_option (entry_here (is_in name section) l.meaning) (entries_from name (section_behind section l.meaning) ls)
 
 -- the entries of the section of that name, in the order of lines: all sections of one name are one
 abbrev pub entries_under : Bytes → List IniLine → List Entry
@@ -62,10 +64,12 @@ abbrev pub or_bases : Option (List Bytes) → List Bytes → List Bytes
 or_bases (Some names) others = names
 or_bases None others = others
 
+abbrev pub names_bases : Entry → Bool
+names_bases e = is_some (bases_said e.meaning)
+
 -- the bases that the first entry of the option `extends` names, none where there is no such entry
 abbrev pub first_bases : List Entry → List Bytes
-first_bases [] = []
-first_bases (e ∷ es) = or_bases (bases_said e.meaning) (first_bases es)
+first_bases entries = or_bases (option_and_then (λ (e : Entry). bases_said e.meaning) (find names_bases entries)) []
 
 -- the bases of a section
 abbrev pub bases_of : Bytes → List IniLine → List Bytes

@@ -1,9 +1,6 @@
--- The parts of an ini text: its lines, its blanks, and what stands before a comment.
-use Rattle.std.specs.Prelude.{ℕ, zero, suc, Bool, false, ◌||◌, ◌&&◌, not, List, [], ◌∷◌, Option, Some, None, ◌==◌, if◌then◌else◌, option_map, unwrap_or, map}
-use Rattle.std.specs.List.{slice_split}
-
-abbrev pub Bytes : Type 0
-Bytes = List ℕ
+-- The parts of an ini text: its lines, and what stands before a comment.
+use Rattle.std.specs.Prelude.{ℕ, zero, suc, Bool, false, ◌||◌, ◌&&◌, not, List, [], ◌∷◌, Option, Some, None, ◌==◌, if◌then◌else◌, option_map, unwrap_or}
+use Rattle.ini_entries.specs.Texts.{Bytes, after_blanks, before_blanks}
 
 -- ---- lines
 
@@ -28,26 +25,6 @@ after_feed (b ∷ bs) = if b == 10 then Some bs else None
 abbrev pub after_line_end : Bytes → Option Bytes
 after_line_end [] = None
 after_line_end (b ∷ bs) = if b == 10 then Some bs else (if b == 13 then after_feed bs else None)
-
--- ---- blanks
-
--- spaces and tabs
-abbrev pub is_blank : ℕ → Bool
-is_blank b = b == 32 || b == 9
-
--- the text without the blanks at its front
-abbrev pub after_blanks : Bytes → Bytes
-after_blanks [] = []
-after_blanks (b ∷ bs) = if is_blank b then after_blanks bs else b ∷ bs
-
-abbrev pub unless_last_blank : ℕ → Bytes → Bytes
-unless_last_blank b [] = if is_blank b then [] else b ∷ []
-unless_last_blank b (c ∷ cs) = b ∷ c ∷ cs
-
--- the text without the blanks at its end
-unfoldable pub before_blanks : Bytes → Bytes
-before_blanks [] = []
-before_blanks (b ∷ bs) = unless_last_blank b (before_blanks bs)
 
 -- ---- comments
 
@@ -79,20 +56,6 @@ before_hash (b ∷ bs) = if b == 35 then [] else b ∷ before_hash bs
 -- the value, of what is behind the `=`
 abbrev pub value_text : Bytes → Bytes
 value_text bytes = before_blanks (after_blanks (uncommented 0 bytes))
-
--- ---- lists
-
--- what stands between the bytes of this kind
-unfoldable pub parts_at : ℕ → Bytes → List Bytes
-parts_at c bytes = slice_split (λ b. b == c) bytes
-
--- the text without the blanks at its front and its end
-abbrev pub trimmed : Bytes → Bytes
-trimmed bytes = before_blanks (after_blanks bytes)
-
--- the items of a list, which commas part; blanks around them don't count
-abbrev pub items_of : Bytes → List Bytes
-items_of bytes = map trimmed (parts_at 44 bytes)
 
 -- ---- variables
 

@@ -10,7 +10,7 @@ use Rattle.ini_config.specs.declared.lines.IniLine.{IniLine}
 use Rattle.ini_config.specs.declared.lines.LineMeaning.{LineMeaning}
 use Rattle.ini_config.specs.declared.lines.LineMeaning.TheVariants as line
 use Rattle.ini_config.specs.Sections.{general, is_section, bases_of, ends_chain, AreAncestors, IsChain}
-use Rattle.ini_config.specs.Texts.{Bytes}
+use Rattle.ini_entries.specs.Texts.{Bytes}
 
 -- the name is one of those
 abbrev pub holds : List Bytes → Bytes → Bool

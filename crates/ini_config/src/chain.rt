@@ -8,14 +8,14 @@ ghost use Rattle.std.specs.Option.{option_copied};
 ghost use Rattle.std.specs.Str.{bytes_eq};
 ghost use Rattle.ini_config.specs.declared.error.ChainError.TheVariants as errors;
 ghost use Rattle.ini_config.specs.declared.lines.IniLine.{IniLine as LineSaid};
-ghost use Rattle.ini_config.specs.Scans.{said_here, bases_named};
-ghost use Rattle.ini_config.specs.Sections.{general, is_in, is_section_line, is_section, bases_said, or_bases, bases_of, IsChain, RefusesChain, AnswersChain};
-ghost use Rattle.ini_config.specs.Texts.{Bytes};
+ghost use Rattle.ini_config.specs.Sections.{general, is_section_line, is_section, bases_said, or_bases, bases_of, IsChain, RefusesChain, AnswersChain};
+ghost use Rattle.ini_entries.specs.Texts.{Bytes};
 ghost use Rattle.ini_config.specs.Walk.{holds, IsStep, IsStepTo, SettlesWalk, SettlesChain};
 
-use crate::entries::{entry_in, section_behind};
 use crate::error::ChainError;
-use crate::lines::{EntryMeaning, IniLine, IniText, LineMeaning};
+use crate::lines::{IniLine, IniText, LineMeaning};
+use crate::scan::{Wanted, first_under};
+use ini_entries::entry::EntryMeaning;
 use sim_values::text::Text;
 use sqlite_items::Items;
 use std::alloc::{AllocError, Global};
@@ -68,28 +68,14 @@ fn bases_said(meaning: &EntryMeaning) -> Option<&[Text]>
     }
 }
 
-/// The bases that a line names, which stands in `section`, where this is the section of that name.
-fn bases_in<'a>(name: &[u8], section: Option<&[u8]>, line: &'a IniLine) -> Option<&'a [Text]>
-    ensures { option_copied result ≡ said_here bases_named (is_in name.now (option_copied section.entry)) line.now.meaning }
-{
-    match entry_in(name, section, line) {
-        Some(entry) => bases_said(&entry.meaning),
-        None => None,
-    }
-}
-
 /// The bases that the first entry of the option `extends` names in the section of that name.
 fn bases_of<'a>(lines: &'a [IniLine], name: &[u8]) -> Option<&'a [Text]>
     ensures { or_bases (option_copied result) [] ≡ bases_of name.now lines.now }
 {
-    let mut section = None;
-    for line in lines {
-        if let Some(bases) = bases_in(name, section, line) {
-            return Some(bases);
-        }
-        section = section_behind(section, line);
+    match first_under(lines, name, Wanted::Bases) {
+        Some(entry) => bases_said(&entry.meaning),
+        None => None,
     }
-    None
 }
 
 /// What follows a section on a chain.

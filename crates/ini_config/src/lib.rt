@@ -2,19 +2,13 @@
 #![tactic(auto)]
 
 pub mod chain;
-#[cfg(test)]
-mod chain_tests;
 mod copies;
 pub mod edits;
 pub mod entries;
 pub mod error;
-mod keys;
 pub mod laws;
 pub mod lines;
-mod meaning;
-mod names;
-mod options;
 pub mod parse;
 mod pieces;
-#[cfg(test)]
-mod tests;
+pub mod scan;
+pub mod speaks;

@@ -4,17 +4,19 @@ ghost use Rattle.std.specs.Prelude.{◌≡◌, ◌<◌, ◌||◌, ◌++◌, ◌=
 ghost use Rattle.std.specs.List.{list_all};
 ghost use Rattle.std.specs.Str.{is_utf8};
 ghost use Rattle.ini_config.specs.Texts.{lines_of_ini};
-ghost use Rattle.ini_config.specs.Meaning.{IsIniText, IsIniLine, IsLine, IsEntry, IsNamed, IsParted, IsSection, Settles, Tells, Answers, Explains, begins_entry, ends_with, in_brackets, is_extends, is_key, is_key_byte, is_value, may_stand, max_length};
+ghost use Rattle.ini_entries.specs.Meaning.{Tells, is_key, is_key_byte};
+ghost use Rattle.ini_config.specs.Meaning.{IsIniText, IsIniLine, IsLine, IsEntry, IsNamed, IsParted, IsSection, Settles, Answers, Explains, begins_entry, ends_with, in_brackets, is_extends, is_value, may_stand, max_length};
 ghost use Rattle.ini_config.specs.Sections.{section_behind};
 ghost use Rattle.ini_config.specs.declared.lines.IniLine.{IniLine};
 
 use crate::error::IniError;
-use crate::lines::{Entry, EntryMeaning, IniLine, IniText, LineMeaning};
-use crate::meaning::entry_meaning;
-use crate::names::is_config_name;
-use crate::pieces::{
-    after_blanks, before_blanks, first_line, holds_variable, is_blank, value_text,
-};
+use crate::lines::{Entry, IniLine, IniText, LineMeaning};
+use crate::pieces::{first_line, holds_variable, value_text};
+use ini_entries::blanks::{after_blanks, before_blanks, is_blank};
+use ini_entries::entry::EntryMeaning;
+use ini_entries::keys::is_key;
+use ini_entries::meaning::entry_meaning;
+use ini_entries::names::is_config_name;
 use sim_values::text::Text;
 use sqlite_items::Items;
 use std::alloc::{AllocError, Global};
@@ -22,28 +24,6 @@ use std::str::from_utf8;
 
 /// The longest text that is read: 1 MiB.
 pub const MAX_LENGTH: usize = 1 << 20;
-
-#[tactic(auto, unfolding(crate::specs::Meaning::is_key_byte))]
-fn is_key_byte(byte: u8) -> bool
-    ensures { result ≡ is_key_byte byte }
-{
-    byte < 128 && !is_blank(byte)
-}
-
-fn are_key_bytes(bytes: &[u8]) -> bool
-    ensures { result ≡ list_all is_key_byte bytes.now }
-{
-    bytes.iter().all(|b| is_key_byte(*b))
-}
-
-fn is_key(bytes: &[u8]) -> bool
-    ensures { result ≡ is_key bytes.now }
-{
-    match bytes {
-        [] => false,
-        [_, ..] => are_key_bytes(bytes),
-    }
-}
 
 fn is_text(bytes: &[u8]) -> bool
     ensures { result ≡ is_utf8 bytes.now }

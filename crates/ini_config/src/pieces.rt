@@ -1,7 +1,9 @@
-//! The pieces of an ini text: its lines, its blanks, and what stands before a comment.
+//! The pieces of an ini text: its lines, and what stands before a comment.
 
 ghost use Rattle.std.specs.Prelude.{◌≡◌, ◌+◌, ◌<◌, ◌≤◌, ◌∷◌, length, take, option_map, IfSome};
 ghost use Rattle.ini_config.specs.Texts as texts;
+
+use ini_entries::blanks::{after_blanks, before_blanks};
 
 /// What is behind the end of a line, where the text begins with one.
 fn after_line_end(bytes: &[u8]) -> Option<&[u8]>
@@ -29,37 +31,6 @@ pub(crate) fn first_line(bytes: &[u8]) -> (&[u8], &[u8])
         end += 1;
     }
     (bytes, &[])
-}
-
-pub(crate) fn is_blank(byte: u8) -> bool
-    ensures { result ≡ texts.is_blank byte }
-{
-    byte == b' ' || byte == b'\t'
-}
-
-/// The text without the blanks at its front.
-pub(crate) fn after_blanks(bytes: &[u8]) -> &[u8]
-    ensures { result.now ≡ texts.after_blanks bytes.now }
-{
-    let mut rest = bytes;
-    'blanks: while let [b, after @ ..] = rest {
-        if !is_blank(*b) {
-            return rest;
-        }
-        rest = after;
-    }
-    rest
-}
-
-/// The text without the blanks at its end.
-pub(crate) fn before_blanks(bytes: &[u8]) -> &[u8]
-    ensures { result.now ≡ texts.before_blanks bytes.now }
-{
-    let mut end = bytes.len();
-    'blanks: while end > 0 && is_blank(bytes[end - 1]) {
-        end -= 1;
-    }
-    &bytes[..end]
 }
 
 /// Whether the byte ends a text literal, behind this one.

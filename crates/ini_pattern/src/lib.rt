@@ -10,7 +10,5 @@ pub mod pattern;
 pub mod piece;
 pub mod places;
 pub mod reading;
-#[cfg(test)]
-mod tests;
 
 pub use pattern::{Pattern, PatternFault};

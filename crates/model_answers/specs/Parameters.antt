@@ -6,8 +6,8 @@ use Rattle.sim_values.specs.declared.value.Dimension.{Dimension}
 use Rattle.sim_values.specs.declared.value.Value.{Value}
 use Rattle.sim_values.specs.declared.value.Value.TheVariants as value
 use Rattle.ini_config.specs.declared.lines.Entry.{Entry}
-use Rattle.ini_config.specs.declared.lines.EntryValue.{EntryValue}
-use Rattle.ini_config.specs.declared.lines.EntryValue.TheVariants as entry
+use Rattle.ini_entries.specs.declared.entry.EntryValue.{EntryValue}
+use Rattle.ini_entries.specs.declared.entry.EntryValue.TheVariants as entry
 use Rattle.ini_config.specs.Entries.{value_for}
 use Rattle.ned_syntax.specs.declared.ast.Declaration.{Declaration}
 use Rattle.ned_syntax.specs.declared.ast.Expression.{Expression}

@@ -6,8 +6,9 @@ ghost use Rattle.model_answers.specs.Models.{network_of, type_at, type_of_record
 ghost use Rattle.model_answers.specs.Records.{record_at};
 
 use crate::record::{Record, record_at};
-use ini_config::entries::{last_name, network_entry, time_limit_entry};
+use ini_config::entries::{network_entry, time_limit_entry};
 use ini_config::lines::IniText;
+use ini_config::speaks::last_name;
 use ned_syntax::ast::{TypeDeclaration, TypeKind};
 use ned_types::flat::submodule_named;
 use ned_types::table::TypeTable;

@@ -11,7 +11,7 @@ use crate::answer::ModelFault;
 use crate::model::Model;
 use crate::record::path_under;
 use ini_config::entries::value_for;
-use ini_config::lines::EntryValue;
+use ini_entries::entry::EntryValue;
 use ned_syntax::ast::{Declaration, Expression, ParameterValue, ParameterWord, SectionLine};
 use ned_types::flat::last_value;
 use sim_values::NoMemory;

@@ -10,7 +10,5 @@ mod parameters;
 pub mod parse;
 mod properties;
 pub mod statistics;
-#[cfg(test)]
-mod tests;
 pub mod texts;
 mod types;

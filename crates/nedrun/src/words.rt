@@ -1,5 +1,9 @@
 //! What the program is asked for, and why it ends early.
 
+ghost use Rattle.std.specs.Prelude.{◌≡◌};
+ghost use Rattle.nedrun.specs.Stops.{stop_of};
+ghost use Rattle.nedrun.specs.declared.words.Stop.TheVariants as stops;
+
 use clap::error::ErrorKind;
 use clap::{Arg, ArgAction, Command, value_parser};
 use edit_session::begin::BeginFault;
@@ -44,12 +48,16 @@ fn words_status(error: &clap::Error) -> u8 {
 }
 
 impl From<clap::Error> for Stop {
+    ghost from_gives = { λ error stop. stop ≡ stops.Words error };
+
     fn from(error: clap::Error) -> Stop {
         Stop::Words(error)
     }
 }
 
 impl From<BeginFault> for Stop {
+    ghost from_gives = { λ fault stop. stop ≡ stop_of fault };
+
     fn from(fault: BeginFault) -> Stop {
         match fault {
             BeginFault::NoMemory => Stop::NoMemory,
@@ -59,24 +67,32 @@ impl From<BeginFault> for Stop {
 }
 
 impl From<io::Error> for Stop {
+    ghost from_gives = { λ error stop. stop ≡ stops.Failed error };
+
     fn from(error: io::Error) -> Stop {
         Stop::Failed(error)
     }
 }
 
 impl From<NoMemory> for Stop {
+    ghost from_gives = { λ _ stop. stop ≡ stops.NoMemory };
+
     fn from(_e: NoMemory) -> Stop {
         Stop::NoMemory
     }
 }
 
 impl From<AllocError> for Stop {
+    ghost from_gives = { λ _ stop. stop ≡ stops.NoMemory };
+
     fn from(_e: AllocError) -> Stop {
         Stop::NoMemory
     }
 }
 
 impl<T: Drop> From<AllocFailed<T>> for Stop {
+    ghost from_gives = { λ _ stop. stop ≡ stops.NoMemory };
+
     fn from(_e: AllocFailed<T>) -> Stop {
         Stop::NoMemory
     }

@@ -3,10 +3,10 @@
 use Rattle.std.specs.Prelude.{ℕ, Bool, true, false, not, ◌&&◌, ◌||◌, List, [], ◌∷◌, ◌++◌, Option, Some, None, codes}
 use Rattle.std.specs.List.{list_any}
 use Rattle.ini_config.specs.declared.lines.Entry.{Entry}
-use Rattle.ini_config.specs.declared.lines.ModeItem.{ModeItem}
-use Rattle.ini_config.specs.declared.lines.ModeItem.TheVariants as item
-use Rattle.ini_config.specs.declared.lines.ObjectOption.{ObjectOption}
-use Rattle.ini_config.specs.declared.lines.ObjectOption.TheVariants as object
+use Rattle.ini_entries.specs.declared.entry.ModeItem.{ModeItem}
+use Rattle.ini_entries.specs.declared.entry.ModeItem.TheVariants as item
+use Rattle.ini_entries.specs.declared.entry.ObjectOption.{ObjectOption}
+use Rattle.ini_entries.specs.declared.entry.ObjectOption.TheVariants as object
 use Rattle.ini_config.specs.Entries.{object_for}
 use Rattle.model_answers.specs.Records.{path_under}
 use Rattle.ned_syntax.specs.declared.ast.Mode.{Mode}

@@ -7,7 +7,7 @@ ghost use Rattle.recorders.specs.Selection.{after_item, begins_signed, has_vecto
 
 use crate::modes::is_recorded;
 use ini_config::entries::object_for;
-use ini_config::lines::{ModeItem, ObjectOption};
+use ini_entries::entry::{ModeItem, ObjectOption};
 use model_answers::model::Model;
 use model_answers::record::path_under;
 use ned_syntax::ast::{Mode, RecordedMode, Statistic};

@@ -5,8 +5,11 @@ ghost use Rattle.std.specs.List.{flat_map, list_all};
 ghost use Rattle.ini_config.specs.Sections.{entries_along, entries_under};
 ghost use Rattle.result_files.specs.Header.{is_quoting, is_plain, escaped, value_text, item_line, run_lines, attribute_lines, config_line, config_lines, header_text, network_name, header_of};
 
-use ini_config::entries::{entry_in, last_name, network_entry, section_behind};
-use ini_config::lines::{Entry, EntryMeaning, IniLine};
+use ini_config::entries::network_entry;
+use ini_config::lines::{Entry, IniLine};
+use ini_config::scan::{entry_in, section_behind};
+use ini_config::speaks::last_name;
+use ini_entries::entry::EntryMeaning;
 use model_answers::model::Model;
 use sim_values::text::Text;
 use std::alloc::{AllocError, Global};

@@ -1,7 +1,8 @@
 use crate::header::header_text;
 use crate::vector_file::{VectorFile, write_vectors};
 use crate::writer::{Device, Out, WriteFault};
-use ini_config::lines::{Entry, EntryMeaning, IniLine, LineMeaning};
+use ini_config::lines::{Entry, IniLine, LineMeaning};
+use ini_entries::entry::EntryMeaning;
 use recorders::vector_line::VectorLine;
 use run_semantics::traces::Emission;
 use sim_time::SimTime;

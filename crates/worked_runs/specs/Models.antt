@@ -15,8 +15,8 @@ use Rattle.ned_syntax.specs.declared.ast.TypeDeclaration.{TypeDeclaration}
 use Rattle.ned_syntax.specs.declared.ast.TypeKind.TheVariants as kind
 use Rattle.ini_pattern.specs.declared.piece.Piece.{Piece}
 use Rattle.ini_pattern.specs.declared.piece.Piece.TheVariants.{AnyPath, Char}
-use Rattle.ini_config.specs.declared.lines.EntryValue.TheVariants as entry_value
-use Rattle.ini_config.specs.declared.lines.EntryMeaning.TheVariants as meaning
+use Rattle.ini_entries.specs.declared.entry.EntryValue.TheVariants as entry_value
+use Rattle.ini_entries.specs.declared.entry.EntryMeaning.TheVariants as meaning
 use Rattle.ini_config.specs.declared.lines.IniLine.{IniLine}
 use Rattle.ini_config.specs.declared.lines.LineMeaning.TheVariants as ini
 use Rattle.model_answers.specs.declared.model.Model.{Model}

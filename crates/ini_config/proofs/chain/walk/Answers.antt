@@ -1,6 +1,6 @@
 use Rattle.std.proofs.Common.{◌≡◌, ◌<◌, false, List, [], ◌∷◌, ◌++◌, sym, ap, subst, ◌∙◌}
 use Rattle.ini_config.specs.declared.chain.Step.TheVariants as step
-use Rattle.ini_config.specs.Texts.{Bytes}
+use Rattle.ini_entries.specs.Texts.{Bytes}
 use Rattle.ini_config.specs.Walk.{holds, IsStep}
 use Rattle.ini_config.proofs.ChainLaws.{IsWalked, left_to_walk, walk_begins, walk_goes_on, walk_ends, walk_fails, walk_shrinks}
 use Rattle.ini_config.proofs.chain.walk.Goals as goal

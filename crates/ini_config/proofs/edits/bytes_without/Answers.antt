@@ -1,5 +1,5 @@
 use Rattle.std.proofs.Common.{◌++◌, sym, ap, ◌∙◌}
-use Rattle.ini_config.specs.Texts.{Bytes}
+use Rattle.ini_entries.specs.Texts.{Bytes}
 use Rattle.ini_config.specs.Edits.{bytes_of, texts_of}
 use Rattle.ini_config.proofs.EditLaws.{bytes_joined}
 use Rattle.ini_config.proofs.edits.bytes_without.Goals as goal

@@ -1,6 +1,7 @@
 use Rattle.std.proofs.Common.{sym, subst}
-use Rattle.ini_config.specs.Meaning.{IsEntry, IsSection, Tells}
-use Rattle.ini_config.specs.Texts.{Bytes}
+use Rattle.ini_entries.specs.Meaning.{Tells}
+use Rattle.ini_config.specs.Meaning.{IsEntry, IsSection}
+use Rattle.ini_entries.specs.Texts.{Bytes}
 use Rattle.ini_config.proofs.MeaningLaws.{no_line, is_entry, is_section}
 use Rattle.ini_config.proofs.parse.section_or_entry.Goals as goal
 

@@ -1,7 +1,0 @@
-use Rattle.std.proofs.Common.{◌≡◌, drop, None}
-use Rattle.std.specs.Option.{option_copied}
-use Rattle.ini_config.specs.Sections.{entries_from, first_bases}
-use Rattle.ini_config.proofs.chain.bases_of.Given as goal
-
-abbrev pub invariant-loop-line : goal.invariant-loop-line
-invariant-loop-line l = first_bases (entries_from l.name (option_copied l.section) (drop l.line-index l.lines)) ≡ first_bases (entries_from l.name None l.lines)

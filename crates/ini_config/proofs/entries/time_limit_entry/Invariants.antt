@@ -1,7 +1,0 @@
-use Rattle.std.proofs.Common.{◌≡◌, drop}
-use Rattle.ini_config.specs.Entries.{time_limit_entry}
-use Rattle.ini_config.specs.Sections.{entries_along}
-use Rattle.ini_config.proofs.entries.time_limit_entry.Given as goal
-
-abbrev pub invariant-loop-name : goal.invariant-loop-name
-invariant-loop-name l = time_limit_entry (entries_along (drop l.name-index l.chain) l.lines) ≡ time_limit_entry (entries_along l.chain l.lines)

@@ -1,5 +1,0 @@
-use Rattle.ini_config.proofs.KeyLaws.{key_text}
-use Rattle.ini_config.proofs.meaning.key_pattern.Goals as goal
-
-pub returns-in_default : goal.returns-in_default
-returns-in_default c = absurd (c.in_default.ensures.cases.0 (key_text c.args.key.now c.requires))

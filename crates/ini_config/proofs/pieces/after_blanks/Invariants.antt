@@ -1,9 +1,0 @@
-use Rattle.std.proofs.Common.{◌≡◌, length}
-use Rattle.ini_config.specs.Texts as texts
-use Rattle.ini_config.proofs.pieces.after_blanks.Given as goal
-
-abbrev pub invariant-blanks : goal.invariant-blanks
-invariant-blanks l = texts.after_blanks l.rest ≡ texts.after_blanks l.bytes
-
-abbrev pub decreases-blanks : goal.decreases-blanks
-decreases-blanks l = length l.rest

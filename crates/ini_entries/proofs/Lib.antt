@@ -1,0 +1,4 @@
+pub mod BlankLaws
+pub mod EntryLaws
+pub mod KeyLaws
+pub mod OptionLaws

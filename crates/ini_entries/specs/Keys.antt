@@ -1,0 +1,82 @@
+-- Keys of entries: their parts, and what they are for.
+-- OMNeT++ Simulation Manual, "Configuring Simulations", "Per-Object Configuration Options".
+use Rattle.std.specs.Prelude.{ℕ, Bool, true, false, ◌&&◌, [], ◌∷◌, Option, Some, None, ◌==◌, if◌then◌else◌, codes}
+use Rattle.std.specs.List.{list_any}
+use Rattle.std.specs.Str.{bytes_eq}
+use Rattle.ini_entries.specs.declared.keys.KeyPlace.{KeyPlace}
+use Rattle.ini_entries.specs.declared.keys.KeyPlace.TheVariants.{Open, InSet, InBrackets}
+use Rattle.ini_entries.specs.Texts.{Bytes}
+
+-- whether a `]` follows: without one a `[` is no bracket
+unfoldable pub is_closed : Bytes → Bool
+is_closed bytes = list_any (λ b. b == 93) bytes
+
+-- where the bytes behind this one stand, where a `]` follows or not
+abbrev pub place_behind : KeyPlace → ℕ → Bool → KeyPlace
+place_behind Open b closed = if b == 123 then InSet else (if b == 91 && closed then InBrackets else Open)
+place_behind InSet b closed = if b == 125 then Open else InSet
+place_behind InBrackets b closed = if b == 93 then Open else InBrackets
+
+-- a dot outside `{}` and `[]` parts a key
+abbrev pub is_parting : KeyPlace → ℕ → Bool
+is_parting Open b = b == 46
+is_parting InSet b = false
+is_parting InBrackets b = false
+
+-- the last part of what follows, or else what follows itself, where a dot parts it from what stands before
+abbrev pub or_rest : Option Bytes → Bool → Bytes → Option Bytes
+or_rest (Some part) parts rest = Some part
+or_rest None true rest = Some rest
+or_rest None false rest = None
+
+-- what stands behind the last dot that parts the key; a byte behind a `\` stands for itself
+unfoldable pub last_part_from : KeyPlace → Bool → Bytes → Option Bytes
+last_part_from place escaped [] = None
+last_part_from place true (b ∷ bs) = last_part_from place false bs
+last_part_from place false (b ∷ bs) = or_rest (last_part_from (place_behind place b (is_closed bs)) (b == 92) bs) (is_parting place b) bs
+
+-- THE LAST PART of a key: what stands behind its last dot outside `{}` and `[]` that no `\` stands before
+abbrev pub last_part : Bytes → Option Bytes
+last_part key = last_part_from Open false key
+
+-- whether a `-` is outside `{}`, where the bytes before are in a set or not; a byte behind a `\` stands for itself
+abbrev pub in_set_behind : Bool → ℕ → Bool
+in_set_behind true b = if b == 125 then false else true
+in_set_behind false b = b == 123
+
+-- whether this byte is such a `-`
+abbrev pub is_hyphen : Bool → ℕ → Bool
+is_hyphen true b = false
+is_hyphen false b = b == 45
+
+unfoldable pub has_hyphen_from : Bool → Bool → Bytes → Bool
+has_hyphen_from in_set escaped [] = false
+has_hyphen_from in_set true (b ∷ bs) = if is_hyphen in_set b then true else has_hyphen_from in_set false bs
+has_hyphen_from in_set false (b ∷ bs) = if is_hyphen in_set b then true else has_hyphen_from (in_set_behind in_set b) (b == 92) bs
+
+-- a `-` stands in a last part, outside `{}`
+abbrev pub has_hyphen : Bytes → Bool
+has_hyphen part = has_hyphen_from false false part
+
+abbrev pub word_typename : Bytes
+word_typename = codes "typename"
+
+-- what the entries of a key are: an option of the configuration, a per-object option of that name, the type of
+-- submodules, or a value for parameters
+pub data KeyKind : Type 0 where
+  OptionKey : KeyKind
+  ObjectKey : (name : Bytes) → KeyKind
+  TypeKey : KeyKind
+  ParameterKey : KeyKind
+
+abbrev pub kind_of_part : Bytes → KeyKind
+kind_of_part part = if has_hyphen part then ObjectKey part else (if bytes_eq part word_typename then TypeKey else ParameterKey)
+
+abbrev pub kind_by : Option Bytes → KeyKind
+kind_by None = OptionKey
+kind_by (Some part) = kind_of_part part
+
+-- THE KIND of a key: without a part behind a dot it is an option; with a `-` there a per-object option; `typename` is for
+-- types, and all else for parameters
+abbrev pub kind_of : Bytes → KeyKind
+kind_of key = kind_by (last_part key)

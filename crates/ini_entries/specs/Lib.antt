@@ -1,0 +1,5 @@
+pub mod Keys
+pub mod Meaning
+pub mod Names
+pub mod Options
+pub mod Texts

@@ -1,0 +1,14 @@
+//! What the entries of an ini text say, by their keys and values.
+//!
+//! OMNeT++ Simulation Manual, "Configuring Simulations".
+#![tactic(auto)]
+
+pub mod blanks;
+pub mod copies;
+pub mod entry;
+pub mod keys;
+pub mod meaning;
+pub mod names;
+pub mod options;
+
+pub use entry::EntryMeaning;

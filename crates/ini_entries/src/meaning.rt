@@ -1,0 +1,236 @@
+//! What an entry says, by its key and its value.
+
+ghost use Rattle.std.specs.Prelude.{◌≡◌, true, false, Some, is_some, IfOk};
+ghost use Rattle.std.specs.Str.{chars};
+ghost use Rattle.ini_pattern.specs.PatternOf.{pattern_of};
+ghost use Rattle.ini_entries.specs.Keys.{ObjectKey, OptionKey, ParameterKey, TypeKey, kind_of, last_part};
+ghost use Rattle.ini_entries.specs.Meaning.{IsEntryMeaning, IsEntryValue, IsPatternAndValue, Tells, is_key};
+ghost use Rattle.ini_entries.specs.Names.{is_among};
+ghost use Rattle.ini_entries.specs.Options as options;
+
+use crate::entry::{EntryMeaning, EntryValue, ObjectEntry, ParameterEntry};
+use crate::keys::{has_hyphen, last_part};
+use crate::names::is_dotted_name;
+use crate::options::{config_names, is_other_option, object_option, time_limit};
+use ini_pattern::{Pattern, PatternFault};
+use ned_syntax::error::NedError;
+use ned_syntax::parse::parse_expression;
+use sim_values::text::Text;
+use std::alloc::{AllocError, Global};
+use std::str::from_utf8;
+
+/// The pattern that a key is.
+fn key_pattern(alloc: Global, key: &[u8]) -> Result<Option<Pattern>, AllocError>
+    requires { is_key key.now ≡ true }
+    ensures { IfOk result (λ found. found ≡ pattern_of (chars key.now)) }
+{
+    let Ok(text) = from_utf8(key) else {
+        return Ok(None);
+    };
+    match Pattern::parse(alloc, text) {
+        Ok(pattern) => Ok(Some(pattern)),
+        Err(PatternFault::BadPattern) => Ok(None),
+        Err(PatternFault::NoMemory) => Err(AllocError),
+    }
+}
+
+/// Whether a key is a pattern.
+fn is_pattern(alloc: Global, key: &[u8]) -> Result<bool, AllocError>
+    requires { is_key key.now ≡ true }
+    ensures { IfOk result (λ is. is ≡ is_some (pattern_of (chars key.now))) }
+{
+    Ok(key_pattern(alloc, key)?.is_some())
+}
+
+/// The value that an entry gives a parameter.
+fn entry_value(alloc: Global, bytes: &[u8]) -> Result<Option<EntryValue>, AllocError>
+    ensures { IfOk result (λ found. Tells (IsEntryValue bytes.now) found) }
+{
+    if bytes == b"default".as_slice() {
+        return Ok(Some(EntryValue::Default));
+    }
+    match parse_expression(alloc, bytes) {
+        Ok(expression) => Ok(Some(EntryValue::Given(expression))),
+        Err(NedError::NoMemory) => Err(AllocError),
+        Err(_) => Ok(None),
+    }
+}
+
+// ---- options
+
+/// What the option `network` says.
+fn network_meaning(alloc: Global, value: &[u8]) -> Result<Option<EntryMeaning>, AllocError>
+    ensures { IfOk result (λ found. Tells (IsEntryMeaning options.word_network value.now) found) }
+{
+    if is_dotted_name(value) {
+        Ok(Some(EntryMeaning::Network(Text::from_bytes(alloc, value)?)))
+    } else {
+        Ok(None)
+    }
+}
+
+/// What the option `extends` says.
+fn extends_meaning(alloc: Global, value: &[u8]) -> Result<Option<EntryMeaning>, AllocError>
+    ensures { IfOk result (λ found. Tells (IsEntryMeaning options.word_extends value.now) found) }
+{
+    match config_names(alloc, value)? {
+        None => Ok(None),
+        Some(names) => Ok(Some(EntryMeaning::Extends(names))),
+    }
+}
+
+/// What the option `sim-time-limit` says.
+fn limit_meaning(alloc: Global, value: &[u8]) -> Result<Option<EntryMeaning>, AllocError>
+    ensures { IfOk result (λ found. Tells (IsEntryMeaning options.word_time_limit value.now) found) }
+{
+    match time_limit(alloc, value)? {
+        None => Ok(None),
+        Some(ps) => Ok(Some(EntryMeaning::TimeLimit(ps))),
+    }
+}
+
+/// What an option without effect says.
+fn other_meaning(
+    alloc: Global,
+    key: &[u8],
+    value: &[u8],
+) -> Result<Option<EntryMeaning>, AllocError>
+    requires proper { is_key key.now ≡ true }
+    requires kind { kind_of key.now ≡ OptionKey }
+    requires other { is_among key.now options.words_with_effect ≡ false }
+    ensures { IfOk result (λ found. Tells (IsEntryMeaning key.now value.now) found) }
+{
+    if !is_other_option(key, value) {
+        return Ok(None);
+    }
+    if !is_pattern(alloc, key)? {
+        return Ok(None);
+    }
+    Ok(Some(EntryMeaning::Other))
+}
+
+// ---- entries of patterns
+
+/// What a per-object option of that name says.
+fn object_meaning(
+    alloc: Global,
+    key: &[u8],
+    name: &[u8],
+    value: &[u8],
+) -> Result<Option<EntryMeaning>, AllocError>
+    requires proper { is_key key.now ≡ true }
+    requires kind { kind_of key.now ≡ ObjectKey name.now }
+    ensures { IfOk result (λ found. Tells (IsEntryMeaning key.now value.now) found) }
+{
+    let Some(pattern) = key_pattern(alloc, key)? else {
+        return Ok(None);
+    };
+    let Some(says) = object_option(alloc, name, value)? else {
+        return Ok(None);
+    };
+    let option = Text::from_bytes(alloc, name)?;
+    Ok(Some(EntryMeaning::Object(ObjectEntry {
+        pattern,
+        option,
+        says,
+    })))
+}
+
+/// The pattern of a key, and a value.
+fn pattern_and_value(
+    alloc: Global,
+    key: &[u8],
+    value: &[u8],
+) -> Result<Option<ParameterEntry>, AllocError>
+    requires { is_key key.now ≡ true }
+    ensures { IfOk result (λ found. Tells (IsPatternAndValue key.now value.now) found) }
+{
+    let Some(pattern) = key_pattern(alloc, key)? else {
+        return Ok(None);
+    };
+    let Some(value) = entry_value(alloc, value)? else {
+        return Ok(None);
+    };
+    Ok(Some(ParameterEntry { pattern, value }))
+}
+
+/// What an entry for the types of submodules says.
+fn type_meaning(alloc: Global, key: &[u8], value: &[u8]) -> Result<Option<EntryMeaning>, AllocError>
+    requires proper { is_key key.now ≡ true }
+    requires kind { kind_of key.now ≡ TypeKey }
+    ensures { IfOk result (λ found. Tells (IsEntryMeaning key.now value.now) found) }
+{
+    match pattern_and_value(alloc, key, value)? {
+        None => Ok(None),
+        Some(entry) => Ok(Some(EntryMeaning::Type(entry))),
+    }
+}
+
+/// What an entry for parameters says.
+fn parameter_meaning(
+    alloc: Global,
+    key: &[u8],
+    value: &[u8],
+) -> Result<Option<EntryMeaning>, AllocError>
+    requires proper { is_key key.now ≡ true }
+    requires kind { kind_of key.now ≡ ParameterKey }
+    ensures { IfOk result (λ found. Tells (IsEntryMeaning key.now value.now) found) }
+{
+    match pattern_and_value(alloc, key, value)? {
+        None => Ok(None),
+        Some(entry) => Ok(Some(EntryMeaning::Parameter(entry))),
+    }
+}
+
+/// What an entry says whose key has this last part.
+fn part_meaning(
+    alloc: Global,
+    key: &[u8],
+    part: &[u8],
+    value: &[u8],
+) -> Result<Option<EntryMeaning>, AllocError>
+    requires proper { is_key key.now ≡ true }
+    requires part { last_part key.now ≡ Some part.now }
+    ensures { IfOk result (λ found. Tells (IsEntryMeaning key.now value.now) found) }
+{
+    if has_hyphen(part) {
+        object_meaning(alloc, key, part, value)
+    } else if part == b"typename".as_slice() {
+        type_meaning(alloc, key, value)
+    } else {
+        parameter_meaning(alloc, key, value)
+    }
+}
+
+/// What an entry says, other than one of an option with effect.
+fn kind_meaning(alloc: Global, key: &[u8], value: &[u8]) -> Result<Option<EntryMeaning>, AllocError>
+    requires proper { is_key key.now ≡ true }
+    requires other { is_among key.now options.words_with_effect ≡ false }
+    ensures { IfOk result (λ found. Tells (IsEntryMeaning key.now value.now) found) }
+{
+    match last_part(key) {
+        None => other_meaning(alloc, key, value),
+        Some(part) => part_meaning(alloc, key, part, value),
+    }
+}
+
+/// What an entry says.
+#[tactic(auto, unfolding(crate::specs::Names::is_among))]
+pub fn entry_meaning(
+    alloc: Global,
+    key: &[u8],
+    value: &[u8],
+) -> Result<Option<EntryMeaning>, AllocError>
+    requires { is_key key.now ≡ true }
+    ensures { IfOk result (λ found. Tells (IsEntryMeaning key.now value.now) found) }
+{
+    if key == b"network".as_slice() {
+        network_meaning(alloc, value)
+    } else if key == b"extends".as_slice() {
+        extends_meaning(alloc, value)
+    } else if key == b"sim-time-limit".as_slice() {
+        limit_meaning(alloc, value)
+    } else {
+        kind_meaning(alloc, key, value)
+    }
+}

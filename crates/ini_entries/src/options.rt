@@ -1,0 +1,207 @@
+//! Values of options.
+
+ghost use Rattle.std.specs.Prelude.{◌≡◌, ℕ, true, false, map, option_map, IfOk, MatchOption};
+ghost use Rattle.std.specs.List.{list_all};
+ghost use Rattle.ned_syntax.specs.NedText.{IsExpressionText};
+ghost use Rattle.ini_entries.specs.Meaning.{Tells};
+ghost use Rattle.ini_entries.specs.Names as names;
+ghost use Rattle.ini_entries.specs.Options as options;
+ghost use Rattle.ini_entries.specs.Texts as texts;
+
+use crate::blanks::{after_blanks, before_blanks};
+use crate::entry::{ModeItem, ObjectOption};
+use crate::names::is_config_name;
+use ned_syntax::ast::Expression;
+use ned_syntax::error::NedError;
+use ned_syntax::parse::parse_expression;
+use ned_syntax::statistics::mode_named;
+use sim_values::text::Text;
+use sim_values::value::{Dimension, Value};
+use sqlite_items::Items;
+use std::alloc::{AllocError, Global};
+
+// ---- lists
+
+/// The text without the blanks at its front and its end.
+fn trimmed(bytes: &[u8]) -> &[u8]
+    ensures { result.now ≡ texts.trimmed bytes.now }
+{
+    before_blanks(after_blanks(bytes))
+}
+
+/// The items of a list, with the blanks around them.
+fn list_parts(alloc: Global, bytes: &[u8]) -> Result<Vec<&[u8]>, AllocError>
+    ensures { IfOk result (λ parts. map (λ p. p.now) parts.items ≡ texts.parts_at 44 bytes.now) }
+{
+    bytes.split(|b| *b == b',').collect(alloc)
+}
+
+// ---- options of the configuration
+
+/// The names of a list, where each is one of a section.
+pub(crate) fn config_names(alloc: Global, bytes: &[u8]) -> Result<Option<Items<Text>>, AllocError>
+    ensures { IfOk result (λ found. found ≡ options.config_names (texts.items_of bytes.now)) }
+{
+    let parts = list_parts(alloc, bytes)?;
+    let mut names = Items::new(alloc);
+    for part in parts.as_slice() {
+        let name = trimmed(part);
+        if !is_config_name(name) {
+            return Ok(None);
+        }
+        names.push(Text::from_bytes(alloc, name)?)?;
+    }
+    Ok(Some(names))
+}
+
+/// The picoseconds of an expression that is a time.
+fn time_said(expression: &Expression) -> Option<u64>
+    ensures { MatchOption result ((ps : ℕ) → expression.now ≡ options.time_literal ps → ⊥) (λ ps. expression.now ≡ options.time_literal ps) }
+{
+    match expression {
+        Expression::Literal(Value::Quantity(Dimension::Time, amount)) if *amount >= 0 => {
+            Some(*amount as u64)
+        }
+        _ => None,
+    }
+}
+
+/// The picoseconds of a text that is a time.
+pub(crate) fn time_limit(alloc: Global, bytes: &[u8]) -> Result<Option<u64>, AllocError>
+    ensures { IfOk result (λ found. Tells (λ ps. IsExpressionText bytes.now (options.time_literal ps)) found) }
+{
+    match parse_expression(alloc, bytes) {
+        Ok(expression) => Ok(time_said(&expression)),
+        Err(NedError::NoMemory) => Err(AllocError),
+        Err(_) => Ok(None),
+    }
+}
+
+/// Whether an option that is left out has that name.
+#[tactic(auto, unfolding(crate::specs::Names::is_among))]
+fn is_left_out(key: &[u8]) -> bool
+    ensures { result ≡ names.is_among key.now options.words_left_out }
+{
+    key == b"include".as_slice() || key == b"warmup-period".as_slice()
+}
+
+/// Whether an option without effect may have a value.
+fn is_only_value(key: &[u8], value: &[u8]) -> bool
+    ensures { result ≡ options.is_only_value key.now value.now }
+{
+    if key == b"repeat".as_slice() {
+        value == b"1".as_slice()
+    } else if key == b"simtime-resolution".as_slice() {
+        value == b"ps".as_slice()
+    } else {
+        true
+    }
+}
+
+/// Whether an option, other than one with effect, may have a value.
+#[tactic(auto, unfolding(crate::specs::Options::is_other_option))]
+pub(crate) fn is_other_option(key: &[u8], value: &[u8]) -> bool
+    requires { names.is_among key.now options.words_with_effect ≡ false }
+    ensures { result ≡ options.is_other_option key.now value.now }
+{
+    !is_left_out(key) && is_only_value(key, value)
+}
+
+// ---- per-object options
+
+fn plain_item(text: &[u8]) -> Option<ModeItem>
+    ensures { result ≡ options.plain_item text.now }
+{
+    if text == b"default".as_slice() {
+        Some(ModeItem::Default)
+    } else if text == b"all".as_slice() {
+        Some(ModeItem::All)
+    } else {
+        Some(ModeItem::Only(mode_named(text)?))
+    }
+}
+
+/// An item of a list of recording modes.
+#[tactic(auto, unfolding(crate::specs::Options::mode_item))]
+fn mode_item(text: &[u8]) -> Option<ModeItem>
+    ensures { result ≡ options.mode_item text.now }
+{
+    match text {
+        [] => None,
+        [b'+', mode @ ..] => Some(ModeItem::Plus(mode_named(mode)?)),
+        [b'-', mode @ ..] => Some(ModeItem::Minus(mode_named(mode)?)),
+        [_, ..] => plain_item(text),
+    }
+}
+
+/// A list of recording modes.
+fn mode_items(alloc: Global, bytes: &[u8]) -> Result<Option<Items<ModeItem>>, AllocError>
+    ensures { IfOk result (λ found. found ≡ options.mode_items (texts.items_of bytes.now)) }
+{
+    let parts = list_parts(alloc, bytes)?;
+    let mut items = Items::new(alloc);
+    for part in parts.as_slice() {
+        let Some(item) = mode_item(trimmed(part)) else {
+            return Ok(None);
+        };
+        items.push(item)?;
+    }
+    Ok(Some(items))
+}
+
+/// Whether something is recorded.
+fn truth_named(bytes: &[u8]) -> Option<bool>
+    ensures { Tells (λ on. bytes.now ≡ options.truth_word on) result }
+{
+    if bytes == b"true".as_slice() {
+        Some(true)
+    } else if bytes == b"false".as_slice() {
+        Some(false)
+    } else {
+        None
+    }
+}
+
+#[tactic(auto, unfolding(crate::specs::Names::is_among))]
+fn is_recording_word(name: &[u8]) -> bool
+    ensures { result ≡ names.is_among name.now options.recording_words }
+{
+    name == b"scalar-recording".as_slice()
+        || name == b"vector-recording".as_slice()
+        || name == b"statistic-recording".as_slice()
+}
+
+/// What the option of recording modes says.
+fn modes_option(alloc: Global, bytes: &[u8]) -> Result<Option<ObjectOption>, AllocError>
+    ensures { IfOk result (λ found. Tells (options.IsObjectOption options.word_modes bytes.now) found) }
+{
+    match mode_items(alloc, bytes)? {
+        None => Ok(None),
+        Some(items) => Ok(Some(ObjectOption::Modes(items))),
+    }
+}
+
+/// What an option says of whether something is recorded.
+fn recording_option(name: &[u8], bytes: &[u8]) -> Option<ObjectOption>
+    requires { names.is_among name.now options.recording_words ≡ true }
+    ensures { Tells (options.IsObjectOption name.now bytes.now) result }
+{
+    Some(ObjectOption::Recording(truth_named(bytes)?))
+}
+
+/// What a per-object option of that name says.
+pub(crate) fn object_option(
+    alloc: Global,
+    name: &[u8],
+    bytes: &[u8],
+) -> Result<Option<ObjectOption>, AllocError>
+    ensures { IfOk result (λ found. Tells (options.IsObjectOption name.now bytes.now) found) }
+{
+    if name == b"result-recording-modes".as_slice() {
+        return modes_option(alloc, bytes);
+    }
+    if is_recording_word(name) {
+        return Ok(recording_option(name, bytes));
+    }
+    Ok(Some(ObjectOption::Other))
+}
