@@ -18,16 +18,20 @@ use std::alloc::Global;
 
 /// A value, and the properties behind it.
 #[derive(Debug, Drop)]
-pub(crate) struct Valued {
-    value: ParameterValue,
-    behind: Items<Effect>,
+pub struct Valued {
+    /// The value.
+    pub value: ParameterValue,
+    /// What the properties say, in their order.
+    pub behind: Items<Effect>,
 }
 
 /// What is behind a parameter's name.
 #[derive(Debug, Drop)]
-pub(crate) struct Tail {
-    before: Items<Effect>,
-    valued: Option<Valued>,
+pub struct Tail {
+    /// What the properties in front of a value say, in their order.
+    pub before: Items<Effect>,
+    /// The value, where there is one, and what is behind it.
+    pub valued: Option<Valued>,
 }
 
 #[tactic(auto, unfolding(crate::specs::Grammar::valued))]

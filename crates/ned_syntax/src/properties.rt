@@ -16,16 +16,20 @@ use std::alloc::{AllocError, Global};
 
 /// The name of a property, as far as it has an effect.
 #[derive(Clone, Copy, Debug)]
-pub(crate) enum PropertyName {
+pub enum PropertyName {
+    /// `unit`.
     Unit,
+    /// `class`.
     Class,
+    /// `statistic`.
     Statistic,
+    /// Any other name.
     Other,
 }
 
 /// What a property says.
 #[derive(Debug, Drop)]
-pub(crate) enum Effect {
+pub enum Effect {
     /// `@unit(u)`, with u of the table.
     Unit(Dimension),
     /// `@class(Name)`.

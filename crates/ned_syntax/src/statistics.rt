@@ -15,7 +15,7 @@ use std::alloc::{AllocError, Global};
 
 /// A part of a statistic's body.
 #[derive(Debug, Drop)]
-pub(crate) enum Part {
+pub enum Part {
     /// `source=name`.
     Source(Text),
     /// `record=mode,..`.
@@ -141,7 +141,8 @@ fn group(tokens: &[Token]) -> Result<&[Token], Refusal>
 
 /// Which tokens a loose text may not begin with.
 #[derive(Clone, Copy, Debug)]
-enum Except {
+pub enum Except {
+    /// None.
     Nothing,
     /// A `=`.
     Equals,
@@ -449,9 +450,11 @@ fn next_parts(alloc: Global, tokens: &[Token]) -> Result<(Items<Option<Part>>, &
 
 /// What a statistic's body says: its source and its modes, each as the first part that says it does.
 #[derive(Debug, Drop)]
-struct Said {
-    source: Option<Text>,
-    modes: Option<Items<RecordedMode>>,
+pub struct Said {
+    /// The name behind `source=`.
+    pub source: Option<Text>,
+    /// The modes behind `record=`.
+    pub modes: Option<Items<RecordedMode>>,
 }
 
 /// What a part says in place of what the parts behind it say.

@@ -11,7 +11,3 @@ pub mod BalancedLoop
 pub mod ViableLaws
 pub mod AmountLaws
 pub mod BlankLemmas
-pub mod Utf8Lemmas
-pub mod SpellingLemmas
-pub mod SpellingLaws
-pub mod SoundTokens

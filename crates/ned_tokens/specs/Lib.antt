@@ -13,4 +13,3 @@ pub mod Balanced
 pub mod Meaning
 pub mod Viable
 pub mod Blank
-pub mod Spelling

@@ -5,7 +5,7 @@ ghost use Rattle.ned_tokens.specs.Runs as runs;
 
 /// What a run is made of.
 #[derive(Clone, Copy, Debug)]
-pub(crate) enum Class {
+pub enum Class {
     /// Decimal digits.
     Digit,
     /// Hexadecimal digits.

@@ -5,7 +5,7 @@ use Rattle.std.specs.Char.{digit_value}
 use Rattle.std.proofs.lemmas.Str.{digit_value_digit, IsUtf8-append, IsUtf8-from_is_utf8}
 use Rattle.std.proofs.lemmas.Str.Parse.{digit_from_value}
 use Rattle.std.proofs.lemmas.Fmt.{decimal_is_IsNumeral}
-use Rattle.std.proofs.lemmas.Bool.{eqb-true, ne_eqb, leb-true, ltb-true, ltb-false, lt-leb, le-leb, and_right}
+use Rattle.std.proofs.lemmas.Bool.{eqb-true, false≢true, ne_eqb, leb-true, ltb-true, ltb-false, lt-leb, le-leb, and_right}
 use Rattle.sim_values.specs.declared.value.Dimension.{Dimension}
 use Rattle.sim_values.specs.declared.value.Dimension.TheVariants as dimension
 use Rattle.ned_tokens.specs.declared.runs.Class.{Class}
@@ -25,9 +25,9 @@ use Rattle.ned_tokens.specs.Quantities.{begins_quantity, piece_from, fraction_at
 use Rattle.ned_tokens.specs.Numbers.{behind_prefix, number_of, number_at}
 use Rattle.ned_tokens.specs.Literals.{literal_from}
 use Rattle.ned_tokens.specs.Lexing.{named, word_at, token_at, token_of, next, is_open}
-use Rattle.ned_tokens.proofs.Utf8Lemmas.{all_ascii, ascii_text, before_ascii, after_ascii, around_ascii}
+use Rattle.ned_spelling.proofs.Utf8Lemmas.{all_ascii, ascii_text, before_ascii, after_ascii, around_ascii}
 use Rattle.ned_tokens.proofs.QuantityLemmas.{row_end}
-use Rattle.ned_tokens.specs.Spelling.{word_text, mark_text, unit_text, quoted, token_text, is_number, is_opening, is_closing, all_in, begins_name, HasSpelling}
+use Rattle.ned_spelling.specs.Tokens.{word_text, mark_text, unit_text, quoted, token_text, is_number, is_opening, is_closing, all_in, begins_name, HasSpelling}
 
 -- ---- what stands behind a token
 
@@ -130,8 +130,8 @@ unfolding mark_text token_of token_at mark_at mark_of arrow_of pair_of bracket_o
 opening_reads (token.Mark m.At) h us = refl
 opening_reads (token.Mark m.LeftParen) h us = refl
 opening_reads (token.Mark m.LeftBracket) h us = refl
-opening_reads (token.Mark _) h us = absurd cc
-opening_reads _ h us = absurd cc
+opening_reads (token.Mark _) h us = absurd (false≢true h)
+opening_reads _ h us = absurd (false≢true h)
 
 -- ---- words and names
 
@@ -584,8 +584,8 @@ closing_parts (token.Mark m.Semi) h us = inr (inr (inr (inr (inr (inl refl)))))
 closing_parts (token.Mark m.Question) h us = inr (inr (inr (inr (inr (inr (inl refl))))))
 closing_parts (token.Mark m.LeftBracket) h us = inr (inr (inr (inr (inr (inr (inr (inl refl)))))))
 closing_parts (token.Mark m.RightBracket) h us = inr (inr (inr (inr (inr (inr (inr (inr (inl refl))))))))
-closing_parts (token.Mark _) h us = absurd cc
-closing_parts _ h us = absurd cc
+closing_parts (token.Mark _) h us = absurd (false≢true h)
+closing_parts _ h us = absurd (false≢true h)
 
 -- a mark has a byte
 mark_some : (w : Mark) → 0 < length (mark_text w)

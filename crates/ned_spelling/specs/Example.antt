@@ -9,7 +9,7 @@ use Rattle.ned_syntax.specs.declared.ast.Mode.TheVariants as modes_are
 use Rattle.ned_syntax.specs.declared.ast.SectionLine.TheVariants as lines
 use Rattle.ned_syntax.specs.declared.ast.TypeKind.TheVariants as kinds
 use Rattle.ned_syntax.specs.declared.ast.NedFile.{NedFile}
-use Rattle.ned_syntax.specs.Spelling.{spelled}
+use Rattle.ned_spelling.specs.Declarations.{spelled}
 
 -- a simple module with a line of each kind, and a network
 abbrev pub example : NedFile

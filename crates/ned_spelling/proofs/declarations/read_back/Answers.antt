@@ -1,5 +1,5 @@
-use Rattle.ned_syntax.proofs.ReadBack as laws
-use Rattle.ned_syntax.proofs.laws.read_back.Goals as goal
+use Rattle.ned_spelling.proofs.ReadBack as laws
+use Rattle.ned_spelling.proofs.declarations.read_back.Goals as goal
 
 pub returns-clause-file : goal.returns-clause-file
 returns-clause-file c = laws.read_back c.args.bytes.now

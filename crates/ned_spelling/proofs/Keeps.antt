@@ -11,8 +11,8 @@ use Rattle.ned_tokens.specs.declared.token.Token.TheVariants as token
 use Rattle.ned_tokens.specs.Rule.{Rule, token as one_token, ◌⊗◌, ◌◁◌, ◌▷◌, made, such_that, either, optional, many, many_is, optional_is}
 use Rattle.ned_tokens.specs.Balanced.{balanced}
 use Rattle.ned_tokens.specs.Units.{unit_of}
-use Rattle.ned_tokens.specs.Spelling.{IsName}
-use Rattle.ned_tokens.proofs.SoundTokens.{IsSound, AreSound}
+use Rattle.ned_spelling.specs.Tokens.{IsName}
+use Rattle.ned_spelling.proofs.SoundTokens.{IsSound, AreSound}
 use Rattle.ned_syntax.specs.declared.ast.Expression.{Expression}
 use Rattle.ned_syntax.specs.declared.ast.ParameterWord.{ParameterWord}
 use Rattle.ned_syntax.specs.declared.ast.ParameterWord.TheVariants as words
@@ -31,7 +31,7 @@ use Rattle.ned_syntax.specs.declared.statistics.Said.{Said}
 use Rattle.ned_syntax.specs.declared.parameters.Valued.{Valued}
 use Rattle.ned_syntax.specs.declared.parameters.Tail.{Tail}
 use Rattle.ned_syntax.specs.Grammar.{word, mark, name, name_of, whole_of, whole_value, quantity_value, literal_of, number_of, negated, plain_literal, number, negative_literal, literal, expression, default_value, value_rule, in_parens, turn_of, bracketed, index, body, unit_effect, said_by_word, said, effect_of, property, modes, loose_text, no_value, source_value, record_value, source_tail, record_tail, source_word, record_word, source_part, record_part, part_or_other, other_part, record_or_other, any_part, part, next_part, nothing_said, over, over_all, statistic_body, optional_body, statistic_line, indexed_statistic, unnamed_statistic, named_or_not, line_or_ignored, statistic_tail, statistic_word, statistic, plain_name, line_of, plain_line, property_text, property_line, valued, tail, value_in, unit_in, parameter_word, volatile, any_declaration, is_measured_word, declaration, assignment, assigned_or_said, any_line, section_line, heading, section, simple, submodule, listed, submodules, network, type_rule, file}
-use Rattle.ned_syntax.proofs.Spellable.{Each, IfThere, IsSmall, CanBeValue, CanBeExpression, CanBeGiven, CanBeUnit, CanBeDeclaration, CanBeAssignment, CanBeLine, CanBeSubmodule, CanBeType, CanBeFile}
+use Rattle.ned_spelling.proofs.Spellable.{Each, IfThere, IsSmall, CanBeValue, CanBeExpression, CanBeGiven, CanBeUnit, CanBeDeclaration, CanBeAssignment, CanBeLine, CanBeSubmodule, CanBeType, CanBeFile}
 
 -- what sound tokens spell by the rule is so
 record Keeps {X : Type 0} (r : Rule X) (P : X → Type 0) : Type 0 where

@@ -2,18 +2,18 @@
 use Rattle.std.proofs.Common.{◌≡◌, List, ℕ, subst, sym}
 use Rattle.ned_tokens.specs.declared.token.Token.{Token}
 use Rattle.ned_tokens.specs.Lines.{tokens_of}
-use Rattle.ned_tokens.proofs.SpellingLaws as spelling
-use Rattle.ned_tokens.proofs.SoundTokens.{sound_tokens}
+use Rattle.ned_spelling.proofs.SpellingLaws as spelling
+use Rattle.ned_spelling.proofs.SoundTokens.{sound_tokens}
 use Rattle.ned_tokens.proofs.Whole as whole
 use Rattle.ned_syntax.specs.declared.ast.Expression.{Expression}
 use Rattle.ned_syntax.specs.declared.ast.NedFile.{NedFile}
 use Rattle.ned_syntax.specs.Grammar.{file, expression}
-use Rattle.ned_syntax.specs.Spelling.{expression_tokens, file_tokens, spelled, spelled_expression, IsReadBack, SaysTheSame, ExpressionIsReadBack, SpellingDecides}
+use Rattle.ned_spelling.specs.Declarations.{expression_tokens, file_tokens, spelled, spelled_expression, IsReadBack, SaysTheSame, ExpressionIsReadBack, SpellingDecides}
 use Rattle.ned_syntax.proofs.GrammarLaws.{file-lawful}
-use Rattle.ned_syntax.proofs.Spellable.{CanBeFile, CanBeExpression}
-use Rattle.ned_syntax.proofs.Spells.{file_is, expression_is}
-use Rattle.ned_syntax.proofs.HaveSpelling.{have_file, have_expression}
-use Rattle.ned_syntax.proofs.Keeps.{file_can, expression_can}
+use Rattle.ned_spelling.proofs.Spellable.{CanBeFile, CanBeExpression}
+use Rattle.ned_spelling.proofs.Spells.{file_is, expression_is}
+use Rattle.ned_spelling.proofs.HaveSpelling.{have_file, have_expression}
+use Rattle.ned_spelling.proofs.Keeps.{file_can, expression_can}
 
 -- the tokens of a file's spelling
 spelled_tokens : (f : NedFile) → CanBeFile f → tokens_of (spelled f) ≡ file_tokens f

@@ -5,7 +5,7 @@ use Rattle.std.specs.Str.{is_utf8}
 use Rattle.sim_values.specs.declared.value.Value.{Value}
 use Rattle.sim_values.specs.declared.value.Value.TheVariants as values
 use Rattle.sim_values.specs.declared.value.Dimension.{Dimension}
-use Rattle.ned_tokens.specs.Spelling.{IsName}
+use Rattle.ned_spelling.specs.Tokens.{IsName}
 use Rattle.ned_syntax.specs.declared.ast.Expression.{Expression}
 use Rattle.ned_syntax.specs.declared.ast.Expression.TheVariants as expressions
 use Rattle.ned_syntax.specs.declared.ast.ParameterValue.{ParameterValue}

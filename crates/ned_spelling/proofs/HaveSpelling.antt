@@ -8,7 +8,7 @@ use Rattle.ned_tokens.specs.declared.token.Mark.TheVariants as m
 use Rattle.ned_tokens.specs.declared.token.Token.{Token}
 use Rattle.ned_tokens.specs.declared.token.Token.TheVariants as token
 use Rattle.ned_tokens.specs.Words.{keyword_of, head_word, section_word, member_word, value_word}
-use Rattle.ned_tokens.specs.Spelling.{unit_text, IsName, HaveSpelling}
+use Rattle.ned_spelling.specs.Tokens.{unit_text, IsName, HaveSpelling}
 use Rattle.ned_syntax.specs.declared.ast.Expression.{Expression}
 use Rattle.ned_syntax.specs.declared.ast.Expression.TheVariants as expressions
 use Rattle.ned_syntax.specs.declared.ast.ParameterValue.{ParameterValue}
@@ -25,8 +25,8 @@ use Rattle.ned_syntax.specs.declared.ast.TypeKind.{TypeKind}
 use Rattle.ned_syntax.specs.declared.ast.TypeKind.TheVariants as kinds
 use Rattle.ned_syntax.specs.declared.ast.TypeDeclaration.{TypeDeclaration}
 use Rattle.ned_syntax.specs.declared.ast.NedFile.{NedFile}
-use Rattle.ned_syntax.specs.Spelling.{listed_tokens, value_tokens, expression_tokens, given_tokens, valued_tokens, unit_tokens, declaration_tokens, mode_name, question_tokens, mode_tokens, next_mode_tokens, record_tokens, statistic_tokens, line_tokens, section_line_tokens, submodule_tokens, kind_tokens, type_tokens, file_tokens}
-use Rattle.ned_syntax.proofs.Spellable.{Each, IfThere, CanBeValue, CanBeExpression, CanBeGiven, CanBeDeclaration, CanBeStatistic, CanBeLine, CanBeSubmodule, CanBeParts, CanBeType, CanBeFile}
+use Rattle.ned_spelling.specs.Declarations.{listed_tokens, value_tokens, expression_tokens, given_tokens, valued_tokens, unit_tokens, declaration_tokens, mode_name, question_tokens, mode_tokens, next_mode_tokens, record_tokens, statistic_tokens, line_tokens, section_line_tokens, submodule_tokens, kind_tokens, type_tokens, file_tokens}
+use Rattle.ned_spelling.proofs.Spellable.{Each, IfThere, CanBeValue, CanBeExpression, CanBeGiven, CanBeDeclaration, CanBeStatistic, CanBeLine, CanBeSubmodule, CanBeParts, CanBeType, CanBeFile}
 
 -- two lists in a row
 have-append : (ts us : List Token) → HaveSpelling ts → HaveSpelling us → HaveSpelling (ts ++ us)

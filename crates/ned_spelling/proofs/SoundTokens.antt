@@ -20,9 +20,9 @@ use Rattle.ned_tokens.specs.Numbers.{numbered, number_of, behind_prefix, number_
 use Rattle.ned_tokens.specs.Literals.{escaped, literal_token, with_byte, literal_from}
 use Rattle.ned_tokens.specs.Lexing.{named, word_at, token_at, is_slash_next, token_of, next, one_more, scan, scanned, behind_literal, line_tokens, ends_open}
 use Rattle.ned_tokens.specs.Lines.{lines_of, tokens_of_lines, tokens_of}
-use Rattle.ned_tokens.specs.Spelling.{all_in, begins_name, HasSpelling, HaveSpelling, is_stray, NoneStray, IsReadBack}
-use Rattle.ned_tokens.proofs.Utf8Lemmas.{before_ascii, after_ascii, around_ascii}
-use Rattle.ned_tokens.proofs.SpellingLaws.{read_back}
+use Rattle.ned_spelling.specs.Tokens.{all_in, begins_name, HasSpelling, HaveSpelling, is_stray, NoneStray, IsReadBack}
+use Rattle.ned_spelling.proofs.Utf8Lemmas.{before_ascii, after_ascii, around_ascii}
+use Rattle.ned_spelling.proofs.SpellingLaws.{read_back}
 
 -- the token is a stray one, or has a spelling
 abbrev pub IsSound : Token → Type 0

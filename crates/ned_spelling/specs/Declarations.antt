@@ -10,7 +10,7 @@ use Rattle.ned_tokens.specs.declared.token.Token.{Token}
 use Rattle.ned_tokens.specs.declared.token.Token.TheVariants as token
 use Rattle.ned_tokens.specs.Lines.{tokens_of}
 use Rattle.ned_tokens.specs.Meaning.{max_length}
-use Rattle.ned_tokens.specs.Spelling.{unit_text, spell}
+use Rattle.ned_spelling.specs.Tokens.{unit_text, spell}
 use Rattle.ned_syntax.specs.declared.ast.Expression.{Expression}
 use Rattle.ned_syntax.specs.declared.ast.Expression.TheVariants as expressions
 use Rattle.ned_syntax.specs.declared.ast.ParameterValue.{ParameterValue}

@@ -1,0 +1,9 @@
+mod Utf8Lemmas
+mod SpellingLemmas
+mod SpellingLaws
+mod SoundTokens
+mod Spellable
+mod Spells
+mod HaveSpelling
+mod Keeps
+mod ReadBack

@@ -1,5 +1,0 @@
-use Rattle.ned_syntax.proofs.ReadBack.{spelling_decides}
-use Rattle.ned_syntax.proofs.laws.one_spelling.Goals as goal
-
-pub returns : goal.returns
-returns c = spelling_decides c.args.first.now c.args.second.now
