@@ -1,8 +1,9 @@
 -- Laws of what entries say.
-use Rattle.std.proofs.Common.{◌≡◌, ◌≢◌, ℕ, Bool, true, false, not, ◌&&◌, ◌||◌, List, Option, Some, None, refl, sym, ap, subst, ◌∙◌}
+use Rattle.std.proofs.Common.{◌≡◌, ◌≢◌, ℕ, eqb, Bool, true, false, not, ◌&&◌, ◌||◌, List, Option, Some, None, refl, sym, ap, subst, ◌∙◌}
 use Rattle.std.specs.Prelude.{IsSome, if◌then◌else◌}
 use Rattle.std.specs.List.{list_all}
 use Rattle.std.specs.Str.{bytes_eq, chars}
+use Rattle.std.proofs.lemmas.Bool.{eqb-false, false≢true, true≢false}
 use Rattle.std.proofs.lemmas.Slice.Eq.{bytes_eq-Decides}
 use Rattle.ini_pattern.specs.declared.piece.Piece.{Piece}
 use Rattle.ini_pattern.specs.PatternOf.{pattern_of}
@@ -34,6 +35,10 @@ number (meaning.Object o) = 4
 number (meaning.Type p) = 5
 number (meaning.Parameter p) = 6
 
+-- two numbers of kinds that differ
+apart : {a b : ℕ} → eqb a b ≡ false → a ≡ b → ⊥
+apart {a} {b} differ e = eqb-false a b differ e
+
 abbrev kind_number : KeyKind → ℕ
 kind_number OptionKey = 3
 kind_number (ObjectKey name) = 4
@@ -60,9 +65,9 @@ unfolding is_other_option is_among
 effects key bytes h = go (bytes_eq key word_network) (bytes_eq key word_extends) (bytes_eq key word_time_limit) (not (is_among key words_left_out) && is_only_value key bytes) h
   where
     go : (x y z t : Bool) → (not (x || (y || (z || false))) && t) ≡ true → (x ≡ false) × (y ≡ false) × (z ≡ false)
-    go true y z t h = absurd cc
-    go false true z t h = absurd cc
-    go false false true t h = absurd cc
+    go true y z t h = absurd (false≢true h)
+    go false true z t h = absurd (false≢true h)
+    go false false true t h = absurd (false≢true h)
     go false false false t h = (refl, refl, refl)
 
 pub numbered : (key bytes : Bytes) (m : EntryMeaning) → IsEntryMeaning key bytes m → number m ≡ key_number key
@@ -111,53 +116,53 @@ object_same key text a b p q =
 -- two meanings of one number that the same entry has
 same_of : (key text : Bytes) (m n : EntryMeaning) → number m ≡ number n → IsEntryMeaning key text m → IsEntryMeaning key text n → m ≡ n
 same_of key text (meaning.Network a) (meaning.Network b) e p q = ap meaning.Network (p.1 ∙ sym q.1)
-same_of key text (meaning.Network a) (meaning.Extends b) e p q = absurd cc
-same_of key text (meaning.Network a) (meaning.TimeLimit b) e p q = absurd cc
-same_of key text (meaning.Network a) meaning.Other e p q = absurd cc
-same_of key text (meaning.Network a) (meaning.Object b) e p q = absurd cc
-same_of key text (meaning.Network a) (meaning.Type b) e p q = absurd cc
-same_of key text (meaning.Network a) (meaning.Parameter b) e p q = absurd cc
-same_of key text (meaning.Extends a) (meaning.Network b) e p q = absurd cc
+same_of key text (meaning.Network a) (meaning.Extends b) e p q = absurd (apart refl e)
+same_of key text (meaning.Network a) (meaning.TimeLimit b) e p q = absurd (apart refl e)
+same_of key text (meaning.Network a) meaning.Other e p q = absurd (apart refl e)
+same_of key text (meaning.Network a) (meaning.Object b) e p q = absurd (apart refl e)
+same_of key text (meaning.Network a) (meaning.Type b) e p q = absurd (apart refl e)
+same_of key text (meaning.Network a) (meaning.Parameter b) e p q = absurd (apart refl e)
+same_of key text (meaning.Extends a) (meaning.Network b) e p q = absurd (apart refl e)
 same_of key text (meaning.Extends a) (meaning.Extends b) e p q = ap meaning.Extends (p.1 ∙ sym q.1)
-same_of key text (meaning.Extends a) (meaning.TimeLimit b) e p q = absurd cc
-same_of key text (meaning.Extends a) meaning.Other e p q = absurd cc
-same_of key text (meaning.Extends a) (meaning.Object b) e p q = absurd cc
-same_of key text (meaning.Extends a) (meaning.Type b) e p q = absurd cc
-same_of key text (meaning.Extends a) (meaning.Parameter b) e p q = absurd cc
-same_of key text (meaning.TimeLimit a) (meaning.Network b) e p q = absurd cc
-same_of key text (meaning.TimeLimit a) (meaning.Extends b) e p q = absurd cc
+same_of key text (meaning.Extends a) (meaning.TimeLimit b) e p q = absurd (apart refl e)
+same_of key text (meaning.Extends a) meaning.Other e p q = absurd (apart refl e)
+same_of key text (meaning.Extends a) (meaning.Object b) e p q = absurd (apart refl e)
+same_of key text (meaning.Extends a) (meaning.Type b) e p q = absurd (apart refl e)
+same_of key text (meaning.Extends a) (meaning.Parameter b) e p q = absurd (apart refl e)
+same_of key text (meaning.TimeLimit a) (meaning.Network b) e p q = absurd (apart refl e)
+same_of key text (meaning.TimeLimit a) (meaning.Extends b) e p q = absurd (apart refl e)
 same_of key text (meaning.TimeLimit a) (meaning.TimeLimit b) e p q = ap meaning.TimeLimit (limit_same text a b p.1 q.1)
-same_of key text (meaning.TimeLimit a) meaning.Other e p q = absurd cc
-same_of key text (meaning.TimeLimit a) (meaning.Object b) e p q = absurd cc
-same_of key text (meaning.TimeLimit a) (meaning.Type b) e p q = absurd cc
-same_of key text (meaning.TimeLimit a) (meaning.Parameter b) e p q = absurd cc
-same_of key text meaning.Other (meaning.Network b) e p q = absurd cc
-same_of key text meaning.Other (meaning.Extends b) e p q = absurd cc
-same_of key text meaning.Other (meaning.TimeLimit b) e p q = absurd cc
+same_of key text (meaning.TimeLimit a) meaning.Other e p q = absurd (apart refl e)
+same_of key text (meaning.TimeLimit a) (meaning.Object b) e p q = absurd (apart refl e)
+same_of key text (meaning.TimeLimit a) (meaning.Type b) e p q = absurd (apart refl e)
+same_of key text (meaning.TimeLimit a) (meaning.Parameter b) e p q = absurd (apart refl e)
+same_of key text meaning.Other (meaning.Network b) e p q = absurd (apart refl e)
+same_of key text meaning.Other (meaning.Extends b) e p q = absurd (apart refl e)
+same_of key text meaning.Other (meaning.TimeLimit b) e p q = absurd (apart refl e)
 same_of key text meaning.Other meaning.Other e p q = refl
-same_of key text meaning.Other (meaning.Object b) e p q = absurd cc
-same_of key text meaning.Other (meaning.Type b) e p q = absurd cc
-same_of key text meaning.Other (meaning.Parameter b) e p q = absurd cc
-same_of key text (meaning.Object a) (meaning.Network b) e p q = absurd cc
-same_of key text (meaning.Object a) (meaning.Extends b) e p q = absurd cc
-same_of key text (meaning.Object a) (meaning.TimeLimit b) e p q = absurd cc
-same_of key text (meaning.Object a) meaning.Other e p q = absurd cc
+same_of key text meaning.Other (meaning.Object b) e p q = absurd (apart refl e)
+same_of key text meaning.Other (meaning.Type b) e p q = absurd (apart refl e)
+same_of key text meaning.Other (meaning.Parameter b) e p q = absurd (apart refl e)
+same_of key text (meaning.Object a) (meaning.Network b) e p q = absurd (apart refl e)
+same_of key text (meaning.Object a) (meaning.Extends b) e p q = absurd (apart refl e)
+same_of key text (meaning.Object a) (meaning.TimeLimit b) e p q = absurd (apart refl e)
+same_of key text (meaning.Object a) meaning.Other e p q = absurd (apart refl e)
 same_of key text (meaning.Object a) (meaning.Object b) e p q = ap meaning.Object (object_same key text a b p q)
-same_of key text (meaning.Object a) (meaning.Type b) e p q = absurd cc
-same_of key text (meaning.Object a) (meaning.Parameter b) e p q = absurd cc
-same_of key text (meaning.Type a) (meaning.Network b) e p q = absurd cc
-same_of key text (meaning.Type a) (meaning.Extends b) e p q = absurd cc
-same_of key text (meaning.Type a) (meaning.TimeLimit b) e p q = absurd cc
-same_of key text (meaning.Type a) meaning.Other e p q = absurd cc
-same_of key text (meaning.Type a) (meaning.Object b) e p q = absurd cc
+same_of key text (meaning.Object a) (meaning.Type b) e p q = absurd (apart refl e)
+same_of key text (meaning.Object a) (meaning.Parameter b) e p q = absurd (apart refl e)
+same_of key text (meaning.Type a) (meaning.Network b) e p q = absurd (apart refl e)
+same_of key text (meaning.Type a) (meaning.Extends b) e p q = absurd (apart refl e)
+same_of key text (meaning.Type a) (meaning.TimeLimit b) e p q = absurd (apart refl e)
+same_of key text (meaning.Type a) meaning.Other e p q = absurd (apart refl e)
+same_of key text (meaning.Type a) (meaning.Object b) e p q = absurd (apart refl e)
 same_of key text (meaning.Type a) (meaning.Type b) e p q = ap meaning.Type (entry_same key text a b p.1 q.1)
-same_of key text (meaning.Type a) (meaning.Parameter b) e p q = absurd cc
-same_of key text (meaning.Parameter a) (meaning.Network b) e p q = absurd cc
-same_of key text (meaning.Parameter a) (meaning.Extends b) e p q = absurd cc
-same_of key text (meaning.Parameter a) (meaning.TimeLimit b) e p q = absurd cc
-same_of key text (meaning.Parameter a) meaning.Other e p q = absurd cc
-same_of key text (meaning.Parameter a) (meaning.Object b) e p q = absurd cc
-same_of key text (meaning.Parameter a) (meaning.Type b) e p q = absurd cc
+same_of key text (meaning.Type a) (meaning.Parameter b) e p q = absurd (apart refl e)
+same_of key text (meaning.Parameter a) (meaning.Network b) e p q = absurd (apart refl e)
+same_of key text (meaning.Parameter a) (meaning.Extends b) e p q = absurd (apart refl e)
+same_of key text (meaning.Parameter a) (meaning.TimeLimit b) e p q = absurd (apart refl e)
+same_of key text (meaning.Parameter a) meaning.Other e p q = absurd (apart refl e)
+same_of key text (meaning.Parameter a) (meaning.Object b) e p q = absurd (apart refl e)
+same_of key text (meaning.Parameter a) (meaning.Type b) e p q = absurd (apart refl e)
 same_of key text (meaning.Parameter a) (meaning.Parameter b) e p q = ap meaning.Parameter (entry_same key text a b p.1 q.1)
 
 pub meaning_same : (key text : Bytes) (m n : EntryMeaning) → IsEntryMeaning key text m → IsEntryMeaning key text n → m ≡ n
@@ -174,20 +179,20 @@ unfolding is_among
 without_effect key h = go (bytes_eq key word_network) (bytes_eq key word_extends) (bytes_eq key word_time_limit) h
   where
     go : (x y z : Bool) → (x || (y || (z || false))) ≡ false → (x ≡ false) × (y ≡ false) × (z ≡ false)
-    go true y z h = absurd cc
-    go false true z h = absurd cc
-    go false false true h = absurd cc
+    go true y z h = absurd (true≢false h)
+    go false true z h = absurd (true≢false h)
+    go false false true h = absurd (true≢false h)
     go false false false h = (refl, refl, refl)
 
 -- such an entry says nothing
 no_network_by : (text : Bytes) → is_dotted_name text ≡ false → (m : EntryMeaning) → number m ≡ 0 → IsEntryMeaning word_network text m → ⊥
 no_network_by text none (meaning.Network a) e is = let good = is.2 in absurd cc
-no_network_by text none (meaning.Extends a) e is = absurd cc
-no_network_by text none (meaning.TimeLimit a) e is = absurd cc
-no_network_by text none meaning.Other e is = absurd cc
-no_network_by text none (meaning.Object a) e is = absurd cc
-no_network_by text none (meaning.Type a) e is = absurd cc
-no_network_by text none (meaning.Parameter a) e is = absurd cc
+no_network_by text none (meaning.Extends a) e is = absurd (apart refl e)
+no_network_by text none (meaning.TimeLimit a) e is = absurd (apart refl e)
+no_network_by text none meaning.Other e is = absurd (apart refl e)
+no_network_by text none (meaning.Object a) e is = absurd (apart refl e)
+no_network_by text none (meaning.Type a) e is = absurd (apart refl e)
+no_network_by text none (meaning.Parameter a) e is = absurd (apart refl e)
 
 pub no_network : (text : Bytes) → is_dotted_name text ≡ false → (m : EntryMeaning) → IsEntryMeaning word_network text m → ⊥
 no_network text none m is = no_network_by text none m (numbered word_network text m is) is
@@ -197,77 +202,77 @@ not_names names said none e h = let good : list_all is_config_name names ≡ tru
 
 -- such an entry says nothing
 no_extends_by : (text : Bytes) → config_names (items_of text) ≡ None → (m : EntryMeaning) → number m ≡ 1 → IsEntryMeaning word_extends text m → ⊥
-no_extends_by text none (meaning.Network a) e is = absurd cc
+no_extends_by text none (meaning.Network a) e is = absurd (apart refl e)
 no_extends_by text none (meaning.Extends a) e is = not_names (items_of text) a none is.1 is.2
-no_extends_by text none (meaning.TimeLimit a) e is = absurd cc
-no_extends_by text none meaning.Other e is = absurd cc
-no_extends_by text none (meaning.Object a) e is = absurd cc
-no_extends_by text none (meaning.Type a) e is = absurd cc
-no_extends_by text none (meaning.Parameter a) e is = absurd cc
+no_extends_by text none (meaning.TimeLimit a) e is = absurd (apart refl e)
+no_extends_by text none meaning.Other e is = absurd (apart refl e)
+no_extends_by text none (meaning.Object a) e is = absurd (apart refl e)
+no_extends_by text none (meaning.Type a) e is = absurd (apart refl e)
+no_extends_by text none (meaning.Parameter a) e is = absurd (apart refl e)
 
 pub no_extends : (text : Bytes) → config_names (items_of text) ≡ None → (m : EntryMeaning) → IsEntryMeaning word_extends text m → ⊥
 no_extends text none m is = no_extends_by text none m (numbered word_extends text m is) is
 
 -- such an entry says nothing
 no_limit_by : (text : Bytes) → ((ps : ℕ) → IsExpressionText text (time_literal ps) → ⊥) → (m : EntryMeaning) → number m ≡ 2 → IsEntryMeaning word_time_limit text m → ⊥
-no_limit_by text none (meaning.Network a) e is = absurd cc
-no_limit_by text none (meaning.Extends a) e is = absurd cc
+no_limit_by text none (meaning.Network a) e is = absurd (apart refl e)
+no_limit_by text none (meaning.Extends a) e is = absurd (apart refl e)
 no_limit_by text none (meaning.TimeLimit a) e is = none a is.1
-no_limit_by text none meaning.Other e is = absurd cc
-no_limit_by text none (meaning.Object a) e is = absurd cc
-no_limit_by text none (meaning.Type a) e is = absurd cc
-no_limit_by text none (meaning.Parameter a) e is = absurd cc
+no_limit_by text none meaning.Other e is = absurd (apart refl e)
+no_limit_by text none (meaning.Object a) e is = absurd (apart refl e)
+no_limit_by text none (meaning.Type a) e is = absurd (apart refl e)
+no_limit_by text none (meaning.Parameter a) e is = absurd (apart refl e)
 
 pub no_limit : (text : Bytes) → ((ps : ℕ) → IsExpressionText text (time_literal ps) → ⊥) → (m : EntryMeaning) → IsEntryMeaning word_time_limit text m → ⊥
 no_limit text none m is = no_limit_by text none m (numbered word_time_limit text m is) is
 
 -- such an entry says nothing
 no_other_by : (key text : Bytes) → kind_of key ≡ OptionKey → is_among key words_with_effect ≡ false → (is_other_option key text ≡ true → IsSome (pattern_of (chars key)) → ⊥) → (m : EntryMeaning) → number m ≡ 3 → IsEntryMeaning key text m → ⊥
-no_other_by key text kind plain none (meaning.Network a) e is = absurd cc
-no_other_by key text kind plain none (meaning.Extends a) e is = absurd cc
-no_other_by key text kind plain none (meaning.TimeLimit a) e is = absurd cc
+no_other_by key text kind plain none (meaning.Network a) e is = absurd (apart refl e)
+no_other_by key text kind plain none (meaning.Extends a) e is = absurd (apart refl e)
+no_other_by key text kind plain none (meaning.TimeLimit a) e is = absurd (apart refl e)
 no_other_by key text kind plain none meaning.Other e is = none is.1 is.2
-no_other_by key text kind plain none (meaning.Object a) e is = absurd cc
-no_other_by key text kind plain none (meaning.Type a) e is = absurd cc
-no_other_by key text kind plain none (meaning.Parameter a) e is = absurd cc
+no_other_by key text kind plain none (meaning.Object a) e is = absurd (apart refl e)
+no_other_by key text kind plain none (meaning.Type a) e is = absurd (apart refl e)
+no_other_by key text kind plain none (meaning.Parameter a) e is = absurd (apart refl e)
 
 pub no_other : (key text : Bytes) → kind_of key ≡ OptionKey → is_among key words_with_effect ≡ false → (is_other_option key text ≡ true → IsSome (pattern_of (chars key)) → ⊥) → (m : EntryMeaning) → IsEntryMeaning key text m → ⊥
 no_other key text kind plain none m is = no_other_by key text kind plain none m (numbered key text m is ∙ kind_tells key OptionKey kind (without_effect key plain)) is
 
 -- such an entry says nothing
 no_object_by : (key name text : Bytes) → kind_of key ≡ ObjectKey name → ((pattern : List Piece) (o : ObjectOption) → pattern_of (chars key) ≡ Some pattern → IsObjectOption name text o → ⊥) → (m : EntryMeaning) → number m ≡ 4 → IsEntryMeaning key text m → ⊥
-no_object_by key name text kind none (meaning.Network a) e is = absurd cc
-no_object_by key name text kind none (meaning.Extends a) e is = absurd cc
-no_object_by key name text kind none (meaning.TimeLimit a) e is = absurd cc
-no_object_by key name text kind none meaning.Other e is = absurd cc
+no_object_by key name text kind none (meaning.Network a) e is = absurd (apart refl e)
+no_object_by key name text kind none (meaning.Extends a) e is = absurd (apart refl e)
+no_object_by key name text kind none (meaning.TimeLimit a) e is = absurd (apart refl e)
+no_object_by key name text kind none meaning.Other e is = absurd (apart refl e)
 no_object_by key name text kind none (meaning.Object a) e is = none a.pattern a.says is.1 (subst (λ (n : Bytes). IsObjectOption n text a.says) (name_same (kind_of key) a.option name is.0 kind) is.2)
-no_object_by key name text kind none (meaning.Type a) e is = absurd cc
-no_object_by key name text kind none (meaning.Parameter a) e is = absurd cc
+no_object_by key name text kind none (meaning.Type a) e is = absurd (apart refl e)
+no_object_by key name text kind none (meaning.Parameter a) e is = absurd (apart refl e)
 
 pub no_object : (key name text : Bytes) → kind_of key ≡ ObjectKey name → ((pattern : List Piece) (o : ObjectOption) → pattern_of (chars key) ≡ Some pattern → IsObjectOption name text o → ⊥) → (m : EntryMeaning) → IsEntryMeaning key text m → ⊥
 no_object key name text kind none m is = no_object_by key name text kind none m (numbered key text m is ∙ kind_tells key (ObjectKey name) kind (kinds key (ObjectKey name) kind (λ x. absurd cc))) is
 
 -- such an entry says nothing
 no_type_by : (key text : Bytes) → kind_of key ≡ TypeKey → ((p : ParameterEntry) → IsPatternAndValue key text p → ⊥) → (m : EntryMeaning) → number m ≡ 5 → IsEntryMeaning key text m → ⊥
-no_type_by key text kind none (meaning.Network a) e is = absurd cc
-no_type_by key text kind none (meaning.Extends a) e is = absurd cc
-no_type_by key text kind none (meaning.TimeLimit a) e is = absurd cc
-no_type_by key text kind none meaning.Other e is = absurd cc
-no_type_by key text kind none (meaning.Object a) e is = absurd cc
+no_type_by key text kind none (meaning.Network a) e is = absurd (apart refl e)
+no_type_by key text kind none (meaning.Extends a) e is = absurd (apart refl e)
+no_type_by key text kind none (meaning.TimeLimit a) e is = absurd (apart refl e)
+no_type_by key text kind none meaning.Other e is = absurd (apart refl e)
+no_type_by key text kind none (meaning.Object a) e is = absurd (apart refl e)
 no_type_by key text kind none (meaning.Type a) e is = none a is.1
-no_type_by key text kind none (meaning.Parameter a) e is = absurd cc
+no_type_by key text kind none (meaning.Parameter a) e is = absurd (apart refl e)
 
 pub no_type : (key text : Bytes) → kind_of key ≡ TypeKey → ((p : ParameterEntry) → IsPatternAndValue key text p → ⊥) → (m : EntryMeaning) → IsEntryMeaning key text m → ⊥
 no_type key text kind none m is = no_type_by key text kind none m (numbered key text m is ∙ kind_tells key TypeKey kind (kinds key TypeKey kind (λ x. absurd cc))) is
 
 -- such an entry says nothing
 no_parameter_by : (key text : Bytes) → kind_of key ≡ ParameterKey → ((p : ParameterEntry) → IsPatternAndValue key text p → ⊥) → (m : EntryMeaning) → number m ≡ 6 → IsEntryMeaning key text m → ⊥
-no_parameter_by key text kind none (meaning.Network a) e is = absurd cc
-no_parameter_by key text kind none (meaning.Extends a) e is = absurd cc
-no_parameter_by key text kind none (meaning.TimeLimit a) e is = absurd cc
-no_parameter_by key text kind none meaning.Other e is = absurd cc
-no_parameter_by key text kind none (meaning.Object a) e is = absurd cc
-no_parameter_by key text kind none (meaning.Type a) e is = absurd cc
+no_parameter_by key text kind none (meaning.Network a) e is = absurd (apart refl e)
+no_parameter_by key text kind none (meaning.Extends a) e is = absurd (apart refl e)
+no_parameter_by key text kind none (meaning.TimeLimit a) e is = absurd (apart refl e)
+no_parameter_by key text kind none meaning.Other e is = absurd (apart refl e)
+no_parameter_by key text kind none (meaning.Object a) e is = absurd (apart refl e)
+no_parameter_by key text kind none (meaning.Type a) e is = absurd (apart refl e)
 no_parameter_by key text kind none (meaning.Parameter a) e is = none a is.1
 
 pub no_parameter : (key text : Bytes) → kind_of key ≡ ParameterKey → ((p : ParameterEntry) → IsPatternAndValue key text p → ⊥) → (m : EntryMeaning) → IsEntryMeaning key text m → ⊥

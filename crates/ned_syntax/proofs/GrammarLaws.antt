@@ -1,6 +1,7 @@
 -- Each rule of the grammar keeps the laws.
 use Rattle.std.proofs.Common.{◌≡◌, ℕ, Bool, true, false, cond, not, ◌||◌, List, ◌∷◌, Option, Some, None, refl, ap}
 use Rattle.std.specs.Prelude.{is_some, codes}
+use Rattle.std.proofs.lemmas.Bool.{false≢true}
 use Rattle.std.specs.Str.{bytes_eq}
 use Rattle.std.proofs.lemmas.Slice.Eq.{bytes_eq-Decides}
 use Rattle.ned_tokens.specs.declared.token.Keyword.{Keyword}
@@ -39,8 +40,8 @@ name-lawful = token-lawful name_of
 text_ends : (t : Token) → (mark m.RightParen).starts t ≡ true → (balanced turn_of).goes_on t ≡ false
 unfolding word mark name in_parens plain_literal number negative_literal literal expression default_value value_rule property_name bracketed index body property mode_word question mode_rule next_mode modes group loose_token piece pieces loose_text no_value source_value record_value source_tail record_tail source_word record_word source_part record_part other_part record_or_other any_part part next_part statistic_body optional_body indexed_statistic unnamed_statistic named_or_not statistic_tail statistic_word statistic plain_name plain_line property_text property_line valued tail parameter_word volatile any_declaration declaration assignment assigned_or_said any_line section_line heading section simple submodule submodules network type_rule file
 text_ends (token.Mark m.RightParen) e = refl
-text_ends (token.Mark _) e = absurd cc
-text_ends _ e = absurd cc
+text_ends (token.Mark _) e = absurd (false≢true e)
+text_ends _ e = absurd (false≢true e)
 
 pub in_parens-lawful : Lawful in_parens
 unfolding in_parens mark
@@ -62,7 +63,7 @@ negative_literal-lawful = mapped (before (mark-lawful m.Minus) number-lawful (λ
 
 minus_apart : (t : Token) → plain_literal.starts t ≡ true → negative_literal.starts t ≡ false
 unfolding word mark name in_parens plain_literal number negative_literal literal expression default_value value_rule property_name bracketed index body property mode_word question mode_rule next_mode modes group loose_token piece pieces loose_text no_value source_value record_value source_tail record_tail source_word record_word source_part record_part other_part record_or_other any_part part next_part statistic_body optional_body indexed_statistic unnamed_statistic named_or_not statistic_tail statistic_word statistic plain_name plain_line property_text property_line valued tail parameter_word volatile any_declaration declaration assignment assigned_or_said any_line section_line heading section simple submodule submodules network type_rule file
-minus_apart (token.Mark _) e = absurd cc
+minus_apart (token.Mark _) e = absurd (false≢true e)
 minus_apart _ e = refl
 
 pub literal-lawful : Lawful literal
@@ -81,7 +82,7 @@ default_apart : (t : Token) → (made given.Fixed expression).starts t ≡ true 
 unfolding word mark name in_parens plain_literal number negative_literal literal expression default_value value_rule property_name bracketed index body property mode_word question mode_rule next_mode modes group loose_token piece pieces loose_text no_value source_value record_value source_tail record_tail source_word record_word source_part record_part other_part record_or_other any_part part next_part statistic_body optional_body indexed_statistic unnamed_statistic named_or_not statistic_tail statistic_word statistic plain_name plain_line property_text property_line valued tail parameter_word volatile any_declaration declaration assignment assigned_or_said any_line section_line heading section simple submodule submodules network type_rule file
 default_apart (token.Word k.True) e = refl
 default_apart (token.Word k.False) e = refl
-default_apart (token.Word _) e = absurd cc
+default_apart (token.Word _) e = absurd (false≢true e)
 default_apart _ e = refl
 
 pub value-lawful : Lawful value_rule
@@ -109,8 +110,8 @@ body-lawful = optional-lawful in_parens in_parens-lawful refl
 index_apart : (t : Token) → (body).starts t ≡ true → (index).goes_on t ≡ false
 unfolding word mark name in_parens plain_literal number negative_literal literal expression default_value value_rule property_name bracketed index body property mode_word question mode_rule next_mode modes group loose_token piece pieces loose_text no_value source_value record_value source_tail record_tail source_word record_word source_part record_part other_part record_or_other any_part part next_part statistic_body optional_body indexed_statistic unnamed_statistic named_or_not statistic_tail statistic_word statistic plain_name plain_line property_text property_line valued tail parameter_word volatile any_declaration declaration assignment assigned_or_said any_line section_line heading section simple submodule submodules network type_rule file
 index_apart (token.Mark m.LeftParen) e = refl
-index_apart (token.Mark _) e = absurd cc
-index_apart _ e = absurd cc
+index_apart (token.Mark _) e = absurd (false≢true e)
+index_apart _ e = absurd (false≢true e)
 
 pub property-lawful : Lawful property
 unfolding property property_name mark
@@ -145,14 +146,14 @@ next_mode-full = refl
 next_modes_apart : (t : Token) → (next_mode).starts t ≡ true → (next_mode).goes_on t ≡ false
 unfolding word mark name in_parens plain_literal number negative_literal literal expression default_value value_rule property_name bracketed index body property mode_word question mode_rule next_mode modes group loose_token piece pieces loose_text no_value source_value record_value source_tail record_tail source_word record_word source_part record_part other_part record_or_other any_part part next_part statistic_body optional_body indexed_statistic unnamed_statistic named_or_not statistic_tail statistic_word statistic plain_name plain_line property_text property_line valued tail parameter_word volatile any_declaration declaration assignment assigned_or_said any_line section_line heading section simple submodule submodules network type_rule file
 next_modes_apart (token.Mark m.Comma) e = refl
-next_modes_apart (token.Mark _) e = absurd cc
-next_modes_apart _ e = absurd cc
+next_modes_apart (token.Mark _) e = absurd (false≢true e)
+next_modes_apart _ e = absurd (false≢true e)
 
 modes_apart : (t : Token) → (many next_mode).starts t ≡ true → (mode_rule).goes_on t ≡ false
 unfolding word mark name in_parens plain_literal number negative_literal literal expression default_value value_rule property_name bracketed index body property mode_word question mode_rule next_mode modes group loose_token piece pieces loose_text no_value source_value record_value source_tail record_tail source_word record_word source_part record_part other_part record_or_other any_part part next_part statistic_body optional_body indexed_statistic unnamed_statistic named_or_not statistic_tail statistic_word statistic plain_name plain_line property_text property_line valued tail parameter_word volatile any_declaration declaration assignment assigned_or_said any_line section_line heading section simple submodule submodules network type_rule file
 modes_apart (token.Mark m.Comma) e = refl
-modes_apart (token.Mark _) e = absurd cc
-modes_apart _ e = absurd cc
+modes_apart (token.Mark _) e = absurd (false≢true e)
+modes_apart _ e = absurd (false≢true e)
 
 pub modes-lawful : Lawful modes
 unfolding modes
@@ -168,7 +169,7 @@ loose_token-lawful x = token-lawful (loose_of x)
 
 group_apart : (x : Except) (t : Token) → (loose_token x).starts t ≡ true → group.starts t ≡ false
 unfolding word mark name in_parens plain_literal number negative_literal literal expression default_value value_rule property_name bracketed index body property mode_word question mode_rule next_mode modes group loose_token piece pieces loose_text no_value source_value record_value source_tail record_tail source_word record_word source_part record_part other_part record_or_other any_part part next_part statistic_body optional_body indexed_statistic unnamed_statistic named_or_not statistic_tail statistic_word statistic plain_name plain_line property_text property_line valued tail parameter_word volatile any_declaration declaration assignment assigned_or_said any_line section_line heading section simple submodule submodules network type_rule file
-group_apart x (token.Mark m.LeftParen) e = absurd cc
+group_apart x (token.Mark m.LeftParen) e = absurd (false≢true e)
 group_apart x (token.Mark _) e = refl
 group_apart x _ e = refl
 
@@ -202,7 +203,7 @@ record_value-lawful = mapped (before (mark-lawful m.Equals) modes-lawful (λ t e
 
 source_value_apart : (t : Token) → no_value.starts t ≡ true → source_value.starts t ≡ false
 unfolding word mark name in_parens plain_literal number negative_literal literal expression default_value value_rule property_name bracketed index body property mode_word question mode_rule next_mode modes group loose_token piece pieces loose_text no_value source_value record_value source_tail record_tail source_word record_word source_part record_part other_part record_or_other any_part part next_part statistic_body optional_body indexed_statistic unnamed_statistic named_or_not statistic_tail statistic_word statistic plain_name plain_line property_text property_line valued tail parameter_word volatile any_declaration declaration assignment assigned_or_said any_line section_line heading section simple submodule submodules network type_rule file
-source_value_apart (token.Mark m.Equals) e = absurd cc
+source_value_apart (token.Mark m.Equals) e = absurd (false≢true e)
 source_value_apart (token.Mark _) e = refl
 source_value_apart _ e = refl
 
@@ -216,7 +217,7 @@ source_part-lawful = mapped (before (token-lawful source_of) (optional-lawful so
 
 record_value_apart : (t : Token) → no_value.starts t ≡ true → record_value.starts t ≡ false
 unfolding word mark name in_parens plain_literal number negative_literal literal expression default_value value_rule property_name bracketed index body property mode_word question mode_rule next_mode modes group loose_token piece pieces loose_text no_value source_value record_value source_tail record_tail source_word record_word source_part record_part other_part record_or_other any_part part next_part statistic_body optional_body indexed_statistic unnamed_statistic named_or_not statistic_tail statistic_word statistic plain_name plain_line property_text property_line valued tail parameter_word volatile any_declaration declaration assignment assigned_or_said any_line section_line heading section simple submodule submodules network type_rule file
-record_value_apart (token.Mark m.Equals) e = absurd cc
+record_value_apart (token.Mark m.Equals) e = absurd (false≢true e)
 record_value_apart (token.Mark _) e = refl
 record_value_apart _ e = refl
 
@@ -233,9 +234,9 @@ unfolding other_part
 other_part-lawful = mapped (loose_text-lawful except_is.Keys)
 
 record_name : (p q : Bool) → is_some (cond {A = Option (Unit {0})} (not (p || q)) (Some tt) None) || false ≡ true → is_some (cond {A = Option (Unit {0})} q (Some tt) None) || false ≡ false
-record_name true true e = absurd cc
+record_name true true e = absurd (false≢true e)
 record_name true false e = refl
-record_name false true e = absurd cc
+record_name false true e = absurd (false≢true e)
 record_name false false e = refl
 
 record_apart : (t : Token) → other_part.starts t ≡ true → record_part.starts t ≡ false
@@ -253,7 +254,7 @@ record_no_source text e = ap is_source ((bytes_eq-Decides text (codes "record"))
 
 source_name : (p q : Bool) → (q ≡ true → p ≡ false) → (is_some (cond {A = Option (Unit {0})} q (Some tt) None) || false) || (is_some (cond {A = Option (Unit {0})} (not (p || q)) (Some tt) None) || false) ≡ true → is_some (cond {A = Option (Unit {0})} p (Some tt) None) || false ≡ false
 source_name true true h e = let no_source = h refl in absurd cc
-source_name true false h e = absurd cc
+source_name true false h e = absurd (false≢true e)
 source_name false q h e = refl
 
 source_apart : (t : Token) → record_or_other.starts t ≡ true → source_part.starts t ≡ false
@@ -280,20 +281,20 @@ next_part-full = refl
 next_parts_apart : (t : Token) → (next_part).starts t ≡ true → (next_part).goes_on t ≡ false
 unfolding word mark name in_parens plain_literal number negative_literal literal expression default_value value_rule property_name bracketed index body property mode_word question mode_rule next_mode modes group loose_token piece pieces loose_text no_value source_value record_value source_tail record_tail source_word record_word source_part record_part other_part record_or_other any_part part next_part statistic_body optional_body indexed_statistic unnamed_statistic named_or_not statistic_tail statistic_word statistic plain_name plain_line property_text property_line valued tail parameter_word volatile any_declaration declaration assignment assigned_or_said any_line section_line heading section simple submodule submodules network type_rule file
 next_parts_apart (token.Mark m.Semi) e = refl
-next_parts_apart (token.Mark _) e = absurd cc
-next_parts_apart _ e = absurd cc
+next_parts_apart (token.Mark _) e = absurd (false≢true e)
+next_parts_apart _ e = absurd (false≢true e)
 
 parts_apart : (t : Token) → (many next_part).starts t ≡ true → (part).goes_on t ≡ false
 unfolding word mark name in_parens plain_literal number negative_literal literal expression default_value value_rule property_name bracketed index body property mode_word question mode_rule next_mode modes group loose_token piece pieces loose_text no_value source_value record_value source_tail record_tail source_word record_word source_part record_part other_part record_or_other any_part part next_part statistic_body optional_body indexed_statistic unnamed_statistic named_or_not statistic_tail statistic_word statistic plain_name plain_line property_text property_line valued tail parameter_word volatile any_declaration declaration assignment assigned_or_said any_line section_line heading section simple submodule submodules network type_rule file
 parts_apart (token.Mark m.Semi) e = refl
-parts_apart (token.Mark _) e = absurd cc
-parts_apart _ e = absurd cc
+parts_apart (token.Mark _) e = absurd (false≢true e)
+parts_apart _ e = absurd (false≢true e)
 
 body_ends : (t : Token) → (mark m.RightParen).starts t ≡ true → (part ⊗ many next_part).goes_on t ≡ false
 unfolding word mark name in_parens plain_literal number negative_literal literal expression default_value value_rule property_name bracketed index body property mode_word question mode_rule next_mode modes group loose_token piece pieces loose_text no_value source_value record_value source_tail record_tail source_word record_word source_part record_part other_part record_or_other any_part part next_part statistic_body optional_body indexed_statistic unnamed_statistic named_or_not statistic_tail statistic_word statistic plain_name plain_line property_text property_line valued tail parameter_word volatile any_declaration declaration assignment assigned_or_said any_line section_line heading section simple submodule submodules network type_rule file
 body_ends (token.Mark m.RightParen) e = refl
-body_ends (token.Mark _) e = absurd cc
-body_ends _ e = absurd cc
+body_ends (token.Mark _) e = absurd (false≢true e)
+body_ends _ e = absurd (false≢true e)
 
 pub statistic_body-lawful : Lawful statistic_body
 unfolding statistic_body mark
@@ -314,8 +315,8 @@ unnamed_statistic-lawful = mapped in_parens-lawful
 named_apart : (t : Token) → unnamed_statistic.starts t ≡ true → indexed_statistic.starts t ≡ false
 unfolding word mark name in_parens plain_literal number negative_literal literal expression default_value value_rule property_name bracketed index body property mode_word question mode_rule next_mode modes group loose_token piece pieces loose_text no_value source_value record_value source_tail record_tail source_word record_word source_part record_part other_part record_or_other any_part part next_part statistic_body optional_body indexed_statistic unnamed_statistic named_or_not statistic_tail statistic_word statistic plain_name plain_line property_text property_line valued tail parameter_word volatile any_declaration declaration assignment assigned_or_said any_line section_line heading section simple submodule submodules network type_rule file
 named_apart (token.Mark m.LeftParen) e = refl
-named_apart (token.Mark _) e = absurd cc
-named_apart _ e = absurd cc
+named_apart (token.Mark _) e = absurd (false≢true e)
+named_apart _ e = absurd (false≢true e)
 
 pub named_or_not-lawful : Lawful named_or_not
 unfolding named_or_not indexed_statistic unnamed_statistic bracketed in_parens mark
@@ -340,7 +341,7 @@ unfolding plain_line plain_name
 plain_line-lawful = mapped (then plain_name-lawful (then index-lawful body-lawful index_apart) (λ t e. refl))
 
 statistic_name : (p : Bool) (property : PropertyName) → is_some (plain_of (Some (cond p names.Statistic property))) || false ≡ true → is_some (cond {A = Option (Unit {0})} p (Some tt) None) || false ≡ false
-statistic_name true property e = absurd cc
+statistic_name true property e = absurd (false≢true e)
 statistic_name false property e = refl
 
 statistic_apart : (t : Token) → plain_line.starts t ≡ true → statistic.starts t ≡ false
@@ -359,8 +360,8 @@ property_line-lawful = before (mark-lawful m.At) property_text-lawful (λ t e. r
 properties_apart : (t : Token) → (property).starts t ≡ true → (property).goes_on t ≡ false
 unfolding word mark name in_parens plain_literal number negative_literal literal expression default_value value_rule property_name bracketed index body property mode_word question mode_rule next_mode modes group loose_token piece pieces loose_text no_value source_value record_value source_tail record_tail source_word record_word source_part record_part other_part record_or_other any_part part next_part statistic_body optional_body indexed_statistic unnamed_statistic named_or_not statistic_tail statistic_word statistic plain_name plain_line property_text property_line valued tail parameter_word volatile any_declaration declaration assignment assigned_or_said any_line section_line heading section simple submodule submodules network type_rule file
 properties_apart (token.Mark m.At) e = refl
-properties_apart (token.Mark _) e = absurd cc
-properties_apart _ e = absurd cc
+properties_apart (token.Mark _) e = absurd (false≢true e)
+properties_apart _ e = absurd (false≢true e)
 
 pub properties-lawful : Lawful (many property)
 unfolding property
@@ -369,8 +370,8 @@ properties-lawful = many-lawful property property-lawful property-full propertie
 value_apart : (t : Token) → (many property).starts t ≡ true → (mark m.Equals ▷ value_rule).goes_on t ≡ false
 unfolding word mark name in_parens plain_literal number negative_literal literal expression default_value value_rule property_name bracketed index body property mode_word question mode_rule next_mode modes group loose_token piece pieces loose_text no_value source_value record_value source_tail record_tail source_word record_word source_part record_part other_part record_or_other any_part part next_part statistic_body optional_body indexed_statistic unnamed_statistic named_or_not statistic_tail statistic_word statistic plain_name plain_line property_text property_line valued tail parameter_word volatile any_declaration declaration assignment assigned_or_said any_line section_line heading section simple submodule submodules network type_rule file
 value_apart (token.Mark m.At) e = refl
-value_apart (token.Mark _) e = absurd cc
-value_apart _ e = absurd cc
+value_apart (token.Mark _) e = absurd (false≢true e)
+value_apart _ e = absurd (false≢true e)
 
 pub valued-lawful : Lawful valued
 unfolding valued mark
@@ -379,8 +380,8 @@ valued-lawful = mapped (then (before (mark-lawful m.Equals) value-lawful (λ t e
 tail_apart : (t : Token) → (optional valued).starts t ≡ true → (many property).goes_on t ≡ false
 unfolding word mark name in_parens plain_literal number negative_literal literal expression default_value value_rule property_name bracketed index body property mode_word question mode_rule next_mode modes group loose_token piece pieces loose_text no_value source_value record_value source_tail record_tail source_word record_word source_part record_part other_part record_or_other any_part part next_part statistic_body optional_body indexed_statistic unnamed_statistic named_or_not statistic_tail statistic_word statistic plain_name plain_line property_text property_line valued tail parameter_word volatile any_declaration declaration assignment assigned_or_said any_line section_line heading section simple submodule submodules network type_rule file
 tail_apart (token.Mark m.Equals) e = refl
-tail_apart (token.Mark _) e = absurd cc
-tail_apart _ e = absurd cc
+tail_apart (token.Mark _) e = absurd (false≢true e)
+tail_apart _ e = absurd (false≢true e)
 
 pub tail-lawful : Lawful tail
 unfolding tail valued mark
@@ -396,9 +397,9 @@ volatile-lawful = mapped (optional-lawful (word k.Volatile) (word-lawful k.Volat
 
 volatile_apart : (t : Token) → (parameter_word ⊗ (name ⊗ tail)).starts t ≡ true → (volatile).goes_on t ≡ false
 unfolding word mark name in_parens plain_literal number negative_literal literal expression default_value value_rule property_name bracketed index body property mode_word question mode_rule next_mode modes group loose_token piece pieces loose_text no_value source_value record_value source_tail record_tail source_word record_word source_part record_part other_part record_or_other any_part part next_part statistic_body optional_body indexed_statistic unnamed_statistic named_or_not statistic_tail statistic_word statistic plain_name plain_line property_text property_line valued tail parameter_word volatile any_declaration declaration assignment assigned_or_said any_line section_line heading section simple submodule submodules network type_rule file
-volatile_apart (token.Word k.Volatile) e = absurd cc
+volatile_apart (token.Word k.Volatile) e = absurd (false≢true e)
 volatile_apart (token.Word _) e = refl
-volatile_apart _ e = absurd cc
+volatile_apart _ e = absurd (false≢true e)
 
 pub any_declaration-lawful : Lawful any_declaration
 unfolding any_declaration parameter_word name
@@ -414,7 +415,7 @@ assignment-lawful = mapped (then name-lawful tail-lawful (λ t e. refl))
 
 assignment_apart : (t : Token) → property_line.starts t ≡ true → (made lines.Assignment assignment).starts t ≡ false
 unfolding word mark name in_parens plain_literal number negative_literal literal expression default_value value_rule property_name bracketed index body property mode_word question mode_rule next_mode modes group loose_token piece pieces loose_text no_value source_value record_value source_tail record_tail source_word record_word source_part record_part other_part record_or_other any_part part next_part statistic_body optional_body indexed_statistic unnamed_statistic named_or_not statistic_tail statistic_word statistic plain_name plain_line property_text property_line valued tail parameter_word volatile any_declaration declaration assignment assigned_or_said any_line section_line heading section simple submodule submodules network type_rule file
-assignment_apart (token.Name text) e = absurd cc
+assignment_apart (token.Name text) e = absurd (false≢true e)
 assignment_apart _ e = refl
 
 pub assigned_or_said-lawful : Lawful assigned_or_said
@@ -423,7 +424,7 @@ assigned_or_said-lawful = either-lawful (made lines.Assignment assignment) prope
 
 declaration_apart : (t : Token) → assigned_or_said.starts t ≡ true → (made lines.Declaration declaration).starts t ≡ false
 unfolding word mark name in_parens plain_literal number negative_literal literal expression default_value value_rule property_name bracketed index body property mode_word question mode_rule next_mode modes group loose_token piece pieces loose_text no_value source_value record_value source_tail record_tail source_word record_word source_part record_part other_part record_or_other any_part part next_part statistic_body optional_body indexed_statistic unnamed_statistic named_or_not statistic_tail statistic_word statistic plain_name plain_line property_text property_line valued tail parameter_word volatile any_declaration declaration assignment assigned_or_said any_line section_line heading section simple submodule submodules network type_rule file
-declaration_apart (token.Word _) e = absurd cc
+declaration_apart (token.Word _) e = absurd (false≢true e)
 declaration_apart _ e = refl
 
 pub any_line-lawful : Lawful any_line
@@ -433,8 +434,8 @@ any_line-lawful = either-lawful (made lines.Declaration declaration) assigned_or
 line_ends : (t : Token) → (mark m.Semi).starts t ≡ true → (any_line).goes_on t ≡ false
 unfolding word mark name in_parens plain_literal number negative_literal literal expression default_value value_rule property_name bracketed index body property mode_word question mode_rule next_mode modes group loose_token piece pieces loose_text no_value source_value record_value source_tail record_tail source_word record_word source_part record_part other_part record_or_other any_part part next_part statistic_body optional_body indexed_statistic unnamed_statistic named_or_not statistic_tail statistic_word statistic plain_name plain_line property_text property_line valued tail parameter_word volatile any_declaration declaration assignment assigned_or_said any_line section_line heading section simple submodule submodules network type_rule file
 line_ends (token.Mark m.Semi) e = refl
-line_ends (token.Mark _) e = absurd cc
-line_ends _ e = absurd cc
+line_ends (token.Mark _) e = absurd (false≢true e)
+line_ends _ e = absurd (false≢true e)
 
 pub section_line-lawful : Lawful section_line
 unfolding section_line
@@ -450,7 +451,7 @@ heading-lawful = mapped (optional-lawful (word k.Parameters ▷ mark m.Colon) (b
 
 heading_apart : (t : Token) → (many section_line).starts t ≡ true → (heading).goes_on t ≡ false
 unfolding word mark name in_parens plain_literal number negative_literal literal expression default_value value_rule property_name bracketed index body property mode_word question mode_rule next_mode modes group loose_token piece pieces loose_text no_value source_value record_value source_tail record_tail source_word record_word source_part record_part other_part record_or_other any_part part next_part statistic_body optional_body indexed_statistic unnamed_statistic named_or_not statistic_tail statistic_word statistic plain_name plain_line property_text property_line valued tail parameter_word volatile any_declaration declaration assignment assigned_or_said any_line section_line heading section simple submodule submodules network type_rule file
-heading_apart (token.Word k.Parameters) e = absurd cc
+heading_apart (token.Word k.Parameters) e = absurd (false≢true e)
 heading_apart (token.Word _) e = refl
 heading_apart _ e = refl
 
@@ -467,8 +468,8 @@ section-lawful = before heading-lawful (many-lawful section_line section_line-la
 section_ends : (t : Token) → (mark m.Close).starts t ≡ true → (section).goes_on t ≡ false
 unfolding word mark name in_parens plain_literal number negative_literal literal expression default_value value_rule property_name bracketed index body property mode_word question mode_rule next_mode modes group loose_token piece pieces loose_text no_value source_value record_value source_tail record_tail source_word record_word source_part record_part other_part record_or_other any_part part next_part statistic_body optional_body indexed_statistic unnamed_statistic named_or_not statistic_tail statistic_word statistic plain_name plain_line property_text property_line valued tail parameter_word volatile any_declaration declaration assignment assigned_or_said any_line section_line heading section simple submodule submodules network type_rule file
 section_ends (token.Mark m.Close) e = refl
-section_ends (token.Mark _) e = absurd cc
-section_ends _ e = absurd cc
+section_ends (token.Mark _) e = absurd (false≢true e)
+section_ends _ e = absurd (false≢true e)
 
 pub simple-lawful : Lawful simple
 unfolding simple word mark name
@@ -493,8 +494,8 @@ submodules-lawful = mapped (optional-lawful (word k.Submodules ▷ (mark m.Colon
 submodules_end : (t : Token) → (mark m.Close).starts t ≡ true → (submodules).goes_on t ≡ false
 unfolding word mark name in_parens plain_literal number negative_literal literal expression default_value value_rule property_name bracketed index body property mode_word question mode_rule next_mode modes group loose_token piece pieces loose_text no_value source_value record_value source_tail record_tail source_word record_word source_part record_part other_part record_or_other any_part part next_part statistic_body optional_body indexed_statistic unnamed_statistic named_or_not statistic_tail statistic_word statistic plain_name plain_line property_text property_line valued tail parameter_word volatile any_declaration declaration assignment assigned_or_said any_line section_line heading section simple submodule submodules network type_rule file
 submodules_end (token.Mark m.Close) e = refl
-submodules_end (token.Mark _) e = absurd cc
-submodules_end _ e = absurd cc
+submodules_end (token.Mark _) e = absurd (false≢true e)
+submodules_end _ e = absurd (false≢true e)
 
 pub network-lawful : Lawful network
 unfolding network word mark name
@@ -503,8 +504,8 @@ network-lawful = mapped (before (word-lawful k.Network) (then name-lawful (befor
 simple_apart : (t : Token) → network.starts t ≡ true → simple.starts t ≡ false
 unfolding word mark name in_parens plain_literal number negative_literal literal expression default_value value_rule property_name bracketed index body property mode_word question mode_rule next_mode modes group loose_token piece pieces loose_text no_value source_value record_value source_tail record_tail source_word record_word source_part record_part other_part record_or_other any_part part next_part statistic_body optional_body indexed_statistic unnamed_statistic named_or_not statistic_tail statistic_word statistic plain_name plain_line property_text property_line valued tail parameter_word volatile any_declaration declaration assignment assigned_or_said any_line section_line heading section simple submodule submodules network type_rule file
 simple_apart (token.Word k.Network) e = refl
-simple_apart (token.Word _) e = absurd cc
-simple_apart _ e = absurd cc
+simple_apart (token.Word _) e = absurd (false≢true e)
+simple_apart _ e = absurd (false≢true e)
 
 pub type-lawful : Lawful type_rule
 unfolding type_rule simple network word

@@ -113,41 +113,71 @@ pub struct Words {
     pub texts: Vec<String>,
 }
 
-/// The words that the program takes.
-fn command<'a>(alloc: Global) -> Result<Command<'a>, AllocError> {
-    let config = Arg::new(alloc, "config")
+/// `-c CONFIG`.
+fn config_word<'a>(alloc: Global) -> Arg<'a> {
+    Arg::new(alloc, "config")
         .short('c')
         .value_name("CONFIG")
         .default_value("General")
-        .help("The configuration of the ini file that is run");
-    let limit = Arg::new(alloc, "limit")
+        .help("The configuration of the ini file that is run")
+}
+
+/// `-l LIMIT`.
+fn limit_word<'a>(alloc: Global) -> Arg<'a> {
+    Arg::new(alloc, "limit")
         .short('l')
         .value_name("LIMIT")
         .value_parser(value_parser!(u64))
         .default_value("1000000")
-        .help("How many events are executed at most");
-    let directory = Arg::new(alloc, "directory")
+        .help("How many events are executed at most")
+}
+
+/// `-o DIR`.
+fn directory_word<'a>(alloc: Global) -> Arg<'a> {
+    Arg::new(alloc, "directory")
         .short('o')
         .value_name("DIR")
         .default_value(".")
-        .help("Where the result file is written");
-    let ini = Arg::new(alloc, "ini")
+        .help("Where the result file is written")
+}
+
+/// `INI`.
+fn ini_word<'a>(alloc: Global) -> Arg<'a> {
+    Arg::new(alloc, "ini")
         .value_name("INI")
         .required(true)
-        .help("The ini file");
-    let texts = Arg::new(alloc, "ned")
+        .help("The ini file")
+}
+
+/// `NED..`.
+fn ned_word<'a>(alloc: Global) -> Arg<'a> {
+    Arg::new(alloc, "ned")
         .value_name("NED")
         .required(true)
         .action(ArgAction::Append)
         .num_args(1..)
-        .help("The NED files");
-    Command::new(alloc, "nedrun")
-        .about("Runs a network of modules and writes its vector file")
-        .arg(config)?
-        .arg(limit)?
-        .arg(directory)?
-        .arg(ini)?
-        .arg(texts)
+        .help("The NED files")
+}
+
+/// A command with the options: the configuration, the limit and the directory.
+fn with_options<'a>(alloc: Global, command: Command<'a>) -> Result<Command<'a>, AllocError> {
+    let command = command.arg(config_word(alloc))?;
+    let command = command.arg(limit_word(alloc))?;
+    command.arg(directory_word(alloc))
+}
+
+/// A command with the files: the ini file, and the NED files.
+fn with_files<'a>(alloc: Global, command: Command<'a>) -> Result<Command<'a>, AllocError> {
+    let command = command.arg(ini_word(alloc))?;
+    command.arg(ned_word(alloc))
+}
+
+/// The words that the program takes.
+fn command<'a>(alloc: Global) -> Result<Command<'a>, AllocError> {
+    let command = Command::new(alloc, "nedrun");
+    let command = command.about("Runs a network of modules and writes its vector file");
+    let command = with_options(alloc, command)?;
+    with_files(alloc, command)
 }
 
 impl Words {

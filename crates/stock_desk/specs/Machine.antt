@@ -30,9 +30,13 @@ said_by (reply.Done text file) = Some (record { text = text; file = Some file.by
 said_by (reply.Refused text) = Some (record { text = text; file = None })
 said_by reply.NoMemory = None
 
--- a reply to a line is the plain machine's, or memory ran out
+-- a reply to a command is the plain machine's, or memory ran out
+abbrev pub RepliesTo : Behaviour → Model → Command → Reply → Type 0
+RepliesTo b m asked r = IfSome (said_by r) (λ said. said ≡ said_to_command b m asked)
+
+-- the same of a line
 abbrev pub IsReplyTo : Behaviour → Model → List ℕ → Reply → Type 0
-IsReplyTo b m line r = IfSome (said_by r) (λ said. said ≡ said_to b m line)
+IsReplyTo b m line r = RepliesTo b m (command_of line) r
 
 -- as many replies as lines, each to its own
 abbrev pub AreReplies : Behaviour → Model → List (List ℕ) → List Reply → Type 0

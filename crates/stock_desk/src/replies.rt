@@ -4,12 +4,13 @@ ghost use Rattle.std.specs.Prelude.{◌≡◌, [], ◌∷◌, ◌++◌, Some, If
 ghost use Rattle.module_api.specs.Meaning.{IsFresh};
 ghost use Rattle.model_answers.specs.declared.model.Model.{Model};
 ghost use Rattle.stock_modules.specs.Stock.{stock};
-ghost use Rattle.edit_session.specs.Editing.{wanted_of};
+ghost use Rattle.edit_session.specs.Editing.{completed, wanted_of};
 ghost use Rattle.edit_session.specs.Models.{IsModelOf, Refuses};
 ghost use Rattle.desk.specs.Commands.{command_of};
-ghost use Rattle.desk.specs.Turns.{editing_at, IsSettled, AnswersLine};
+ghost use Rattle.desk.specs.Turns.{editing_at, run_answer, IsSettled, AnswersLine};
+ghost use Rattle.desk.specs.declared.commands.Command.TheVariants as commands;
 ghost use Rattle.desk.specs.declared.desk.DeskTurn.{DeskTurn};
-ghost use Rattle.stock_desk.specs.Machine.{AreReplies, IsReplyTo};
+ghost use Rattle.stock_desk.specs.Machine.{AreReplies, IsReplyTo, RepliesTo};
 ghost use Rattle.stock_desk.specs.Steps.{HasRun, IsStep};
 
 use desk::buffer::Buffer;
@@ -45,6 +46,21 @@ enum Step {
     Want(Request),
 }
 
+/// The reply of a run that is done: this text, and its vector file.
+fn reply_of_run(desk: &Desk<Stock>, alloc: Global, limit: u64, text: Text) -> Reply
+    requires sound { IsSettled stock (λ v. (⟦<dyn SimpleModule as SimpleModule>⟧ v).meaning) desk.now }
+    requires answer { text ≡ run_answer stock (editing_at (λ v. (⟦<dyn SimpleModule as SimpleModule>⟧ v).meaning) desk.now).model limit }
+    requires done { (editing_at (λ v. (⟦<dyn SimpleModule as SimpleModule>⟧ v).meaning) desk.now).done ≡ Some (completed stock (editing_at (λ v. (⟦<dyn SimpleModule as SimpleModule>⟧ v).meaning) desk.now).model limit) }
+    ensures { RepliesTo stock (editing_at (λ v. (⟦<dyn SimpleModule as SimpleModule>⟧ v).meaning) desk.now).model (commands.Run limit) result }
+{
+    let _limit = limit;
+    let mut file = Buffer::new(alloc);
+    match desk.vectors(&mut file) {
+        Ok(()) => Reply::Done(text, file),
+        Err(_) => Reply::NoMemory,
+    }
+}
+
 /// The reply to a line that the desk answers with this text.
 fn reply_with(desk: &Desk<Stock>, alloc: Global, line: &[u8], text: Text) -> Reply
     requires sound { IsSettled stock (λ v. (⟦<dyn SimpleModule as SimpleModule>⟧ v).meaning) desk.now }
@@ -53,13 +69,7 @@ fn reply_with(desk: &Desk<Stock>, alloc: Global, line: &[u8], text: Text) -> Rep
     ensures { IsReplyTo stock (editing_at (λ v. (⟦<dyn SimpleModule as SimpleModule>⟧ v).meaning) desk.now).model line.now result }
 {
     match command_of(line) {
-        Command::Run(_) => {
-            let mut file = Buffer::new(alloc);
-            match desk.vectors(&mut file) {
-                Ok(()) => Reply::Done(text, file),
-                Err(_) => Reply::NoMemory,
-            }
-        }
+        Command::Run(limit) => reply_of_run(desk, alloc, limit, text),
         _ => Reply::Refused(text),
     }
 }
