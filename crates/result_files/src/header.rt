@@ -151,7 +151,7 @@ fn push_attributes(header: &mut Vec<u8>, config: &[u8], network: &[u8]) -> Resul
 }
 
 /// The header of the run with the number 0 of a configuration of that name, network, chain and lines.
-pub(crate) fn header_text(
+pub fn header_text(
     alloc: Global,
     config: &[u8],
     network: &[u8],

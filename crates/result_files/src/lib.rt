@@ -4,7 +4,5 @@
 pub mod header;
 mod lines;
 mod progress;
-#[cfg(test)]
-mod tests;
 pub mod vector_file;
 pub mod writer;

@@ -9,4 +9,3 @@ pub mod TickLaws
 pub mod Stock
 pub mod StockLaws
 pub mod Modules
-pub mod Pulse

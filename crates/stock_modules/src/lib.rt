@@ -6,7 +6,5 @@ pub mod modules;
 pub mod names;
 pub mod replies;
 pub mod stock;
-#[cfg(test)]
-mod tests;
 pub mod tick;
 pub mod timed;

@@ -1,9 +1,11 @@
-use crate::header::header_text;
-use crate::vector_file::{VectorFile, write_vectors};
-use crate::writer::{Device, Out, WriteFault};
+//! Result files: their header, and devices that fail.
+
 use ini_config::lines::{Entry, IniLine, LineMeaning};
 use ini_entries::entry::EntryMeaning;
 use recorders::vector_line::VectorLine;
+use result_files::header::header_text;
+use result_files::vector_file::{VectorFile, write_vectors};
+use result_files::writer::{Device, Out, WriteFault};
 use run_semantics::traces::Emission;
 use sim_time::SimTime;
 use sim_values::text::Text;

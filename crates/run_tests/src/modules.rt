@@ -5,8 +5,6 @@ ghost use Rattle.module_api.specs.Meaning.{IsFresh};
 mod pulse;
 mod rows;
 
-use crate::modules::StockModule;
-use crate::stock::{Stock, stock_reads_decide, stock_states_are_kept, tick_is_known};
 use module_api::call::Prompt;
 use module_api::catalogue::Catalogue;
 use module_api::message::Origin;
@@ -18,6 +16,8 @@ use sim_values::value::Dimension;
 use std::alloc::Global;
 use std::process::Abort;
 use std::test::Fail;
+use stock_modules::modules::StockModule;
+use stock_modules::stock::{Stock, stock_reads_decide, stock_states_are_kept, tick_is_known};
 
 /// A fresh Tick, as a program makes one.
 fn fresh_tick() -> Result<StockModule, Fail> {

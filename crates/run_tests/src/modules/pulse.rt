@@ -1,7 +1,5 @@
 //! The smallest module with a state, as an example of how one is written.
 
-use crate::replies::{emit, nothing, set_timer};
-use crate::timed::Told;
 use module_api::call::Call;
 use module_api::catalogue::Catalogue;
 use module_api::reply::Reply;
@@ -9,6 +7,8 @@ use module_api::simple_module::SimpleModule;
 use sim_time::SimTime;
 use sim_values::NoMemory;
 use std::alloc::Global;
+use stock_modules::replies::{emit, nothing, set_timer};
+use stock_modules::timed::Told;
 
 /// Emits `pulse` at its first timer. It knows whether it has.
 #[derive(Debug, Drop)]
@@ -17,7 +17,7 @@ pub struct Pulse(pub bool);
 impl Pulse {
     ghost use Rattle.std.specs.Prelude.{◌≡◌};
     ghost use Rattle.module_api.specs.Meaning.{Answered};
-    ghost use Rattle.stock_modules.specs.Pulse.{pulse_module};
+    ghost use Rattle.run_tests.specs.Pulse.{pulse_module};
 
     #[tactic(auto, unfolding(crate::specs::Pulse::pulse_naming))]
     fn answer(&mut self, alloc: Global, call: &Call) -> Result<Reply, NoMemory>
@@ -39,7 +39,7 @@ impl Pulse {
 }
 
 impl SimpleModule for Pulse {
-    ghost use Rattle.stock_modules.specs.Pulse.{pulse_module};
+    ghost use Rattle.run_tests.specs.Pulse.{pulse_module};
 
     ghost meaning = { λ p. pulse_module p.0 };
 
@@ -69,7 +69,7 @@ impl SimpleModule for Pulse {
 pub struct Pulses;
 
 impl Catalogue for Pulses {
-    ghost use Rattle.stock_modules.specs.Pulse.{pulses, pulses_lawful};
+    ghost use Rattle.run_tests.specs.Pulse.{pulses, pulses_lawful};
 
     ghost behaviour = { pulses };
 
