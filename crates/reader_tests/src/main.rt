@@ -1,32 +1,44 @@
-//! Reads lines of ini texts, and prints which of them mean something.
+//! Reads files of rows, and prints what becomes of each row.
 #![tactic(auto)]
 
-#[cfg(test)]
-mod chain_tests;
-#[cfg(test)]
-mod ini_tests;
-#[cfg(test)]
-mod ned_tests;
-#[cfg(test)]
-mod pattern_tests;
+mod answers;
+mod chain_rows;
+mod edit_rows;
+mod escapes;
+mod ini_rows;
+mod meaning_rows;
+mod ned_rows;
+mod pattern_rows;
 mod rows;
+mod words;
 
-use rows::verdict;
+use answers::answer;
 use std::rt::{Env, Files};
 use std::{env, fs};
 
-/// Prints what becomes of each line of a file.
-fn tell<R: Files + Print + AllocGlobal>(rt: &R, name: &str) -> anyhow::Result<()> {
-    let text = fs::read_to_string(rt, name)?;
-    println!(rt; "== {name}")?;
-    for line in text.as_str().lines() {
-        let word = verdict(rt.alloc(), line)?;
-        println!(rt; "{word}{line}")?;
+/// Prints what becomes of a row of a file.
+fn tell_row<R: Print + AllocGlobal>(rt: &R, file: &str, row: &str) -> anyhow::Result<()> {
+    let word = answer(rt.alloc(), file, row)?;
+    println!(rt; "{word:<8}|{row}")?;
+    Ok(())
+}
+
+/// Prints what becomes of each row of a file's text.
+fn tell_rows<R: Print + AllocGlobal>(rt: &R, file: &str, text: &str) -> anyhow::Result<()> {
+    println!(rt; "== {file}")?;
+    for row in text.lines() {
+        tell_row(rt, file, row)?;
     }
     Ok(())
 }
 
-/// Prints what becomes of the lines of all the files that are named.
+/// Prints what becomes of the rows of a file.
+fn tell<R: Files + Print + AllocGlobal>(rt: &R, file: &str) -> anyhow::Result<()> {
+    let text = fs::read_to_string(rt, file)?;
+    tell_rows(rt, file, text.as_str())
+}
+
+/// Prints what becomes of the rows of all the files that are named.
 fn tell_all<R: Files + Env + Print + AllocGlobal>(rt: &R) -> anyhow::Result<()> {
     for name in env::args(rt)?.skip(1) {
         tell(rt, name.as_str())?;

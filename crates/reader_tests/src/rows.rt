@@ -6,7 +6,8 @@ ghost use Rattle.ini_config.specs.declared.lines.IniLine.{IniLine};
 
 use ini_config::error::IniError;
 use ini_config::lines::IniText;
-use std::alloc::Global;
+use std::alloc::{AllocError, Global};
+use std::fmt::Write;
 
 /// Whether a text is an ini text. An error where it is too long, or memory ran out.
 fn is_read(alloc: Global, text: &[u8]) -> Result<bool, IniError>
@@ -20,14 +21,19 @@ fn is_read(alloc: Global, text: &[u8]) -> Result<bool, IniError>
     }
 }
 
-/// The word that is printed before a line.
-fn word(is_read: bool) -> &'static str {
-    if is_read { "read    |" } else { "refused |" }
-}
-
-/// What becomes of a line that stands behind the line `[General]`.
-pub fn verdict(alloc: Global, line: &str) -> anyhow::Result<&'static str> {
+/// A line behind the line `[General]`.
+fn in_general(alloc: Global, line: &str) -> Result<Vec<u8>, AllocError> {
     let mut text = Vec::from_slice(alloc, b"[General]\n")?;
     text.extend_from_slice(line.as_bytes())?;
-    Ok(word(is_read(alloc, text.as_slice())?))
+    Ok(text)
+}
+
+/// Tells whether a line means something that stands behind the line `[General]`.
+pub fn tell_line(alloc: Global, told: &mut String, line: &str) -> Result<(), AllocError> {
+    let text = in_general(alloc, line)?;
+    match is_read(alloc, text.as_slice()) {
+        Ok(true) => told.push_str("read"),
+        Ok(false) => told.push_str("refused"),
+        Err(fault) => write!(told, "{fault:?}"),
+    }
 }

@@ -1,0 +1,55 @@
+//! What becomes of a row, by the file that it stands in.
+
+use crate::chain_rows::tell_configuration;
+use crate::edit_rows::tell_edit;
+use crate::meaning_rows::{tell_entry_pattern, tell_meaning};
+use crate::pattern_rows::tell_pattern;
+use crate::{ini_rows, ned_rows, rows};
+use std::alloc::{AllocError, Global};
+
+/// Tells what becomes of a row of several parts, by its first part and those behind it.
+fn tell_parts(
+    alloc: Global,
+    told: &mut String,
+    file: &str,
+    first: &str,
+    rest: &str,
+) -> Result<(), AllocError> {
+    match file {
+        "patterns" => tell_pattern(alloc, told, first, rest),
+        "entry_patterns" => tell_entry_pattern(alloc, told, first, rest),
+        "configurations" => tell_configuration(alloc, told, first, rest),
+        _ => tell_edit(alloc, told, first, rest),
+    }
+}
+
+/// Tells what becomes of a row of several parts, each before a `|`. A row of one part is a comment, of which nothing is told.
+fn tell_parted(alloc: Global, told: &mut String, file: &str, row: &str) -> Result<(), AllocError> {
+    match row.split_once('|') {
+        Some((first, rest)) => tell_parts(alloc, told, file, first, rest),
+        None => Ok(()),
+    }
+}
+
+/// Tells what becomes of a row of a file.
+fn tell_row(alloc: Global, told: &mut String, file: &str, row: &str) -> Result<(), AllocError> {
+    match file {
+        "ned_texts" => ned_rows::tell_text(alloc, told, row),
+        "ned_models" => ned_rows::tell_model(alloc, told, row),
+        "expressions" => ned_rows::tell_expression(alloc, told, row),
+        "ini_texts" => ini_rows::tell_text(alloc, told, row),
+        "ini_copies" => ini_rows::tell_copied(alloc, told, row),
+        "meanings" => tell_meaning(alloc, told, row),
+        "patterns" | "entry_patterns" | "configurations" | "edits" => {
+            tell_parted(alloc, told, file, row)
+        }
+        _ => rows::tell_line(alloc, told, row),
+    }
+}
+
+/// What becomes of a row of a file.
+pub fn answer(alloc: Global, file: &str, row: &str) -> Result<String, AllocError> {
+    let mut told = String::new(alloc);
+    tell_row(alloc, &mut told, file, row)?;
+    Ok(told)
+}

@@ -1,0 +1,70 @@
+//! What becomes of edits of ini texts.
+
+use crate::escapes::{number, parted, unescaped};
+use crate::ini_rows::{ini_text, tell_lines};
+use ini_config::error::EditError;
+use ini_config::lines::IniText;
+use std::alloc::{AllocError, Global};
+use std::fmt::Write;
+
+/// The text that an edit gives. The edit is a word and the number of a line.
+fn edited(alloc: Global, text: &IniText, edit: &str, given: &[u8]) -> Result<IniText, EditError> {
+    match parted(edit, ' ') {
+        ("insert", line) => text.with_inserted(alloc, number(line), given),
+        ("replace", line) => text.with_replaced(alloc, number(line), given),
+        (_, line) => text.with_removed(alloc, number(line)),
+    }
+}
+
+/// Tells the lines of the text that an edit gives, or why it gives none.
+fn tell_edited(
+    alloc: Global,
+    told: &mut String,
+    text: &IniText,
+    edit: &str,
+    given: &[u8],
+) -> Result<(), AllocError> {
+    match edited(alloc, text, edit, given) {
+        Ok(edited) => tell_lines(told, &edited),
+        Err(refusal) => write!(told, "{refusal:?} "),
+    }
+}
+
+/// Tells what an edit gives, and the lines that the old text has then.
+fn tell_both(
+    alloc: Global,
+    told: &mut String,
+    text: &IniText,
+    edit: &str,
+    given: &[u8],
+) -> Result<(), AllocError> {
+    tell_edited(alloc, told, text, edit, given)?;
+    told.push_str("of ")?;
+    tell_lines(told, text)
+}
+
+/// Tells what becomes of an edit of the ini text that a row writes.
+fn tell_of_text(
+    alloc: Global,
+    told: &mut String,
+    edit: &str,
+    given: &[u8],
+    row: &str,
+) -> Result<(), AllocError> {
+    match ini_text(alloc, b"", row) {
+        Ok(text) => tell_both(alloc, told, &text, edit, given),
+        Err(refusal) => write!(told, "{refusal:?}"),
+    }
+}
+
+/// Tells what becomes of an edit. Behind the edit come the line that it gives and the ini text.
+pub fn tell_edit(
+    alloc: Global,
+    told: &mut String,
+    edit: &str,
+    rest: &str,
+) -> Result<(), AllocError> {
+    let (given, text) = parted(rest, '|');
+    let given = unescaped(alloc, given)?;
+    tell_of_text(alloc, told, edit, given.as_slice(), text)
+}

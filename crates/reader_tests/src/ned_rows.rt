@@ -1,0 +1,138 @@
+//! What becomes of NED texts.
+
+use crate::escapes::unescaped;
+use crate::words::written;
+use ned_syntax::ast::{
+    Declaration, NedFile, ParameterValue, SectionLine, Statistic, Submodule, TypeDeclaration,
+};
+use ned_syntax::parse::{parse_expression, parse_ned};
+use ned_syntax::texts::NedTexts;
+use sim_values::NoMemory;
+use sim_values::text::Text;
+use std::alloc::{AllocError, Global};
+use std::fmt::Write;
+
+/// Tells whether a NED text is read, or why it is not.
+pub fn tell_text(alloc: Global, told: &mut String, row: &str) -> Result<(), AllocError> {
+    let text = unescaped(alloc, row)?;
+    match parse_ned(alloc, text.as_slice()) {
+        Ok(_) => told.push_str("read"),
+        Err(refusal) => write!(told, "{refusal:?}"),
+    }
+}
+
+/// Tells what an expression is, or why it is none.
+pub fn tell_expression(alloc: Global, told: &mut String, row: &str) -> Result<(), AllocError> {
+    let text = unescaped(alloc, row)?;
+    match parse_expression(alloc, text.as_slice()) {
+        Ok(read) => write!(told, "{read:?}"),
+        Err(refusal) => write!(told, "{refusal:?}"),
+    }
+}
+
+/// Tells the name of a parameter, and its value.
+fn tell_value(
+    told: &mut String,
+    name: &Text,
+    value: &Option<ParameterValue>,
+) -> Result<(), AllocError> {
+    write!(told, "{} {value:?}; ", written(name))
+}
+
+/// Tells what a line declares that declares a parameter.
+fn tell_declaration(told: &mut String, it: &Declaration) -> Result<(), AllocError> {
+    write!(told, "{:?} {:?} ", it.word, it.unit)?;
+    tell_value(told, &it.name, &it.value)
+}
+
+/// Tells what a line declares that declares a statistic.
+fn tell_statistic(told: &mut String, it: &Statistic) -> Result<(), AllocError> {
+    write!(told, "{} of {} ", written(&it.name), written(&it.source))?;
+    write!(told, "{:?}; ", it.modes.as_slice())
+}
+
+/// Tells what a line of a parameter section declares.
+fn tell_line(told: &mut String, line: &SectionLine) -> Result<(), AllocError> {
+    match line {
+        SectionLine::Declaration(it) => tell_declaration(told, it),
+        SectionLine::Assignment(it) => tell_value(told, &it.name, &it.value),
+        SectionLine::Statistic(it) => tell_statistic(told, it),
+        SectionLine::Class(name) => write!(told, "class {}; ", written(name)),
+        SectionLine::Ignored => told.push_str("ignored; "),
+    }
+}
+
+/// Tells the lines of a type's parameter section.
+fn tell_lines(told: &mut String, lines: &[SectionLine]) -> Result<(), AllocError> {
+    for line in lines {
+        tell_line(told, line)?;
+    }
+    Ok(())
+}
+
+/// Tells the submodules of a type.
+fn tell_submodules(told: &mut String, submodules: &[Submodule]) -> Result<(), AllocError> {
+    for it in submodules {
+        write!(told, "{}: {}; ", written(&it.name), written(&it.type_name))?;
+    }
+    Ok(())
+}
+
+/// Tells what a type declares.
+fn tell_type(told: &mut String, it: &TypeDeclaration) -> Result<(), AllocError> {
+    write!(told, "{:?} {} {{ ", it.kind, written(&it.name))?;
+    tell_lines(told, it.lines.as_slice())?;
+    tell_submodules(told, it.submodules.as_slice())?;
+    told.push_str("} ")
+}
+
+/// Tells what a text declares.
+fn tell_file(told: &mut String, file: &NedFile) -> Result<(), AllocError> {
+    for it in file.types.as_slice() {
+        tell_type(told, it)?;
+    }
+    Ok(())
+}
+
+/// Tells what a text of a model declares, or that there is none of that number.
+fn tell_declared(alloc: Global, told: &mut String, text: Option<&[u8]>) -> Result<(), AllocError> {
+    let Some(text) = text else {
+        return told.push_str(", none");
+    };
+    told.push_str(", ")?;
+    match parse_ned(alloc, text) {
+        Ok(file) => tell_file(told, &file),
+        Err(refusal) => write!(told, "{refusal:?}"),
+    }
+}
+
+/// Adds a text that a row writes.
+fn push_text(alloc: Global, texts: &mut NedTexts, row: &str) -> Result<(), NoMemory> {
+    let text = unescaped(alloc, row)?;
+    texts.push(text.as_slice())
+}
+
+/// The texts of a model, each before a `|`.
+fn model(alloc: Global, row: &str) -> Result<NedTexts, NoMemory> {
+    let mut texts = NedTexts::new(alloc);
+    for text in row.split('|') {
+        push_text(alloc, &mut texts, text)?;
+    }
+    Ok(texts)
+}
+
+/// Tells how many texts a model has, and what the first three declare.
+fn tell_texts(alloc: Global, told: &mut String, texts: &NedTexts) -> Result<(), AllocError> {
+    write!(told, "{}", texts.len())?;
+    tell_declared(alloc, told, texts.get(0))?;
+    tell_declared(alloc, told, texts.get(1))?;
+    tell_declared(alloc, told, texts.get(2))
+}
+
+/// Tells what the texts of a model declare.
+pub fn tell_model(alloc: Global, told: &mut String, row: &str) -> Result<(), AllocError> {
+    match model(alloc, row) {
+        Ok(texts) => tell_texts(alloc, told, &texts),
+        Err(fault) => write!(told, "{fault:?}"),
+    }
+}

@@ -1,0 +1,26 @@
+//! Texts as they are printed.
+
+use sim_values::text::Text;
+use std::alloc::AllocError;
+use std::fmt::Write;
+
+/// The text that bytes are.
+pub fn text_of(bytes: &[u8]) -> &str {
+    match std::str::from_utf8(bytes) {
+        Ok(text) => text,
+        Err(_) => "no UTF-8",
+    }
+}
+
+/// The characters of a text.
+pub fn written(text: &Text) -> &str {
+    text_of(text.as_bytes())
+}
+
+/// Tells names, each with a blank behind it.
+pub fn tell_names(told: &mut String, names: &[Text]) -> Result<(), AllocError> {
+    for name in names {
+        write!(told, "{} ", written(name))?;
+    }
+    Ok(())
+}
