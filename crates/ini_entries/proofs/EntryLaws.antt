@@ -7,8 +7,8 @@ use Rattle.std.proofs.lemmas.Bool.{eqb-false, false≢true, true≢false}
 use Rattle.std.proofs.lemmas.Slice.Eq.{bytes_eq-Decides}
 use Rattle.ini_pattern.specs.declared.piece.Piece.{Piece}
 use Rattle.ini_pattern.specs.PatternOf.{pattern_of}
-use Rattle.ned_syntax.proofs.OneExpression.{one_expression}
-use Rattle.ned_syntax.specs.NedText.{IsExpressionText}
+use Rattle.ned_values.proofs.OneExpression.{one_expression}
+use Rattle.ned_values.specs.ExpressionText.{IsExpressionText}
 use Rattle.ini_entries.specs.declared.entry.EntryMeaning.{EntryMeaning}
 use Rattle.ini_entries.specs.declared.entry.EntryMeaning.TheVariants as meaning
 use Rattle.ini_entries.specs.declared.entry.EntryValue.{EntryValue}

@@ -3,8 +3,8 @@ use Rattle.std.proofs.Common.{◌≡◌, ℕ, Bool, true, false, cond, ◌||◌,
 use Rattle.std.specs.Prelude.{option_map}
 use Rattle.std.specs.List.{list_all}
 use Rattle.std.specs.Str.{bytes_eq}
-use Rattle.ned_syntax.proofs.OneExpression.{one_expression}
-use Rattle.ned_syntax.specs.NedText.{IsExpressionText}
+use Rattle.ned_values.proofs.OneExpression.{one_expression}
+use Rattle.ned_values.specs.ExpressionText.{IsExpressionText}
 use Rattle.ini_entries.specs.declared.entry.ModeItem.{ModeItem}
 use Rattle.ini_entries.specs.declared.entry.ObjectOption.{ObjectOption}
 use Rattle.ini_entries.specs.declared.entry.ObjectOption.TheVariants as object

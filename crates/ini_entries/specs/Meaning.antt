@@ -4,7 +4,7 @@ use Rattle.std.specs.Prelude.{◌≡◌, ◌≢◌, ℕ, Bool, true, false, ◌&
 use Rattle.std.specs.List.{list_all}
 use Rattle.std.specs.Str.{chars}
 use Rattle.ini_pattern.specs.PatternOf.{pattern_of}
-use Rattle.ned_syntax.specs.NedText.{IsExpressionText}
+use Rattle.ned_values.specs.ExpressionText.{IsExpressionText}
 use Rattle.ini_entries.specs.declared.entry.EntryMeaning.{EntryMeaning}
 use Rattle.ini_entries.specs.declared.entry.EntryMeaning.TheVariants as meaning
 use Rattle.ini_entries.specs.declared.entry.EntryValue.{EntryValue}

@@ -6,9 +6,9 @@ use Rattle.std.specs.Option.{option_and_then}
 use Rattle.std.specs.Str.{bytes_eq}
 use Rattle.sim_values.specs.declared.value.Dimension.TheVariants.{Time}
 use Rattle.sim_values.specs.declared.value.Value.TheVariants.{Quantity}
-use Rattle.ned_syntax.specs.declared.ast.Expression.{Expression}
-use Rattle.ned_syntax.specs.declared.ast.Expression.TheVariants.{Literal}
-use Rattle.ned_syntax.specs.Grammar.{mode_named}
+use Rattle.ned_values.specs.declared.ast.Expression.{Expression}
+use Rattle.ned_values.specs.declared.ast.Expression.TheVariants.{Literal}
+use Rattle.ned_values.specs.Grammar.{mode_named}
 use Rattle.ini_entries.specs.declared.entry.ModeItem.{ModeItem}
 use Rattle.ini_entries.specs.declared.entry.ModeItem.TheVariants as item
 use Rattle.ini_entries.specs.declared.entry.ObjectOption.{ObjectOption}

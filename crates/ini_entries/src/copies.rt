@@ -3,7 +3,7 @@
 ghost use Rattle.std.specs.Prelude.{◌≡◌, IfOk};
 
 use crate::entry::{EntryMeaning, EntryValue, ModeItem, ObjectEntry, ObjectOption, ParameterEntry};
-use ned_syntax::ast::Expression;
+use ned_values::ast::Expression;
 use sim_values::text::Text;
 use sqlite_items::Items;
 use std::alloc::{AllocError, Global};

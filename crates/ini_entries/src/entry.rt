@@ -1,7 +1,7 @@
 //! What entries say.
 
 use ini_pattern::Pattern;
-use ned_syntax::ast::{Expression, Mode};
+use ned_values::ast::{Expression, Mode};
 use sim_values::text::Text;
 use sqlite_items::Items;
 

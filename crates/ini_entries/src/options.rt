@@ -2,7 +2,7 @@
 
 ghost use Rattle.std.specs.Prelude.{◌≡◌, ℕ, true, false, map, option_map, IfOk, MatchOption};
 ghost use Rattle.std.specs.List.{list_all};
-ghost use Rattle.ned_syntax.specs.NedText.{IsExpressionText};
+ghost use Rattle.ned_values.specs.ExpressionText.{IsExpressionText};
 ghost use Rattle.ini_entries.specs.Meaning.{Tells};
 ghost use Rattle.ini_entries.specs.Names as names;
 ghost use Rattle.ini_entries.specs.Options as options;
@@ -11,10 +11,10 @@ ghost use Rattle.ini_entries.specs.Texts as texts;
 use crate::blanks::{after_blanks, before_blanks};
 use crate::entry::{ModeItem, ObjectOption};
 use crate::names::is_config_name;
-use ned_syntax::ast::Expression;
-use ned_syntax::error::NedError;
-use ned_syntax::parse::parse_expression;
-use ned_syntax::statistics::mode_named;
+use ned_values::ast::Expression;
+use ned_values::error::NedError;
+use ned_values::modes::mode_named;
+use ned_values::parse::parse_expression;
 use sim_values::text::Text;
 use sim_values::value::{Dimension, Value};
 use sqlite_items::Items;

@@ -10,8 +10,8 @@ use Rattle.ini_entries.specs.declared.entry.EntryValue.{EntryValue}
 use Rattle.ini_entries.specs.declared.entry.EntryValue.TheVariants as entry
 use Rattle.ini_config.specs.Entries.{value_for}
 use Rattle.ned_syntax.specs.declared.ast.Declaration.{Declaration}
-use Rattle.ned_syntax.specs.declared.ast.Expression.{Expression}
-use Rattle.ned_syntax.specs.declared.ast.Expression.TheVariants.{Literal}
+use Rattle.ned_values.specs.declared.ast.Expression.{Expression}
+use Rattle.ned_values.specs.declared.ast.Expression.TheVariants.{Literal}
 use Rattle.ned_syntax.specs.declared.ast.ParameterValue.{ParameterValue}
 use Rattle.ned_syntax.specs.declared.ast.ParameterValue.TheVariants as given
 use Rattle.ned_syntax.specs.declared.ast.ParameterWord.{ParameterWord}

@@ -9,13 +9,13 @@ use Rattle.ned_tokens.specs.declared.token.Token.{Token}
 use Rattle.ned_tokens.specs.declared.token.Token.TheVariants as token
 use Rattle.ned_tokens.specs.Words.{keyword_of, head_word, section_word, member_word, value_word}
 use Rattle.ned_spelling.specs.Tokens.{unit_text, IsName, HaveSpelling}
-use Rattle.ned_syntax.specs.declared.ast.Expression.{Expression}
-use Rattle.ned_syntax.specs.declared.ast.Expression.TheVariants as expressions
+use Rattle.ned_values.specs.declared.ast.Expression.{Expression}
+use Rattle.ned_values.specs.declared.ast.Expression.TheVariants as expressions
 use Rattle.ned_syntax.specs.declared.ast.ParameterValue.{ParameterValue}
 use Rattle.ned_syntax.specs.declared.ast.ParameterValue.TheVariants as given
 use Rattle.ned_syntax.specs.declared.ast.Declaration.{Declaration}
-use Rattle.ned_syntax.specs.declared.ast.Mode.{Mode}
-use Rattle.ned_syntax.specs.declared.ast.Mode.TheVariants as modes_are
+use Rattle.ned_values.specs.declared.ast.Mode.{Mode}
+use Rattle.ned_values.specs.declared.ast.Mode.TheVariants as modes_are
 use Rattle.ned_syntax.specs.declared.ast.RecordedMode.{RecordedMode}
 use Rattle.ned_syntax.specs.declared.ast.Statistic.{Statistic}
 use Rattle.ned_syntax.specs.declared.ast.SectionLine.{SectionLine}

@@ -13,7 +13,7 @@ use Rattle.ned_tokens.specs.Balanced.{balanced}
 use Rattle.ned_tokens.specs.Units.{unit_of}
 use Rattle.ned_spelling.specs.Tokens.{IsName}
 use Rattle.ned_spelling.proofs.SoundTokens.{IsSound, AreSound}
-use Rattle.ned_syntax.specs.declared.ast.Expression.{Expression}
+use Rattle.ned_values.specs.declared.ast.Expression.{Expression}
 use Rattle.ned_syntax.specs.declared.ast.ParameterWord.{ParameterWord}
 use Rattle.ned_syntax.specs.declared.ast.ParameterWord.TheVariants as words
 use Rattle.ned_syntax.specs.declared.ast.Declaration.{Declaration}

@@ -6,8 +6,8 @@ use Rattle.sim_values.specs.declared.value.Value.{Value}
 use Rattle.sim_values.specs.declared.value.Value.TheVariants as values
 use Rattle.sim_values.specs.declared.value.Dimension.{Dimension}
 use Rattle.ned_spelling.specs.Tokens.{IsName}
-use Rattle.ned_syntax.specs.declared.ast.Expression.{Expression}
-use Rattle.ned_syntax.specs.declared.ast.Expression.TheVariants as expressions
+use Rattle.ned_values.specs.declared.ast.Expression.{Expression}
+use Rattle.ned_values.specs.declared.ast.Expression.TheVariants as expressions
 use Rattle.ned_syntax.specs.declared.ast.ParameterValue.{ParameterValue}
 use Rattle.ned_syntax.specs.declared.ast.ParameterValue.TheVariants as given
 use Rattle.ned_syntax.specs.declared.ast.ParameterWord.{ParameterWord}

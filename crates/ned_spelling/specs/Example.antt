@@ -2,10 +2,10 @@
 use Rattle.std.specs.Prelude.{◌≡◌, List, ℕ, [], ◌∷◌, Some, None, true, false, pos, negsuc, codes}
 use Rattle.sim_values.specs.declared.value.Value.TheVariants as values
 use Rattle.sim_values.specs.declared.value.Dimension.TheVariants as dimension
-use Rattle.ned_syntax.specs.declared.ast.Expression.TheVariants as expressions
+use Rattle.ned_values.specs.declared.ast.Expression.TheVariants as expressions
 use Rattle.ned_syntax.specs.declared.ast.ParameterValue.TheVariants as given
 use Rattle.ned_syntax.specs.declared.ast.ParameterWord.TheVariants as words
-use Rattle.ned_syntax.specs.declared.ast.Mode.TheVariants as modes_are
+use Rattle.ned_values.specs.declared.ast.Mode.TheVariants as modes_are
 use Rattle.ned_syntax.specs.declared.ast.SectionLine.TheVariants as lines
 use Rattle.ned_syntax.specs.declared.ast.TypeKind.TheVariants as kinds
 use Rattle.ned_syntax.specs.declared.ast.NedFile.{NedFile}

@@ -19,23 +19,10 @@ use Rattle.ned_syntax.specs.declared.properties.PropertyName.TheVariants as name
 use Rattle.ned_syntax.specs.declared.statistics.Except.{Except}
 use Rattle.ned_syntax.specs.declared.statistics.Except.TheVariants as except_is
 use Rattle.ned_syntax.specs.Grammar.{said_in, word, mark, name, in_parens, plain_literal, number, negative_literal, literal, expression, default_value, value_rule, property_name, bracketed, index, body, property, mode_word, question, mode_rule, next_mode, modes, group, loose_token, piece, pieces, loose_text, no_value, source_value, record_value, source_tail, record_tail, source_word, record_word, source_part, record_part, other_part, record_or_other, any_part, part, next_part, statistic_body, optional_body, indexed_statistic, unnamed_statistic, named_or_not, statistic_tail, statistic_word, statistic, plain_name, plain_line, property_text, property_line, valued, tail, parameter_word, volatile, any_declaration, declaration, assignment, assigned_or_said, any_line, section_line, heading, section, simple, submodule, submodules, network, type_rule, file, is_word, is_mark, name_of, turn_of, literal_of, number_of, property_name_of, mode_of, loose_of, source_of, record_of, statistic_of, plain_name_of, parameter_word_of, is_measured, is_source, is_record, is_statistic, plain_of}
+pub use Rattle.ned_values.proofs.GrammarLaws.{word-lawful, mark-lawful, name-lawful, plain_literal-lawful, number-lawful, negative_literal-lawful, literal-lawful, expression-lawful}
 use Rattle.ned_tokens.proofs.Laws.{Lawful, token-lawful, such_that-lawful, either-lawful, optional-lawful, then, before, after, mapped}
 use Rattle.ned_tokens.proofs.Many.{many-lawful}
 use Rattle.ned_tokens.proofs.BalancedLaws.{balanced-lawful}
-
--- ---- tokens
-
-pub word-lawful : (k : Keyword) → Lawful (word k)
-unfolding word
-word-lawful k = token-lawful (is_word k)
-
-pub mark-lawful : (k : Mark) → Lawful (mark k)
-unfolding mark
-mark-lawful k = token-lawful (is_mark k)
-
-pub name-lawful : Lawful name
-unfolding name
-name-lawful = token-lawful name_of
 
 text_ends : (t : Token) → (mark m.RightParen).starts t ≡ true → (balanced turn_of).goes_on t ≡ false
 unfolding word mark name in_parens plain_literal number negative_literal literal expression default_value value_rule property_name bracketed index body property mode_word question mode_rule next_mode modes group loose_token piece pieces loose_text no_value source_value record_value source_tail record_tail source_word record_word source_part record_part other_part record_or_other any_part part next_part statistic_body optional_body indexed_statistic unnamed_statistic named_or_not statistic_tail statistic_word statistic plain_name plain_line property_text property_line valued tail parameter_word volatile any_declaration declaration assignment assigned_or_said any_line section_line heading section simple submodule submodules network type_rule file
@@ -48,31 +35,6 @@ unfolding in_parens mark
 in_parens-lawful = before (mark-lawful m.LeftParen) (after (balanced-lawful turn_of) (mark-lawful m.RightParen) text_ends) (λ t e. refl)
 
 -- ---- values
-
-pub plain_literal-lawful : Lawful plain_literal
-unfolding plain_literal
-plain_literal-lawful = token-lawful literal_of
-
-pub number-lawful : Lawful number
-unfolding number
-number-lawful = token-lawful number_of
-
-pub negative_literal-lawful : Lawful negative_literal
-unfolding negative_literal mark
-negative_literal-lawful = mapped (before (mark-lawful m.Minus) number-lawful (λ t e. refl))
-
-minus_apart : (t : Token) → plain_literal.starts t ≡ true → negative_literal.starts t ≡ false
-unfolding word mark name in_parens plain_literal number negative_literal literal expression default_value value_rule property_name bracketed index body property mode_word question mode_rule next_mode modes group loose_token piece pieces loose_text no_value source_value record_value source_tail record_tail source_word record_word source_part record_part other_part record_or_other any_part part next_part statistic_body optional_body indexed_statistic unnamed_statistic named_or_not statistic_tail statistic_word statistic plain_name plain_line property_text property_line valued tail parameter_word volatile any_declaration declaration assignment assigned_or_said any_line section_line heading section simple submodule submodules network type_rule file
-minus_apart (token.Mark _) e = absurd (false≢true e)
-minus_apart _ e = refl
-
-pub literal-lawful : Lawful literal
-unfolding literal negative_literal plain_literal mark
-literal-lawful = either-lawful negative_literal plain_literal negative_literal-lawful plain_literal-lawful refl refl minus_apart
-
-pub expression-lawful : Lawful expression
-unfolding expression
-expression-lawful = mapped literal-lawful
 
 pub default_value-lawful : Lawful default_value
 unfolding default_value word mark expression literal negative_literal plain_literal number

@@ -15,7 +15,7 @@ use Rattle.ned_tokens.specs.Balanced.{balanced_read}
 use Rattle.ned_tokens.specs.Viable.{CanGoOn}
 use Rattle.ned_syntax.specs.declared.ast.ParameterValue.TheVariants as given
 use Rattle.ned_syntax.specs.declared.ast.ParameterWord.TheVariants as words
-use Rattle.ned_syntax.specs.declared.ast.Mode.TheVariants as modes_are
+use Rattle.ned_values.specs.declared.ast.Mode.TheVariants as modes_are
 use Rattle.ned_syntax.specs.declared.ast.SectionLine.TheVariants as lines
 use Rattle.ned_syntax.specs.declared.ast.Declaration.{Declaration}
 use Rattle.ned_syntax.specs.declared.ast.ParameterWord.{ParameterWord}
@@ -32,46 +32,12 @@ use Rattle.ned_syntax.specs.declared.statistics.Except.TheVariants as except_is
 use Rattle.ned_syntax.specs.Grammar.{word, mark, name, in_parens, plain_literal, number, negative_literal, literal, expression, default_value, value_rule, property_name, bracketed, index, body, property, mode_word, question, mode_rule, next_mode, modes, group, loose_token, piece, pieces, loose_text, no_value, source_value, record_value, source_tail, record_tail, source_word, record_word, source_part, record_part, other_part, record_or_other, any_part, part, next_part, statistic_body, optional_body, indexed_statistic, unnamed_statistic, named_or_not, statistic_tail, statistic_word, statistic, plain_name, plain_line, property_text, property_line, valued, tail, parameter_word, volatile, any_declaration, declaration, assignment, assigned_or_said, any_line, section_line, heading, section, simple, submodule, submodules, network, type_rule, file, is_word, is_mark, name_of, turn_of, literal_of, number_of, property_name_of, mode_of, loose_of, source_of, record_of, statistic_of, plain_name_of, parameter_word_of, is_measured, first_unit, unit_behind, declared}
 use Rattle.ned_tokens.proofs.ViableLaws.{Viable, token-viable, such_that-viable, either-viable, optional-viable, many-viable, balanced-viable, then_on, before_on, after_on, mapped_on}
 use Rattle.ned_tokens.proofs.BalancedLaws.{balanced-lawful}
+use Rattle.ned_values.proofs.ViableGrammar.{word_on, mark_on, letter, name_on, expression_on}
 use Rattle.ned_syntax.proofs.GrammarLaws as laws
-
-word_on : (k : Keyword) → is_word k (token.Word k) ≡ Some tt → Viable (word k)
-unfolding word
-word_on k e = token-viable (is_word k) (token.Word k) tt e
-
-mark_on : (k : Mark) → is_mark k (token.Mark k) ≡ Some tt → Viable (mark k)
-unfolding mark
-mark_on k e = token-viable (is_mark k) (token.Mark k) tt e
-
-abbrev letter : List ℕ
-letter = 97 ∷ []
-
-name_on : Viable name
-unfolding name
-name_on = token-viable name_of (token.Name letter) letter refl
 
 in_parens_on : Viable in_parens
 unfolding in_parens
 in_parens_on = before_on (laws.mark-lawful m.LeftParen) (mark_on m.LeftParen refl) (after_on (balanced-lawful turn_of) (balanced-viable turn_of (token.Mark m.RightParen) refl) (mark_on m.RightParen refl))
-
-plain_literal_on : Viable plain_literal
-unfolding plain_literal
-plain_literal_on = token-viable literal_of (token.Number 0) (values.Whole (pos 0)) refl
-
-number_on : Viable number
-unfolding number
-number_on = token-viable number_of (token.Number 0) 0 refl
-
-negative_literal_on : Viable negative_literal
-unfolding negative_literal
-negative_literal_on = mapped_on (before_on (laws.mark-lawful m.Minus) (mark_on m.Minus refl) number_on)
-
-literal_on : Viable literal
-unfolding literal
-literal_on = either-viable negative_literal plain_literal negative_literal_on plain_literal_on
-
-pub expression_on : Viable expression
-unfolding expression
-expression_on = mapped_on literal_on
 
 default_value_on : Viable default_value
 unfolding default_value

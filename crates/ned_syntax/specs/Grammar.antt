@@ -18,16 +18,16 @@ use Rattle.ned_tokens.specs.Words.{or_else}
 use Rattle.ned_tokens.specs.Units.{unit_of}
 use Rattle.ned_tokens.specs.Rule.{Rule, token as one_token, ◌⊗◌, ◌◁◌, ◌▷◌, made, such_that, either, optional, many}
 use Rattle.ned_tokens.specs.Balanced.{Turn, opens, closes, stays, bars, balanced}
-use Rattle.ned_syntax.specs.declared.ast.Expression.{Expression}
-use Rattle.ned_syntax.specs.declared.ast.Expression.TheVariants as expressions
+use Rattle.ned_values.specs.declared.ast.Expression.{Expression}
+use Rattle.ned_values.specs.declared.ast.Expression.TheVariants as expressions
 use Rattle.ned_syntax.specs.declared.ast.ParameterValue.{ParameterValue}
 use Rattle.ned_syntax.specs.declared.ast.ParameterValue.TheVariants as given
 use Rattle.ned_syntax.specs.declared.ast.ParameterWord.{ParameterWord}
 use Rattle.ned_syntax.specs.declared.ast.ParameterWord.TheVariants as words
 use Rattle.ned_syntax.specs.declared.ast.Declaration.{Declaration}
 use Rattle.ned_syntax.specs.declared.ast.Assignment.{Assignment}
-use Rattle.ned_syntax.specs.declared.ast.Mode.{Mode}
-use Rattle.ned_syntax.specs.declared.ast.Mode.TheVariants as modes_are
+use Rattle.ned_values.specs.declared.ast.Mode.{Mode}
+use Rattle.ned_values.specs.declared.ast.Mode.TheVariants as modes_are
 use Rattle.ned_syntax.specs.declared.ast.RecordedMode.{RecordedMode}
 use Rattle.ned_syntax.specs.declared.ast.SectionLine.{SectionLine}
 use Rattle.ned_syntax.specs.declared.ast.SectionLine.TheVariants as lines
@@ -46,41 +46,9 @@ use Rattle.ned_syntax.specs.declared.statistics.Except.TheVariants as except_is
 use Rattle.ned_syntax.specs.declared.statistics.Said.{Said}
 use Rattle.ned_syntax.specs.declared.parameters.Valued.{Valued}
 use Rattle.ned_syntax.specs.declared.parameters.Tail.{Tail}
-
-abbrev pub Bytes : Type 0
-Bytes = List ℕ
-
--- ---- tokens
-
-abbrev pub same_word : Keyword → Keyword → Bool
-same_word = sameb keywords.the_type
-
-abbrev pub same_mark : Mark → Mark → Bool
-same_mark = sameb marks.the_type
-
-abbrev pub is_word : Keyword → Token → Option (Unit {0})
-is_word k (token.Word w) = if same_word w k then Some tt else None
-is_word k _ = None
-
-abbrev pub is_mark : Mark → Token → Option (Unit {0})
-is_mark k (token.Mark w) = if same_mark w k then Some tt else None
-is_mark k _ = None
-
-abbrev pub name_of : Token → Option Bytes
-name_of (token.Name text) = Some text
-name_of _ = None
-
--- a word of the language
-unfoldable pub word : Keyword → Rule (Unit {0})
-word k = one_token (is_word k)
-
--- a mark
-unfoldable pub mark : Mark → Rule (Unit {0})
-mark k = one_token (is_mark k)
-
--- a name
-unfoldable pub name : Rule Bytes
-name = one_token name_of
+-- single tokens, literals, expressions and names of modes are those of `ned_values`
+unfoldable pub use Rattle.ned_values.specs.Grammar.{word, mark, name, plain_literal, number, negative_literal, literal, expression}
+pub use Rattle.ned_values.specs.Grammar.{Bytes, same_word, same_mark, is_word, is_mark, name_of, whole_of, whole_value, quantity_value, literal_of, number_of, negated, mode_named}
 
 -- ---- text in parentheses: of the tokens only parentheses count, and a broken token stands nowhere
 
@@ -95,52 +63,6 @@ unfoldable pub in_parens : Rule (List Token)
 in_parens = mark m.LeftParen ▷ (balanced turn_of ◁ mark m.RightParen)
 
 -- ---- values
-
--- a number is at most 2^63 - 1
-abbrev pub whole_of : ℕ → Option ℕ
-whole_of n = if nat_lt n (2 ^ 63) then Some n else None
-
-abbrev pub whole_value : Option ℕ → Option Value
-whole_value None = None
-whole_value (Some n) = Some (values.Whole (pos n))
-
-abbrev pub quantity_value : Dimension → Option ℕ → Option Value
-quantity_value d None = None
-quantity_value d (Some n) = Some (values.Quantity d (pos n))
-
--- a literal without a sign: a number, a truth value, a text or quantities in a row
-abbrev pub literal_of : Token → Option Value
-literal_of (token.Number n) = whole_value (whole_of n)
-literal_of (token.Word k.True) = Some (values.Truth true)
-literal_of (token.Word k.False) = Some (values.Truth false)
-literal_of (token.Literal text) = Some (values.Text text)
-literal_of (token.Quantity d n) = quantity_value d (whole_of n)
-literal_of _ = None
-
-abbrev pub number_of : Token → Option ℕ
-number_of (token.Number n) = whole_of n
-number_of _ = None
-
-unfoldable pub plain_literal : Rule Value
-plain_literal = one_token literal_of
-
-unfoldable pub number : Rule ℕ
-number = one_token number_of
-
-abbrev pub negated : ℕ → Value
-negated n = values.Whole (neg_ℤ (pos n))
-
--- "-" number
-unfoldable pub negative_literal : Rule Value
-negative_literal = made negated (mark m.Minus ▷ number)
-
--- a literal: "-" number, or one without a sign
-unfoldable pub literal : Rule Value
-literal = either negative_literal plain_literal
-
--- an expression: so far a literal
-unfoldable pub expression : Rule Expression
-expression = made expressions.Literal literal
 
 -- "default" "(" expression ")"
 unfoldable pub default_value : Rule ParameterValue
@@ -215,16 +137,6 @@ first_unit (effects.Unit d ∷ es) = Some d
 first_unit (_ ∷ es) = first_unit es
 
 -- ---- statistics
-
-abbrev pub mode_named : Bytes → Option Mode
-mode_named text =
-    if bytes_eq text (codes "count") then Some modes_are.Count
-    else (if bytes_eq text (codes "sum") then Some modes_are.Sum
-    else (if bytes_eq text (codes "min") then Some modes_are.Min
-    else (if bytes_eq text (codes "max") then Some modes_are.Max
-    else (if bytes_eq text (codes "last") then Some modes_are.Last
-    else (if bytes_eq text (codes "vector") then Some modes_are.Vector
-    else None)))))
 
 abbrev pub mode_of : Token → Option Mode
 mode_of (token.Name text) = mode_named text

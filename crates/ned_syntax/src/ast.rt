@@ -1,14 +1,9 @@
 //! What a NED text declares, as values that the later layers use.
 
+pub use ned_values::ast::{Expression, Mode};
 use sim_values::text::Text;
-use sim_values::value::{Dimension, Value};
+use sim_values::value::Dimension;
 use sqlite_items::Items;
-
-/// An expression: so far a literal.
-#[derive(Debug, Drop)]
-pub enum Expression {
-    Literal(Value),
-}
 
 /// A value that a parameter is given.
 #[derive(Debug, Drop)]
@@ -43,17 +38,6 @@ pub struct Declaration {
 pub struct Assignment {
     pub name: Text,
     pub value: Option<ParameterValue>,
-}
-
-/// How the values of a signal are recorded.
-#[derive(Clone, Copy, Debug, PartialEq, Eq)]
-pub enum Mode {
-    Count,
-    Sum,
-    Min,
-    Max,
-    Last,
-    Vector,
 }
 
 /// A mode that a statistic names.

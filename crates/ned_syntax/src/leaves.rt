@@ -1,83 +1,13 @@
-//! Single tokens, and text in balanced parentheses.
+//! Text in balanced parentheses; single tokens are those of `ned_values`.
 
 ghost use Rattle.std.specs.Prelude.{◌≡◌, ◌<◌, ◌^◌};
-ghost use Rattle.ned_tokens.specs.Rule.{Gives, begins};
+ghost use Rattle.ned_tokens.specs.Rule.{Gives};
 ghost use Rattle.ned_tokens.specs.Balanced.{balanced, depth_behind, is_closes};
 ghost use Rattle.ned_syntax.specs.Grammar as grammar;
 
 use ned_tokens::refusal::Refusal;
-use ned_tokens::token::{Keyword, Mark, Token};
-use sim_values::text::Text;
-use std::alloc::Global;
-
-fn same_word(a: Keyword, b: Keyword) -> bool
-    ensures { result ≡ grammar.same_word a b }
-{
-    a == b
-}
-
-fn same_mark(a: Mark, b: Mark) -> bool
-    ensures { result ≡ grammar.same_mark a b }
-{
-    a == b
-}
-
-#[tactic(auto, unfolding(crate::specs::Grammar::word))]
-pub(crate) fn word(wanted: Keyword, tokens: &[Token]) -> Result<&[Token], Refusal>
-    ensures { Gives (λ rest. (tt, rest.now)) result ((grammar.word wanted).read tokens.now) }
-{
-    match tokens {
-        [Token::Word(found), rest @ ..] if same_word(*found, wanted) => Ok(rest),
-        _ => Err(Refusal::At(tokens.len())),
-    }
-}
-
-#[tactic(auto, unfolding(crate::specs::Grammar::word))]
-pub(crate) fn begins_word(wanted: Keyword, tokens: &[Token]) -> bool
-    ensures { result ≡ begins (grammar.word wanted).starts tokens.now }
-{
-    match tokens {
-        [Token::Word(found), ..] => same_word(*found, wanted),
-        _ => false,
-    }
-}
-
-#[tactic(auto, unfolding(crate::specs::Grammar::mark))]
-pub(crate) fn mark(wanted: Mark, tokens: &[Token]) -> Result<&[Token], Refusal>
-    ensures { Gives (λ rest. (tt, rest.now)) result ((grammar.mark wanted).read tokens.now) }
-{
-    match tokens {
-        [Token::Mark(found), rest @ ..] if same_mark(*found, wanted) => Ok(rest),
-        _ => Err(Refusal::At(tokens.len())),
-    }
-}
-
-#[tactic(auto, unfolding(crate::specs::Grammar::mark))]
-pub(crate) fn begins_mark(wanted: Mark, tokens: &[Token]) -> bool
-    ensures { result ≡ begins (grammar.mark wanted).starts tokens.now }
-{
-    match tokens {
-        [Token::Mark(found), ..] => same_mark(*found, wanted),
-        _ => false,
-    }
-}
-
-#[tactic(auto, unfolding(crate::specs::Grammar::name))]
-pub(crate) fn name(alloc: Global, tokens: &[Token]) -> Result<(Text, &[Token]), Refusal>
-    ensures { Gives (λ x. (x.0, x.1.now)) result (grammar.name.read tokens.now) }
-{
-    match tokens {
-        [Token::Name(found), rest @ ..] => Ok((found.copy(alloc)?, rest)),
-        _ => Err(Refusal::At(tokens.len())),
-    }
-}
-
-#[tactic(auto, unfolding(crate::specs::Grammar::name))]
-pub(crate) fn begins_name(tokens: &[Token]) -> bool
-    ensures { result ≡ begins grammar.name.starts tokens.now }
-{
-    matches!(tokens, [Token::Name(_), ..])
-}
+use ned_tokens::token::{Mark, Token};
+pub(crate) use ned_values::leaves::{begins_mark, begins_name, begins_word, mark, name, word};
 
 /// How many parentheses are open behind a token, where this many are before it; none where the text ends at it.
 fn depth_behind(token: &Token, depth: usize) -> Option<usize>

@@ -2,7 +2,6 @@
 #![tactic(auto)]
 
 pub mod ast;
-pub mod error;
 pub mod laws;
 mod leaves;
 mod literals;

@@ -9,6 +9,7 @@ use crate::leaves::{begins_mark, in_parens, mark, name};
 use crate::properties::bracketed;
 use ned_tokens::refusal::Refusal;
 use ned_tokens::token::{Mark, Token};
+use ned_values::modes::mode_named;
 use sim_values::text::Text;
 use sqlite_items::Items;
 use std::alloc::{AllocError, Global};
@@ -25,27 +26,6 @@ pub enum Part {
 }
 
 // ---- modes
-
-/// The mode of that name.
-pub fn mode_named(text: &[u8]) -> Option<Mode>
-    ensures { result ≡ grammar.mode_named text.now }
-{
-    if text == b"count".as_slice() {
-        Some(Mode::Count)
-    } else if text == b"sum".as_slice() {
-        Some(Mode::Sum)
-    } else if text == b"min".as_slice() {
-        Some(Mode::Min)
-    } else if text == b"max".as_slice() {
-        Some(Mode::Max)
-    } else if text == b"last".as_slice() {
-        Some(Mode::Last)
-    } else if text == b"vector".as_slice() {
-        Some(Mode::Vector)
-    } else {
-        None
-    }
-}
 
 #[tactic(auto, unfolding(crate::specs::Grammar::mode_word))]
 fn mode_word(tokens: &[Token]) -> Result<(Mode, &[Token]), Refusal>

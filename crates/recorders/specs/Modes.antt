@@ -1,8 +1,8 @@
 -- Which modes of a statistic are recorded.
 use Rattle.std.specs.Prelude.{Bool, false, not, List, [], ◌∷◌, if◌then◌else◌}
 use denote.Enum.Bare.{sameb}
-use Rattle.ned_syntax.specs.contracts.ast.Mode as mode_kind
-use Rattle.ned_syntax.specs.declared.ast.Mode.{Mode}
+use Rattle.ned_values.specs.contracts.ast.Mode as mode_kind
+use Rattle.ned_values.specs.declared.ast.Mode.{Mode}
 use Rattle.ned_syntax.specs.declared.ast.RecordedMode.{RecordedMode}
 
 abbrev pub same_mode : Mode → Mode → Bool

@@ -9,8 +9,8 @@ use Rattle.ini_entries.specs.declared.entry.ObjectOption.{ObjectOption}
 use Rattle.ini_entries.specs.declared.entry.ObjectOption.TheVariants as object
 use Rattle.ini_config.specs.Entries.{object_for}
 use Rattle.model_answers.specs.Records.{path_under}
-use Rattle.ned_syntax.specs.declared.ast.Mode.{Mode}
-use Rattle.ned_syntax.specs.declared.ast.Mode.TheVariants as mode
+use Rattle.ned_values.specs.declared.ast.Mode.{Mode}
+use Rattle.ned_values.specs.declared.ast.Mode.TheVariants as mode
 use Rattle.ned_syntax.specs.declared.ast.RecordedMode.{RecordedMode}
 use Rattle.ned_syntax.specs.declared.ast.Statistic.{Statistic}
 use Rattle.recorders.specs.Modes.{same_mode, is_recorded}

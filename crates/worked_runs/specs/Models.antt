@@ -3,8 +3,8 @@ use Rattle.std.specs.Prelude.{ℕ, pos, false, List, [], ◌∷◌, ◌++◌, ma
 use Rattle.sim_values.specs.declared.value.Dimension.TheVariants as dimension
 use Rattle.sim_values.specs.declared.value.Value.{Value}
 use Rattle.sim_values.specs.declared.value.Value.TheVariants as values
-use Rattle.ned_syntax.specs.declared.ast.Expression.TheVariants as expression
-use Rattle.ned_syntax.specs.declared.ast.Mode.TheVariants as mode
+use Rattle.ned_values.specs.declared.ast.Expression.TheVariants as expression
+use Rattle.ned_values.specs.declared.ast.Mode.TheVariants as mode
 use Rattle.ned_syntax.specs.declared.ast.ParameterValue.TheVariants as parameter_value
 use Rattle.ned_syntax.specs.declared.ast.ParameterWord.{ParameterWord}
 use Rattle.ned_syntax.specs.declared.ast.ParameterWord.TheVariants as word

@@ -2,7 +2,7 @@ use Rattle.std.proofs.Common.{ap, ◌∙◌, List}
 use Rattle.std.specs.Prelude.{codes}
 use Rattle.std.specs.Option.{option_copied}
 use Rattle.model_answers.specs.Models.{entries_in}
-use Rattle.ned_syntax.specs.declared.ast.Mode.TheVariants as mode
+use Rattle.ned_values.specs.declared.ast.Mode.TheVariants as mode
 use Rattle.ned_syntax.specs.declared.ast.RecordedMode.{RecordedMode}
 use Rattle.recorders.specs.Selection.{is_selected, option_of}
 use Rattle.recorders.proofs.selection.has_vector_mode.Goals as goal

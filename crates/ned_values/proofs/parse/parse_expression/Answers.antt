@@ -5,12 +5,12 @@ use Rattle.ned_tokens.specs.Lines.{tokens_of}
 use Rattle.ned_tokens.proofs.Laws.{ok_is}
 use Rattle.ned_tokens.proofs.Whole.{all_took, all_whole}
 use Rattle.ned_tokens.proofs.LineLemmas.{Blames, blamed}
-use Rattle.ned_syntax.specs.Grammar.{expression}
+use Rattle.ned_values.specs.Grammar.{expression}
 use Rattle.ned_tokens.proofs.ViableLaws.{first_bad}
-use Rattle.ned_syntax.proofs.GrammarLaws.{expression-lawful}
-use Rattle.ned_syntax.proofs.ViableGrammar.{expression_on}
-use Rattle.ned_syntax.proofs.parse.parse_expression.Goals as goal
-use Rattle.ned_syntax.proofs.parse.parse_expression.Goals.{In-Err-At}
+use Rattle.ned_values.proofs.GrammarLaws.{expression-lawful}
+use Rattle.ned_values.proofs.ViableGrammar.{expression_on}
+use Rattle.ned_values.proofs.parse.parse_expression.Goals as goal
+use Rattle.ned_values.proofs.parse.parse_expression.Goals.{In-Err-At}
 
 fault : (c : In-Err-At) → all_read expression (tokens_of c.args.bytes.now) ≡ Err c.in-Err-At.left
 fault c = ap (all_read expression) (sym (c.as_slice.ensures ∙ c.in_ok-list.ensures.tokens)) ∙ (rw c.in-Err-At.field-0-is at c.in-Err-At.ensures)

@@ -1,7 +1,7 @@
 //! Why a text is refused.
 
 ghost use Rattle.std.specs.Prelude.{◌≡◌};
-ghost use Rattle.ned_syntax.specs.declared.error.NedError.TheVariants as errors;
+ghost use Rattle.ned_values.specs.declared.error.NedError.TheVariants as errors;
 
 use std::alloc::AllocError;
 use thiserror::Error;

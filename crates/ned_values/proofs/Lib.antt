@@ -1,0 +1,3 @@
+pub mod GrammarLaws
+pub mod ViableGrammar
+pub mod OneExpression

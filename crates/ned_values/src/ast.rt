@@ -1,0 +1,20 @@
+//! What NED texts and ini texts share, as values that the later layers use.
+
+use sim_values::value::Value;
+
+/// An expression: so far a literal.
+#[derive(Debug, Drop)]
+pub enum Expression {
+    Literal(Value),
+}
+
+/// How the values of a signal are recorded.
+#[derive(Clone, Copy, Debug, PartialEq, Eq)]
+pub enum Mode {
+    Count,
+    Sum,
+    Min,
+    Max,
+    Last,
+    Vector,
+}

@@ -1,0 +1,91 @@
+//! Literals, and expressions.
+
+ghost use Rattle.std.specs.Prelude.{◌≡◌, ◌<◌, ◌^◌, IfOk};
+ghost use Rattle.ned_tokens.specs.Rule.{Gives, begins, all_read};
+ghost use Rattle.ned_values.specs.Grammar as grammar;
+
+use crate::ast::Expression;
+use crate::leaves::{begins_mark, mark};
+use ned_tokens::refusal::Refusal;
+use ned_tokens::token::{Keyword, Mark, Token};
+use sim_values::value::Value;
+use std::alloc::Global;
+
+const LIMIT: u64 = 1 << 63;
+
+/// A literal of one token.
+#[tactic(auto, unfolding(crate::specs::Grammar::plain_literal))]
+fn plain_literal(alloc: Global, tokens: &[Token]) -> Result<(Value, &[Token]), Refusal>
+    ensures { Gives (λ x. (x.0, x.1.now)) result (grammar.plain_literal.read tokens.now) }
+{
+    match tokens {
+        [Token::Number(number), rest @ ..] if *number < LIMIT => {
+            Ok((Value::Whole(*number as i64), rest))
+        }
+        [Token::Word(Keyword::True), rest @ ..] => Ok((Value::Truth(true), rest)),
+        [Token::Word(Keyword::False), rest @ ..] => Ok((Value::Truth(false), rest)),
+        [Token::Literal(text), rest @ ..] => Ok((Value::Text(text.copy(alloc)?), rest)),
+        [Token::Quantity(dimension, amount), rest @ ..] if *amount < LIMIT => {
+            Ok((Value::Quantity(*dimension, *amount as i64), rest))
+        }
+        _ => Err(Refusal::At(tokens.len())),
+    }
+}
+
+#[tactic(auto, unfolding(crate::specs::Grammar::number))]
+fn number(tokens: &[Token]) -> Result<(u64, &[Token]), Refusal>
+    ensures read { Gives (λ x. (x.0, x.1.now)) result (grammar.number.read tokens.now) }
+    ensures small { IfOk result (λ x. x.0 < 2 ^ 63) }
+{
+    match tokens {
+        [Token::Number(number), rest @ ..] if *number < LIMIT => Ok((*number, rest)),
+        _ => Err(Refusal::At(tokens.len())),
+    }
+}
+
+fn negated(number: u64) -> Value
+    requires { number < 2 ^ 63 }
+    ensures { result ≡ grammar.negated number }
+{
+    Value::Whole(-(number as i64))
+}
+
+#[tactic(auto, unfolding(crate::specs::Grammar::negative_literal, crate::specs::Grammar::mark))]
+fn negative_literal(tokens: &[Token]) -> Result<(Value, &[Token]), Refusal>
+    ensures { Gives (λ x. (x.0, x.1.now)) result (grammar.negative_literal.read tokens.now) }
+{
+    let rest = mark(Mark::Minus, tokens)?;
+    let (number, rest) = number(rest)?;
+    Ok((negated(number), rest))
+}
+
+#[tactic(auto, unfolding(crate::specs::Grammar::literal, crate::specs::Grammar::negative_literal, crate::specs::Grammar::mark))]
+fn literal(alloc: Global, tokens: &[Token]) -> Result<(Value, &[Token]), Refusal>
+    ensures { Gives (λ x. (x.0, x.1.now)) result (grammar.literal.read tokens.now) }
+{
+    if begins_mark(Mark::Minus, tokens) {
+        negative_literal(tokens)
+    } else {
+        plain_literal(alloc, tokens)
+    }
+}
+
+/// An expression: so far a literal.
+#[tactic(auto, unfolding(crate::specs::Grammar::expression))]
+pub fn expression(alloc: Global, tokens: &[Token]) -> Result<(Expression, &[Token]), Refusal>
+    ensures { Gives (λ x. (x.0, x.1.now)) result (grammar.expression.read tokens.now) }
+{
+    let (literal, rest) = literal(alloc, tokens)?;
+    Ok((Expression::Literal(literal), rest))
+}
+
+/// An expression and nothing else.
+pub(crate) fn whole_expression(alloc: Global, tokens: &[Token]) -> Result<Expression, Refusal>
+    ensures { Gives (λ x. x) result (all_read grammar.expression tokens.now) }
+{
+    let (expression, rest) = expression(alloc, tokens)?;
+    match rest {
+        [] => Ok(expression),
+        _ => Err(Refusal::At(rest.len())),
+    }
+}
