@@ -1,10 +1,10 @@
 -- Laws of the pieces of an ini text.
 use Rattle.std.proofs.Common.{◌≡◌, ℕ, zero, suc, ◌+◌, ◌-◌, ◌<◌, ◌≤◌, Bool, true, false, cond, eqb, ◌&&◌, not, List, [], ◌∷◌, ◌++◌, length, take, drop, get_or, Option, Some, None, option_map, refl, sym, ap, ◌∙◌, arith, append_assoc, add-one, drop-cons, length-drop, take_all}
-use Rattle.std.proofs.lemmas.Bool.{eqb-true}
+use Rattle.std.proofs.lemmas.Bool.{eqb-true, true≢false}
 use Rattle.std.proofs.Math.Seq.{take-add}
 use Rattle.std.proofs.lemmas.List.{append-nil, take_more, nil_from_length, drop-drop}
 use Rattle.ini_entries.specs.Texts.{Bytes, is_blank, unless_last_blank, before_blanks}
-use Rattle.ini_config.specs.Texts.{add_front, begins_with, lines_of_ini, after_feed, after_line_end, ends_literal, literal_rest, literal_behind, uncommented, before_hash}
+use Rattle.ini_config.specs.Texts.{add_front, begins_with, lines_of_ini, after_feed, after_line_end, ends_literal, takes_next, literal_rest, literal_behind, uncommented, before_hash}
 
 -- ---- the end of a line
 
@@ -105,48 +105,34 @@ join_nil (b ∷ d ∷ ds) h = go (lines_of_ini (d ∷ ds)) (join_nil (d ∷ ds) 
 -- ---- text literals
 
 -- a literal that goes on over the byte
-pub literal_more : (before c : ℕ) (cs : Bytes) (at : ℕ) → ends_literal before c ≡ false → option_map (λ n. n + at) (literal_rest before (c ∷ cs)) ≡ option_map (λ n. n + (at + 1)) (literal_rest c cs)
+literal_more : (taken : Bool) (c : ℕ) (cs : Bytes) (at : ℕ) → ends_literal taken c ≡ false → option_map (λ n. n + at) (literal_rest taken (c ∷ cs)) ≡ option_map (λ n. n + (at + 1)) (literal_rest (takes_next taken c) cs)
 unfolding literal_rest
-literal_more before c cs at h = rw h (go (literal_rest c cs))
+literal_more taken c cs at h = rw h (go (literal_rest (takes_next taken c) cs))
   where
     go : (r : Option ℕ) → option_map (λ n. n + at) (option_map (λ n. suc n) r) ≡ option_map (λ n. n + (at + 1)) r
     go None = refl
     go (Some n) = ap Some (omega arith)
 
-pub literal_ends : (before : ℕ) (cs : Bytes) (at : ℕ) → ends_literal before 34 ≡ true → option_map (λ n. n + at) (literal_rest before (34 ∷ cs)) ≡ Some (at + 1)
-unfolding literal_rest
-literal_ends before cs at h = rw h (ap Some (omega arith))
-
-pub literal_within : (before : ℕ) (bs : Bytes) (n : ℕ) → literal_rest before bs ≡ Some n → n ≤ length bs
-unfolding literal_rest
-literal_within before [] n h = absurd cc
-literal_within before (b ∷ bs) n h = go (eqb b 34 && not (eqb before 92)) (literal_rest b bs) (literal_within b bs) h
-  where
-    go : (t : Bool) (r : Option ℕ) → ((m : ℕ) → r ≡ Some m → m ≤ length bs) → cond t (Some 1) (option_map (λ m. suc m) r) ≡ Some n → n ≤ suc (length bs)
-    go true r ih h = let one : 1 ≡ n = cc in omega arith
-    go false None ih h = absurd cc
-    go false (Some m) ih h = let more : suc m ≡ n = cc in omega (arith, ih m refl)
-
-pub literal_none : (before c : ℕ) (cs : Bytes) → literal_rest before (c ∷ cs) ≡ None → literal_rest c cs ≡ None
-unfolding literal_rest
-literal_none before c cs h = go (eqb c 34 && not (eqb before 92)) (literal_rest c cs) h
-  where
-    go : (t : Bool) (r : Option ℕ) → cond t (Some 1) (option_map (λ m. suc m) r) ≡ None → r ≡ None
-    go true r h = absurd cc
-    go false None h = refl
-    go false (Some m) h = absurd cc
+literal_none : (t : Bool) (r : Option ℕ) → cond t (Some 1) (option_map (λ n. suc n) r) ≡ None → (t ≡ false) × (r ≡ None)
+literal_none true r h = absurd cc
+literal_none false None h = (refl, refl)
+literal_none false (Some m) h = absurd cc
 
 -- ---- comments
 
 -- behind an unclosed `"` no text literal begins
-pub no_literal : (before : ℕ) (bs : Bytes) → literal_rest before bs ≡ None → uncommented 0 bs ≡ before_hash bs
-unfolding uncommented before_hash
-no_literal before [] h = refl
-no_literal before (c ∷ cs) h = let none = literal_none before c cs h in go (eqb c 35) (behind (eqb c 34) refl none) (no_literal c cs none)
+pub no_literal : (taken : Bool) (bs : Bytes) → literal_rest taken bs ≡ None → uncommented 0 bs ≡ before_hash bs
+unfolding uncommented before_hash literal_rest
+no_literal taken [] h = refl
+no_literal taken (c ∷ cs) h =
+    let none = literal_none (ends_literal taken c) (literal_rest (takes_next taken c) cs) h in
+    go (eqb c 35) (behind taken (eqb c 34) refl none.0 none.1) (no_literal (takes_next taken c) cs none.1)
   where
-    behind : (t : Bool) → eqb c 34 ≡ t → literal_rest c cs ≡ None → literal_behind c cs ≡ 0
-    behind true e none = let is : c ≡ 34 = eqb-true c 34 e in let gone : literal_rest 34 cs ≡ None = ap (λ (x : ℕ). literal_rest x cs) (sym is) ∙ none in rw (e, gone) refl
-    behind false e none = rw e refl
+    -- a `"` that a `\` takes along begins none either: what follows it is the same
+    behind : (taken : Bool) (t : Bool) → eqb c 34 ≡ t → ends_literal taken c ≡ false → literal_rest (takes_next taken c) cs ≡ None → literal_behind c cs ≡ 0
+    behind taken false e open none = rw e refl
+    behind true true e open none = rw (e, none) refl
+    behind false true e open none = absurd (true≢false (sym e ∙ open))
 
     go : (t : Bool) → literal_behind c cs ≡ 0 → uncommented 0 cs ≡ before_hash cs → cond t [] (c ∷ uncommented (literal_behind c cs) cs) ≡ cond t [] (c ∷ before_hash cs)
     go true e ih = refl
@@ -159,29 +145,21 @@ literal_stays zero bs = refl
 literal_stays (suc n) [] = refl
 literal_stays (suc n) (b ∷ bs) = ap (λ (l : Bytes). b ∷ l) (literal_stays n bs)
 
-pub uncommented_step : (c : ℕ) (cs : Bytes) → eqb c 35 ≡ false → uncommented 0 (c ∷ cs) ≡ c ∷ uncommented (literal_behind c cs) cs
-unfolding uncommented
-uncommented_step c cs h = rw h refl
-
-pub uncommented_ends : (cs : Bytes) → uncommented 0 (35 ∷ cs) ≡ []
-unfolding uncommented
-uncommented_ends cs = refl
-
 -- ---- at a place of a list
 
 at_place : (bs : Bytes) (i : ℕ) → i < length bs → drop i bs ≡ get_or bs i 0 ∷ drop (i + 1) bs
 at_place bs i h = rw add-one (drop-cons bs i 0 h)
 
-pub literal_step_at : (bs : Bytes) (before i : ℕ) → i < length bs → ends_literal before (get_or bs i 0) ≡ false → option_map (λ n. n + i) (literal_rest before (drop i bs)) ≡ option_map (λ n. n + (i + 1)) (literal_rest (get_or bs i 0) (drop (i + 1) bs))
-literal_step_at bs before i h e = ap (λ (l : Bytes). option_map (λ n. n + i) (literal_rest before l)) (at_place bs i h) ∙ literal_more before (get_or bs i 0) (drop (i + 1) bs) i e
+pub literal_step_at : (bs : Bytes) (taken : Bool) (i : ℕ) → i < length bs → ends_literal taken (get_or bs i 0) ≡ false → option_map (λ n. n + i) (literal_rest taken (drop i bs)) ≡ option_map (λ n. n + (i + 1)) (literal_rest (takes_next taken (get_or bs i 0)) (drop (i + 1) bs))
+literal_step_at bs taken i h e = ap (λ (l : Bytes). option_map (λ n. n + i) (literal_rest taken l)) (at_place bs i h) ∙ literal_more taken (get_or bs i 0) (drop (i + 1) bs) i e
 
-pub literal_ends_at : (bs : Bytes) (before i : ℕ) → i < length bs → ends_literal before (get_or bs i 0) ≡ true → option_map (λ n. n + i) (literal_rest before (drop i bs)) ≡ Some (i + 1)
+pub literal_ends_at : (bs : Bytes) (taken : Bool) (i : ℕ) → i < length bs → ends_literal taken (get_or bs i 0) ≡ true → option_map (λ n. n + i) (literal_rest taken (drop i bs)) ≡ Some (i + 1)
 unfolding literal_rest
-literal_ends_at bs before i h e = ap (λ (l : Bytes). option_map (λ n. n + i) (literal_rest before l)) (at_place bs i h) ∙ rw e (ap Some (omega arith))
+literal_ends_at bs taken i h e = ap (λ (l : Bytes). option_map (λ n. n + i) (literal_rest taken l)) (at_place bs i h) ∙ rw e (ap Some (omega arith))
 
-pub literal_none_at : (bs : Bytes) (before i : ℕ) → length bs ≤ i → option_map (λ n. n + i) (literal_rest before (drop i bs)) ≡ None
+pub literal_none_at : (bs : Bytes) (taken : Bool) (i : ℕ) → length bs ≤ i → option_map (λ n. n + i) (literal_rest taken (drop i bs)) ≡ None
 unfolding literal_rest
-literal_none_at bs before i h = let rest : drop i bs ≡ [] = nil_from_length (drop i bs) (omega (arith, length-drop i bs, h)) in rw rest refl
+literal_none_at bs taken i h = let rest : drop i bs ≡ [] = nil_from_length (drop i bs) (omega (arith, length-drop i bs, h)) in rw rest refl
 
 -- the bytes up to a place, and what a reader makes of the rest
 abbrev pub reads_on : (Bytes → Bytes) → Bytes → ℕ → Bytes
@@ -228,7 +206,7 @@ unfolding uncommented
 comment_all bs i h = on_all (uncommented 0) bs i h refl
 
 -- a `"` that begins a literal
-pub quote_step : (bs : Bytes) (i n : ℕ) → i < length bs → eqb (get_or bs i 0) 34 ≡ true → literal_rest 34 (drop (i + 1) bs) ≡ Some n → reads_on (uncommented 0) bs i ≡ reads_on (uncommented 0) bs (i + 1 + n)
+pub quote_step : (bs : Bytes) (i n : ℕ) → i < length bs → eqb (get_or bs i 0) 34 ≡ true → literal_rest false (drop (i + 1) bs) ≡ Some n → reads_on (uncommented 0) bs i ≡ reads_on (uncommented 0) bs (i + 1 + n)
 unfolding uncommented
 quote_step bs i n h q e =
     let quote : get_or bs i 0 ≡ 34 = eqb-true (get_or bs i 0) 34 q in
@@ -244,12 +222,12 @@ quote_step bs i n h q e =
     ∙ ap (λ (l : Bytes). take (i + 1 + n) bs ++ uncommented 0 l) (drop-drop n (i + 1) bs)
 
 -- a `"` that begins none
-pub quote_ends : (bs : Bytes) (i n : ℕ) → i < length bs → eqb (get_or bs i 0) 34 ≡ true → literal_rest 34 (drop (i + 1) bs) ≡ None → take n (drop (i + 1) bs) ≡ before_hash (drop (i + 1) bs) → reads_on (uncommented 0) bs i ≡ take (i + 1 + n) bs
+pub quote_ends : (bs : Bytes) (i n : ℕ) → i < length bs → eqb (get_or bs i 0) 34 ≡ true → literal_rest false (drop (i + 1) bs) ≡ None → take n (drop (i + 1) bs) ≡ before_hash (drop (i + 1) bs) → reads_on (uncommented 0) bs i ≡ take (i + 1 + n) bs
 unfolding uncommented
 quote_ends bs i n h q e t =
     let quote : get_or bs i 0 ≡ 34 = eqb-true (get_or bs i 0) 34 q in
     let rest : Bytes = drop (i + 1) bs in
     let begins : uncommented 0 (get_or bs i 0 ∷ rest) ≡ get_or bs i 0 ∷ uncommented 0 rest = rw (quote, e) refl in
     on_step (uncommented 0) bs i h begins
-    ∙ ap (λ (l : Bytes). take (i + 1) bs ++ l) (no_literal 34 rest e ∙ sym t)
+    ∙ ap (λ (l : Bytes). take (i + 1) bs ++ l) (no_literal false rest e ∙ sym t)
     ∙ sym (take-add (i + 1) n bs)

@@ -28,19 +28,25 @@ after_line_end (b ∷ bs) = if b == 10 then Some bs else (if b == 13 then after_
 
 -- ---- comments
 
--- a `"` that no `\` stands directly before, of a byte behind this one
-abbrev pub ends_literal : ℕ → ℕ → Bool
-ends_literal before b = b == 34 && not (before == 92)
+-- In a text literal, as NED writes it, a `\` takes the byte behind it along. So of `\\` the second is taken, and a `"` behind
+-- the two ends the literal. (OMNeT++ Simulation Manual, "NED Language Grammar", the token of a text.)
+-- whether this byte takes the next one along, where it is itself taken or not
+abbrev pub takes_next : Bool → ℕ → Bool
+takes_next taken b = not taken && b == 92
+
+-- whether this byte ends the literal
+abbrev pub ends_literal : Bool → ℕ → Bool
+ends_literal taken b = not taken && b == 34
 
 -- How many bytes a text literal still has, behind its first `"` or any byte of it:
--- up to the first `"` that no `\` stands directly before. None where there is no such.
-unfoldable pub literal_rest : ℕ → Bytes → Option ℕ
-literal_rest before [] = None
-literal_rest before (b ∷ bs) = if ends_literal before b then Some 1 else option_map (λ n. suc n) (literal_rest b bs)
+-- up to the first `"` that no `\` takes along. None where there is no such.
+unfoldable pub literal_rest : Bool → Bytes → Option ℕ
+literal_rest taken [] = None
+literal_rest taken (b ∷ bs) = if ends_literal taken b then Some 1 else option_map (λ n. suc n) (literal_rest (takes_next taken b) bs)
 
 -- how many bytes of a text literal follow this byte: none but behind a `"` that is closed
 abbrev pub literal_behind : ℕ → Bytes → ℕ
-literal_behind b bs = if b == 34 then unwrap_or (literal_rest 34 bs) 0 else 0
+literal_behind b bs = if b == 34 then unwrap_or (literal_rest false bs) 0 else 0
 
 -- what stands before the first `#` outside a text literal, where the first n bytes are in one
 unfoldable pub uncommented : ℕ → Bytes → Bytes

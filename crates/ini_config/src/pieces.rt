@@ -1,6 +1,6 @@
 //! The pieces of an ini text: its lines, and what stands before a comment.
 
-ghost use Rattle.std.specs.Prelude.{◌≡◌, ◌+◌, ◌<◌, ◌≤◌, ◌∷◌, length, take, option_map, IfSome};
+ghost use Rattle.std.specs.Prelude.{◌≡◌, ◌+◌, ◌<◌, ◌≤◌, ◌∷◌, false, length, take, option_map, IfSome};
 ghost use Rattle.ini_config.specs.Texts as texts;
 
 use ini_entries::blanks::{after_blanks, before_blanks};
@@ -33,24 +33,31 @@ pub(crate) fn first_line(bytes: &[u8]) -> (&[u8], &[u8])
     (bytes, &[])
 }
 
-/// Whether the byte ends a text literal, behind this one.
-fn ends_literal(before: u8, byte: u8) -> bool
-    ensures { result ≡ texts.ends_literal before byte }
+/// Whether this byte of a text literal ends it, where a `\` before takes it along or not.
+fn ends_literal(taken: bool, byte: u8) -> bool
+    ensures { result ≡ texts.ends_literal taken byte }
 {
-    byte == b'"' && before != b'\\'
+    !taken && byte == b'"'
+}
+
+/// Whether this byte of a text literal takes the next one along.
+fn takes_next(taken: bool, byte: u8) -> bool
+    ensures { result ≡ texts.takes_next taken byte }
+{
+    !taken && byte == b'\\'
 }
 
 /// How many bytes a text literal still has, behind its first `"`.
 fn literal_rest(bytes: &[u8]) -> Option<usize>
-    ensures value { result ≡ texts.literal_rest 34 bytes.now }
+    ensures value { result ≡ texts.literal_rest false bytes.now }
     ensures within { IfSome result (λ n. n ≤ length bytes.now) }
 {
-    let mut before = b'"';
+    let mut taken = false;
     for (at, b) in bytes.iter().enumerate() {
-        if ends_literal(before, *b) {
+        if ends_literal(taken, *b) {
             return Some(at + 1);
         }
-        before = *b;
+        taken = takes_next(taken, *b);
     }
     None
 }

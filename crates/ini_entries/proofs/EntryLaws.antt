@@ -16,11 +16,11 @@ use Rattle.ini_entries.specs.declared.entry.EntryValue.TheVariants as value
 use Rattle.ini_entries.specs.declared.entry.ObjectEntry.{ObjectEntry}
 use Rattle.ini_entries.specs.declared.entry.ObjectOption.{ObjectOption}
 use Rattle.ini_entries.specs.declared.entry.ParameterEntry.{ParameterEntry}
-use Rattle.ini_entries.specs.Keys.{KeyKind, OptionKey, ObjectKey, TypeKey, ParameterKey, kind_of, last_part_from, has_hyphen_from, is_closed}
+use Rattle.ini_entries.specs.Keys.{KeyKind, OptionKey, ObjectKey, TypeKey, ParameterKey, kind_of, last_part_from, has_hyphen_from, is_closed_from}
 use Rattle.ini_entries.specs.Meaning.{IsEntryMeaning, IsEntryValue, IsPatternAndValue, Tells}
-use Rattle.ini_entries.specs.Names.{is_among, is_config_name, is_dotted_name}
+use Rattle.ini_entries.specs.Names.{is_config_name, is_dotted_name}
 use Rattle.ini_entries.specs.Options.{IsObjectOption, config_names, is_only_value, is_other_option, time_literal, words_left_out, words_with_effect, word_network, word_extends, word_time_limit}
-use Rattle.ini_entries.specs.Texts.{Bytes, items_of}
+use Rattle.ini_entries.specs.Texts.{Bytes, is_among, items_of}
 use Rattle.ini_entries.proofs.OptionLaws.{option_same, limit_same}
 
 -- ---- which meanings a key can have
@@ -50,7 +50,7 @@ key_number key = if bytes_eq key word_network then 0 else (if bytes_eq key word_
 
 -- words with effect are no keys of other kinds
 kinds : (key : Bytes) (kind : KeyKind) → kind_of key ≡ kind → kind ≢ OptionKey → (bytes_eq key word_network ≡ false) × (bytes_eq key word_extends ≡ false) × (bytes_eq key word_time_limit ≡ false)
-unfolding last_part_from has_hyphen_from is_closed
+unfolding last_part_from has_hyphen_from is_closed_from
 kinds key kind e other = (not_it word_network refl, not_it word_extends refl, not_it word_time_limit refl)
   where
     not_it : (word : Bytes) → kind_of word ≡ OptionKey → bytes_eq key word ≡ false

@@ -9,9 +9,9 @@ use Rattle.ini_entries.specs.declared.entry.ModeItem.{ModeItem}
 use Rattle.ini_entries.specs.declared.entry.ObjectOption.{ObjectOption}
 use Rattle.ini_entries.specs.declared.entry.ObjectOption.TheVariants as object
 use Rattle.ini_entries.specs.Meaning.{Tells}
-use Rattle.ini_entries.specs.Names.{is_among, is_config_name}
+use Rattle.ini_entries.specs.Names.{is_config_name}
 use Rattle.ini_entries.specs.Options.{IsObjectOption, config_names, mode_item, mode_items, recording_words, time_literal, truth_word, word_modes}
-use Rattle.ini_entries.specs.Texts.{Bytes, items_of}
+use Rattle.ini_entries.specs.Texts.{Bytes, is_among, items_of}
 
 modes_not_recording : (name : Bytes) → name ≡ word_modes → is_among name recording_words ≡ true → ⊥
 unfolding is_among

@@ -1,27 +1,48 @@
 -- Keys of entries: their parts, and what they are for.
 -- OMNeT++ Simulation Manual, "Configuring Simulations", "Per-Object Configuration Options".
 use Rattle.std.specs.Prelude.{ℕ, Bool, true, false, ◌&&◌, [], ◌∷◌, Option, Some, None, ◌==◌, if◌then◌else◌, codes}
-use Rattle.std.specs.List.{list_any}
 use Rattle.std.specs.Str.{bytes_eq}
 use Rattle.ini_entries.specs.declared.keys.KeyPlace.{KeyPlace}
-use Rattle.ini_entries.specs.declared.keys.KeyPlace.TheVariants.{Open, InSet, InBrackets}
+use Rattle.ini_entries.specs.declared.keys.KeyPlace.TheVariants.{Open, InSet, InBrackets, InSetInBrackets}
 use Rattle.ini_entries.specs.Texts.{Bytes}
 
--- whether a `]` follows: without one a `[` is no bracket
-unfoldable pub is_closed : Bytes → Bool
-is_closed bytes = list_any (λ b. b == 93) bytes
+-- ---- sets and brackets
 
--- where the bytes behind this one stand, where a `]` follows or not
+-- whether the bytes behind this one are in a set, where it is in one or not
+abbrev pub in_set_behind : Bool → ℕ → Bool
+in_set_behind true b = if b == 125 then false else true
+in_set_behind false b = b == 123
+
+-- whether this byte is a `]` outside `{}`
+abbrev pub is_closing : Bool → ℕ → Bool
+is_closing true b = false
+is_closing false b = b == 93
+
+-- whether such a `]` follows, where the bytes before are in a set or not; a byte behind a `\` stands for itself
+unfoldable pub is_closed_from : Bool → Bool → Bytes → Bool
+is_closed_from in_set escaped [] = false
+is_closed_from in_set true (b ∷ bs) = is_closed_from in_set false bs
+is_closed_from in_set false (b ∷ bs) = if is_closing in_set b then true else is_closed_from (in_set_behind in_set b) (b == 92) bs
+
+-- what follows a `[` closes it: without such a `]` it is no bracket
+abbrev pub is_closed : Bytes → Bool
+is_closed bytes = is_closed_from false false bytes
+
+-- where the bytes behind this one stand, where a `]` closes what follows or not; a `{` opens a set between brackets too
 abbrev pub place_behind : KeyPlace → ℕ → Bool → KeyPlace
 place_behind Open b closed = if b == 123 then InSet else (if b == 91 && closed then InBrackets else Open)
 place_behind InSet b closed = if b == 125 then Open else InSet
-place_behind InBrackets b closed = if b == 93 then Open else InBrackets
+place_behind InBrackets b closed = if b == 93 then Open else (if b == 123 then InSetInBrackets else InBrackets)
+place_behind InSetInBrackets b closed = if b == 125 then InBrackets else InSetInBrackets
+
+-- ---- the last part
 
 -- a dot outside `{}` and `[]` parts a key
 abbrev pub is_parting : KeyPlace → ℕ → Bool
 is_parting Open b = b == 46
 is_parting InSet b = false
 is_parting InBrackets b = false
+is_parting InSetInBrackets b = false
 
 -- the last part of what follows, or else what follows itself, where a dot parts it from what stands before
 abbrev pub or_rest : Option Bytes → Bool → Bytes → Option Bytes
@@ -39,16 +60,29 @@ last_part_from place false (b ∷ bs) = or_rest (last_part_from (place_behind pl
 abbrev pub last_part : Bytes → Option Bytes
 last_part key = last_part_from Open false key
 
--- whether a `-` is outside `{}`, where the bytes before are in a set or not; a byte behind a `\` stands for itself
-abbrev pub in_set_behind : Bool → ℕ → Bool
-in_set_behind true b = if b == 125 then false else true
-in_set_behind false b = b == 123
+-- What a reader has found that takes each `[` for a bracket: the last part, if no `]` closes the bracket that it is in.
+-- At a `]` it goes back to what it kept.
+abbrev pub found_behind : KeyPlace → ℕ → Bytes → Option Bytes → Option Bytes → Option Bytes
+found_behind Open b rest found kept = if b == 46 then Some rest else found
+found_behind InSet b rest found kept = found
+found_behind InBrackets b rest found kept = if b == 93 then kept else (if b == 46 then Some rest else found)
+found_behind InSetInBrackets b rest found kept = found
 
--- whether this byte is such a `-`
+-- what it keeps at a `[`: what it has found outside brackets
+abbrev pub kept_behind : KeyPlace → ℕ → Option Bytes → Option Bytes → Option Bytes
+kept_behind Open b found kept = if b == 91 then found else kept
+kept_behind InSet b found kept = kept
+kept_behind InBrackets b found kept = kept
+kept_behind InSetInBrackets b found kept = kept
+
+-- ---- hyphens
+
+-- whether this byte is a `-` outside `{}`
 abbrev pub is_hyphen : Bool → ℕ → Bool
 is_hyphen true b = false
 is_hyphen false b = b == 45
 
+-- whether one follows, where the bytes before are in a set or not; a byte behind a `\` stands for itself
 unfoldable pub has_hyphen_from : Bool → Bool → Bytes → Bool
 has_hyphen_from in_set escaped [] = false
 has_hyphen_from in_set true (b ∷ bs) = if is_hyphen in_set b then true else has_hyphen_from in_set false bs
@@ -57,6 +91,8 @@ has_hyphen_from in_set false (b ∷ bs) = if is_hyphen in_set b then true else h
 -- a `-` stands in a last part, outside `{}`
 abbrev pub has_hyphen : Bytes → Bool
 has_hyphen part = has_hyphen_from false false part
+
+-- ---- kinds
 
 abbrev pub word_typename : Bytes
 word_typename = codes "typename"

@@ -13,8 +13,8 @@ use Rattle.ini_entries.specs.declared.entry.ModeItem.{ModeItem}
 use Rattle.ini_entries.specs.declared.entry.ModeItem.TheVariants as item
 use Rattle.ini_entries.specs.declared.entry.ObjectOption.{ObjectOption}
 use Rattle.ini_entries.specs.declared.entry.ObjectOption.TheVariants as object
-use Rattle.ini_entries.specs.Names.{is_among, is_config_name}
-use Rattle.ini_entries.specs.Texts.{Bytes, items_of}
+use Rattle.ini_entries.specs.Names.{is_config_name}
+use Rattle.ini_entries.specs.Texts.{Bytes, is_among, items_of}
 
 -- ---- options of the configuration
 

@@ -1,6 +1,7 @@
--- Blanks and lists.
+-- Blanks, words and lists.
 use Rattle.std.specs.Prelude.{ℕ, Bool, ◌||◌, List, [], ◌∷◌, ◌==◌, if◌then◌else◌, map}
-use Rattle.std.specs.List.{slice_split}
+use Rattle.std.specs.List.{list_any, slice_split}
+use Rattle.std.specs.Str.{bytes_eq}
 
 abbrev pub Bytes : Type 0
 Bytes = List ℕ
@@ -24,6 +25,12 @@ unless_last_blank b (c ∷ cs) = b ∷ c ∷ cs
 unfoldable pub before_blanks : Bytes → Bytes
 before_blanks [] = []
 before_blanks (b ∷ bs) = unless_last_blank b (before_blanks bs)
+
+-- ---- words
+
+-- a text is one of these
+unfoldable pub is_among : Bytes → List Bytes → Bool
+is_among word words = list_any (λ w. bytes_eq word w) words
 
 -- ---- lists
 

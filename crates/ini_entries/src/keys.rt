@@ -1,7 +1,8 @@
 //! What a key is for.
 
-ghost use Rattle.std.specs.Prelude.{◌≡◌, ℕ, drop, length, nat_lt, option_map};
+ghost use Rattle.std.specs.Prelude.{◌≡◌, true};
 ghost use Rattle.std.specs.List.{list_all};
+ghost use Rattle.std.specs.Option.{option_copied};
 ghost use Rattle.ini_entries.specs.Keys as keys;
 ghost use Rattle.ini_entries.specs.Meaning.{is_key, is_key_byte};
 
@@ -16,59 +17,75 @@ pub(crate) enum KeyPlace {
     InSet,
     /// Between brackets.
     InBrackets,
+    /// In a set between brackets.
+    InSetInBrackets,
 }
 
-/// How many bytes stand behind the last `]`: all, where there is none.
-fn open_length(key: &[u8]) -> usize
-    ensures { (n : ℕ) → keys.is_closed (drop n key.now) ≡ nat_lt result (length (drop n key.now)) }
-{
-    let mut start = key.len();
-    'bytes: while start > 0 && key[start - 1] != b']' {
-        start -= 1;
-    }
-    key.len() - start
-}
-
-/// Where the bytes behind this one stand, where a `]` follows or not.
-fn place_behind(place: KeyPlace, byte: u8, closed: bool) -> KeyPlace
-    ensures { result ≡ keys.place_behind place byte closed }
+/// Where the bytes behind this one stand, where each `[` is taken for a bracket.
+fn place_behind(place: KeyPlace, byte: u8) -> KeyPlace
+    ensures { result ≡ keys.place_behind place byte true }
 {
     match place {
         KeyPlace::Open if byte == b'{' => KeyPlace::InSet,
-        KeyPlace::Open if byte == b'[' && closed => KeyPlace::InBrackets,
+        KeyPlace::Open if byte == b'[' => KeyPlace::InBrackets,
         KeyPlace::InSet if byte == b'}' => KeyPlace::Open,
         KeyPlace::InBrackets if byte == b']' => KeyPlace::Open,
+        KeyPlace::InBrackets if byte == b'{' => KeyPlace::InSetInBrackets,
+        KeyPlace::InSetInBrackets if byte == b'}' => KeyPlace::InBrackets,
         _ => place,
     }
 }
 
-/// Whether a byte parts a key.
-fn is_parting(place: KeyPlace, byte: u8) -> bool
-    ensures { result ≡ keys.is_parting place byte }
+/// What is found behind this byte: the last part, if no `]` closes the bracket that it is in.
+fn found_behind<'a>(
+    place: KeyPlace,
+    byte: u8,
+    after: &'a [u8],
+    found: Option<&'a [u8]>,
+    kept: Option<&'a [u8]>,
+) -> Option<&'a [u8]>
+    ensures { option_copied result ≡ keys.found_behind place byte after.now (option_copied found.entry) (option_copied kept.entry) }
 {
     match place {
-        KeyPlace::Open => byte == b'.',
-        _ => false,
+        KeyPlace::Open if byte == b'.' => Some(after),
+        KeyPlace::InBrackets if byte == b']' => kept,
+        KeyPlace::InBrackets if byte == b'.' => Some(after),
+        _ => found,
+    }
+}
+
+/// What was found outside brackets, behind this byte.
+fn kept_behind<'a>(
+    place: KeyPlace,
+    byte: u8,
+    found: Option<&'a [u8]>,
+    kept: Option<&'a [u8]>,
+) -> Option<&'a [u8]>
+    ensures { option_copied result ≡ keys.kept_behind place byte (option_copied found.entry) (option_copied kept.entry) }
+{
+    match place {
+        KeyPlace::Open if byte == b'[' => found,
+        _ => kept,
     }
 }
 
 /// What stands behind the last dot that parts the key.
 pub(crate) fn last_part(key: &[u8]) -> Option<&[u8]>
-    ensures { option_map (λ part. part.now) result ≡ keys.last_part key.now }
+    ensures { option_copied result ≡ keys.last_part key.now }
 {
-    let behind = open_length(key);
     let mut place = KeyPlace::Open;
     let mut escaped = false;
     let mut found = None;
+    let mut kept = None;
     let mut rest = key;
     'bytes: while let Some((byte, after)) = rest.split_first() {
         if escaped {
             escaped = false;
         } else {
-            if is_parting(place, *byte) {
-                found = Some(after);
-            }
-            place = place_behind(place, *byte, behind < after.len());
+            let behind = found_behind(place, *byte, after, found, kept);
+            kept = kept_behind(place, *byte, found, kept);
+            found = behind;
+            place = place_behind(place, *byte);
             escaped = *byte == b'\\';
         }
         rest = after;

@@ -5,8 +5,8 @@ ghost use Rattle.std.specs.Str.{chars};
 ghost use Rattle.ini_pattern.specs.PatternOf.{pattern_of};
 ghost use Rattle.ini_entries.specs.Keys.{ObjectKey, OptionKey, ParameterKey, TypeKey, kind_of, last_part};
 ghost use Rattle.ini_entries.specs.Meaning.{IsEntryMeaning, IsEntryValue, IsPatternAndValue, Tells, is_key};
-ghost use Rattle.ini_entries.specs.Names.{is_among};
 ghost use Rattle.ini_entries.specs.Options as options;
+ghost use Rattle.ini_entries.specs.Texts.{is_among};
 
 use crate::entry::{EntryMeaning, EntryValue, ObjectEntry, ParameterEntry};
 use crate::keys::{has_hyphen, last_part};
@@ -215,7 +215,7 @@ fn kind_meaning(alloc: Global, key: &[u8], value: &[u8]) -> Result<Option<EntryM
 }
 
 /// What an entry says.
-#[tactic(auto, unfolding(crate::specs::Names::is_among))]
+#[tactic(auto, unfolding(crate::specs::Texts::is_among))]
 pub fn entry_meaning(
     alloc: Global,
     key: &[u8],

@@ -4,7 +4,6 @@ ghost use Rattle.std.specs.Prelude.{◌≡◌, ℕ, true, false, map, option_map
 ghost use Rattle.std.specs.List.{list_all};
 ghost use Rattle.ned_values.specs.ExpressionText.{IsExpressionText};
 ghost use Rattle.ini_entries.specs.Meaning.{Tells};
-ghost use Rattle.ini_entries.specs.Names as names;
 ghost use Rattle.ini_entries.specs.Options as options;
 ghost use Rattle.ini_entries.specs.Texts as texts;
 
@@ -78,9 +77,9 @@ pub(crate) fn time_limit(alloc: Global, bytes: &[u8]) -> Result<Option<u64>, All
 }
 
 /// Whether an option that is left out has that name.
-#[tactic(auto, unfolding(crate::specs::Names::is_among))]
+#[tactic(auto, unfolding(crate::specs::Texts::is_among))]
 fn is_left_out(key: &[u8]) -> bool
-    ensures { result ≡ names.is_among key.now options.words_left_out }
+    ensures { result ≡ texts.is_among key.now options.words_left_out }
 {
     key == b"include".as_slice() || key == b"warmup-period".as_slice()
 }
@@ -101,7 +100,7 @@ fn is_only_value(key: &[u8], value: &[u8]) -> bool
 /// Whether an option, other than one with effect, may have a value.
 #[tactic(auto, unfolding(crate::specs::Options::is_other_option))]
 pub(crate) fn is_other_option(key: &[u8], value: &[u8]) -> bool
-    requires { names.is_among key.now options.words_with_effect ≡ false }
+    requires { texts.is_among key.now options.words_with_effect ≡ false }
     ensures { result ≡ options.is_other_option key.now value.now }
 {
     !is_left_out(key) && is_only_value(key, value)
@@ -162,9 +161,9 @@ fn truth_named(bytes: &[u8]) -> Option<bool>
     }
 }
 
-#[tactic(auto, unfolding(crate::specs::Names::is_among))]
+#[tactic(auto, unfolding(crate::specs::Texts::is_among))]
 fn is_recording_word(name: &[u8]) -> bool
-    ensures { result ≡ names.is_among name.now options.recording_words }
+    ensures { result ≡ texts.is_among name.now options.recording_words }
 {
     name == b"scalar-recording".as_slice()
         || name == b"vector-recording".as_slice()
@@ -183,7 +182,7 @@ fn modes_option(alloc: Global, bytes: &[u8]) -> Result<Option<ObjectOption>, All
 
 /// What an option says of whether something is recorded.
 fn recording_option(name: &[u8], bytes: &[u8]) -> Option<ObjectOption>
-    requires { names.is_among name.now options.recording_words ≡ true }
+    requires { texts.is_among name.now options.recording_words ≡ true }
     ensures { Tells (options.IsObjectOption name.now bytes.now) result }
 {
     Some(ObjectOption::Recording(truth_named(bytes)?))

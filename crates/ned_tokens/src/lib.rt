@@ -14,6 +14,6 @@ pub mod refusal;
 pub mod runs;
 pub mod token;
 mod units;
-mod words;
+pub mod words;
 
 pub use units::unit_of;

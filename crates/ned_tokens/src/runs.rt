@@ -21,7 +21,7 @@ pub enum Class {
 }
 
 /// Whether a byte is an ASCII letter.
-pub(crate) fn is_letter(b: u8) -> bool
+pub fn is_letter(b: u8) -> bool
     ensures { result ≡ runs.is_letter b }
 {
     b.is_ascii_uppercase() || b.is_ascii_lowercase()
@@ -41,7 +41,7 @@ fn is_hex(b: u8) -> bool
 }
 
 /// Whether a byte may stand in a run of this class.
-pub(crate) fn is_in(class: Class, b: u8) -> bool
+pub fn is_in(class: Class, b: u8) -> bool
     ensures { result ≡ runs.is_in class b }
 {
     match class {

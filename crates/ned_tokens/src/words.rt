@@ -117,7 +117,7 @@ fn value_word(word: &[u8]) -> Option<Keyword>
 
 /// The word that these letters spell, if they do.
 #[tactic(auto, unfolding(crate::specs::Words::keyword_of))]
-pub(crate) fn keyword_of(word: &[u8]) -> Option<Keyword>
+pub fn keyword_of(word: &[u8]) -> Option<Keyword>
     ensures { result ≡ words.keyword_of word.now }
 {
     if let Some(found) = head_word(word) {

@@ -12,13 +12,13 @@ returns-then-byte-eq35-clause-text c =
 pub returns-in_default-clause-text : goal.returns-in_default-clause-text
 returns-in_default-clause-text c =
     let quote : eqb (get_or c.args.bytes.now c.bytes.end 0) 34 ≡ true = grind (arith, nat_tests) in
-    let none : literal_rest 34 (drop (c.bytes.end + 1) c.args.bytes.now) ≡ None = ap (literal_rest 34) (sym c.split_at.ensures.back) ∙ sym c.literal_rest.ensures.value ∙ c.in_default.is in
+    let none : literal_rest false (drop (c.bytes.end + 1) c.args.bytes.now) ≡ None = ap (literal_rest false) (sym c.split_at.ensures.back) ∙ sym c.literal_rest.ensures.value ∙ c.in_default.is in
     sym (quote_ends c.args.bytes.now c.bytes.end c.plain_length.result (omega arith) quote none (rw c.split_at.ensures.back at c.plain_length.ensures.text)) ∙ c.bytes.invariant.text
 
 pub bytes-preserved-then-byte-eq34 : goal.bytes-preserved-then-byte-eq34
 bytes-preserved-then-byte-eq34 c =
     let quote : eqb (get_or c.args.bytes.now c.bytes.end 0) 34 ≡ true = grind (arith, nat_tests) in
-    let some : literal_rest 34 (drop (c.bytes.end + 1) c.args.bytes.now) ≡ Some c.in-Some.length = ap (literal_rest 34) (sym c.split_at.ensures.back) ∙ sym c.literal_rest.ensures.value ∙ c.in-Some.is in
+    let some : literal_rest false (drop (c.bytes.end + 1) c.args.bytes.now) ≡ Some c.in-Some.length = ap (literal_rest false) (sym c.split_at.ensures.back) ∙ sym c.literal_rest.ensures.value ∙ c.in-Some.is in
     record {
       within = omega (arith, c.in-Some.ensures.within);
       text = sym (quote_step c.args.bytes.now c.bytes.end c.in-Some.length (omega arith) quote some) ∙ c.bytes.invariant.text;
