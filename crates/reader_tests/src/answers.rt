@@ -4,7 +4,7 @@ use crate::chain_rows::tell_configuration;
 use crate::edit_rows::tell_edit;
 use crate::meaning_rows::{tell_entry_pattern, tell_meaning};
 use crate::pattern_rows::tell_pattern;
-use crate::{ini_rows, ned_rows, rows};
+use crate::{ini_rows, ned_rows, rows, time_rows};
 use std::alloc::{AllocError, Global};
 
 /// Tells what becomes of a row of several parts, by its first part and those behind it.
@@ -19,6 +19,9 @@ fn tell_parts(
         "patterns" => tell_pattern(alloc, told, first, rest),
         "entry_patterns" => tell_entry_pattern(alloc, told, first, rest),
         "configurations" => tell_configuration(alloc, told, first, rest),
+        "decimals" => time_rows::tell_decimal(told, first, rest),
+        "time_texts" => time_rows::tell_texts(told, first, rest),
+        "sums" => time_rows::tell_sums(told, first, rest),
         _ => tell_edit(alloc, told, first, rest),
     }
 }
@@ -40,9 +43,13 @@ fn tell_row(alloc: Global, told: &mut String, file: &str, row: &str) -> Result<(
         "ini_texts" => ini_rows::tell_text(alloc, told, row),
         "ini_copies" => ini_rows::tell_copied(alloc, told, row),
         "meanings" => tell_meaning(alloc, told, row),
-        "patterns" | "entry_patterns" | "configurations" | "edits" => {
-            tell_parted(alloc, told, file, row)
-        }
+        "patterns"
+        | "entry_patterns"
+        | "configurations"
+        | "edits"
+        | "decimals"
+        | "time_texts"
+        | "sums" => tell_parted(alloc, told, file, row),
         _ => rows::tell_line(alloc, told, row),
     }
 }

@@ -10,6 +10,7 @@ mod meaning_rows;
 mod ned_rows;
 mod pattern_rows;
 mod rows;
+mod time_rows;
 mod words;
 
 use answers::answer;
