@@ -233,7 +233,7 @@ line_can _ h = tt
 -- a property but a statistic, as a line
 keeps_plain_line : Keeps plain_line CanBeLine
 unfolding plain_line
-keeps_plain_line = mapped (λ p h. line_can (effect_of p.0 p.1.0 p.1.1) (effect_can p.0 p.1.0 p.1.1 h.1.1)) (then (anything plain_name) (then (anything index) keeps_body))
+keeps_plain_line = mapped line_can (mapped (λ p h. effect_can p.0 p.1.0 p.1.1 h.1.1) (then (anything plain_name) (then (anything index) keeps_body)))
 
 -- ---- statistics
 

@@ -381,7 +381,7 @@ a_statistic s = to (before (a_mark m.At) (this plain_line (before statistic_key 
 -- `@class(..)`
 a_class : (text : List ℕ) → Spells property_line (line_tokens (lines.Class text)) (lines.Class text)
 unfolding property_line property_text plain_line plain_name index body
-a_class text = before (a_mark m.At) (that statistic (mapped (then class_name (then (nothing bracketed) (some (a_body text))))))
+a_class text = before (a_mark m.At) (that statistic (mapped (mapped (then class_name (then (nothing bracketed) (some (a_body text)))))))
   where
     class_name : Spells plain_name (token.Name (codes "class") ∷ []) names.Class
     class_name = one (token.Name (codes "class")) refl
@@ -389,7 +389,7 @@ a_class text = before (a_mark m.At) (that statistic (mapped (then class_name (th
 -- `@ignored`
 an_ignored : Spells property_line (line_tokens lines.Ignored) lines.Ignored
 unfolding property_line property_text plain_line plain_name index body
-an_ignored = before (a_mark m.At) (that statistic (mapped (then other_name (then (nothing bracketed) (nothing in_parens)))))
+an_ignored = before (a_mark m.At) (that statistic (mapped (mapped (then other_name (then (nothing bracketed) (nothing in_parens))))))
   where
     other_name : Spells plain_name (token.Name (codes "ignored") ∷ []) names.Other
     other_name = one (token.Name (codes "ignored")) refl

@@ -300,7 +300,7 @@ plain_name-lawful = token-lawful plain_name_of
 
 pub plain_line-lawful : Lawful plain_line
 unfolding plain_line plain_name
-plain_line-lawful = mapped (then plain_name-lawful (then index-lawful body-lawful index_apart) (λ t e. refl))
+plain_line-lawful = mapped (mapped (then plain_name-lawful (then index-lawful body-lawful index_apart) (λ t e. refl)))
 
 statistic_name : (p : Bool) (property : PropertyName) → is_some (plain_of (Some (cond p names.Statistic property))) || false ≡ true → is_some (cond {A = Option (Unit {0})} p (Some tt) None) || false ≡ false
 statistic_name true property e = absurd (false≢true e)

@@ -203,7 +203,7 @@ plain_name_on = token-viable plain_name_of (token.Name letter) names.Other refl
 
 plain_line_on : Viable plain_line
 unfolding plain_line
-plain_line_on = mapped_on (then_on laws.plain_name-lawful plain_name_on (then_on laws.index-lawful index_on body_on))
+plain_line_on = mapped_on (mapped_on (then_on laws.plain_name-lawful plain_name_on (then_on laws.index-lawful index_on body_on)))
 
 property_text_on : Viable property_text
 unfolding property_text

@@ -1,7 +1,7 @@
 -- The grammar of NED over tokens, a definition for each rule (OMNeT++ Simulation Manual, "NED Language Grammar").
 -- `a ⊗ b` is a and then b; `a ▷ b` the same with the value of b, `a ◁ b` with that of a.
 use denote.Enum.Bare.{sameb}
-use Rattle.std.specs.Prelude.{ℕ, ◌^◌, pos, neg_ℤ, Bool, true, false, ◌||◌, not, List, [], ◌∷◌, Option, Some, None, nat_lt, if◌then◌else◌, codes, is_some, unwrap_or}
+use Rattle.std.specs.Prelude.{ℕ, ◌^◌, pos, neg_ℤ, Bool, true, false, ◌||◌, not, List, [], ◌∷◌, Option, Some, None, Ok, nat_lt, if◌then◌else◌, codes, is_some, unwrap_or}
 use Rattle.std.specs.Str.{bytes_eq}
 use Rattle.sim_values.specs.declared.value.Value.{Value}
 use Rattle.sim_values.specs.declared.value.Value.TheVariants as values
@@ -16,7 +16,7 @@ use Rattle.ned_tokens.specs.declared.token.Token.{Token}
 use Rattle.ned_tokens.specs.declared.token.Token.TheVariants as token
 use Rattle.ned_tokens.specs.Words.{or_else}
 use Rattle.ned_tokens.specs.Units.{unit_of}
-use Rattle.ned_tokens.specs.Rule.{Rule, token as one_token, ◌⊗◌, ◌◁◌, ◌▷◌, made, such_that, either, optional, many}
+use Rattle.ned_tokens.specs.Rule.{Rule, Reading, ◌>>=◌, map_read, token as one_token, ◌⊗◌, ◌◁◌, ◌▷◌, made, such_that, either, optional, many}
 use Rattle.ned_tokens.specs.Balanced.{Turn, opens, closes, stays, bars, balanced}
 use Rattle.ned_values.specs.declared.ast.Expression.{Expression}
 use Rattle.ned_values.specs.declared.ast.Expression.TheVariants as expressions
@@ -49,6 +49,12 @@ use Rattle.ned_syntax.specs.declared.parameters.Tail.{Tail}
 -- single tokens, literals, expressions and names of modes are those of `ned_values`
 unfoldable pub use Rattle.ned_values.specs.Grammar.{word, mark, name, plain_literal, number, negative_literal, literal, expression}
 pub use Rattle.ned_values.specs.Grammar.{Bytes, same_word, same_mark, is_word, is_mark, name_of, whole_of, whole_value, quantity_value, literal_of, number_of, negated, mode_named}
+
+-- ---- a mark behind a value
+
+-- this value, where the mark comes next
+abbrev pub ended_read : {X : Type 0} → X → Mark → List Token → Reading X
+ended_read {X} x wanted ts = map_read {X = X × Unit {0}} (λ p. p.0) ((mark wanted).read ts >>= λ y. Ok ((x, y.0), y.1))
 
 -- ---- text in parentheses: of the tokens only parentheses count, and a broken token stands nowhere
 
@@ -125,6 +131,10 @@ abbrev pub effect_of : PropertyName → Option Bytes → Option (List Token) →
 effect_of property (Some text) tokens = effects.Other
 effect_of property None None = effects.Other
 effect_of property None (Some tokens) = said property tokens
+
+-- what a property of this name says by what is behind the name
+abbrev pub effect_read : PropertyName → List Token → Reading Effect
+effect_read property ts = map_read {X = PropertyName × (Option Bytes × Option (List Token))} (λ p. effect_of p.0 p.1.0 p.1.1) ((index ⊗ body).read ts >>= λ y. Ok ((property, y.0), y.1))
 
 -- property = "@" name ["[" name "]"] ["(" balanced ")"]
 unfoldable pub property : Rule Effect
@@ -350,7 +360,7 @@ line_of _ = lines.Ignored
 
 -- a property but a statistic, behind its `@`, as a line
 unfoldable pub plain_line : Rule SectionLine
-plain_line = made (λ p. line_of (effect_of p.0 p.1.0 p.1.1)) (plain_name ⊗ (index ⊗ body))
+plain_line = made line_of (made (λ p. effect_of p.0 p.1.0 p.1.1) (plain_name ⊗ (index ⊗ body)))
 
 unfoldable pub property_text : Rule SectionLine
 property_text = either statistic plain_line
@@ -419,9 +429,12 @@ is_measured d = is_measured_word d.word d.unit
 unfoldable pub declaration : Rule Declaration
 declaration = such_that is_measured any_declaration
 
+abbrev pub assigned : Bytes → Tail → Assignment
+assigned text t = record { name = text; value = value_in t.valued }
+
 -- name tail
 unfoldable pub assignment : Rule Assignment
-assignment = made (λ p. record { name = p.0; value = value_in p.1.valued }) (name ⊗ tail)
+assignment = made (λ p. assigned p.0 p.1) (name ⊗ tail)
 
 unfoldable pub assigned_or_said : Rule SectionLine
 assigned_or_said = either (made lines.Assignment assignment) property_line
@@ -443,9 +456,13 @@ section = heading ▷ many section_line
 
 -- ---- types
 
+-- "{" section "}"
+abbrev pub section_block : Rule (List SectionLine)
+section_block = mark m.Open ▷ (section ◁ mark m.Close)
+
 -- "simple" name "{" [params] "}"
 unfoldable pub simple : Rule TypeDeclaration
-simple = made (λ p. record { kind = kinds.Simple; name = p.0; lines = p.1; submodules = [] }) (word k.Simple ▷ (name ⊗ (mark m.Open ▷ (section ◁ mark m.Close))))
+simple = made (λ p. record { kind = kinds.Simple; name = p.0; lines = p.1; submodules = [] }) (word k.Simple ▷ (name ⊗ section_block))
 
 -- name ":" name ";"
 unfoldable pub submodule : Rule Submodule
@@ -459,9 +476,13 @@ listed (Some xs) = xs
 unfoldable pub submodules : Rule (List Submodule)
 submodules = made listed (optional (word k.Submodules ▷ (mark m.Colon ▷ many submodule)))
 
+-- "{" submodules "}"
+abbrev pub submodules_block : Rule (List Submodule)
+submodules_block = mark m.Open ▷ (submodules ◁ mark m.Close)
+
 -- "network" name "{" [submodules] "}"
 unfoldable pub network : Rule TypeDeclaration
-network = made (λ p. record { kind = kinds.Network; name = p.0; lines = []; submodules = p.1 }) (word k.Network ▷ (name ⊗ (mark m.Open ▷ (submodules ◁ mark m.Close))))
+network = made (λ p. record { kind = kinds.Network; name = p.0; lines = []; submodules = p.1 }) (word k.Network ▷ (name ⊗ submodules_block))
 
 unfoldable pub type_rule : Rule TypeDeclaration
 type_rule = either simple network

@@ -51,6 +51,18 @@ pub(crate) fn balanced_text(tokens: &[Token]) -> Result<(&[Token], &[Token]), Re
     Ok((tokens, &[]))
 }
 
+/// A value that was read, where this mark comes next.
+pub(crate) fn ended<T: Drop>(
+    value: T,
+    wanted: Mark,
+    tokens: &[Token],
+) -> Result<(T, &[Token]), Refusal>
+    ensures { Gives (λ x. (x.0, x.1.now)) result (grammar.ended_read value wanted tokens.now) }
+{
+    let rest = mark(wanted, tokens)?;
+    Ok((value, rest))
+}
+
 #[tactic(auto, unfolding(crate::specs::Grammar::in_parens))]
 pub(crate) fn in_parens(tokens: &[Token]) -> Result<(&[Token], &[Token]), Refusal>
     ensures { Gives (λ x. (x.0.now, x.1.now)) result (grammar.in_parens.read tokens.now) }

@@ -4,7 +4,7 @@ ghost use Rattle.ned_tokens.specs.Rule.{Gives};
 ghost use Rattle.ned_syntax.specs.Grammar as grammar;
 
 use crate::ast::ParameterValue;
-use crate::leaves::{begins_word, mark, word};
+use crate::leaves::{begins_word, ended, mark, word};
 use ned_tokens::refusal::Refusal;
 use ned_tokens::token::{Keyword, Mark, Token};
 use ned_values::literals::expression;
@@ -17,7 +17,7 @@ fn default_value(alloc: Global, tokens: &[Token]) -> Result<(ParameterValue, &[T
     let rest = word(Keyword::Default, tokens)?;
     let rest = mark(Mark::LeftParen, rest)?;
     let (expression, rest) = expression(alloc, rest)?;
-    let rest = mark(Mark::RightParen, rest)?;
+    let (expression, rest) = ended(expression, Mark::RightParen, rest)?;
     Ok((ParameterValue::Default(expression), rest))
 }
 

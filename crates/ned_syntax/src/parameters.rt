@@ -5,7 +5,7 @@ ghost use Rattle.ned_tokens.specs.Rule.{Gives, begins, many, optional};
 ghost use Rattle.ned_syntax.specs.Grammar as grammar;
 
 use crate::ast::{Assignment, Declaration, ParameterValue, ParameterWord, SectionLine};
-use crate::leaves::{begins_mark, begins_name, begins_word, mark, name, word};
+use crate::leaves::{begins_mark, begins_name, begins_word, ended, mark, name, word};
 use crate::literals::value;
 use crate::properties::{Effect, first_unit, plain_line, properties};
 use crate::statistics::{begins_statistic, statistic};
@@ -17,7 +17,7 @@ use sqlite_items::Items;
 use std::alloc::Global;
 
 /// A value, and the properties behind it.
-#[derive(Debug, Drop)]
+#[derive(Drop)]
 pub struct Valued {
     /// The value.
     pub value: ParameterValue,
@@ -26,7 +26,7 @@ pub struct Valued {
 }
 
 /// What is behind a parameter's name.
-#[derive(Debug, Drop)]
+#[derive(Drop)]
 pub struct Tail {
     /// What the properties in front of a value say, in their order.
     pub before: Items<Effect>,
@@ -117,17 +117,28 @@ fn declared(word: ParameterWord, name: Text, tail: Tail) -> Declaration
     }
 }
 
+fn parameter_word_of(token: &Token) -> Option<ParameterWord>
+    ensures { result ≡ grammar.parameter_word_of token.now }
+{
+    match token {
+        Token::Word(Keyword::Bool) => Some(ParameterWord::Bool),
+        Token::Word(Keyword::Int) => Some(ParameterWord::Int),
+        Token::Word(Keyword::Text) => Some(ParameterWord::Text),
+        Token::Word(Keyword::Double) => Some(ParameterWord::Double),
+        _ => None,
+    }
+}
+
 #[tactic(auto, unfolding(crate::specs::Grammar::parameter_word))]
 fn parameter_word(tokens: &[Token]) -> Result<(ParameterWord, &[Token]), Refusal>
     ensures { Gives (λ x. (x.0, x.1.now)) result (grammar.parameter_word.read tokens.now) }
 {
-    match tokens {
-        [Token::Word(Keyword::Bool), rest @ ..] => Ok((ParameterWord::Bool, rest)),
-        [Token::Word(Keyword::Int), rest @ ..] => Ok((ParameterWord::Int, rest)),
-        [Token::Word(Keyword::Text), rest @ ..] => Ok((ParameterWord::Text, rest)),
-        [Token::Word(Keyword::Double), rest @ ..] => Ok((ParameterWord::Double, rest)),
-        _ => Err(Refusal::At(tokens.len())),
+    if let [first, rest @ ..] = tokens {
+        if let Some(word) = parameter_word_of(first) {
+            return Ok((word, rest));
+        }
     }
+    Err(Refusal::At(tokens.len()))
 }
 
 #[tactic(auto, unfolding(crate::specs::Grammar::volatile, crate::specs::Grammar::word))]
@@ -172,19 +183,22 @@ fn declaration(alloc: Global, tokens: &[Token]) -> Result<(Declaration, &[Token]
     Ok((declaration, rest))
 }
 
+fn assigned(name: Text, tail: Tail) -> Assignment
+    ensures { result ≡ grammar.assigned name tail }
+{
+    Assignment {
+        name,
+        value: value_in(tail.valued),
+    }
+}
+
 #[tactic(auto, unfolding(crate::specs::Grammar::assignment))]
 fn assignment(alloc: Global, tokens: &[Token]) -> Result<(Assignment, &[Token]), Refusal>
     ensures { Gives (λ x. (x.0, x.1.now)) result (grammar.assignment.read tokens.now) }
 {
     let (name, rest) = name(alloc, tokens)?;
     let (tail, rest) = read_tail(alloc, rest)?;
-    Ok((
-        Assignment {
-            name,
-            value: value_in(tail.valued),
-        },
-        rest,
-    ))
+    Ok((assigned(name, tail), rest))
 }
 
 /// A property as a line of its own, behind its `@`.
@@ -251,8 +265,7 @@ fn section_line(alloc: Global, tokens: &[Token]) -> Result<(SectionLine, &[Token
     ensures { Gives (λ x. (x.0, x.1.now)) result (grammar.section_line.read tokens.now) }
 {
     let (line, rest) = any_line(alloc, tokens)?;
-    let rest = mark(Mark::Semi, rest)?;
-    Ok((line, rest))
+    ended(line, Mark::Semi, rest)
 }
 
 #[tactic(auto, unfolding(crate::specs::Grammar::section_line, crate::specs::Grammar::any_line, crate::specs::Grammar::assigned_or_said, crate::specs::Grammar::assignment, crate::specs::Grammar::property_line, crate::specs::Grammar::name, crate::specs::Grammar::mark))]

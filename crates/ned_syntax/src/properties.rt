@@ -5,7 +5,7 @@ ghost use Rattle.ned_tokens.specs.Rule.{Gives, begins, many};
 ghost use Rattle.ned_syntax.specs.Grammar as grammar;
 
 use crate::ast::SectionLine;
-use crate::leaves::{begins_mark, in_parens, mark, name};
+use crate::leaves::{begins_mark, ended, in_parens, mark, name};
 use ned_tokens::refusal::Refusal;
 use ned_tokens::token::{Mark, Token};
 use ned_tokens::unit_of;
@@ -15,7 +15,7 @@ use sqlite_items::Items;
 use std::alloc::{AllocError, Global};
 
 /// The name of a property, as far as it has an effect.
-#[derive(Clone, Copy, Debug)]
+#[derive(Clone, Copy)]
 pub enum PropertyName {
     /// `unit`.
     Unit,
@@ -28,7 +28,7 @@ pub enum PropertyName {
 }
 
 /// What a property says.
-#[derive(Debug, Drop)]
+#[derive(Drop)]
 pub enum Effect {
     /// `@unit(u)`, with u of the table.
     Unit(Dimension),
@@ -53,15 +53,26 @@ fn name_of(text: &[u8]) -> PropertyName
 }
 
 /// A name or a word of the language.
+fn property_name_of(token: &Token) -> Option<PropertyName>
+    ensures { result ≡ grammar.property_name_of token.now }
+{
+    match token {
+        Token::Name(text) => Some(name_of(text.as_bytes())),
+        Token::Word(_) => Some(PropertyName::Other),
+        _ => None,
+    }
+}
+
 #[tactic(auto, unfolding(crate::specs::Grammar::property_name))]
 fn property_name(tokens: &[Token]) -> Result<(PropertyName, &[Token]), Refusal>
     ensures { Gives (λ x. (x.0, x.1.now)) result (grammar.property_name.read tokens.now) }
 {
-    match tokens {
-        [Token::Name(text), rest @ ..] => Ok((name_of(text.as_bytes()), rest)),
-        [Token::Word(_), rest @ ..] => Ok((PropertyName::Other, rest)),
-        _ => Err(Refusal::At(tokens.len())),
+    if let [first, rest @ ..] = tokens {
+        if let Some(name) = property_name_of(first) {
+            return Ok((name, rest));
+        }
     }
+    Err(Refusal::At(tokens.len()))
 }
 
 #[tactic(auto, unfolding(crate::specs::Grammar::bracketed))]
@@ -70,8 +81,7 @@ pub(crate) fn bracketed(alloc: Global, tokens: &[Token]) -> Result<(Text, &[Toke
 {
     let rest = mark(Mark::LeftBracket, tokens)?;
     let (index, rest) = name(alloc, rest)?;
-    let rest = mark(Mark::RightBracket, rest)?;
-    Ok((index, rest))
+    ended(index, Mark::RightBracket, rest)
 }
 
 #[tactic(auto, unfolding(crate::specs::Grammar::index, crate::specs::Grammar::bracketed, crate::specs::Grammar::mark))]
@@ -125,15 +135,26 @@ fn effect_of(
     }
 }
 
+/// What a property of this name says by what is behind the name.
+fn effect_behind(
+    alloc: Global,
+    name: PropertyName,
+    tokens: &[Token],
+) -> Result<(Effect, &[Token]), Refusal>
+    ensures { Gives (λ x. (x.0, x.1.now)) result (grammar.effect_read name tokens.now) }
+{
+    let (index, rest) = index(alloc, tokens)?;
+    let (body, rest) = body(rest)?;
+    Ok((effect_of(alloc, name, index, body)?, rest))
+}
+
 #[tactic(auto, unfolding(crate::specs::Grammar::property, crate::specs::Grammar::mark))]
 pub(crate) fn property(alloc: Global, tokens: &[Token]) -> Result<(Effect, &[Token]), Refusal>
     ensures { Gives (λ x. (x.0, x.1.now)) result (grammar.property.read tokens.now) }
 {
     let rest = mark(Mark::At, tokens)?;
     let (name, rest) = property_name(rest)?;
-    let (index, rest) = index(alloc, rest)?;
-    let (body, rest) = body(rest)?;
-    Ok((effect_of(alloc, name, index, body)?, rest))
+    effect_behind(alloc, name, rest)
 }
 
 #[tactic(auto, unfolding(crate::specs::Grammar::property, crate::specs::Grammar::mark))]
@@ -176,13 +197,9 @@ pub(crate) fn first_unit(effects: &[Effect]) -> Option<Dimension>
 fn plain_name_of(token: &Token) -> Option<PropertyName>
     ensures { result ≡ grammar.plain_name_of token.now }
 {
-    match token {
-        Token::Name(text) => match name_of(text.as_bytes()) {
-            PropertyName::Statistic => None,
-            name => Some(name),
-        },
-        Token::Word(_) => Some(PropertyName::Other),
-        _ => None,
+    match property_name_of(token) {
+        Some(PropertyName::Statistic) => None,
+        name => name,
     }
 }
 
@@ -217,7 +234,6 @@ pub(crate) fn plain_line(
     ensures { Gives (λ x. (x.0, x.1.now)) result (grammar.plain_line.read tokens.now) }
 {
     let (name, rest) = plain_name(tokens)?;
-    let (index, rest) = index(alloc, rest)?;
-    let (body, rest) = body(rest)?;
-    Ok((line_of(effect_of(alloc, name, index, body)?), rest))
+    let (effect, rest) = effect_behind(alloc, name, rest)?;
+    Ok((line_of(effect), rest))
 }

@@ -5,7 +5,7 @@ ghost use Rattle.ned_tokens.specs.Rule.{Gives, begins, many};
 ghost use Rattle.ned_syntax.specs.Grammar as grammar;
 
 use crate::ast::{Mode, RecordedMode, SectionLine, Statistic};
-use crate::leaves::{begins_mark, in_parens, mark, name};
+use crate::leaves::{begins_mark, ended, in_parens, mark, name};
 use crate::properties::bracketed;
 use ned_tokens::refusal::Refusal;
 use ned_tokens::token::{Mark, Token};
@@ -15,7 +15,7 @@ use sqlite_items::Items;
 use std::alloc::{AllocError, Global};
 
 /// A part of a statistic's body.
-#[derive(Debug, Drop)]
+#[derive(Drop)]
 pub enum Part {
     /// `source=name`.
     Source(Text),
@@ -120,7 +120,7 @@ fn group(tokens: &[Token]) -> Result<&[Token], Refusal>
 }
 
 /// Which tokens a loose text may not begin with.
-#[derive(Clone, Copy, Debug)]
+#[derive(Clone, Copy)]
 pub enum Except {
     /// None.
     Nothing,
@@ -429,7 +429,7 @@ fn next_parts(alloc: Global, tokens: &[Token]) -> Result<(Items<Option<Part>>, &
 // ---- the whole
 
 /// What a statistic's body says: its source and its modes, each as the first part that says it does.
-#[derive(Debug, Drop)]
+#[derive(Drop)]
 pub struct Said {
     /// The name behind `source=`.
     pub source: Option<Text>,
@@ -475,8 +475,7 @@ fn statistic_body(alloc: Global, tokens: &[Token]) -> Result<(Said, &[Token]), R
     let rest = mark(Mark::LeftParen, tokens)?;
     let (first, rest) = optional_part(alloc, rest)?;
     let (others, rest) = next_parts(alloc, rest)?;
-    let rest = mark(Mark::RightParen, rest)?;
-    Ok((said_by_all(first, others), rest))
+    ended(said_by_all(first, others), Mark::RightParen, rest)
 }
 
 #[tactic(auto, unfolding(crate::specs::Grammar::optional_body, crate::specs::Grammar::statistic_body, crate::specs::Grammar::mark))]

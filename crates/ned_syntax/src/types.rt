@@ -4,13 +4,21 @@ ghost use Rattle.std.specs.Prelude.{◌≡◌};
 ghost use Rattle.ned_tokens.specs.Rule.{Gives, begins, many, all_read};
 ghost use Rattle.ned_syntax.specs.Grammar as grammar;
 
-use crate::ast::{NedFile, Submodule, TypeDeclaration, TypeKind};
-use crate::leaves::{begins_name, begins_word, mark, name, word};
+use crate::ast::{NedFile, SectionLine, Submodule, TypeDeclaration, TypeKind};
+use crate::leaves::{begins_name, begins_word, ended, mark, name, word};
 use crate::parameters::section;
 use ned_tokens::refusal::Refusal;
 use ned_tokens::token::{Keyword, Mark, Token};
 use sqlite_items::Items;
 use std::alloc::Global;
+
+fn section_block(alloc: Global, tokens: &[Token]) -> Result<(Items<SectionLine>, &[Token]), Refusal>
+    ensures { Gives (λ x. (x.0, x.1.now)) result (grammar.section_block.read tokens.now) }
+{
+    let rest = mark(Mark::Open, tokens)?;
+    let (lines, rest) = section(alloc, rest)?;
+    ended(lines, Mark::Close, rest)
+}
 
 #[tactic(auto, unfolding(crate::specs::Grammar::simple))]
 fn simple(alloc: Global, tokens: &[Token]) -> Result<(TypeDeclaration, &[Token]), Refusal>
@@ -18,9 +26,7 @@ fn simple(alloc: Global, tokens: &[Token]) -> Result<(TypeDeclaration, &[Token])
 {
     let rest = word(Keyword::Simple, tokens)?;
     let (name, rest) = name(alloc, rest)?;
-    let rest = mark(Mark::Open, rest)?;
-    let (lines, rest) = section(alloc, rest)?;
-    let rest = mark(Mark::Close, rest)?;
+    let (lines, rest) = section_block(alloc, rest)?;
     Ok((
         TypeDeclaration {
             kind: TypeKind::Simple,
@@ -81,15 +87,24 @@ fn submodules(alloc: Global, tokens: &[Token]) -> Result<(Items<Submodule>, &[To
     submodule_list(alloc, rest)
 }
 
+fn submodules_block(
+    alloc: Global,
+    tokens: &[Token],
+) -> Result<(Items<Submodule>, &[Token]), Refusal>
+    ensures { Gives (λ x. (x.0, x.1.now)) result (grammar.submodules_block.read tokens.now) }
+{
+    let rest = mark(Mark::Open, tokens)?;
+    let (submodules, rest) = submodules(alloc, rest)?;
+    ended(submodules, Mark::Close, rest)
+}
+
 #[tactic(auto, unfolding(crate::specs::Grammar::network))]
 fn network(alloc: Global, tokens: &[Token]) -> Result<(TypeDeclaration, &[Token]), Refusal>
     ensures { Gives (λ x. (x.0, x.1.now)) result (grammar.network.read tokens.now) }
 {
     let rest = word(Keyword::Network, tokens)?;
     let (name, rest) = name(alloc, rest)?;
-    let rest = mark(Mark::Open, rest)?;
-    let (submodules, rest) = submodules(alloc, rest)?;
-    let rest = mark(Mark::Close, rest)?;
+    let (submodules, rest) = submodules_block(alloc, rest)?;
     Ok((
         TypeDeclaration {
             kind: TypeKind::Network,
