@@ -1,13 +1,11 @@
 -- What the desk answers, and what it keeps.
 use Rattle.std.specs.Prelude.{◌≡◌, ℕ, List, Option, Some, None, codes}
 use Rattle.module_api.specs.Behaviour.{Behaviour}
-use Rattle.module_api.specs.Meaning.{Module}
 use Rattle.model_answers.specs.declared.model.Model.{Model}
-use Rattle.run_semantics.specs.Run.{run_to}
-use Rattle.run_semantics.specs.Ending.{ending}
 use Rattle.kernel.specs.declared.request.Request.{Request}
-use Rattle.edit_session.specs.Editing.{Editing, completed}
-use Rattle.edit_session.specs.Sessions.{editing_of, IsSound}
+use Rattle.kernel.specs.Kernels.{Members}
+use Rattle.edit_session.specs.Editing.{Editing, completed, fresh_run}
+use Rattle.edit_session.specs.Sessions.{editing_of, IsSound, KeepsModel}
 use Rattle.desk.specs.Answers.{done_text}
 use Rattle.desk.specs.Commands.{command_of}
 use Rattle.desk.specs.declared.commands.Command.{Command}
@@ -18,16 +16,20 @@ use Rattle.desk.specs.declared.desk.DeskTurn.TheVariants as turn
 
 module _ {C X : Type 0} {Y : X → Type 0} where
   -- what callers see of its session
-  abbrev pub editing_at : ((v : X) → Y v → Module) → Desk C X Y → Editing
-  editing_at meaning d = editing_of meaning d.session
+  abbrev pub editing_at : Members X Y → Desk C X Y → Editing
+  editing_at members d = editing_of members d.session
 
   -- the limit of the last run
   abbrev pub limit_at : Desk C X Y → ℕ
   limit_at d = d.limit
 
   -- what it keeps
-  abbrev pub IsSettled : Behaviour → ((v : X) → Y v → Module) → Desk C X Y → Type 0
-  IsSettled b meaning d = IsSound b meaning d.session
+  abbrev pub IsSettled : Behaviour → Members X Y → Desk C X Y → Type 0
+  IsSettled b members d = IsSound b members d.session
+
+  -- it keeps that, and its model is the one before
+  abbrev pub StaysSettled : Behaviour → Members X Y → Desk C X Y → Desk C X Y → Type 0
+  StaysSettled b members before after = KeepsModel b members before.session after.session
 
 abbrev pub IfText : DeskTurn → Type 0 → Type 0
 IfText (turn.Text text) P = P
@@ -36,7 +38,7 @@ IfText (turn.Want request) P = Unit {0}
 -- THE ANSWER TO `run N`: that of a fresh run of the model
 abbrev pub run_answer : Behaviour → Model → ℕ → List ℕ
 run_answer b m limit =
-    let ran = ending b m (run_to b m limit) in
+    let ran = fresh_run b m limit in
     done_text ran.outcome None ran.world.count
 
 -- a run's text is that of a fresh run, or it waits for a box
@@ -53,9 +55,13 @@ AnswersCommand b m command.TooLarge answer = answer ≡ turn.Text (codes "refuse
 abbrev pub AnswersLine : Behaviour → Model → List ℕ → DeskTurn → Type 0
 AnswersLine b m line answer = AnswersCommand b m (command_of line) answer
 
+-- what a run leaves whose answer is a text: it is done
+abbrev pub LeavesRun : Behaviour → Editing → ℕ → DeskTurn → Editing → Type 0
+LeavesRun b e limit answer later = IfText answer (later.done ≡ Some (completed b e.model limit))
+
 -- What a command leaves: a run that is done, or all as it was
 abbrev pub LeavesCommand : Behaviour → Editing → Command → DeskTurn → Editing → Type 0
-LeavesCommand b e (command.Run limit) answer later = IfText answer (later.done ≡ Some (completed b e.model limit))
+LeavesCommand b e (command.Run limit) answer later = LeavesRun b e limit answer later
 LeavesCommand b e command.Unknown answer later = later ≡ e
 LeavesCommand b e command.TooLarge answer later = later ≡ e
 

@@ -89,7 +89,8 @@ fn push_start(text: &mut Vec<u8>, from: Option<u64>) -> Result<(), AllocError>
 
 /// The answer of a run that is done.
 pub fn done_text(alloc: Global, report: &Report) -> Result<Text, AllocError>
-    ensures { IfOk result (λ text. text ≡ done_text report.now.outcome report.now.started_from report.now.executed) }
+    ensures { IfOk result (λ text. text
+        ≡ done_text report.now.outcome report.now.started_from report.now.executed) }
 {
     let mut text = Vec::new(alloc);
     push(&mut text, b"done ")?;

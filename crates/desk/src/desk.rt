@@ -1,13 +1,13 @@
 //! The desk.
 
 ghost use Rattle.std.specs.Prelude.{◌≡◌, ◌↔◌, ◌+◌, Some, None, IsSome, OnOk, OnErr, IfOk, IfErr, option_map, option_copied};
-ghost use Rattle.edit_session.specs.Editing.{Completed, completed, IsFor, IsUnknown, wanted_of};
+ghost use Rattle.edit_session.specs.Editing.{Completed, IsFor, IsUnknown, wanted_of};
 ghost use Rattle.edit_session.specs.Files.{FileWritten};
 ghost use Rattle.edit_session.specs.Sessions.{editing_of, IsSound};
 ghost use Rattle.edit_session.specs.declared.running.Phase.{Phase};
 ghost use Rattle.edit_session.specs.declared.session.SupplyReason.{SupplyReason};
 ghost use Rattle.desk.specs.Commands.{command_of};
-ghost use Rattle.desk.specs.Turns.{editing_at, limit_at, limit_after, IsSettled, AnswersRun, AnswersLine, LeavesLine, IfText, IfWanting};
+ghost use Rattle.desk.specs.Turns.{editing_at, limit_at, limit_after, AnswersLine, AnswersRun, IfWanting, IsSettled, LeavesLine, LeavesRun, StaysSettled};
 
 use crate::answers::done_text;
 use crate::commands::{Command, command_of};
@@ -20,6 +20,7 @@ use run_semantics::outcome::Outcome;
 use sim_values::NoMemory;
 use sim_values::text::Text;
 use std::alloc::Global;
+use std::marker::PhantomData;
 
 /// What the desk answers.
 #[derive(Debug, Drop)]
@@ -36,31 +37,37 @@ pub struct Desk<C: Catalogue> {
     session: Session<C>,
     /// The limit of the last run.
     limit: u64,
+    /// What the session holds, so that contracts can name what boxes say of themselves.
+    holds: PhantomData<Box<dyn SimpleModule>>,
 }
 
 impl<C: Catalogue> Desk<C> {
     /// The desk of a session.
     pub fn of_session(alloc: Global, session: Session<C>) -> Desk<C>
-        requires sound { IsSound C.behaviour (λ v. (⟦<dyn SimpleModule as SimpleModule>⟧ v).meaning) session }
-        ensures sound { IsSettled C.behaviour (λ v. (⟦<dyn SimpleModule as SimpleModule>⟧ v).meaning) result }
-        ensures editing { editing_at (λ v. (⟦<dyn SimpleModule as SimpleModule>⟧ v).meaning) result ≡ editing_of (λ v. (⟦<dyn SimpleModule as SimpleModule>⟧ v).meaning) session }
+        requires sound { IsSound C.behaviour SimpleModule-box session }
+        ensures sound { IsSettled C.behaviour SimpleModule-box result }
+        ensures editing { editing_at SimpleModule-box result ≡ editing_of SimpleModule-box session }
     {
         Desk {
             alloc,
             session,
             limit: 0,
+            holds: PhantomData,
         }
     }
 
     /// Answers a command line. Where memory runs out the line has no answer.
     pub fn line(&mut self, line: &[u8]) -> Result<DeskTurn, NoMemory>
-        requires sound { IsSettled C.behaviour (λ v. (⟦<dyn SimpleModule as SimpleModule>⟧ v).meaning) self.old }
-        ensures sound { IsSettled C.behaviour (λ v. (⟦<dyn SimpleModule as SimpleModule>⟧ v).meaning) self.new }
-        ensures model { (editing_at (λ v. (⟦<dyn SimpleModule as SimpleModule>⟧ v).meaning) self.new).model ≡ (editing_at (λ v. (⟦<dyn SimpleModule as SimpleModule>⟧ v).meaning) self.old).model }
+        requires sound { IsSettled C.behaviour SimpleModule-box self.old }
+        ensures kept { StaysSettled C.behaviour SimpleModule-box self.old self.new }
         ensures limit { limit_at self.new ≡ limit_after (command_of line.now) (limit_at self.old) }
-        ensures answer { IfOk result (λ turn. AnswersLine C.behaviour (editing_at (λ v. (⟦<dyn SimpleModule as SimpleModule>⟧ v).meaning) self.old).model line.now turn) }
-        ensures done { IfOk result (λ turn. LeavesLine C.behaviour (editing_at (λ v. (⟦<dyn SimpleModule as SimpleModule>⟧ v).meaning) self.old) line.now turn (editing_at (λ v. (⟦<dyn SimpleModule as SimpleModule>⟧ v).meaning) self.new)) }
-        ensures waits { IfOk result (λ turn. IfWanting turn (λ request. wanted_of (editing_at (λ v. (⟦<dyn SimpleModule as SimpleModule>⟧ v).meaning) self.new) ≡ Some request)) }
+        ensures answer { let before = editing_at SimpleModule-box self.old in
+            IfOk result (λ turn. AnswersLine C.behaviour before.model line.now turn) }
+        ensures done { let before = editing_at SimpleModule-box self.old in
+            let after = editing_at SimpleModule-box self.new in
+            IfOk result (λ turn. LeavesLine C.behaviour before line.now turn after) }
+        ensures waits { let after = editing_at SimpleModule-box self.new in
+            IfOk result (λ turn. IfWanting turn (λ request. wanted_of after ≡ Some request)) }
     {
         match command_of(line) {
             Command::Run(limit) => self.run(limit),
@@ -77,13 +84,16 @@ impl<C: Catalogue> Desk<C> {
 
     /// Runs the model for at most so many events, or goes on with the run that waits.
     pub fn run(&mut self, limit: u64) -> Result<DeskTurn, NoMemory>
-        requires sound { IsSettled C.behaviour (λ v. (⟦<dyn SimpleModule as SimpleModule>⟧ v).meaning) self.old }
-        ensures sound { IsSettled C.behaviour (λ v. (⟦<dyn SimpleModule as SimpleModule>⟧ v).meaning) self.new }
-        ensures model { (editing_at (λ v. (⟦<dyn SimpleModule as SimpleModule>⟧ v).meaning) self.new).model ≡ (editing_at (λ v. (⟦<dyn SimpleModule as SimpleModule>⟧ v).meaning) self.old).model }
+        requires sound { IsSettled C.behaviour SimpleModule-box self.old }
+        ensures kept { StaysSettled C.behaviour SimpleModule-box self.old self.new }
         ensures limit { limit_at self.new ≡ limit }
-        ensures answer { IfOk result (λ turn. AnswersRun C.behaviour (editing_at (λ v. (⟦<dyn SimpleModule as SimpleModule>⟧ v).meaning) self.old).model limit turn) }
-        ensures done { IfOk result (λ turn. IfText turn ((editing_at (λ v. (⟦<dyn SimpleModule as SimpleModule>⟧ v).meaning) self.new).done ≡ Some (completed C.behaviour (editing_at (λ v. (⟦<dyn SimpleModule as SimpleModule>⟧ v).meaning) self.old).model limit))) }
-        ensures waits { IfOk result (λ turn. IfWanting turn (λ request. wanted_of (editing_at (λ v. (⟦<dyn SimpleModule as SimpleModule>⟧ v).meaning) self.new) ≡ Some request)) }
+        ensures answer { let before = editing_at SimpleModule-box self.old in
+            IfOk result (λ turn. AnswersRun C.behaviour before.model limit turn) }
+        ensures done { let before = editing_at SimpleModule-box self.old in
+            let after = editing_at SimpleModule-box self.new in
+            IfOk result (λ turn. LeavesRun C.behaviour before limit turn after) }
+        ensures waits { let after = editing_at SimpleModule-box self.new in
+            IfOk result (λ turn. IfWanting turn (λ request. wanted_of after ≡ Some request)) }
     {
         self.limit = limit;
         match self.session.run(limit)? {
@@ -94,26 +104,33 @@ impl<C: Catalogue> Desk<C> {
 
     /// Goes on with the last run.
     pub fn go_on(&mut self) -> Result<DeskTurn, NoMemory>
-        requires sound { IsSettled C.behaviour (λ v. (⟦<dyn SimpleModule as SimpleModule>⟧ v).meaning) self.old }
-        ensures sound { IsSettled C.behaviour (λ v. (⟦<dyn SimpleModule as SimpleModule>⟧ v).meaning) self.new }
-        ensures model { (editing_at (λ v. (⟦<dyn SimpleModule as SimpleModule>⟧ v).meaning) self.new).model ≡ (editing_at (λ v. (⟦<dyn SimpleModule as SimpleModule>⟧ v).meaning) self.old).model }
+        requires sound { IsSettled C.behaviour SimpleModule-box self.old }
+        ensures kept { StaysSettled C.behaviour SimpleModule-box self.old self.new }
         ensures limit { limit_at self.new ≡ limit_at self.old }
-        ensures answer { IfOk result (λ turn. AnswersRun C.behaviour (editing_at (λ v. (⟦<dyn SimpleModule as SimpleModule>⟧ v).meaning) self.old).model (limit_at self.old) turn) }
-        ensures done { IfOk result (λ turn. IfText turn ((editing_at (λ v. (⟦<dyn SimpleModule as SimpleModule>⟧ v).meaning) self.new).done ≡ Some (completed C.behaviour (editing_at (λ v. (⟦<dyn SimpleModule as SimpleModule>⟧ v).meaning) self.old).model (limit_at self.old)))) }
-        ensures waits { IfOk result (λ turn. IfWanting turn (λ request. wanted_of (editing_at (λ v. (⟦<dyn SimpleModule as SimpleModule>⟧ v).meaning) self.new) ≡ Some request)) }
+        ensures answer { let before = editing_at SimpleModule-box self.old in
+            IfOk result (λ turn. AnswersRun C.behaviour before.model (limit_at self.old) turn) }
+        ensures done { let before = editing_at SimpleModule-box self.old in
+            let after = editing_at SimpleModule-box self.new in
+            IfOk result (λ turn. LeavesRun C.behaviour before (limit_at self.old) turn after) }
+        ensures waits { let after = editing_at SimpleModule-box self.new in
+            IfOk result (λ turn. IfWanting turn (λ request. wanted_of after ≡ Some request)) }
     {
         self.run(self.limit)
     }
 
     /// Gives the module that the run waits for its box, or hands the box back.
     pub fn supply(&mut self, held: Box<dyn SimpleModule>) -> Result<(), SupplyFault>
-        requires wanted { IsFor C.behaviour (wanted_of (editing_at (λ v. (⟦<dyn SimpleModule as SimpleModule>⟧ v).meaning) self.old)) (meaning held) }
-        requires sound { IsSettled C.behaviour (λ v. (⟦<dyn SimpleModule as SimpleModule>⟧ v).meaning) self.old }
-        ensures sound { IsSettled C.behaviour (λ v. (⟦<dyn SimpleModule as SimpleModule>⟧ v).meaning) self.new }
-        ensures ok { let editing = editing_at (λ v. (⟦<dyn SimpleModule as SimpleModule>⟧ v).meaning) self.old in
-            OnOk result ((IsSome (wanted_of editing)) × (editing_at (λ v. (⟦<dyn SimpleModule as SimpleModule>⟧ v).meaning) self.new ≡ record editing { held = editing.held + 1 })) }
-        ensures err { IfErr result (λ fault. (fault.held ≡ held) × (editing_at (λ v. (⟦<dyn SimpleModule as SimpleModule>⟧ v).meaning) self.new ≡ editing_at (λ v. (⟦<dyn SimpleModule as SimpleModule>⟧ v).meaning) self.old)
-            × (fault.reason ≡ SupplyReason.NotWanted ↔ wanted_of (editing_at (λ v. (⟦<dyn SimpleModule as SimpleModule>⟧ v).meaning) self.old) ≡ None)) }
+        requires wanted { let editing = editing_at SimpleModule-box self.old in
+            IsFor C.behaviour (wanted_of editing) (meaning held) }
+        requires sound { IsSettled C.behaviour SimpleModule-box self.old }
+        ensures sound { IsSettled C.behaviour SimpleModule-box self.new }
+        ensures ok { let editing = editing_at SimpleModule-box self.old in
+            OnOk result (IsSome (wanted_of editing)
+            × (editing_at SimpleModule-box self.new ≡ record editing { held = editing.held + 1 })) }
+        ensures err { let editing = editing_at SimpleModule-box self.old in
+            IfErr result (λ fault. (fault.held ≡ held)
+            × (editing_at SimpleModule-box self.new ≡ editing)
+            × (fault.reason ≡ SupplyReason.NotWanted ↔ wanted_of editing ≡ None)) }
         ensures limit { limit_at self.new ≡ limit_at self.old }
     {
         self.session.supply(held)
@@ -121,12 +138,16 @@ impl<C: Catalogue> Desk<C> {
 
     /// Says that there is no box for the module that the run waits for.
     pub fn decline(&mut self) -> Result<(), NotWanted>
-        requires unknown { IsUnknown C.behaviour (wanted_of (editing_at (λ v. (⟦<dyn SimpleModule as SimpleModule>⟧ v).meaning) self.old)) }
-        requires sound { IsSettled C.behaviour (λ v. (⟦<dyn SimpleModule as SimpleModule>⟧ v).meaning) self.old }
-        ensures sound { IsSettled C.behaviour (λ v. (⟦<dyn SimpleModule as SimpleModule>⟧ v).meaning) self.new }
-        ensures ok { let editing = editing_at (λ v. (⟦<dyn SimpleModule as SimpleModule>⟧ v).meaning) self.old in
-            OnOk result ((IsSome (wanted_of editing)) × (editing_at (λ v. (⟦<dyn SimpleModule as SimpleModule>⟧ v).meaning) self.new ≡ record editing { phase = Phase.Declined })) }
-        ensures err { OnErr result ((wanted_of (editing_at (λ v. (⟦<dyn SimpleModule as SimpleModule>⟧ v).meaning) self.old) ≡ None) × (editing_at (λ v. (⟦<dyn SimpleModule as SimpleModule>⟧ v).meaning) self.new ≡ editing_at (λ v. (⟦<dyn SimpleModule as SimpleModule>⟧ v).meaning) self.old)) }
+        requires unknown { let editing = editing_at SimpleModule-box self.old in
+            IsUnknown C.behaviour (wanted_of editing) }
+        requires sound { IsSettled C.behaviour SimpleModule-box self.old }
+        ensures sound { IsSettled C.behaviour SimpleModule-box self.new }
+        ensures ok { let editing = editing_at SimpleModule-box self.old in
+            OnOk result (IsSome (wanted_of editing)
+            × (editing_at SimpleModule-box self.new ≡ record editing { phase = Phase.Declined })) }
+        ensures err { let editing = editing_at SimpleModule-box self.old in
+            OnErr result ((wanted_of editing ≡ None)
+            × (editing_at SimpleModule-box self.new ≡ editing)) }
         ensures limit { limit_at self.new ≡ limit_at self.old }
     {
         self.session.decline()
@@ -134,17 +155,20 @@ impl<C: Catalogue> Desk<C> {
 
     /// Writes the vector file of the last run.
     pub fn vectors<O: Out>(&self, out: &mut O) -> Result<(), FileFault>
-        requires sound { IsSettled C.behaviour (λ v. (⟦<dyn SimpleModule as SimpleModule>⟧ v).meaning) self.now }
-        ensures written { FileWritten C.behaviour (editing_at (λ v. (⟦<dyn SimpleModule as SimpleModule>⟧ v).meaning) self.now).model (editing_at (λ v. (⟦<dyn SimpleModule as SimpleModule>⟧ v).meaning) self.now).done
-            (O.content out.old) (O.failures out.old) (O.content out.new) (O.failures out.new) result }
+        requires sound { IsSettled C.behaviour SimpleModule-box self.now }
+        ensures written { let editing = editing_at SimpleModule-box self.now in
+            FileWritten C.behaviour editing.model editing.done
+            (O.content out.old) (O.failures out.old) (O.content out.new) (O.failures out.new)
+            result }
     {
         self.session.vectors(out)
     }
 
     /// How the last run ended, where one is done.
     pub fn outcome(&self) -> Option<&Outcome>
-        requires sound { IsSettled C.behaviour (λ v. (⟦<dyn SimpleModule as SimpleModule>⟧ v).meaning) self.now }
-        ensures { option_copied result ≡ option_map (λ (d : Completed). d.outcome) (editing_at (λ v. (⟦<dyn SimpleModule as SimpleModule>⟧ v).meaning) self.now).done }
+        requires sound { IsSettled C.behaviour SimpleModule-box self.now }
+        ensures { let editing = editing_at SimpleModule-box self.now in
+            option_copied result ≡ option_map (λ (d : Completed). d.outcome) editing.done }
     {
         self.session.outcome()
     }

@@ -1,5 +1,5 @@
 -- What a session keeps.
-use Rattle.std.specs.Prelude.{◌≡◌, ◌⊎◌, ℕ, Bool, false, List, Option, Some, None, option_map, length, drop, slice_get}
+use Rattle.std.specs.Prelude.{◌≡◌, ◌⊎◌, ◌<◌, ◌^◌, ℕ, Bool, false, List, Option, Some, None, option_map, length, drop, slice_get}
 use Rattle.module_api.specs.Behaviour.{Behaviour}
 use Rattle.module_api.specs.Meaning.{Module, IsFresh}
 use Rattle.model_answers.specs.declared.model.Model.{Model}
@@ -8,7 +8,7 @@ use Rattle.run_semantics.specs.declared.outcome.Fault.TheVariants.{UnknownClass}
 use Rattle.run_semantics.specs.declared.outcome.Outcome.{Outcome}
 use Rattle.run_semantics.specs.World.{World, HasRoom}
 use Rattle.run_semantics.specs.Perform.{Flow, On, Stopped, Broken}
-use Rattle.run_semantics.specs.Run.{Part, parts_of, prepared, ready, place_all, start, Over, run_to}
+use Rattle.run_semantics.specs.Run.{Part, parts_of, prepared, ready, place_all, start, Over, Ran, run_to}
 use Rattle.run_semantics.specs.Ending.{ending}
 use Rattle.result_files.specs.declared.vector_file.VectorFile.{VectorFile}
 use Rattle.result_files.specs.VectorText.{vector_file_of}
@@ -30,10 +30,14 @@ pub record Completed : Type 0 where
   pub outcome : Outcome
   pub file : VectorFile
 
--- a fresh run of the model to that limit, with its ending
+-- A FRESH RUN of the model, stopped after at most so many events, with its ending
+abbrev pub fresh_run : Behaviour → Model → ℕ → Ran
+fresh_run b m limit = ending b m (run_to b m limit)
+
+-- what is kept of it
 abbrev pub completed : Behaviour → Model → ℕ → Completed
 completed b m limit =
-    let ran = ending b m (run_to b m limit) in
+    let ran = fresh_run b m limit in
     record { limit = limit; outcome = ran.outcome; file = vector_file_of m ran.world.records ran.world.emissions }
 
 -- what callers see of a session: the model; the last run, where it is done; where a run stands that isn't, and how many
@@ -94,7 +98,13 @@ IsLive b m w Declined = IsDeclined b m w
 
 -- a fresh run, stopped after at most n events, with its end
 abbrev pub whole_run : Behaviour → Model → ℕ → World → Outcome → Type 0
-whole_run b m n w outcome = ending b m (run_to b m n) ≡ record { world = w; outcome = outcome }
+whole_run b m n w outcome = fresh_run b m n ≡ record { world = w; outcome = outcome }
+
+-- A run of the model, stopped after at most so many events, left this; numbers are far from running out.
+pub record IsStopped (b : Behaviour) (m : Model) (limit : ℕ) (ran : Ran) : Type 0 where
+  pub room : HasRoom ran.world
+  pub count : ran.world.count < 2 ^ 64
+  pub ran_is : run_to b m limit ≡ ran
 
 -- the world is what the run that is done left
 abbrev pub IsLeft : Behaviour → Model → World → Option Completed → Type 0
@@ -146,6 +156,28 @@ IsFor b (Some request) box = IsFresh b request.kind box
 abbrev pub IsUnknown : Behaviour → Option Request → Type 0
 IsUnknown b None = Unit {0}
 IsUnknown b (Some request) = b.known request.kind ≡ false
+
+-- WHAT A RUN THAT IS DONE TELLS, and what is kept of it: a fresh run of the model. It needs no box, or none that there is.
+pub record IsFreshRun (b : Behaviour) (before : Editing) (limit : ℕ) (report : Report) (after : Editing) : Type 0 where
+  pub outcome : report.outcome ≡ (fresh_run b before.model limit).outcome
+  pub started_from : report.started_from ≡ None
+  pub executed : report.executed ≡ (fresh_run b before.model limit).world.count
+  pub done : after.done ≡ Some (completed b before.model limit)
+  pub needs_none : (before.phase ≡ Declined) ⊎ (wanted_by before.model (kept_boxes before.phase before.held) ≡ None)
+
+-- It waits for the box that its model wants next, with those that it kept, and none is done.
+pub record WaitsFor (before : Editing) (request : Request) (after : Editing) : Type 0 where
+  pub wanted : wanted_by before.model (kept_boxes before.phase before.held) ≡ Some request
+  pub waits : after ≡ record { model = before.model; done = None; phase = Waiting; held = kept_boxes before.phase before.held }
+
+-- no run waits, and none is done
+pub record IsIdle (e : Editing) : Type 0 where
+  pub done : e.done ≡ None
+  pub idle : e.phase ≡ Idle
+
+-- a session of that model, without a run
+abbrev pub fresh_editing : Model → Editing
+fresh_editing m = record { model = m; done = None; phase = Idle; held = 0 }
 
 abbrev pub IfDone : Progress → (Report → Type 0) → Type 0
 IfDone (progress.Want request) P = Unit {0}

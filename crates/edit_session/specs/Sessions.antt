@@ -1,8 +1,7 @@
 -- A session, by what its boxes mean.
-use Rattle.std.specs.Prelude.{List, Option, option_map, length}
+use Rattle.std.specs.Prelude.{◌≡◌, List, Option, option_map, length}
 use Rattle.module_api.specs.Behaviour.{Behaviour}
-use Rattle.module_api.specs.Meaning.{Module}
-use Rattle.kernel.specs.Kernels.{seats_in, world_in}
+use Rattle.kernel.specs.Kernels.{Members, seats_in, world_in}
 use Rattle.edit_session.specs.Editing.{Completed, Editing, IsKept}
 use Rattle.edit_session.specs.declared.session.Done.{Done}
 use Rattle.edit_session.specs.declared.session.Session.{Session}
@@ -12,15 +11,20 @@ completed_of d = record { limit = d.limit; outcome = d.outcome; file = d.file }
 
 module _ {C X : Type 0} {Y : X → Type 0} where
   -- what callers see of it
-  abbrev pub editing_of : ((v : X) → Y v → Module) → Session C X Y → Editing
-  editing_of meaning s = record {
+  abbrev pub editing_of : Members X Y → Session C X Y → Editing
+  editing_of members s = record {
     model = s.model;
     done = option_map completed_of s.done;
     phase = s.phase;
-    held = length (seats_in meaning s.kernel);
+    held = length (seats_in members s.runner.kernel);
   }
 
   -- what it keeps
-  abbrev pub IsSound : Behaviour → ((v : X) → Y v → Module) → Session C X Y → Type 0
-  IsSound b meaning s =
-      IsKept b (seats_in meaning s.kernel) (world_in meaning s.kernel) s.model s.phase (option_map completed_of s.done)
+  abbrev pub IsSound : Behaviour → Members X Y → Session C X Y → Type 0
+  IsSound b members s =
+      IsKept b (seats_in members s.runner.kernel) (world_in members s.runner.kernel) s.model s.phase (option_map completed_of s.done)
+
+  -- It is sound, and of the same model as before.
+  pub record KeepsModel (b : Behaviour) (members : Members X Y) (before after : Session C X Y) : Type 0 where
+    pub sound : IsSound b members after
+    pub model : (editing_of members after).model ≡ (editing_of members before).model

@@ -147,7 +147,8 @@ fn lines_of(alloc: Global, bytes: &[u8]) -> Result<IniText, BeginFault>
 
 /// The types that the files declare.
 fn table_of(alloc: Global, files: Vec<NedFile>) -> Result<TypeTable, BeginFault>
-    ensures accepted { IfOk result (λ table. (table ≡ types_of files.items) × (fault_of (types_of files.items) ≡ None)) }
+    ensures accepted { let types = types_of files.items in
+        IfOk result (λ table. (table ≡ types) × (fault_of types ≡ None)) }
     ensures refused { IfErr result (λ fault. RefusesTypes (types_of files.items) fault) }
 {
     match TypeTable::build(alloc, files) {
@@ -161,7 +162,8 @@ fn table_of(alloc: Global, files: Vec<NedFile>) -> Result<TypeTable, BeginFault>
 
 /// The chain of a configuration.
 fn chain_of(alloc: Global, lines: &IniText, config: &[u8]) -> Result<Items<Text>, BeginFault>
-    ensures accepted { IfOk result (λ chain. IsChain lines.now config.now chain × (is_section config.now lines.now ≡ true)) }
+    ensures accepted { IfOk result (λ chain. IsChain lines.now config.now chain
+        × (is_section config.now lines.now ≡ true)) }
     ensures refused { IfErr result (λ fault. RefusesConfig lines.now config.now fault) }
 {
     match lines.chain(alloc, config) {

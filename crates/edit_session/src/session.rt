@@ -1,19 +1,16 @@
 //! A session.
 
-ghost use Rattle.std.specs.Prelude.{◌≡◌, ◌↔◌, ◌+◌, Some, None, IsSome, OnOk, OnErr, IfOk, IfErr, ◌⊎◌, option_map, option_copied};
-ghost use Rattle.run_semantics.specs.Run.{run_to};
-ghost use Rattle.run_semantics.specs.Ending.{ending};
-ghost use Rattle.kernel.specs.Kernels.{world_in, seats_in, HasKinds};
+ghost use Rattle.std.specs.Prelude.{◌≡◌, ◌↔◌, ◌+◌, Some, None, IsSome, OnOk, OnErr, IfOk, IfErr, option_map, option_copied};
 ghost use Rattle.model_answers.specs.declared.model.Model.{Model};
 ghost use Rattle.result_files.specs.VectorText.{vector_text};
 ghost use Rattle.edit_session.specs.Models.{IsModelOf, Refuses};
 ghost use Rattle.edit_session.specs.Files.{FileWritten, TextWritten};
-ghost use Rattle.edit_session.specs.Editing.{Completed, completed, IfDone, IfWant, IsFor, IsUnknown, wanted_by, wanted_of, kept_boxes};
+ghost use Rattle.edit_session.specs.Editing.{Completed, fresh_editing, wanted_of, IfDone, IfWant, IsFor, IsFreshRun, IsIdle, IsUnknown, WaitsFor};
 ghost use Rattle.kernel.specs.declared.request.Request.{Request};
-ghost use Rattle.edit_session.specs.Sessions.{editing_of, IsSound};
+ghost use Rattle.edit_session.specs.Sessions.{editing_of, IsSound, KeepsModel};
 
 use crate::begin::{BeginFault, model_of};
-use crate::running::{Advance, Phase, carry_on};
+use crate::running::{Advance, Phase, Runner};
 use kernel::kernel::Kernel;
 use kernel::request::Request;
 use model_answers::model::Model;
@@ -95,7 +92,7 @@ pub struct SupplyFault {
 #[derive(Drop)]
 pub struct Session<C: Catalogue> {
     alloc: Global,
-    kernel: Kernel<C>,
+    runner: Runner<C>,
     model: Model,
     phase: Phase,
     done: Option<Done>,
@@ -109,9 +106,10 @@ impl<C: Catalogue> Session<C> {
         ini: &[u8],
         config: &[u8],
     ) -> Result<Session<C>, BeginFault>
-        ensures sound { IfOk result (λ session. IsSound C.behaviour (λ v. (⟦<dyn SimpleModule as SimpleModule>⟧ v).meaning) session) }
-        ensures editing { IfOk result (λ session. (model : Model) × IsModelOf texts.now ini.now config.now model
-            × (editing_of (λ v. (⟦<dyn SimpleModule as SimpleModule>⟧ v).meaning) session ≡ record { model = model; done = None; phase = Phase.Idle; held = 0 })) }
+        ensures sound { IfOk result (λ session. IsSound C.behaviour SimpleModule-box session) }
+        ensures editing { IfOk result (λ session. (model : Model)
+            × IsModelOf texts.now ini.now config.now model
+            × (editing_of SimpleModule-box session ≡ fresh_editing model)) }
         ensures refused { IfErr result (λ fault. Refuses texts.now ini.now config.now fault) }
     {
         let model = model_of(alloc, texts, ini, config)?;
@@ -120,13 +118,12 @@ impl<C: Catalogue> Session<C> {
 
     /// A session of this model, which no call but an accepted edit changes.
     pub fn of_model(alloc: Global, model: Model) -> Session<C>
-        ensures sound { IsSound C.behaviour (λ v. (⟦<dyn SimpleModule as SimpleModule>⟧ v).meaning) result }
-        ensures editing { editing_of (λ v. (⟦<dyn SimpleModule as SimpleModule>⟧ v).meaning) result
-            ≡ record { model = model; done = None; phase = Phase.Idle; held = 0 } }
+        ensures sound { IsSound C.behaviour SimpleModule-box result }
+        ensures editing { editing_of SimpleModule-box result ≡ fresh_editing model }
     {
         Session {
             alloc,
-            kernel: Kernel::new(alloc, Tree::new(alloc)),
+            runner: Runner::new(Kernel::new(alloc, Tree::new(alloc))),
             model,
             phase: Phase::Idle,
             done: None,
@@ -136,55 +133,38 @@ impl<C: Catalogue> Session<C> {
     /// Runs the model for at most so many events, from setup, or goes on with the run that waits; or
     /// answers which module needs a box first, of those without one the one of the least id.
     pub fn run(&mut self, limit: u64) -> Result<Progress, NoMemory>
-        requires sound { IsSound C.behaviour (λ v. (⟦<dyn SimpleModule as SimpleModule>⟧ v).meaning) self.old }
-        ensures sound { IsSound C.behaviour (λ v. (⟦<dyn SimpleModule as SimpleModule>⟧ v).meaning) self.new }
-        ensures model { (editing_of (λ v. (⟦<dyn SimpleModule as SimpleModule>⟧ v).meaning) self.new).model ≡ (editing_of (λ v. (⟦<dyn SimpleModule as SimpleModule>⟧ v).meaning) self.old).model }
+        requires sound { IsSound C.behaviour SimpleModule-box self.old }
+        ensures kept { KeepsModel C.behaviour SimpleModule-box self.old self.new }
 
         // THE HEADLINE: a run that is done is a fresh run of the session's model.
-        ensures outcome { let editing = editing_of (λ v. (⟦<dyn SimpleModule as SimpleModule>⟧ v).meaning) self.old in
+        ensures done { let before = editing_of SimpleModule-box self.old in
+            let after = editing_of SimpleModule-box self.new in
             IfOk result (λ progress. IfDone progress (λ report.
-            report.outcome ≡ (ending C.behaviour editing.model (run_to C.behaviour editing.model limit)).outcome)) }
-        ensures report { let editing = editing_of (λ v. (⟦<dyn SimpleModule as SimpleModule>⟧ v).meaning) self.old in
-            IfOk result (λ progress. IfDone progress (λ report. (report.started_from ≡ None)
-            × (report.executed ≡ (ending C.behaviour editing.model (run_to C.behaviour editing.model limit)).world.count))) }
-        ensures done { let editing = editing_of (λ v. (⟦<dyn SimpleModule as SimpleModule>⟧ v).meaning) self.old in
-            IfOk result (λ progress. IfDone progress (λ report.
-            (editing_of (λ v. (⟦<dyn SimpleModule as SimpleModule>⟧ v).meaning) self.new).done ≡ Some (completed C.behaviour editing.model limit))) }
+            IsFreshRun C.behaviour before limit report after)) }
 
         // It waits exactly while a box is missing that isn't declined.
-        ensures want { let editing = editing_of (λ v. (⟦<dyn SimpleModule as SimpleModule>⟧ v).meaning) self.old in
-            IfOk result (λ progress. IfWant progress (λ request.
-            wanted_by editing.model (kept_boxes editing.phase editing.held) ≡ Some request)) }
-        ensures waits { let editing = editing_of (λ v. (⟦<dyn SimpleModule as SimpleModule>⟧ v).meaning) self.old in
-            IfOk result (λ progress. IfWant progress (λ request.
-            editing_of (λ v. (⟦<dyn SimpleModule as SimpleModule>⟧ v).meaning) self.new ≡ record {
-              model = editing.model;
-              done = None;
-              phase = Phase.Waiting;
-              held = kept_boxes editing.phase editing.held;
-            })) }
-        ensures needs_none { let editing = editing_of (λ v. (⟦<dyn SimpleModule as SimpleModule>⟧ v).meaning) self.old in
-            IfOk result (λ progress. IfDone progress (λ report.
-            (editing.phase ≡ Phase.Declined) ⊎ (wanted_by editing.model (kept_boxes editing.phase editing.held) ≡ None))) }
+        ensures waits { let before = editing_of SimpleModule-box self.old in
+            let after = editing_of SimpleModule-box self.new in
+            IfOk result (λ progress. IfWant progress (λ request. WaitsFor before request after)) }
 
         // After want of memory no run waits, and none is done.
-        ensures memory { OnErr result (((editing_of (λ v. (⟦<dyn SimpleModule as SimpleModule>⟧ v).meaning) self.new).done ≡ None) × ((editing_of (λ v. (⟦<dyn SimpleModule as SimpleModule>⟧ v).meaning) self.new).phase ≡ Phase.Idle)) }
+        ensures memory { OnErr result (IsIdle (editing_of SimpleModule-box self.new)) }
     {
         let phase = self.phase;
         self.phase = Phase::Idle;
         self.done = None;
-        match carry_on(&mut self.kernel, self.alloc, &self.model, phase, limit)? {
+        match self.runner.carry_on(self.alloc, &self.model, phase, limit)? {
             Advance::Waits(request) => {
                 self.phase = Phase::Waiting;
                 Ok(Progress::Want(request))
             }
             Advance::Ends(outcome) => {
-                let report = report_of(self.alloc, &outcome, self.kernel.count())?;
+                let report = report_of(self.alloc, &outcome, self.runner.kernel.count())?;
                 let file = prepare(
                     self.alloc,
                     &self.model,
-                    self.kernel.records(),
-                    self.kernel.emissions(),
+                    self.runner.kernel.records(),
+                    self.runner.kernel.emissions(),
                 )?;
                 self.done = Some(Done {
                     limit,
@@ -199,20 +179,24 @@ impl<C: Catalogue> Session<C> {
     /// Gives the module that the run waits for its box, or hands the box back: where no run waits for
     /// one, or where memory runs out, and then the run waits still.
     pub fn supply(&mut self, held: Box<dyn SimpleModule>) -> Result<(), SupplyFault>
-        requires wanted { IsFor C.behaviour (wanted_of (editing_of (λ v. (⟦<dyn SimpleModule as SimpleModule>⟧ v).meaning) self.old)) (meaning held) }
-        requires sound { IsSound C.behaviour (λ v. (⟦<dyn SimpleModule as SimpleModule>⟧ v).meaning) self.old }
-        ensures sound { IsSound C.behaviour (λ v. (⟦<dyn SimpleModule as SimpleModule>⟧ v).meaning) self.new }
-        ensures ok { let editing = editing_of (λ v. (⟦<dyn SimpleModule as SimpleModule>⟧ v).meaning) self.old in
-            OnOk result ((IsSome (wanted_of editing)) × (editing_of (λ v. (⟦<dyn SimpleModule as SimpleModule>⟧ v).meaning) self.new ≡ record editing { held = editing.held + 1 })) }
-        ensures err { IfErr result (λ fault. (fault.held ≡ held) × (editing_of (λ v. (⟦<dyn SimpleModule as SimpleModule>⟧ v).meaning) self.new ≡ editing_of (λ v. (⟦<dyn SimpleModule as SimpleModule>⟧ v).meaning) self.old)
-            × (fault.reason ≡ SupplyReason.NotWanted ↔ wanted_of (editing_of (λ v. (⟦<dyn SimpleModule as SimpleModule>⟧ v).meaning) self.old) ≡ None)) }
+        requires wanted { let editing = editing_of SimpleModule-box self.old in
+            IsFor C.behaviour (wanted_of editing) (meaning held) }
+        requires sound { IsSound C.behaviour SimpleModule-box self.old }
+        ensures sound { IsSound C.behaviour SimpleModule-box self.new }
+        ensures ok { let editing = editing_of SimpleModule-box self.old in
+            OnOk result (IsSome (wanted_of editing)
+            × (editing_of SimpleModule-box self.new ≡ record editing { held = editing.held + 1 })) }
+        ensures err { let editing = editing_of SimpleModule-box self.old in
+            IfErr result (λ fault. (fault.held ≡ held)
+            × (editing_of SimpleModule-box self.new ≡ editing)
+            × (fault.reason ≡ SupplyReason.NotWanted ↔ wanted_of editing ≡ None)) }
     {
         match self.wanted_id() {
             None => Err(SupplyFault {
                 held,
                 reason: SupplyReason::NotWanted,
             }),
-            Some(id) => match self.kernel.supply(id, held) {
+            Some(id) => match self.runner.kernel.supply(id, held) {
                 Ok(()) => Ok(()),
                 Err(failed) => Err(SupplyFault {
                     held: failed.value,
@@ -225,12 +209,16 @@ impl<C: Catalogue> Session<C> {
     /// Says that there is no box for the module that the run waits for: its start then has the fault
     /// UnknownClass, without a further question.
     pub fn decline(&mut self) -> Result<(), NotWanted>
-        requires unknown { IsUnknown C.behaviour (wanted_of (editing_of (λ v. (⟦<dyn SimpleModule as SimpleModule>⟧ v).meaning) self.old)) }
-        requires sound { IsSound C.behaviour (λ v. (⟦<dyn SimpleModule as SimpleModule>⟧ v).meaning) self.old }
-        ensures sound { IsSound C.behaviour (λ v. (⟦<dyn SimpleModule as SimpleModule>⟧ v).meaning) self.new }
-        ensures ok { let editing = editing_of (λ v. (⟦<dyn SimpleModule as SimpleModule>⟧ v).meaning) self.old in
-            OnOk result ((IsSome (wanted_of editing)) × (editing_of (λ v. (⟦<dyn SimpleModule as SimpleModule>⟧ v).meaning) self.new ≡ record editing { phase = Phase.Declined })) }
-        ensures err { OnErr result ((wanted_of (editing_of (λ v. (⟦<dyn SimpleModule as SimpleModule>⟧ v).meaning) self.old) ≡ None) × (editing_of (λ v. (⟦<dyn SimpleModule as SimpleModule>⟧ v).meaning) self.new ≡ editing_of (λ v. (⟦<dyn SimpleModule as SimpleModule>⟧ v).meaning) self.old)) }
+        requires unknown { let editing = editing_of SimpleModule-box self.old in
+            IsUnknown C.behaviour (wanted_of editing) }
+        requires sound { IsSound C.behaviour SimpleModule-box self.old }
+        ensures sound { IsSound C.behaviour SimpleModule-box self.new }
+        ensures ok { let editing = editing_of SimpleModule-box self.old in
+            OnOk result (IsSome (wanted_of editing)
+            × (editing_of SimpleModule-box self.new ≡ record editing { phase = Phase.Declined })) }
+        ensures err { let editing = editing_of SimpleModule-box self.old in
+            OnErr result ((wanted_of editing ≡ None)
+            × (editing_of SimpleModule-box self.new ≡ editing)) }
     {
         match self.wanted_id() {
             None => Err(NotWanted),
@@ -243,35 +231,39 @@ impl<C: Catalogue> Session<C> {
 
     /// The id of the module whose box is waited for.
     fn wanted_id(&self) -> Option<u32>
-        requires sound { IsSound C.behaviour (λ v. (⟦<dyn SimpleModule as SimpleModule>⟧ v).meaning) self.now }
-        ensures { result ≡ option_map (λ (r : Request). r.id) (wanted_of (editing_of (λ v. (⟦<dyn SimpleModule as SimpleModule>⟧ v).meaning) self.now)) }
+        requires sound { IsSound C.behaviour SimpleModule-box self.now }
+        ensures { let editing = editing_of SimpleModule-box self.now in
+            result ≡ option_map (λ (r : Request). r.id) (wanted_of editing) }
     {
         match self.phase {
-            Phase::Waiting => self.kernel.missing_id(),
+            Phase::Waiting => self.runner.kernel.missing_id(),
             _ => None,
         }
     }
 
     /// Writes the vector file of the last run, which takes no memory.
     pub fn vectors<O: Out>(&self, out: &mut O) -> Result<(), FileFault>
-        requires sound { IsSound C.behaviour (λ v. (⟦<dyn SimpleModule as SimpleModule>⟧ v).meaning) self.now }
-        ensures written { FileWritten C.behaviour (editing_of (λ v. (⟦<dyn SimpleModule as SimpleModule>⟧ v).meaning) self.now).model (editing_of (λ v. (⟦<dyn SimpleModule as SimpleModule>⟧ v).meaning) self.now).done
-            (O.content out.old) (O.failures out.old) (O.content out.new) (O.failures out.new) result }
+        requires sound { IsSound C.behaviour SimpleModule-box self.now }
+        ensures written { let editing = editing_of SimpleModule-box self.now in
+            FileWritten C.behaviour editing.model editing.done
+            (O.content out.old) (O.failures out.old) (O.content out.new) (O.failures out.new)
+            result }
     {
         match &self.done {
             None => Err(FileFault::NotDone),
             Some(done) => write_done(
                 out,
                 &done.file,
-                self.kernel.records(),
-                self.kernel.emissions(),
+                self.runner.kernel.records(),
+                self.runner.kernel.emissions(),
             ),
         }
     }
 
     /// How the last run ended, where one is done.
     pub fn outcome(&self) -> Option<&Outcome>
-        ensures { option_copied result ≡ option_map (λ (d : Completed). d.outcome) (editing_of (λ v. (⟦<dyn SimpleModule as SimpleModule>⟧ v).meaning) self.now).done }
+        ensures { let editing = editing_of SimpleModule-box self.now in
+            option_copied result ≡ option_map (λ (d : Completed). d.outcome) editing.done }
     {
         match &self.done {
             Some(done) => Some(&done.outcome),
@@ -287,8 +279,10 @@ fn write_done<O: Out>(
     records: &[Record],
     emissions: &[Emission],
 ) -> Result<(), FileFault>
-    ensures { TextWritten (O.content out.old) (O.failures out.old) (O.content out.new) (O.failures out.new)
-        (vector_text file.now.header file.now.vectors records.now emissions.now) result }
+    ensures { let text = vector_text file.now.header file.now.vectors records.now emissions.now in
+        TextWritten
+        (O.content out.old) (O.failures out.old) (O.content out.new) (O.failures out.new)
+        text result }
 {
     match write_vectors(out, file, records, emissions) {
         Ok(()) => Ok(()),
@@ -298,7 +292,8 @@ fn write_done<O: Out>(
 
 /// What a run that is done tells.
 fn report_of(alloc: Global, outcome: &Outcome, executed: u64) -> Result<Report, NoMemory>
-    ensures { IfOk result (λ report. report ≡ record { outcome = outcome.now; started_from = None; executed = executed }) }
+    ensures { IfOk result (λ report. report
+        ≡ record { outcome = outcome.now; started_from = None; executed = executed }) }
 {
     Ok(Report {
         outcome: outcome.copy(alloc)?,

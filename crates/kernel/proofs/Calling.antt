@@ -1,5 +1,5 @@
 -- A call of a box is a call of the definitions.
-use Rattle.std.proofs.Common.{◌≡◌, ℕ, suc, ◌+◌, ◌<◌, ◌==◌, Bool, true, false, cond, List, [], ◌∷◌, Option, Some, None, IfSome, Result, Ok, Err, refl, sym, ap, ◌∙◌, arith, subst, slice_get, slice_set, length, map}
+use Rattle.std.proofs.Common.{◌≡◌, ℕ, zero, suc, ◌+◌, ◌<◌, ◌==◌, Bool, true, false, cond, List, [], ◌∷◌, Option, Some, None, IfSome, IfOk, Result, Ok, Err, refl, sym, ap, ◌∙◌, arith, subst, slice_get, slice_set, length, map}
 use Rattle.std.proofs.lemmas.List.{length-map, map-set}
 use Rattle.std.specs.List.{position_from}
 use Rattle.sim_values.specs.declared.NoMemory.{NoMemory}
@@ -17,7 +17,7 @@ use Rattle.run_semantics.specs.Perform.{Flow, flow_of, answered}
 use Rattle.run_semantics.specs.Event.{call_of, place_in, with_state, called, call_at, call_module}
 use Rattle.run_semantics.specs.Run.{standing}
 use Rattle.run_semantics.specs.Ending.{answered_last, replied_last, called_last, call_last_at}
-use Rattle.kernel.specs.Seats.{Seat, instance_of, world_of, AreOfKinds, ServedAt}
+use Rattle.kernel.specs.Seats.{Seat, instance_of, world_of, AreOfKinds, AreKept, ServedAt}
 use Rattle.kernel.proofs.Apart.{with_modules, flow_with, flow_of_with, answered_apart, answered_last_apart}
 use Rattle.kernel.proofs.Seating.{get_map, get-map, seat_at, kind_at, kinds_set, kind_same, standing_set, position_from-map}
 
@@ -34,15 +34,34 @@ served seat xs place x y before call result is here same_id told same =
       seats = map-set seat xs place y ∙ ap (slice_set (map seat xs) place) whole;
     }
 
+set_same : {A : Type 0} (xs : List A) (i : ℕ) (x : A) → slice_get xs i ≡ Some x → xs ≡ slice_set xs i x
+set_same [] i x e = cc
+set_same (y ∷ ys) zero x e = let same : y ≡ x = cc in ap (λ z. z ∷ ys) same
+set_same (y ∷ ys) (suc i) x e = ap (λ zs. y ∷ zs) (set_same ys i x e)
+
+-- no box was called: memory ran out before
+pub not_served : (seats : List Seat) (place : ℕ) (before : Seat) (call : Call) (e : NoMemory) → slice_get seats place ≡ Some before → ServedAt seats seats place before call (Err e)
+not_served seats place before call e here = record {
+  after = before.box;
+  answered = tt;
+  same = record { kind = refl; naming = refl };
+  seats = set_same seats place before here;
+}
+
+-- what holds of an answer, where there is one, by what another fact says of it
+pub ok_step : {A E : Type 0} {P Q : A → Type 0} (result : Result A E) → IfOk result P → ((x : A) → P x → Q x) → IfOk result Q
+ok_step (Ok x) p step = step x p
+ok_step (Err e) p step = tt
+
 -- a call keeps the kinds, whatever it gave
-pub kinds_served : (b : Behaviour) (old new : List Seat) (place : ℕ) (call : Call) (result : Result Reply NoMemory) → place < length old → ((before : Seat) → slice_get old place ≡ Some before → ServedAt old new place before call result) → AreOfKinds b old → AreOfKinds b new
+kinds_served : (b : Behaviour) (old new : List Seat) (place : ℕ) (call : Call) (result : Result Reply NoMemory) → place < length old → ((before : Seat) → slice_get old place ≡ Some before → ServedAt old new place before call result) → AreOfKinds b old → AreOfKinds b new
 kinds_served b old new place call result lt serves h =
     let at = seat_at old place lt in
     let s = serves at.0 at.1 in
     subst (AreOfKinds b) (sym s.seats) (kinds_set b old place (record { id = at.0.id; box = s.after }) (kind_same b at.0.box s.after s.same (kind_at b old place at.0 at.1 h)) h)
 
 -- and what stands
-pub standing_served : (old new : List Seat) (place : ℕ) (call : Call) (result : Result Reply NoMemory) → place < length old → ((before : Seat) → slice_get old place ≡ Some before → ServedAt old new place before call result) → standing (map instance_of new) ≡ standing (map instance_of old)
+standing_served : (old new : List Seat) (place : ℕ) (call : Call) (result : Result Reply NoMemory) → place < length old → ((before : Seat) → slice_get old place ≡ Some before → ServedAt old new place before call result) → standing (map instance_of new) ≡ standing (map instance_of old)
 standing_served old new place call result lt serves =
     let at = seat_at old place lt in
     let s = serves at.0 at.1 in
@@ -112,12 +131,12 @@ pub place_of_boxes : {A : Type 0} (seat : A → Seat) (id : ℕ) (xs : List A) �
 place_of_boxes seat id xs =
     position_from-map instance_of (λ (i : Instance). i.id == id) 0 (map seat xs) ∙ position_from-map seat (λ (s : Seat). s.id == id) 0 xs
 
-module _ {A : Type 0} (seat : A → Seat) (old new : List A) (place : ℕ) (call : Call) (result : Result Reply NoMemory) (lt : place < length (map seat old)) (serves : (before : Seat) → slice_get (map seat old) place ≡ Some before → ServedAt (map seat old) (map seat new) place before call result) where
-  pub boxes_kinds : (b : Behaviour) → AreOfKinds b (map seat old) → AreOfKinds b (map seat new)
-  boxes_kinds b = kinds_served b (map seat old) (map seat new) place call result lt serves
-
-  pub boxes_standing : standing (map instance_of (map seat new)) ≡ standing (map instance_of (map seat old))
-  boxes_standing = standing_served (map seat old) (map seat new) place call result lt serves
+-- boxes are kept by a call, whatever it gave
+pub boxes_kept : {A : Type 0} (seat : A → Seat) (old new : List A) (place : ℕ) (call : Call) (result : Result Reply NoMemory) → place < length (map seat old) → ((before : Seat) → slice_get (map seat old) place ≡ Some before → ServedAt (map seat old) (map seat new) place before call result) → (b : Behaviour) → AreOfKinds b (map seat old) → AreKept b (map seat old) (map seat new)
+boxes_kept seat old new place call result lt serves b h = record {
+  kinds = kinds_served b (map seat old) (map seat new) place call result lt serves h;
+  standing_is = standing_served (map seat old) (map seat new) place call result lt serves;
+}
 
 module _ {A : Type 0} (seat : A → Seat) (old new : List A) (place : ℕ) (lt : place < length (map seat old)) (b : Behaviour) (m : Model) (id : ℕ) (core core' : World) (call : Call) (reply : Reply) (turn : Turn) (kinds : AreOfKinds b (map seat old)) (here : place_in id (map instance_of (map seat old)) ≡ Some place) (serves : (before : Seat) → slice_get (map seat old) place ≡ Some before → ServedAt (map seat old) (map seat new) place before call (Ok reply)) where
   pub boxes_called : (p : Prompt) → call ≡ call_of m id p core → flow_of turn core' ≡ answered m id reply core → flow_of turn (world_of core' (map seat new)) ≡ call_module b m id p (world_of core (map seat old))

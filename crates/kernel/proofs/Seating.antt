@@ -6,7 +6,7 @@ use Rattle.module_api.specs.Behaviour.{Behaviour}
 use Rattle.module_api.specs.Meaning.{Module, Answered, IsSameModule, IsOfKind}
 use Rattle.run_semantics.specs.Run.{Part, part_of, standing}
 use Rattle.run_semantics.specs.declared.traces.Instance.{Instance}
-use Rattle.kernel.specs.Seats.{Seat, instance_of, AreOfKinds}
+use Rattle.kernel.specs.Seats.{Seat, instance_of, AreOfKinds, AreKept}
 
 -- ---- one more box
 
@@ -61,6 +61,10 @@ kind_same b old new s k = record {
 }
 
 -- ---- what stands is not changed by a call
+
+-- two calls, one after the other
+pub still_kept : {b : Behaviour} {old mid new : List Seat} → AreKept b old mid → AreKept b mid new → AreKept b old new
+still_kept first second = record { kinds = second.kinds; standing_is = second.standing_is ∙ first.standing_is }
 
 part_of_seat : Seat → Part
 part_of_seat s = part_of (instance_of s)

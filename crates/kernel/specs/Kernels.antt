@@ -1,28 +1,47 @@
 -- What a kernel is, by what its boxes mean.
-use Rattle.std.specs.Prelude.{List, map}
+use Rattle.std.specs.Prelude.{◌≡◌, ℕ, ◌+◌, ◌^◌, ◌<◌, List, map}
 use Rattle.std.proofs.Common.{Global}
 use Rattle.std.specs.declared.dyn_box.DynBox.{DynBox}
+use Rattle.module_api.specs.declared.simple_module.SimpleModule.{Ghosts}
 use Rattle.module_api.specs.Behaviour.{Behaviour}
-use Rattle.module_api.specs.Meaning.{Module}
 use Rattle.run_semantics.specs.World.{World}
-use Rattle.kernel.specs.Seats.{Seat, world_of, AreOfKinds}
+use Rattle.run_semantics.specs.declared.outcome.Outcome.{Outcome}
+use Rattle.run_semantics.specs.Run.{Ran}
+use Rattle.kernel.specs.Seats.{Seat, world_of, AreOfKinds, AreKept}
 use Rattle.kernel.specs.declared.kernel.Kernel.{Kernel}
 use Rattle.kernel.specs.declared.kernel.Slot.{Slot}
 
+-- what each box says of itself: the members of its trait, which a clause hands over as `SimpleModule-box`
+abbrev pub Members : (X : Type 0) → (X → Type 0) → Type 1
+Members X Y = (b : DynBox X Global Y) → Ghosts (Y b.vtable)
+
 module _ {X : Type 0} {Y : X → Type 0} where
   -- the box, and the id of its module
-  abbrev pub seat_of : ((v : X) → Y v → Module) → Slot X Y → Seat
-  seat_of meaning s = record { id = s.id; box = meaning s.held.vtable s.held.value }
+  abbrev pub seat_of : Members X Y → Slot X Y → Seat
+  seat_of members s = record { id = s.id; box = (members s.held).meaning s.held.value }
 
 module _ {C X : Type 0} {Y : X → Type 0} where
   -- what its boxes are, in the order of their ids
-  abbrev pub seats_in : ((v : X) → Y v → Module) → Kernel C X Y → List Seat
-  seats_in meaning k = map (seat_of meaning) k.boxes
+  abbrev pub seats_in : Members X Y → Kernel C X Y → List Seat
+  seats_in members k = map (seat_of members) k.boxes
 
   -- its world
-  abbrev pub world_in : ((v : X) → Y v → Module) → Kernel C X Y → World
-  world_in meaning k = world_of k.core (seats_in meaning k)
+  abbrev pub world_in : Members X Y → Kernel C X Y → World
+  world_in members k = world_of k.core (seats_in members k)
+
+  -- a run that ended so, and left this kernel
+  abbrev pub ran_in : Members X Y → Outcome → Kernel C X Y → Ran
+  ran_in members outcome k = record { world = world_in members k; outcome = outcome }
 
   -- each of its boxes is of its kind
-  abbrev pub HasKinds : Behaviour → ((v : X) → Y v → Module) → Kernel C X Y → Type 0
-  HasKinds b meaning k = AreOfKinds b (seats_in meaning k)
+  abbrev pub HasKinds : Behaviour → Members X Y → Kernel C X Y → Type 0
+  HasKinds b members k = AreOfKinds b (seats_in members k)
+
+  -- Its modules can be called: each box is of its kind, and so many more insertions have numbers.
+  pub record IsCallable (b : Behaviour) (members : Members X Y) (insertions : ℕ) (k : Kernel C X Y) : Type 0 where
+    pub room : (world_in members k).next + insertions < 2 ^ 128
+    pub kinds : HasKinds b members k
+
+  -- what a call of modules leaves, one that fails too
+  abbrev pub KeepsBoxes : Behaviour → Members X Y → Kernel C X Y → Kernel C X Y → Type 0
+  KeepsBoxes b members before after = AreKept b (seats_in members before) (seats_in members after)

@@ -8,7 +8,7 @@ use Rattle.module_api.specs.Meaning.{Module, Answered, IsSameModule, IsOfKind}
 use Rattle.model_answers.specs.Records.{path_of}
 use Rattle.run_semantics.specs.declared.traces.Instance.{Instance}
 use Rattle.run_semantics.specs.World.{World}
-use Rattle.run_semantics.specs.Run.{Part, parts_of}
+use Rattle.run_semantics.specs.Run.{Part, parts_of, standing}
 use Rattle.kernel.specs.declared.request.Request.{Request}
 
 -- a box, and the id of its module
@@ -28,6 +28,11 @@ world_of core seats = record core { modules = map instance_of seats }
 abbrev pub AreOfKinds : Behaviour → List Seat → Type 0
 AreOfKinds b [] = Unit {0}
 AreOfKinds b (s ∷ ss) = IsOfKind b s.box × AreOfKinds b ss
+
+-- Each box is of its kind, and the same modules stand as before.
+pub record AreKept (b : Behaviour) (old new : List Seat) : Type 0 where
+  pub kinds : AreOfKinds b new
+  pub standing_is : standing (map instance_of new) ≡ standing (map instance_of old)
 
 -- The box at the place, which was this, answered the call, and no other changed.
 pub record ServedAt (old new : List Seat) (place : ℕ) (before : Seat) (call : Call) (result : Result Reply NoMemory) : Type 0 where

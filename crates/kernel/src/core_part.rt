@@ -1,6 +1,7 @@
 //! A world but for the modules and their states.
 
 ghost use Rattle.std.specs.Prelude.{◌≡◌, ◌+◌, ◌^◌, ◌<◌, OnOk, IfOk, MatchOption, [], ◌∷◌, ◌++◌, length, drop, slice_get, ◌≤◌};
+ghost use Rattle.model_answers.specs.Answering.{answer_of};
 ghost use Rattle.run_semantics.specs.World.{empty, asked};
 ghost use Rattle.run_semantics.specs.Perform.{flow_of, perform, perform_all, scheduled, scheduled_at, ask_all, question_of, fault_of_read, parameter_fault, read_fault, acted, answered, broken};
 ghost use Rattle.run_semantics.specs.Ending.{is_last_action, perform_last, perform_last_all, acted_last, answered_last, with_finished};
@@ -89,6 +90,13 @@ impl Core {
         }
     }
 
+    /// Nothing stands any more, and nothing happened.
+    pub fn clear(&mut self, alloc: Global)
+        ensures { self.new ≡ empty }
+    {
+        *self = Core::new(alloc);
+    }
+
     // ---- what callers read
 
     pub fn clock(&self) -> SimTime
@@ -164,7 +172,8 @@ impl Core {
         time: SimTime,
     ) -> Result<Turn, NoMemory>
         requires { self.old.next + 1 < 2 ^ 128 }
-        ensures { IfOk result (λ turn. flow_of turn self.new ≡ scheduled_at id schedule.now self.old time) }
+        ensures { IfOk result (λ turn. flow_of turn self.new
+            ≡ scheduled_at id schedule.now self.old time) }
     {
         if self.pending.has_timer(id, schedule.timer) {
             return self.broken(alloc, id, Fault::AlreadyScheduled);
@@ -183,7 +192,8 @@ impl Core {
     /// Sets a timer.
     fn schedule(&mut self, alloc: Global, id: u32, schedule: &Schedule) -> Result<Turn, NoMemory>
         requires { self.old.next + 1 < 2 ^ 128 }
-        ensures { IfOk result (λ turn. flow_of turn self.new ≡ perform id (Action.ScheduleAfter schedule.now) self.old) }
+        ensures { IfOk result (λ turn. flow_of turn self.new
+            ≡ perform id (Action.ScheduleAfter schedule.now) self.old) }
     {
         match self.clock.checked_add(schedule.delay) {
             Ok(time) => self.schedule_at(alloc, id, schedule, time),
@@ -193,7 +203,8 @@ impl Core {
 
     /// Notes an emission.
     fn emit(&mut self, alloc: Global, id: u32, signal: &Text, value: i64) -> Result<Turn, NoMemory>
-        ensures { IfOk result (λ turn. flow_of turn self.new ≡ perform id (Action.Emit signal.now value) self.old) }
+        ensures { IfOk result (λ turn. flow_of turn self.new
+            ≡ perform id (Action.Emit signal.now value) self.old) }
     {
         let signal = signal.copy(alloc)?;
         self.emissions.push(Emission {
@@ -224,7 +235,8 @@ impl Core {
     /// The actions of a reply, in order.
     fn perform_all(&mut self, alloc: Global, id: u32, actions: &[Action]) -> Result<Turn, NoMemory>
         requires { self.old.next + length actions.now < 2 ^ 128 }
-        ensures { IfOk result (λ turn. flow_of turn self.new ≡ perform_all id actions.now self.old) }
+        ensures { IfOk result (λ turn. flow_of turn self.new
+            ≡ perform_all id actions.now self.old) }
     {
         for action in actions {
             match self.perform(alloc, id, action)? {
@@ -258,6 +270,23 @@ impl Core {
         Ok(())
     }
 
+    /// The fault of a read, if it has one.
+    fn fault_at(
+        &self,
+        alloc: Global,
+        model: &NetworkModel,
+        id: u32,
+        read: &Read,
+    ) -> Result<Option<Fault>, NoMemory>
+        ensures { let asks = question_of id read.now in
+            IfOk result (λ found.
+            found ≡ fault_of_read read.now (answer_of model.now self.now.records asks)) }
+    {
+        let question = question_of(alloc, id, read)?;
+        let answer = answer(alloc, model, self.records.as_slice(), &question)?;
+        Ok(fault_of_read(read, &answer))
+    }
+
     /// The fault of the first read that has one.
     fn read_fault(
         &self,
@@ -266,12 +295,11 @@ impl Core {
         id: u32,
         reads: &[Read],
     ) -> Result<Option<Fault>, NoMemory>
-        ensures { IfOk result (λ found. found ≡ read_fault model.now self.now.records id reads.now) }
+        ensures { IfOk result (λ found.
+            found ≡ read_fault model.now self.now.records id reads.now) }
     {
         for read in reads {
-            let question = question_of(alloc, id, read)?;
-            let answer = answer(alloc, model, self.records.as_slice(), &question)?;
-            if let Some(fault) = fault_of_read(read, &answer) {
+            if let Some(fault) = self.fault_at(alloc, model, id, read)? {
                 return Ok(Some(fault));
             }
         }
@@ -300,7 +328,8 @@ impl Core {
         reply: &Reply,
     ) -> Result<Turn, NoMemory>
         requires { self.old.next + 1000 < 2 ^ 128 }
-        ensures { IfOk result (λ turn. flow_of turn self.new ≡ answered model.now id reply.now self.old) }
+        ensures { IfOk result (λ turn. flow_of turn self.new
+            ≡ answered model.now id reply.now self.old) }
     {
         let fault = self.read_fault(alloc, model, id, reply.reads.as_slice())?;
         self.ask_all(alloc, id, reply.reads.as_slice())?;
@@ -315,7 +344,8 @@ impl Core {
     /// One action of a reply to the end.
     fn perform_last(&mut self, alloc: Global, id: u32, action: &Action) -> Result<Turn, NoMemory>
         requires { self.old.next + 1 < 2 ^ 128 }
-        ensures { IfOk result (λ turn. flow_of turn self.new ≡ perform_last id action.now self.old) }
+        ensures { IfOk result (λ turn. flow_of turn self.new
+            ≡ perform_last id action.now self.old) }
     {
         if !is_last_action(action) {
             return self.broken(alloc, id, Fault::NotInFinish);
@@ -331,7 +361,8 @@ impl Core {
         last_actions: &[Action],
     ) -> Result<Turn, NoMemory>
         requires { self.old.next + length last_actions.now < 2 ^ 128 }
-        ensures { IfOk result (λ turn. flow_of turn self.new ≡ perform_last_all id last_actions.now self.old) }
+        ensures { IfOk result (λ turn. flow_of turn self.new
+            ≡ perform_last_all id last_actions.now self.old) }
     {
         for action in last_actions {
             match self.perform_last(alloc, id, action)? {
@@ -361,7 +392,8 @@ impl Core {
         reply: &Reply,
     ) -> Result<Turn, NoMemory>
         requires { self.old.next + 1000 < 2 ^ 128 }
-        ensures { IfOk result (λ turn. flow_of turn self.new ≡ answered_last model.now id reply.now self.old) }
+        ensures { IfOk result (λ turn. flow_of turn self.new
+            ≡ answered_last model.now id reply.now self.old) }
     {
         match self.read_fault(alloc, model, id, reply.reads.as_slice())? {
             Some(fault) => self.broken(alloc, id, fault),
@@ -393,8 +425,10 @@ impl Core {
     /// allows it, is noted.
     pub fn begin(&mut self) -> Result<Option<Pending>, NoMemory>
         requires { self.old.count + 1 < 2 ^ 64 }
-        ensures { IfOk result (λ found. MatchOption found ((self.old.pending ≡ []) × (self.new ≡ self.old))
-            (λ p. (self.old.pending ≡ p ∷ drop 1 self.old.pending) × (self.new ≡ begun p (drop 1 self.old.pending) self.old))) }
+        ensures { IfOk result (λ found. MatchOption found
+            ((self.old.pending ≡ []) × (self.new ≡ self.old))
+            (λ p. (self.old.pending ≡ p ∷ drop 1 self.old.pending)
+            × (self.new ≡ begun p (drop 1 self.old.pending) self.old))) }
     {
         let Some(event) = self.pending.take_first() else {
             return Ok(None);
@@ -491,7 +525,8 @@ impl Core {
     /// Creates the submodules of a module, where not too many would live.
     fn create_few(&mut self, alloc: Global, parent: u32, inside: &[Built]) -> Result<Turn, NoMemory>
         requires { length self.old.records + 65536 < 2 ^ 32 }
-        ensures { IfOk result (λ turn. flow_of turn self.new ≡ unless_many parent inside.now self.old (slice_get inside.now 65535)) }
+        ensures { IfOk result (λ turn. flow_of turn self.new
+            ≡ unless_many parent inside.now self.old (slice_get inside.now 65535)) }
     {
         if let Some(built) = inside.get(MAX_SUBMODULES) {
             let records = self.records.as_slice();

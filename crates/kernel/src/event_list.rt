@@ -63,7 +63,8 @@ impl EventList {
 
     /// Takes out the first event.
     pub fn take_first(&mut self) -> Option<Pending>
-        ensures { MatchOption result ((self.old ≡ []) × (self.new ≡ [])) (λ e. self.old ≡ e ∷ self.new) }
+        ensures { MatchOption result ((self.old ≡ []) × (self.new ≡ []))
+            (λ e. self.old ≡ e ∷ self.new) }
     {
         if self.held.is_empty() {
             return None;

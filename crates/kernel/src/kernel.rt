@@ -5,11 +5,11 @@ ghost use Rattle.std.specs.List.{position_from};
 ghost use Rattle.module_api.specs.Meaning.{IsOfKind, Answered, IsSameModule};
 ghost use Rattle.run_semantics.specs.World.{empty, HasRoom};
 ghost use Rattle.run_semantics.specs.Perform.{flow_of, On};
-ghost use Rattle.run_semantics.specs.Event.{call_module, place_in, message_of};
+ghost use Rattle.run_semantics.specs.Event.{call_module, call_of, message_of, place_in};
 ghost use Rattle.run_semantics.specs.Run.{Running, Part, stage_of, settled, prepared, ready, placed, standing, parts_from, most_stages, initialize, one_stage, stages_from, initialize_all, start, next_stage, stopped};
 ghost use Rattle.run_semantics.specs.Ending.{call_last_at, finish, finish_all, ending};
 ghost use Rattle.kernel.specs.Seats.{Seat, ServedAt, most_of, missing_of, missing_part};
-ghost use Rattle.kernel.specs.Kernels.{seat_of, seats_in, world_in, HasKinds};
+ghost use Rattle.kernel.specs.Kernels.{seat_of, seats_in, world_in, ran_in, HasKinds, IsCallable, KeepsBoxes};
 
 use crate::core_part::Core;
 use crate::request::Request;
@@ -48,8 +48,8 @@ impl<C: Catalogue> Kernel<C> {
     /// Nothing stands, and nothing happened. The empty tree is handed in.
     pub fn new(alloc: Global, boxes: Tree<Slot>) -> Kernel<C>
         requires { boxes ≡ [] }
-        ensures world { world_in (λ v. (⟦<dyn SimpleModule as SimpleModule>⟧ v).meaning) result ≡ empty }
-        ensures kinds { HasKinds C.behaviour (λ v. (⟦<dyn SimpleModule as SimpleModule>⟧ v).meaning) result }
+        ensures world { world_in SimpleModule-box result ≡ empty }
+        ensures kinds { HasKinds C.behaviour SimpleModule-box result }
     {
         Kernel {
             core: Core::new(alloc),
@@ -62,21 +62,21 @@ impl<C: Catalogue> Kernel<C> {
 
     /// How many events were executed.
     pub fn count(&self) -> u64
-        ensures { result ≡ (world_in (λ v. (⟦<dyn SimpleModule as SimpleModule>⟧ v).meaning) self.now).count }
+        ensures { result ≡ (world_in SimpleModule-box self.now).count }
     {
         self.core.count()
     }
 
     /// The modules that were created.
     pub fn records(&self) -> &[Record]
-        ensures { result.now ≡ (world_in (λ v. (⟦<dyn SimpleModule as SimpleModule>⟧ v).meaning) self.now).records }
+        ensures { result.now ≡ (world_in SimpleModule-box self.now).records }
     {
         self.core.records()
     }
 
     /// What was emitted.
     pub fn emissions(&self) -> &[Emission]
-        ensures { result.now ≡ (world_in (λ v. (⟦<dyn SimpleModule as SimpleModule>⟧ v).meaning) self.now).emissions }
+        ensures { result.now ≡ (world_in SimpleModule-box self.now).emissions }
     {
         self.core.emissions()
     }
@@ -85,7 +85,7 @@ impl<C: Catalogue> Kernel<C> {
 
     /// What the end of an event makes of the run.
     fn settle(&self, turn: Turn) -> Option<Outcome>
-        ensures { let world = world_in (λ v. (⟦<dyn SimpleModule as SimpleModule>⟧ v).meaning) self.now in
+        ensures { let world = world_in SimpleModule-box self.now in
             stage_of result world ≡ settled (flow_of turn world) }
     {
         match turn {
@@ -96,20 +96,21 @@ impl<C: Catalogue> Kernel<C> {
 
     /// Sets the network up anew, as the model answers. All boxes are dropped.
     pub fn setup(&mut self, alloc: Global, model: &Model) -> Result<Option<Outcome>, NoMemory>
-        requires { HasKinds C.behaviour (λ v. (⟦<dyn SimpleModule as SimpleModule>⟧ v).meaning) self.old }
-        ensures empty { seats_in (λ v. (⟦<dyn SimpleModule as SimpleModule>⟧ v).meaning) self.new ≡ [] }
-        ensures kinds { HasKinds C.behaviour (λ v. (⟦<dyn SimpleModule as SimpleModule>⟧ v).meaning) self.new }
-        ensures step { IfOk result (λ over. stage_of over (world_in (λ v. (⟦<dyn SimpleModule as SimpleModule>⟧ v).meaning) self.new) ≡ settled (prepared model.now)) }
+        requires { HasKinds C.behaviour SimpleModule-box self.old }
+        ensures empty { seats_in SimpleModule-box self.new ≡ [] }
+        ensures kinds { HasKinds C.behaviour SimpleModule-box self.new }
+        ensures step { IfOk result (λ over.
+            stage_of over (world_in SimpleModule-box self.new) ≡ settled (prepared model.now)) }
     {
         self.boxes.clear();
-        self.core = Core::new(alloc);
+        self.core.clear(alloc);
         let turn = self.core.set_up(alloc, model)?;
         Ok(self.settle(turn))
     }
 
     /// The simple module that has no box yet, of the least id.
     pub fn missing(&self, alloc: Global) -> Result<Option<Request>, NoMemory>
-        ensures { IfOk result (λ wanted. wanted ≡ missing_of (world_in (λ v. (⟦<dyn SimpleModule as SimpleModule>⟧ v).meaning) self.now)) }
+        ensures { IfOk result (λ wanted. wanted ≡ missing_of (world_in SimpleModule-box self.now)) }
     {
         let records = self.core.records();
         let Some((id, kind)) = part_at(records, self.boxes.len()) else {
@@ -124,7 +125,8 @@ impl<C: Catalogue> Kernel<C> {
 
     /// The id of the simple module that has no box yet, the least such id.
     pub fn missing_id(&self) -> Option<u32>
-        ensures { result ≡ option_map (λ (p : Part). p.id) (missing_part (world_in (λ v. (⟦<dyn SimpleModule as SimpleModule>⟧ v).meaning) self.now)) }
+        ensures { let world = world_in SimpleModule-box self.now in
+            result ≡ option_map (λ (p : Part). p.id) (missing_part world) }
     {
         match part_at(self.core.records(), self.boxes.len()) {
             Some((id, _)) => Some(id),
@@ -139,11 +141,13 @@ impl<C: Catalogue> Kernel<C> {
         held: Box<dyn SimpleModule>,
     ) -> Result<(), AllocFailed<Box<dyn SimpleModule>>>
         requires of_kind { IsOfKind C.behaviour (meaning held) }
-        requires kinds { HasKinds C.behaviour (λ v. (⟦<dyn SimpleModule as SimpleModule>⟧ v).meaning) self.old }
-        ensures kinds { HasKinds C.behaviour (λ v. (⟦<dyn SimpleModule as SimpleModule>⟧ v).meaning) self.new }
-        ensures ok { OnOk result (world_in (λ v. (⟦<dyn SimpleModule as SimpleModule>⟧ v).meaning) self.new
-            ≡ placed (record { id = id; kind = (meaning held).kind }) (meaning held).state (world_in (λ v. (⟦<dyn SimpleModule as SimpleModule>⟧ v).meaning) self.old)) }
-        ensures err { OnErr result (world_in (λ v. (⟦<dyn SimpleModule as SimpleModule>⟧ v).meaning) self.new ≡ world_in (λ v. (⟦<dyn SimpleModule as SimpleModule>⟧ v).meaning) self.old) }
+        requires kinds { HasKinds C.behaviour SimpleModule-box self.old }
+        ensures kinds { HasKinds C.behaviour SimpleModule-box self.new }
+        ensures ok { let part : Part = record { id = id; kind = (meaning held).kind } in
+            OnOk result (world_in SimpleModule-box self.new
+            ≡ placed part (meaning held).state (world_in SimpleModule-box self.old)) }
+        ensures err { OnErr result
+            (world_in SimpleModule-box self.new ≡ world_in SimpleModule-box self.old) }
         ensures returned { IfErr result (λ failed. failed.value ≡ held) }
     {
         match self.boxes.place(Slot { id, held }) {
@@ -156,8 +160,9 @@ impl<C: Catalogue> Kernel<C> {
 
     /// Where the box of the module of that id stands.
     fn find(&self, id: u32) -> Option<usize>
-        ensures place { result ≡ place_in id (world_in (λ v. (⟦<dyn SimpleModule as SimpleModule>⟧ v).meaning) self.now).modules }
-        ensures there { IfSome result (λ place. place < length (seats_in (λ v. (⟦<dyn SimpleModule as SimpleModule>⟧ v).meaning) self.now)) }
+        ensures place { result ≡ place_in id (world_in SimpleModule-box self.now).modules }
+        ensures there { IfSome result (λ place.
+            place < length (seats_in SimpleModule-box self.now)) }
     {
         place_in(self.boxes.as_slice(), id)
     }
@@ -170,20 +175,16 @@ impl<C: Catalogue> Kernel<C> {
         id: u32,
         prompt: Prompt,
     ) -> Result<Turn, NoMemory>
-        requires room { (world_in (λ v. (⟦<dyn SimpleModule as SimpleModule>⟧ v).meaning) self.old).next + 1000 < 2 ^ 128 }
-        requires kinds { HasKinds C.behaviour (λ v. (⟦<dyn SimpleModule as SimpleModule>⟧ v).meaning) self.old }
-        ensures kinds { HasKinds C.behaviour (λ v. (⟦<dyn SimpleModule as SimpleModule>⟧ v).meaning) self.new }
-        ensures standing { standing (world_in (λ v. (⟦<dyn SimpleModule as SimpleModule>⟧ v).meaning) self.new).modules ≡ standing (world_in (λ v. (⟦<dyn SimpleModule as SimpleModule>⟧ v).meaning) self.old).modules }
-        ensures step { IfOk result (λ turn. flow_of turn (world_in (λ v. (⟦<dyn SimpleModule as SimpleModule>⟧ v).meaning) self.new)
-            ≡ call_module C.behaviour model.now id prompt (world_in (λ v. (⟦<dyn SimpleModule as SimpleModule>⟧ v).meaning) self.old)) }
+        requires callable { IsCallable C.behaviour SimpleModule-box 1000 self.old }
+        ensures kept { KeepsBoxes C.behaviour SimpleModule-box self.old self.new }
+        ensures step { IfOk result (λ turn. flow_of turn (world_in SimpleModule-box self.new)
+            ≡ call_module C.behaviour model.now id prompt (world_in SimpleModule-box self.old)) }
     {
         let Some(place) = self.find(id) else {
             return Ok(Turn::GoOn);
         };
-        let call = self.core.call(alloc, model, id, prompt)?;
-        let reply = serve_at(&mut self.boxes, alloc, place, &call)?;
-        let turn = self.core.follow(alloc, model, id, &reply)?;
-        Ok(turn)
+        let reply = reply_at(&self.core, &mut self.boxes, alloc, model, id, place, prompt)?;
+        self.core.follow(alloc, model, id, &reply)
     }
 
     // ---- event zero
@@ -196,14 +197,15 @@ impl<C: Catalogue> Kernel<C> {
         stage: u8,
         place: usize,
     ) -> Result<Turn, NoMemory>
-        requires there { place < length (seats_in (λ v. (⟦<dyn SimpleModule as SimpleModule>⟧ v).meaning) self.old) }
-        requires room { (world_in (λ v. (⟦<dyn SimpleModule as SimpleModule>⟧ v).meaning) self.old).next + 1000 < 2 ^ 128 }
-        requires kinds { HasKinds C.behaviour (λ v. (⟦<dyn SimpleModule as SimpleModule>⟧ v).meaning) self.old }
-        ensures kinds { HasKinds C.behaviour (λ v. (⟦<dyn SimpleModule as SimpleModule>⟧ v).meaning) self.new }
-        ensures standing { standing (world_in (λ v. (⟦<dyn SimpleModule as SimpleModule>⟧ v).meaning) self.new).modules ≡ standing (world_in (λ v. (⟦<dyn SimpleModule as SimpleModule>⟧ v).meaning) self.old).modules }
-        ensures next { OnOk result ((world_in (λ v. (⟦<dyn SimpleModule as SimpleModule>⟧ v).meaning) self.new).next ≤ (world_in (λ v. (⟦<dyn SimpleModule as SimpleModule>⟧ v).meaning) self.old).next + 1000) }
-        ensures step { IfOk result (λ turn. (p : Part) → slice_get (standing (world_in (λ v. (⟦<dyn SimpleModule as SimpleModule>⟧ v).meaning) self.old).modules) place ≡ Some p
-            → flow_of turn (world_in (λ v. (⟦<dyn SimpleModule as SimpleModule>⟧ v).meaning) self.new) ≡ initialize C.behaviour model.now stage p (world_in (λ v. (⟦<dyn SimpleModule as SimpleModule>⟧ v).meaning) self.old)) }
+        requires there { place < length (seats_in SimpleModule-box self.old) }
+        requires callable { IsCallable C.behaviour SimpleModule-box 1000 self.old }
+        ensures kept { KeepsBoxes C.behaviour SimpleModule-box self.old self.new }
+        ensures next { let before = world_in SimpleModule-box self.old in
+            OnOk result ((world_in SimpleModule-box self.new).next ≤ before.next + 1000) }
+        ensures step { let before = world_in SimpleModule-box self.old in
+            IfOk result (λ turn. (p : Part) → slice_get (standing before.modules) place ≡ Some p
+            → flow_of turn (world_in SimpleModule-box self.new)
+            ≡ initialize C.behaviour model.now stage p before) }
     {
         let (id, stages) = stages_at(self.boxes.as_slice(), place);
         if stage >= stages {
@@ -215,13 +217,13 @@ impl<C: Catalogue> Kernel<C> {
 
     /// One stage of the initialization of all modules.
     fn one_stage(&mut self, alloc: Global, model: &Model, stage: u8) -> Result<Turn, NoMemory>
-        requires room { (world_in (λ v. (⟦<dyn SimpleModule as SimpleModule>⟧ v).meaning) self.old).next + 2 ^ 75 < 2 ^ 128 }
-        requires kinds { HasKinds C.behaviour (λ v. (⟦<dyn SimpleModule as SimpleModule>⟧ v).meaning) self.old }
-        ensures kinds { HasKinds C.behaviour (λ v. (⟦<dyn SimpleModule as SimpleModule>⟧ v).meaning) self.new }
-        ensures standing { standing (world_in (λ v. (⟦<dyn SimpleModule as SimpleModule>⟧ v).meaning) self.new).modules ≡ standing (world_in (λ v. (⟦<dyn SimpleModule as SimpleModule>⟧ v).meaning) self.old).modules }
-        ensures next { OnOk result ((world_in (λ v. (⟦<dyn SimpleModule as SimpleModule>⟧ v).meaning) self.new).next ≤ (world_in (λ v. (⟦<dyn SimpleModule as SimpleModule>⟧ v).meaning) self.old).next + 2 ^ 74) }
-        ensures step { IfOk result (λ turn. flow_of turn (world_in (λ v. (⟦<dyn SimpleModule as SimpleModule>⟧ v).meaning) self.new)
-            ≡ one_stage C.behaviour model.now stage (standing (world_in (λ v. (⟦<dyn SimpleModule as SimpleModule>⟧ v).meaning) self.old).modules) (world_in (λ v. (⟦<dyn SimpleModule as SimpleModule>⟧ v).meaning) self.old)) }
+        requires callable { IsCallable C.behaviour SimpleModule-box (2 ^ 75) self.old }
+        ensures kept { KeepsBoxes C.behaviour SimpleModule-box self.old self.new }
+        ensures next { let before = world_in SimpleModule-box self.old in
+            OnOk result ((world_in SimpleModule-box self.new).next ≤ before.next + 2 ^ 74) }
+        ensures step { let before = world_in SimpleModule-box self.old in
+            IfOk result (λ turn. flow_of turn (world_in SimpleModule-box self.new)
+            ≡ one_stage C.behaviour model.now stage (standing before.modules) before) }
     {
         for place in 0..self.boxes.len() {
             match self.initialize(alloc, model, stage, place)? {
@@ -234,21 +236,22 @@ impl<C: Catalogue> Kernel<C> {
 
     /// The greatest number of stages of a module.
     fn most_stages(&self) -> u8
-        requires { HasKinds C.behaviour (λ v. (⟦<dyn SimpleModule as SimpleModule>⟧ v).meaning) self.now }
-        ensures { result ≡ most_stages C.behaviour (standing (world_in (λ v. (⟦<dyn SimpleModule as SimpleModule>⟧ v).meaning) self.now).modules) }
+        requires { HasKinds C.behaviour SimpleModule-box self.now }
+        ensures { let world = world_in SimpleModule-box self.now in
+            result ≡ most_stages C.behaviour (standing world.modules) }
     {
         most_stages(self.boxes.as_slice())
     }
 
     /// All stages below this number.
     fn stages(&mut self, alloc: Global, model: &Model, most: u8) -> Result<Turn, NoMemory>
-        requires next { (world_in (λ v. (⟦<dyn SimpleModule as SimpleModule>⟧ v).meaning) self.old).next ≡ 0 }
-        requires kinds { HasKinds C.behaviour (λ v. (⟦<dyn SimpleModule as SimpleModule>⟧ v).meaning) self.old }
-        ensures kinds { HasKinds C.behaviour (λ v. (⟦<dyn SimpleModule as SimpleModule>⟧ v).meaning) self.new }
-        ensures standing { standing (world_in (λ v. (⟦<dyn SimpleModule as SimpleModule>⟧ v).meaning) self.new).modules ≡ standing (world_in (λ v. (⟦<dyn SimpleModule as SimpleModule>⟧ v).meaning) self.old).modules }
-        ensures next { OnOk result ((world_in (λ v. (⟦<dyn SimpleModule as SimpleModule>⟧ v).meaning) self.new).next ≤ 2 ^ 82) }
-        ensures step { IfOk result (λ turn. flow_of turn (world_in (λ v. (⟦<dyn SimpleModule as SimpleModule>⟧ v).meaning) self.new)
-            ≡ stages_from C.behaviour model.now (standing (world_in (λ v. (⟦<dyn SimpleModule as SimpleModule>⟧ v).meaning) self.old).modules) 0 most (world_in (λ v. (⟦<dyn SimpleModule as SimpleModule>⟧ v).meaning) self.old)) }
+        requires next { (world_in SimpleModule-box self.old).next ≡ 0 }
+        requires kinds { HasKinds C.behaviour SimpleModule-box self.old }
+        ensures kept { KeepsBoxes C.behaviour SimpleModule-box self.old self.new }
+        ensures next { OnOk result ((world_in SimpleModule-box self.new).next ≤ 2 ^ 82) }
+        ensures step { let before = world_in SimpleModule-box self.old in
+            IfOk result (λ turn. flow_of turn (world_in SimpleModule-box self.new)
+            ≡ stages_from C.behaviour model.now (standing before.modules) 0 most before) }
     {
         for stage in 0..most {
             match self.one_stage(alloc, model, stage)? {
@@ -261,12 +264,13 @@ impl<C: Catalogue> Kernel<C> {
 
     /// Initializes all modules, where each has its box: the end of event zero.
     pub fn start(&mut self, alloc: Global, model: &Model) -> Result<Option<Outcome>, NoMemory>
-        requires ready { On (world_in (λ v. (⟦<dyn SimpleModule as SimpleModule>⟧ v).meaning) self.old) ≡ ready C.behaviour model.now }
-        requires next { (world_in (λ v. (⟦<dyn SimpleModule as SimpleModule>⟧ v).meaning) self.old).next ≡ 0 }
-        requires kinds { HasKinds C.behaviour (λ v. (⟦<dyn SimpleModule as SimpleModule>⟧ v).meaning) self.old }
-        ensures kinds { HasKinds C.behaviour (λ v. (⟦<dyn SimpleModule as SimpleModule>⟧ v).meaning) self.new }
-        ensures next { OnOk result ((world_in (λ v. (⟦<dyn SimpleModule as SimpleModule>⟧ v).meaning) self.new).next ≤ 2 ^ 82) }
-        ensures step { IfOk result (λ over. stage_of over (world_in (λ v. (⟦<dyn SimpleModule as SimpleModule>⟧ v).meaning) self.new) ≡ start C.behaviour model.now) }
+        requires ready { On (world_in SimpleModule-box self.old) ≡ ready C.behaviour model.now }
+        requires next { (world_in SimpleModule-box self.old).next ≡ 0 }
+        requires kinds { HasKinds C.behaviour SimpleModule-box self.old }
+        ensures kinds { HasKinds C.behaviour SimpleModule-box self.new }
+        ensures next { OnOk result ((world_in SimpleModule-box self.new).next ≤ 2 ^ 82) }
+        ensures step { IfOk result (λ over.
+            stage_of over (world_in SimpleModule-box self.new) ≡ start C.behaviour model.now) }
     {
         let most = self.most_stages();
         self.core.mark_started(alloc)?;
@@ -278,13 +282,13 @@ impl<C: Catalogue> Kernel<C> {
 
     /// The next event, or how the run ends.
     pub fn step(&mut self, alloc: Global, model: &Model) -> Result<Option<Outcome>, NoMemory>
-        requires room { HasRoom (world_in (λ v. (⟦<dyn SimpleModule as SimpleModule>⟧ v).meaning) self.old) }
-        requires count { (world_in (λ v. (⟦<dyn SimpleModule as SimpleModule>⟧ v).meaning) self.old).count + 1 < 2 ^ 64 }
-        requires kinds { HasKinds C.behaviour (λ v. (⟦<dyn SimpleModule as SimpleModule>⟧ v).meaning) self.old }
-        ensures kinds { HasKinds C.behaviour (λ v. (⟦<dyn SimpleModule as SimpleModule>⟧ v).meaning) self.new }
-        ensures room { OnOk result (HasRoom (world_in (λ v. (⟦<dyn SimpleModule as SimpleModule>⟧ v).meaning) self.new)) }
-        ensures step { IfOk result (λ over. stage_of over (world_in (λ v. (⟦<dyn SimpleModule as SimpleModule>⟧ v).meaning) self.new)
-            ≡ next_stage C.behaviour model.now (Running (world_in (λ v. (⟦<dyn SimpleModule as SimpleModule>⟧ v).meaning) self.old))) }
+        requires room { HasRoom (world_in SimpleModule-box self.old) }
+        requires count { (world_in SimpleModule-box self.old).count + 1 < 2 ^ 64 }
+        requires kinds { HasKinds C.behaviour SimpleModule-box self.old }
+        ensures kinds { HasKinds C.behaviour SimpleModule-box self.new }
+        ensures room { OnOk result (HasRoom (world_in SimpleModule-box self.new)) }
+        ensures step { IfOk result (λ over. stage_of over (world_in SimpleModule-box self.new)
+            ≡ next_stage C.behaviour model.now (Running (world_in SimpleModule-box self.old))) }
     {
         if self.core.is_ended() {
             return Ok(Some(Outcome::Ended));
@@ -302,8 +306,8 @@ impl<C: Catalogue> Kernel<C> {
 
     /// How the run ends that is stopped here.
     pub fn outcome_of(&self, over: Option<Outcome>) -> Outcome
-        ensures { let world = world_in (λ v. (⟦<dyn SimpleModule as SimpleModule>⟧ v).meaning) self.now in
-            record { world = world; outcome = result } ≡ stopped (stage_of over world) }
+        ensures { ran_in SimpleModule-box result self.now
+            ≡ stopped (stage_of over (world_in SimpleModule-box self.now)) }
     {
         match over {
             Some(outcome) => outcome,
@@ -316,32 +320,31 @@ impl<C: Catalogue> Kernel<C> {
 
     /// Tells the module whose box stands at that place that the run is over.
     fn call_last(&mut self, alloc: Global, model: &Model, id: u32) -> Result<Turn, NoMemory>
-        requires room { (world_in (λ v. (⟦<dyn SimpleModule as SimpleModule>⟧ v).meaning) self.old).next + 1000 < 2 ^ 128 }
-        requires kinds { HasKinds C.behaviour (λ v. (⟦<dyn SimpleModule as SimpleModule>⟧ v).meaning) self.old }
-        ensures kinds { HasKinds C.behaviour (λ v. (⟦<dyn SimpleModule as SimpleModule>⟧ v).meaning) self.new }
-        ensures standing { standing (world_in (λ v. (⟦<dyn SimpleModule as SimpleModule>⟧ v).meaning) self.new).modules ≡ standing (world_in (λ v. (⟦<dyn SimpleModule as SimpleModule>⟧ v).meaning) self.old).modules }
-        ensures step { IfOk result (λ turn. flow_of turn (world_in (λ v. (⟦<dyn SimpleModule as SimpleModule>⟧ v).meaning) self.new)
-            ≡ call_last_at C.behaviour model.now id (world_in (λ v. (⟦<dyn SimpleModule as SimpleModule>⟧ v).meaning) self.old) (place_in id (world_in (λ v. (⟦<dyn SimpleModule as SimpleModule>⟧ v).meaning) self.old).modules)) }
+        requires callable { IsCallable C.behaviour SimpleModule-box 1000 self.old }
+        ensures kept { KeepsBoxes C.behaviour SimpleModule-box self.old self.new }
+        ensures step { let before = world_in SimpleModule-box self.old in
+            IfOk result (λ turn. flow_of turn (world_in SimpleModule-box self.new)
+            ≡ call_last_at C.behaviour model.now id before (place_in id before.modules)) }
     {
         let Some(place) = self.find(id) else {
             return Ok(Turn::GoOn);
         };
-        let call = self.core.call(alloc, model, id, Prompt::Finish)?;
-        let reply = serve_at(&mut self.boxes, alloc, place, &call)?;
-        let turn = self.core.follow_last(alloc, model, id, &reply)?;
-        Ok(turn)
+        let prompt = Prompt::Finish;
+        let reply = reply_at(&self.core, &mut self.boxes, alloc, model, id, place, prompt)?;
+        self.core.follow_last(alloc, model, id, &reply)
     }
 
     /// Finishes the module whose box stands at that place.
     fn finish_one(&mut self, alloc: Global, model: &Model, place: usize) -> Result<Turn, NoMemory>
-        requires there { place < length (seats_in (λ v. (⟦<dyn SimpleModule as SimpleModule>⟧ v).meaning) self.old) }
-        requires room { (world_in (λ v. (⟦<dyn SimpleModule as SimpleModule>⟧ v).meaning) self.old).next + 1000 < 2 ^ 128 }
-        requires kinds { HasKinds C.behaviour (λ v. (⟦<dyn SimpleModule as SimpleModule>⟧ v).meaning) self.old }
-        ensures kinds { HasKinds C.behaviour (λ v. (⟦<dyn SimpleModule as SimpleModule>⟧ v).meaning) self.new }
-        ensures standing { standing (world_in (λ v. (⟦<dyn SimpleModule as SimpleModule>⟧ v).meaning) self.new).modules ≡ standing (world_in (λ v. (⟦<dyn SimpleModule as SimpleModule>⟧ v).meaning) self.old).modules }
-        ensures next { OnOk result ((world_in (λ v. (⟦<dyn SimpleModule as SimpleModule>⟧ v).meaning) self.new).next ≤ (world_in (λ v. (⟦<dyn SimpleModule as SimpleModule>⟧ v).meaning) self.old).next + 1000) }
-        ensures step { IfOk result (λ turn. (p : Part) → slice_get (standing (world_in (λ v. (⟦<dyn SimpleModule as SimpleModule>⟧ v).meaning) self.old).modules) place ≡ Some p
-            → flow_of turn (world_in (λ v. (⟦<dyn SimpleModule as SimpleModule>⟧ v).meaning) self.new) ≡ finish C.behaviour model.now p (world_in (λ v. (⟦<dyn SimpleModule as SimpleModule>⟧ v).meaning) self.old)) }
+        requires there { place < length (seats_in SimpleModule-box self.old) }
+        requires callable { IsCallable C.behaviour SimpleModule-box 1000 self.old }
+        ensures kept { KeepsBoxes C.behaviour SimpleModule-box self.old self.new }
+        ensures next { let before = world_in SimpleModule-box self.old in
+            OnOk result ((world_in SimpleModule-box self.new).next ≤ before.next + 1000) }
+        ensures step { let before = world_in SimpleModule-box self.old in
+            IfOk result (λ turn. (p : Part) → slice_get (standing before.modules) place ≡ Some p
+            → flow_of turn (world_in SimpleModule-box self.new)
+            ≡ finish C.behaviour model.now p before) }
     {
         let (id, _) = stages_at(self.boxes.as_slice(), place);
         match self.call_last(alloc, model, id)? {
@@ -355,11 +358,11 @@ impl<C: Catalogue> Kernel<C> {
 
     /// Finishes all modules, the network last.
     fn finish_all(&mut self, alloc: Global, model: &Model) -> Result<Turn, NoMemory>
-        requires room { (world_in (λ v. (⟦<dyn SimpleModule as SimpleModule>⟧ v).meaning) self.old).next + 2 ^ 75 < 2 ^ 128 }
-        requires kinds { HasKinds C.behaviour (λ v. (⟦<dyn SimpleModule as SimpleModule>⟧ v).meaning) self.old }
-        ensures kinds { HasKinds C.behaviour (λ v. (⟦<dyn SimpleModule as SimpleModule>⟧ v).meaning) self.new }
-        ensures step { IfOk result (λ turn. flow_of turn (world_in (λ v. (⟦<dyn SimpleModule as SimpleModule>⟧ v).meaning) self.new)
-            ≡ finish_all C.behaviour model.now (standing (world_in (λ v. (⟦<dyn SimpleModule as SimpleModule>⟧ v).meaning) self.old).modules) (world_in (λ v. (⟦<dyn SimpleModule as SimpleModule>⟧ v).meaning) self.old)) }
+        requires callable { IsCallable C.behaviour SimpleModule-box (2 ^ 75) self.old }
+        ensures kinds { HasKinds C.behaviour SimpleModule-box self.new }
+        ensures step { let before = world_in SimpleModule-box self.old in
+            IfOk result (λ turn. flow_of turn (world_in SimpleModule-box self.new)
+            ≡ finish_all C.behaviour model.now (standing before.modules) before) }
     {
         for place in 0..self.boxes.len() {
             match self.finish_one(alloc, model, place)? {
@@ -378,12 +381,12 @@ impl<C: Catalogue> Kernel<C> {
         model: &Model,
         outcome: Outcome,
     ) -> Result<Outcome, NoMemory>
-        requires room { HasRoom (world_in (λ v. (⟦<dyn SimpleModule as SimpleModule>⟧ v).meaning) self.old) }
-        requires count { (world_in (λ v. (⟦<dyn SimpleModule as SimpleModule>⟧ v).meaning) self.old).count < 2 ^ 64 }
-        requires kinds { HasKinds C.behaviour (λ v. (⟦<dyn SimpleModule as SimpleModule>⟧ v).meaning) self.old }
-        ensures kinds { HasKinds C.behaviour (λ v. (⟦<dyn SimpleModule as SimpleModule>⟧ v).meaning) self.new }
-        ensures step { IfOk result (λ last. record { world = world_in (λ v. (⟦<dyn SimpleModule as SimpleModule>⟧ v).meaning) self.new; outcome = last }
-            ≡ ending C.behaviour model.now (record { world = world_in (λ v. (⟦<dyn SimpleModule as SimpleModule>⟧ v).meaning) self.old; outcome = outcome })) }
+        requires room { HasRoom (world_in SimpleModule-box self.old) }
+        requires count { (world_in SimpleModule-box self.old).count < 2 ^ 64 }
+        requires kinds { HasKinds C.behaviour SimpleModule-box self.old }
+        ensures kinds { HasKinds C.behaviour SimpleModule-box self.new }
+        ensures step { IfOk result (λ last. ran_in SimpleModule-box last self.new
+            ≡ ending C.behaviour model.now (ran_in SimpleModule-box outcome self.old)) }
     {
         if outcome.is_fault() {
             return Ok(outcome);
@@ -407,7 +410,8 @@ fn returned(failed: AllocFailed<Slot>) -> AllocFailed<Box<dyn SimpleModule>>
 /// The simple module of that number, counted from 0: its id and its class.
 fn part_at(records: &[Record], number: usize) -> Option<(u32, &[u8])>
     requires { length records.now < 2 ^ 32 }
-    ensures { option_map (λ part. record { id = part.0; kind = part.1.now }) result ≡ slice_get (parts_from 1 records.now) number }
+    ensures { option_map (λ part. record { id = part.0; kind = part.1.now }) result
+        ≡ slice_get (parts_from 1 records.now) number }
 {
     let mut left = number;
     for (index, found) in records.iter().enumerate() {
@@ -433,6 +437,26 @@ fn place_in(slots: &[Slot], id: u32) -> Option<usize>
     None
 }
 
+/// What the box at that place replies to a call of the module of that id.
+fn reply_at(
+    core: &Core,
+    boxes: &mut Tree<Slot>,
+    alloc: Global,
+    model: &Model,
+    id: u32,
+    place: usize,
+    prompt: Prompt,
+) -> Result<Reply, NoMemory>
+    requires there { place < length (map (seat_of SimpleModule-box) boxes.old) }
+    ensures { let seats = map (seat_of SimpleModule-box) boxes.old in
+        (before : Seat) → slice_get seats place ≡ Some before
+        → ServedAt seats (map (seat_of SimpleModule-box) boxes.new) place before
+        (call_of model.now id prompt core.now) result }
+{
+    let call = core.call(alloc, model, id, prompt)?;
+    serve_at(boxes, alloc, place, &call)
+}
+
 /// Calls the box at that place.
 fn serve_at(
     boxes: &mut Tree<Slot>,
@@ -440,9 +464,10 @@ fn serve_at(
     place: usize,
     call: &Call,
 ) -> Result<Reply, NoMemory>
-    requires there { place < length (map (seat_of (λ v. (⟦<dyn SimpleModule as SimpleModule>⟧ v).meaning)) boxes.old) }
-    ensures { (before : Seat) → slice_get (map (seat_of (λ v. (⟦<dyn SimpleModule as SimpleModule>⟧ v).meaning)) boxes.old) place ≡ Some before
-        → ServedAt (map (seat_of (λ v. (⟦<dyn SimpleModule as SimpleModule>⟧ v).meaning)) boxes.old) (map (seat_of (λ v. (⟦<dyn SimpleModule as SimpleModule>⟧ v).meaning)) boxes.new) place before call.now result }
+    requires there { place < length (map (seat_of SimpleModule-box) boxes.old) }
+    ensures { let seats = map (seat_of SimpleModule-box) boxes.old in
+        (before : Seat) → slice_get seats place ≡ Some before
+        → ServedAt seats (map (seat_of SimpleModule-box) boxes.new) place before call.now result }
 {
     let slot = boxes.get_mut(place).unwrap();
     serve_slot(slot, alloc, call)
@@ -451,8 +476,10 @@ fn serve_at(
 /// Calls the box of a module.
 fn serve_slot(slot: &mut Slot, alloc: Global, call: &Call) -> Result<Reply, NoMemory>
     ensures id { slot.new.id ≡ slot.old.id }
-    ensures answered { Answered (seat_of (λ v. (⟦<dyn SimpleModule as SimpleModule>⟧ v).meaning) slot.old).box call.now result (seat_of (λ v. (⟦<dyn SimpleModule as SimpleModule>⟧ v).meaning) slot.new).box }
-    ensures same { IsSameModule (seat_of (λ v. (⟦<dyn SimpleModule as SimpleModule>⟧ v).meaning) slot.old).box (seat_of (λ v. (⟦<dyn SimpleModule as SimpleModule>⟧ v).meaning) slot.new).box }
+    ensures answered { let before = seat_of SimpleModule-box slot.old in
+        Answered before.box call.now result (seat_of SimpleModule-box slot.new).box }
+    ensures same { let before = seat_of SimpleModule-box slot.old in
+        IsSameModule before.box (seat_of SimpleModule-box slot.new).box }
 {
     serve(&mut slot.held, alloc, call)
 }
@@ -471,8 +498,8 @@ fn serve(held: &mut Box<dyn SimpleModule>, alloc: Global, call: &Call) -> Result
 
 /// The id of the module whose box stands at that place, and how many stages it has.
 fn stages_at(slots: &[Slot], place: usize) -> (u32, u8)
-    requires { place < length (map (seat_of (λ v. (⟦<dyn SimpleModule as SimpleModule>⟧ v).meaning)) slots.now) }
-    ensures { IfSome (slice_get (map (seat_of (λ v. (⟦<dyn SimpleModule as SimpleModule>⟧ v).meaning)) slots.now) place)
+    requires { place < length (map (seat_of SimpleModule-box) slots.now) }
+    ensures { IfSome (slice_get (map (seat_of SimpleModule-box) slots.now) place)
         (λ s. (result.0 ≡ s.id) × (result.1 ≡ s.box.naming.stages)) }
 {
     let slot = &slots[place];
@@ -488,7 +515,7 @@ fn stages_of(held: &Box<dyn SimpleModule>) -> u8
 
 /// The greatest number of stages.
 fn most_stages(slots: &[Slot]) -> u8
-    ensures { result ≡ most_of (map (seat_of (λ v. (⟦<dyn SimpleModule as SimpleModule>⟧ v).meaning)) slots.now) }
+    ensures { result ≡ most_of (map (seat_of SimpleModule-box) slots.now) }
 {
     let mut most = 0;
     for slot in slots {

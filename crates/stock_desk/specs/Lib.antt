@@ -1,2 +1,3 @@
+pub mod Answerings
 pub mod Machine
 pub mod Steps

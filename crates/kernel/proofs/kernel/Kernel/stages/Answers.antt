@@ -3,25 +3,25 @@ use Rattle.run_semantics.specs.Perform.{On, flow_of}
 use Rattle.run_semantics.specs.Run.{standing, stages_from}
 use Rattle.kernel.specs.Kernels.{world_in}
 use Rattle.kernel.proofs.Starting.{stops, stages_on}
+use Rattle.kernel.proofs.Seating.{still_kept}
 use Rattle.kernel.proofs.kernel.Kernel.stages.Goals as goal
 
-pub returns-in_default-clause-standing : goal.returns-in_default-clause-standing
-returns-in_default-clause-standing g c = c.in_ok-turn.ensures.standing ∙ c.loop-stage.invariant.standing
+pub returns-in_default-clause-kept : goal.returns-in_default-clause-kept
+returns-in_default-clause-kept g c = still_kept c.loop-stage.invariant.kept c.one_stage.ensures.kept
 
 pub returns-in_default-clause-next : goal.returns-in_default-clause-next
 returns-in_default-clause-next g c = omega (arith, c.in_ok-turn.ensures.next, c.loop-stage.invariant.next)
 
 pub returns-in_default-clause-step : goal.returns-in_default-clause-step
 returns-in_default-clause-step g c =
-    sym (stops c.in_ok-turn.turn (world_in (λ v. (g.dyn-1.0.entry v).1.meaning) c.one_stage.new.self) (stages_from g.C.Catalogue.behaviour c.args.model.now (standing (world_in (λ v. (g.dyn-1.0.entry v).1.meaning) c.args.self.now).modules) (c.loop-stage.stage + 1) (c.args.most - (c.loop-stage.stage + 1))) c.in_default.not-GoOn)
-    ∙ stages_on g.C.Catalogue.behaviour c.args.model.now (standing (world_in (λ v. (g.dyn-1.0.entry v).1.meaning) c.args.self.now).modules) (standing (world_in (λ v. (g.dyn-1.0.entry v).1.meaning) c.loop-stage.self).modules) c.loop-stage.stage c.args.most (world_in (λ v. (g.dyn-1.0.entry v).1.meaning) c.loop-stage.self) (flow_of c.in_ok-turn.turn (world_in (λ v. (g.dyn-1.0.entry v).1.meaning) c.one_stage.new.self)) _
-    c.loop-stage.invariant.standing (omega arith) c.in_ok-turn.ensures.step c.loop-stage.invariant.flow
+    sym (stops c.in_ok-turn.turn (world_in (λ b. (g.dyn-1.0.entry b.vtable).1) c.one_stage.new.self) (stages_from g.C.Catalogue.behaviour c.args.model.now (standing (world_in (λ b. (g.dyn-1.0.entry b.vtable).1) c.args.self.now).modules) (c.loop-stage.stage + 1) (c.args.most - (c.loop-stage.stage + 1))) c.in_default.not-GoOn)
+    ∙ stages_on g.C.Catalogue.behaviour c.args.model.now (standing (world_in (λ b. (g.dyn-1.0.entry b.vtable).1) c.args.self.now).modules) (standing (world_in (λ b. (g.dyn-1.0.entry b.vtable).1) c.loop-stage.self).modules) c.loop-stage.stage c.args.most (world_in (λ b. (g.dyn-1.0.entry b.vtable).1) c.loop-stage.self) (flow_of c.in_ok-turn.turn (world_in (λ b. (g.dyn-1.0.entry b.vtable).1) c.one_stage.new.self)) _
+    c.loop-stage.invariant.kept.standing_is (omega arith) c.in_ok-turn.ensures.step c.loop-stage.invariant.flow
 
 pub loop-stage-preserved : goal.loop-stage-preserved
 loop-stage-preserved g c = record {
-  flow = stages_on g.C.Catalogue.behaviour c.args.model.now (standing (world_in (λ v. (g.dyn-1.0.entry v).1.meaning) c.args.self.now).modules) (standing (world_in (λ v. (g.dyn-1.0.entry v).1.meaning) c.loop-stage.self).modules) c.loop-stage.stage c.args.most (world_in (λ v. (g.dyn-1.0.entry v).1.meaning) c.loop-stage.self) (On (world_in (λ v. (g.dyn-1.0.entry v).1.meaning) c.one_stage.new.self)) _
-      c.loop-stage.invariant.standing (omega arith) (rw c.in-GoOn.is at c.in_ok-turn.ensures.step) c.loop-stage.invariant.flow;
-  standing = c.in_ok-turn.ensures.standing ∙ c.loop-stage.invariant.standing;
+  flow = stages_on g.C.Catalogue.behaviour c.args.model.now (standing (world_in (λ b. (g.dyn-1.0.entry b.vtable).1) c.args.self.now).modules) (standing (world_in (λ b. (g.dyn-1.0.entry b.vtable).1) c.loop-stage.self).modules) c.loop-stage.stage c.args.most (world_in (λ b. (g.dyn-1.0.entry b.vtable).1) c.loop-stage.self) (On (world_in (λ b. (g.dyn-1.0.entry b.vtable).1) c.one_stage.new.self)) _
+      c.loop-stage.invariant.kept.standing_is (omega arith) (rw c.in-GoOn.is at c.in_ok-turn.ensures.step) c.loop-stage.invariant.flow;
   next = omega (arith, c.in_ok-turn.ensures.next, c.loop-stage.invariant.next);
-  kinds = c.one_stage.ensures.kinds;
+  kept = still_kept c.loop-stage.invariant.kept c.one_stage.ensures.kept;
 }

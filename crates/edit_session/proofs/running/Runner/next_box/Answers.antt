@@ -1,6 +1,6 @@
 use Rattle.std.proofs.Common.{sym, ◌∙◌}
 use Rattle.edit_session.proofs.Filling.{filled_ready}
-use Rattle.edit_session.proofs.running.next_box.Goals as goal
+use Rattle.edit_session.proofs.running.Runner.next_box.Goals as goal
 
 pub returns-in-None-clause-stands : goal.returns-in-None-clause-stands
 returns-in-None-clause-stands g c =

@@ -1,5 +1,5 @@
 use Rattle.edit_session.proofs.Filling.{whole_over}
-use Rattle.edit_session.proofs.running.carry_on.Goals as goal
+use Rattle.edit_session.proofs.running.Runner.carry_on.Goals as goal
 
 pub returns-in-Over-clause-advances : goal.returns-in-Over-clause-advances
 returns-in-Over-clause-advances g c =

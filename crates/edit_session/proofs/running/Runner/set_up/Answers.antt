@@ -1,7 +1,7 @@
 use Rattle.std.proofs.Common.{◌≡◌, ℕ, List, length, map, ap, subst}
 use Rattle.kernel.specs.Seats.{Seat, instance_of}
 use Rattle.edit_session.specs.Editing.{Wants}
-use Rattle.edit_session.proofs.running.set_up.Goals as goal
+use Rattle.edit_session.proofs.running.Runner.set_up.Goals as goal
 
 pub returns-in_ok-standing-in-None-clause-wants : goal.returns-in_ok-standing-in-None-clause-wants
 returns-in_ok-standing-in-None-clause-wants g c = λ phase.
