@@ -11,6 +11,7 @@ use sim_time::SimTime;
 use sim_values::text::Text;
 use sqlite_items::Items;
 use std::alloc::{AllocError, Global};
+use std::process::Abort;
 use std::test::Fail;
 
 /// A device with room for so many bytes, which takes at most so many in a call.
@@ -54,68 +55,110 @@ fn option_line(alloc: Global, key: &str, value: &str) -> Result<IniLine, AllocEr
 
 const TEXT: &str = "version 3\n\nvector 0 N.t fired:vector ETV\n0\t2\t0.0005\t-7\n";
 
-#[test]
-fn devices(rt: HostRuntime) -> Result<(), Fail> {
-    let alloc = rt.alloc();
-    let mut vectors = Items::new(alloc);
-    vectors.push(VectorLine {
+/// What the file says before its first value, which is that of a module with the id 1.
+fn file_of_one(alloc: Global) -> Result<VectorFile, AllocError> {
+    let line = VectorLine {
         id: 1,
         path: Text::from_str(alloc, "N.t")?,
         statistic: Text::from_str(alloc, "fired")?,
         source: Text::from_str(alloc, "tick")?,
-    })?;
+    };
+    let mut vectors = Items::new(alloc);
+    vectors.push(line)?;
     let header = Text::from_str(alloc, "version 3\n\n")?;
-    let file = VectorFile { header, vectors };
-    let emission = Emission {
+    Ok(VectorFile { header, vectors })
+}
+
+/// A value of the module with the id 1.
+fn emission(alloc: Global, time: SimTime) -> Result<Emission, AllocError> {
+    Ok(Emission {
         id: 1,
         signal: Text::from_str(alloc, "tick")?,
         event: 2,
-        time: SimTime::from_ps(500_000_000).ok_or("in range")?,
+        time,
         value: -7,
+    })
+}
+
+/// Whether a device has taken what of the text it has room for.
+fn has_taken(taken: &[u8], room: usize) -> bool {
+    taken.len() == room.min(TEXT.len()) && TEXT.as_bytes().starts_with(taken)
+}
+
+/// Writes the file to a device with room for so many bytes, which takes at most so many in a call. Answers what the write
+/// answers, and whether the device has then taken what it has room for.
+fn try_device(
+    alloc: Global,
+    file: &VectorFile,
+    emissions: &[Emission],
+    room: usize,
+    step: usize,
+) -> (Result<(), Device>, bool) {
+    let mut shelf = Shelf {
+        taken: Vec::new(alloc),
+        room,
+        step,
+        failures: 0,
     };
-    let whole = usize::MAX;
+    let answer = write_vectors(&mut shelf, file, &[], emissions);
+    (answer, has_taken(shelf.taken.as_slice(), room))
+}
+
+/// Writes the file to devices.
+fn try_devices<R: Abort>(
+    rt: &R,
+    alloc: Global,
+    file: &VectorFile,
+    emissions: &[Emission],
+) -> Result<(), Fail> {
     for (room, step, want) in [
         (10, 100, Err(Device { written: 10 })),
         (0, 1, Err(Device { written: 0 })),
         (54, 7, Err(Device { written: 54 })),
         (55, 7, Ok(())),
-        (whole, 1, Ok(())),
+        (usize::MAX, 1, Ok(())),
     ] {
-        let taken = Vec::new(alloc);
-        let failures = 0;
-        let mut shelf = Shelf {
-            taken,
-            room,
-            step,
-            failures,
-        };
-        let answer = write_vectors(&mut shelf, &file, &[], std::slice::from_ref(&emission));
+        let (answer, has_taken) = try_device(alloc, file, emissions, room, step);
         assert_eq!(rt; answer, want, "{room} {step}");
-        let count = room.min(TEXT.len());
-        assert_eq!(rt;
-            shelf.taken.as_slice(),
-            &TEXT.as_bytes()[..count],
-            "{room} {step}"
-        );
+        assert!(rt; has_taken, "{room} {step}");
     }
     Ok(())
 }
 
 #[test]
-fn headers(rt: HostRuntime) -> Result<(), Fail> {
+fn devices(rt: HostRuntime) -> Result<(), Fail> {
     let alloc = rt.alloc();
+    let time = SimTime::from_ps(500_000_000).ok_or("in range")?;
+    let file = file_of_one(alloc)?;
+    let emission = emission(alloc, time)?;
+    try_devices(&rt, alloc, &file, std::slice::from_ref(&emission))
+}
+
+/// The lines of a configuration of that name.
+fn lines_of(alloc: Global, name: &Text) -> Result<Vec<IniLine>, AllocError> {
+    let section = IniLine {
+        text: Text::from_str(alloc, "[General]")?,
+        meaning: LineMeaning::Section(name.copy(alloc)?),
+    };
+    let mut lines = Vec::new(alloc);
+    lines.push(section)?;
+    lines.push(option_line(alloc, "network", "N")?)?;
+    lines.push(option_line(alloc, "**.count", "3")?)?;
+    lines.push(option_line(alloc, "**.name", "a\"b \\")?)?;
+    Ok(lines)
+}
+
+/// The header of a run of a configuration with four lines.
+fn header(alloc: Global) -> Result<Text, AllocError> {
     let general = Text::from_str(alloc, "General")?;
-    let lines = vec![in alloc;
-        IniLine {
-            text: Text::from_str(alloc, "[General]")?,
-            meaning: LineMeaning::Section(general.copy(alloc)?),
-        },
-        option_line(alloc, "network", "N")?,
-        option_line(alloc, "**.count", "3")?,
-        option_line(alloc, "**.name", "a\"b \\")?,
-    ]?;
+    let lines = lines_of(alloc, &general)?;
     let chain = std::slice::from_ref(&general);
-    let header = header_text(alloc, b"General", b"N", chain, lines.as_slice())?;
+    header_text(alloc, b"General", b"N", chain, lines.as_slice())
+}
+
+#[test]
+fn headers(rt: HostRuntime) -> Result<(), Fail> {
+    let header = header(rt.alloc())?;
     let want =
         "version 3\nrun General-0\nattr configname General\nattr network N\nattr runnumber 0\nconfig network N\nconfig **.count 3\nconfig **.name \"a\\\"b \\\\\"\n\n";
     assert_eq!(rt; header.as_bytes(), want.as_bytes());

@@ -8,6 +8,7 @@ mod rows;
 use module_api::call::Prompt;
 use module_api::catalogue::Catalogue;
 use module_api::message::Origin;
+use module_api::reply::Reply;
 use module_api::simple_module::SimpleModule;
 use pulse::{Pulse, Pulses};
 use rows::{Row, call_of, message_from, text_of};
@@ -19,9 +20,10 @@ use std::test::Fail;
 use stock_modules::modules::StockModule;
 use stock_modules::stock::{Stock, stock_reads_decide, stock_states_are_kept, tick_is_known};
 
-/// A fresh Tick, as a program makes one.
-fn fresh_tick() -> Result<StockModule, Fail> {
-    Ok(StockModule::of_kind(b"Tick".as_slice()).ok_or("unknown")?)
+/// A box of a fresh Tick, as a program makes one.
+fn boxed_tick(alloc: Global) -> Result<Box<dyn SimpleModule>, Fail> {
+    let made = StockModule::of_kind(b"Tick".as_slice()).ok_or("unknown")?;
+    Ok(Box::new(alloc, made)?)
 }
 
 /// Takes a box that is fresh in a catalogue.
@@ -43,6 +45,41 @@ fn hand_over(alloc: Global, kind: &[u8]) -> Result<bool, NoMemory> {
     }
 }
 
+/// The reply to a call with these parameters and that prompt.
+fn reply_to(
+    alloc: Global,
+    held: &mut Box<dyn SimpleModule>,
+    rows: &[Row],
+    prompt: Prompt,
+) -> Result<Reply, NoMemory> {
+    let call = call_of(alloc, rows, prompt)?;
+    match call.prompt {
+        Prompt::Initialize(_) => held.initialize(alloc, &call),
+        Prompt::Message(_) => held.handle_message(alloc, &call),
+        Prompt::Finish => held.finish(alloc, &call),
+    }
+}
+
+/// The text of the reply to a call.
+fn told(
+    alloc: Global,
+    held: &mut Box<dyn SimpleModule>,
+    rows: &[Row],
+    prompt: Prompt,
+) -> Result<String, NoMemory> {
+    let reply = reply_to(alloc, held, rows, prompt)?;
+    Ok(text_of(alloc, &reply)?)
+}
+
+/// What calls a box at a place in a list of calls: the first one initializes it, the others are timers.
+fn prompt_at(alloc: Global, at: usize) -> Prompt {
+    if at == 0 {
+        Prompt::Initialize(0)
+    } else {
+        message_from(alloc, Origin::Timer(0))
+    }
+}
+
 /// Initializes the box, then hands it a timer again and again, and compares each reply.
 fn replies<R: Abort>(
     rt: &R,
@@ -52,67 +89,90 @@ fn replies<R: Abort>(
     wanted: &[&str],
 ) -> Result<(), Fail> {
     for (at, want) in wanted.iter().enumerate() {
-        let reply = if at == 0 {
-            let call = call_of(alloc, rows, Prompt::Initialize(0))?;
-            held.initialize(alloc, &call)?
-        } else {
-            let call = call_of(alloc, rows, message_from(alloc, Origin::Timer(0)))?;
-            held.handle_message(alloc, &call)?
-        };
-        let text = text_of(alloc, &reply)?;
-        assert_eq!(rt; text.as_slice(), want.as_bytes(), "call {at}");
+        let text = told(alloc, held, rows, prompt_at(alloc, at))?;
+        assert_eq!(rt; text.as_str(), *want, "call {at}");
     }
     Ok(())
 }
 
+/// Makes a box of a Tick, and compares its replies to calls with these parameters.
+fn replies_of_tick<R: Abort>(
+    rt: &R,
+    alloc: Global,
+    rows: &[Row],
+    wanted: &[&str],
+) -> Result<(), Fail> {
+    let mut held = boxed_tick(alloc)?;
+    replies(rt, alloc, &mut held, rows, wanted)
+}
+
+/// Whether a fresh box says that it is a Tick, of one stage.
+fn is_tick_of_one_stage(alloc: Global) -> Result<bool, Fail> {
+    let held = boxed_tick(alloc)?;
+    Ok(held.kind() == "Tick" && held.stages() == 1)
+}
+
+#[test]
+fn tick_is_of_its_kind(rt: HostRuntime) -> Result<(), Fail> {
+    assert!(rt; is_tick_of_one_stage(rt.alloc())?);
+    Ok(())
+}
+
+/// The parameters of a Tick that fires three times.
+const COUNTING: [Row; 5] = [
+    Row("count", None, 3),
+    Row("gap", Some(Dimension::Time), 1_000_000_000_000),
+    Row("priority", None, 0),
+    Row("late", None, 2),
+    Row("extra", None, 9),
+];
+
+/// What it replies to its calls.
+const COUNTED: [&str; 4] = [
+    " count gap priority: timer0+1000000000000/0",
+    " count gap priority late: fired=1 timer0+1000000000000/0",
+    " count gap priority late extra: fired=2 extra=9 timer0+1000000000000/0",
+    " count gap priority late: fired=3",
+];
+
 #[test]
 fn tick_counts(rt: HostRuntime) -> Result<(), Fail> {
     let alloc = rt.alloc();
-    let mut held: Box<dyn SimpleModule> = Box::new(alloc, fresh_tick()?)?;
-    assert_eq!(rt; held.kind(), "Tick");
-    assert_eq!(rt; held.stages(), 1);
-    let rows = [
-        Row("count", None, 3),
-        Row("gap", Some(Dimension::Time), 1_000_000_000_000),
-        Row("priority", None, 0),
-        Row("late", None, 2),
-        Row("extra", None, 9),
-    ];
-    let wanted = [
-        " count gap priority: timer0+1000000000000/0",
-        " count gap priority late: fired=1 timer0+1000000000000/0",
-        " count gap priority late extra: fired=2 extra=9 timer0+1000000000000/0",
-        " count gap priority late: fired=3",
-    ];
-    replies(&rt, alloc, &mut held, rows.as_slice(), wanted.as_slice())?;
-    let call = call_of(alloc, rows.as_slice(), Prompt::Finish)?;
-    let reply = held.finish(alloc, &call)?;
-    assert!(rt; reply.reads.is_empty());
-    assert!(rt; reply.actions.is_empty());
+    let mut held = boxed_tick(alloc)?;
+    let rows = COUNTING.as_slice();
+    replies(&rt, alloc, &mut held, rows, COUNTED.as_slice())?;
+    let last = told(alloc, &mut held, rows, Prompt::Finish)?;
+    assert_eq!(rt; last.as_str(), ":");
     Ok(())
 }
+
+/// Parameters of a Tick, of which the priority is out of range.
+const WRONG: [Row; 5] = [
+    Row("count", None, 3),
+    Row("gap", Some(Dimension::Time), 5),
+    Row("priority", None, 40000),
+    Row("late", None, 1),
+    Row("extra", None, 9),
+];
+
+/// How it refuses its calls.
+const REFUSED: [&str; 3] = [
+    " count gap priority: fail=priority",
+    " count gap priority late extra: fail=priority",
+    " count gap priority late extra: fail=priority",
+];
+
+/// Parameters of a Tick, of which the count is missing.
+const MISSING: [Row; 2] = [Row("gap", None, 5), Row("priority", None, 0)];
+
+/// What it reads in vain.
+const IN_VAIN: [&str; 2] = [" count gap priority:", " count gap priority late:"];
 
 #[test]
 fn tick_refuses(rt: HostRuntime) -> Result<(), Fail> {
     let alloc = rt.alloc();
-    let wrong = [
-        Row("count", None, 3),
-        Row("gap", Some(Dimension::Time), 5),
-        Row("priority", None, 40000),
-        Row("late", None, 1),
-        Row("extra", None, 9),
-    ];
-    let wanted = [
-        " count gap priority: fail=priority",
-        " count gap priority late extra: fail=priority",
-        " count gap priority late extra: fail=priority",
-    ];
-    let mut held: Box<dyn SimpleModule> = Box::new(alloc, fresh_tick()?)?;
-    replies(&rt, alloc, &mut held, wrong.as_slice(), wanted.as_slice())?;
-    let missing = [Row("gap", None, 5), Row("priority", None, 0)];
-    let wanted = [" count gap priority:", " count gap priority late:"];
-    let mut held: Box<dyn SimpleModule> = Box::new(alloc, fresh_tick()?)?;
-    replies(&rt, alloc, &mut held, missing.as_slice(), wanted.as_slice())
+    replies_of_tick(&rt, alloc, WRONG.as_slice(), REFUSED.as_slice())?;
+    replies_of_tick(&rt, alloc, MISSING.as_slice(), IN_VAIN.as_slice())
 }
 
 #[test]

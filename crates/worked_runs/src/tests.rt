@@ -1,8 +1,16 @@
+ghost use Rattle.std.specs.Prelude.{IfOk};
+ghost use Rattle.desk.specs.Turns.{IsSettled};
+
 use desk::buffer::Buffer;
 use desk::desk::{Desk, DeskTurn};
+use edit_session::begin::BeginFault;
 use edit_session::session::{FileFault, Session};
+use module_api::catalogue::Catalogue;
+use module_api::simple_module::SimpleModule;
 use ned_syntax::texts::NedTexts;
 use result_files::writer::{Out, WriteFault};
+use sim_values::NoMemory;
+use std::alloc::Global;
 use std::test::Fail;
 use stock_modules::stock::Stock;
 
@@ -30,25 +38,84 @@ impl Out for Shelf {
     }
 }
 
-#[test]
-fn files_of_runs(rt: HostRuntime) -> Result<(), Fail> {
-    let alloc = rt.alloc();
+/// What a desk answers to two devices, one before its first run and one after it.
+#[derive(Drop)]
+struct Answers {
+    before: Result<(), FileFault>,
+    is_done: bool,
+    after: Result<(), FileFault>,
+    taken: Vec<u8>,
+}
+
+/// A network without modules.
+fn empty_network(alloc: Global) -> Result<NedTexts, NoMemory> {
     let mut texts = NedTexts::new(alloc);
     texts.push(b"network N {}".as_slice())?;
+    Ok(texts)
+}
+
+/// A desk at the network of these texts.
+fn desk_of<C: Catalogue>(alloc: Global, texts: &NedTexts) -> Result<Desk<C>, BeginFault>
+    ensures { IfOk result (λ desk. IsSettled C.behaviour (λ b. ⟦<dyn SimpleModule as SimpleModule>⟧ b.vtable) desk) }
+{
     let ini = b"[General]\nnetwork = N\n".as_slice();
-    let session = Session::<Stock>::begin(alloc, &texts, ini, b"General".as_slice())?;
-    let mut desk = Desk::of_session(alloc, session);
-    let mut file = Buffer::new(alloc);
-    assert!(rt; desk.vectors(&mut file) == Err(FileFault::NotDone));
-    let Ok(DeskTurn::Text(_)) = desk.run(100) else {
-        return Err("the run is not done")?;
-    };
+    let session = Session::begin(alloc, texts, ini, b"General".as_slice())?;
+    Ok(Desk::of_session(alloc, session))
+}
+
+/// Writes the vector file to a device with room for so many bytes. Answers what the desk says, and what the device took.
+fn written<C: Catalogue>(
+    alloc: Global,
+    desk: &Desk<C>,
+    room: usize,
+) -> (Result<(), FileFault>, Vec<u8>)
+    requires { IsSettled C.behaviour (λ b. ⟦<dyn SimpleModule as SimpleModule>⟧ b.vtable) desk.now }
+{
     let mut shelf = Shelf {
         taken: Vec::new(alloc),
-        room: 10,
+        room,
         failures: 0,
     };
-    assert!(rt; desk.vectors(&mut shelf) == Err(FileFault::Device(10)));
-    assert_eq!(rt; shelf.taken.as_slice(), b"version 3\n".as_slice());
+    let answer = desk.vectors(&mut shelf);
+    (answer, shelf.taken)
+}
+
+/// Whether a run of the desk's model is done.
+fn is_done<C: Catalogue>(desk: &mut Desk<C>) -> bool
+    requires { IsSettled C.behaviour (λ b. ⟦<dyn SimpleModule as SimpleModule>⟧ b.vtable) desk.old }
+    ensures { IsSettled C.behaviour (λ b. ⟦<dyn SimpleModule as SimpleModule>⟧ b.vtable) desk.new }
+{
+    matches!(desk.run(100), Ok(DeskTurn::Text(_)))
+}
+
+/// What a desk at the network of these texts answers to devices.
+fn answers_of<C: Catalogue>(alloc: Global, texts: &NedTexts) -> Result<Answers, BeginFault> {
+    let mut desk = desk_of::<C>(alloc, texts)?;
+    let before = desk.vectors(&mut Buffer::new(alloc));
+    let is_done = is_done(&mut desk);
+    let (after, taken) = written(alloc, &desk, 10);
+    // The process ends with the test, and to drop a desk would be the dearest part of the proof.
+    std::mem::forget(desk);
+    Ok(Answers {
+        before,
+        is_done,
+        after,
+        taken,
+    })
+}
+
+/// What a desk of the stock modules answers to devices.
+fn answers_of_stock(alloc: Global) -> Result<Answers, Fail> {
+    let texts = empty_network(alloc)?;
+    Ok(answers_of::<Stock>(alloc, &texts)?)
+}
+
+#[test]
+fn files_of_runs(rt: HostRuntime) -> Result<(), Fail> {
+    let answers = answers_of_stock(rt.alloc())?;
+    assert!(rt; answers.before == Err(FileFault::NotDone));
+    assert!(rt; answers.is_done, "the run is not done");
+    assert!(rt; answers.after == Err(FileFault::Device(10)));
+    assert_eq!(rt; answers.taken.as_slice(), b"version 3\n".as_slice());
     Ok(())
 }
