@@ -1,6 +1,8 @@
 -- The texts of answers.
-use Rattle.std.specs.Prelude.{ℕ, List, ◌++◌, Option, Some, None, codes}
+use Rattle.std.specs.Prelude.{ℕ, List, [], ◌++◌, Option, Some, None, codes}
 use Rattle.std.specs.Fmt.{decimal}
+use Rattle.edit_session.specs.declared.begin.BeginFault.{BeginFault}
+use Rattle.edit_session.specs.declared.begin.BeginFault.TheVariants as refusal
 use Rattle.run_semantics.specs.declared.outcome.Fault.{Fault}
 use Rattle.run_semantics.specs.declared.outcome.Fault.TheVariants as fault
 use Rattle.run_semantics.specs.declared.outcome.Outcome.{Outcome}
@@ -42,3 +44,28 @@ start_text (Some event) = decimal event
 abbrev pub done_text : Outcome → Option ℕ → ℕ → List ℕ
 done_text o from executed =
     codes "done " ++ (outcome_text o ++ (codes " from " ++ (start_text from ++ (codes " executed " ++ decimal executed))))
+
+-- ---- refusals
+
+-- the name of a refusal
+abbrev pub refusal_name : BeginFault → List ℕ
+refusal_name refusal.TooLarge = codes "TooLarge"
+refusal_name (refusal.NedSyntax file line) = codes "NedSyntax"
+refusal_name (refusal.IniSyntax line) = codes "IniSyntax"
+refusal_name refusal.DuplicateType = codes "DuplicateType"
+refusal_name refusal.UnknownType = codes "UnknownType"
+refusal_name refusal.KindClash = codes "KindClash"
+refusal_name refusal.NoSuchConfig = codes "NoSuchConfig"
+refusal_name refusal.ChainFault = codes "ChainFault"
+refusal_name refusal.NoSuchNetwork = codes "NoSuchNetwork"
+refusal_name refusal.NoMemory = codes "NoMemory"
+
+-- where what is refused stands: the file, counted from 0, and the line, counted from 1
+abbrev pub refusal_place : BeginFault → List ℕ
+refusal_place (refusal.NedSyntax file line) = codes " file " ++ (decimal file ++ (codes " line " ++ decimal line))
+refusal_place (refusal.IniSyntax line) = codes " line " ++ decimal line
+refusal_place _ = []
+
+-- THE TEXT of a refusal
+abbrev pub refusal_text : BeginFault → List ℕ
+refusal_text f = refusal_name f ++ refusal_place f

@@ -2,8 +2,9 @@
 
 ghost use Rattle.std.specs.Prelude.{◌≡◌, ◌++◌, IfOk, OnOk};
 ghost use Rattle.std.specs.Fmt.{decimal};
-ghost use Rattle.desk.specs.Answers.{done_text, fault_detail, fault_name, outcome_text, start_text};
+ghost use Rattle.desk.specs.Answers.{done_text, fault_detail, fault_name, outcome_text, refusal_name, refusal_place, refusal_text, start_text};
 
+use edit_session::begin::BeginFault;
 use edit_session::session::Report;
 use itoa::Buffer as Digits;
 use run_semantics::outcome::{Fault, Outcome};
@@ -99,5 +100,52 @@ pub fn done_text(alloc: Global, report: &Report) -> Result<Text, AllocError>
     push_start(&mut text, report.started_from)?;
     push(&mut text, b" executed ")?;
     push_number(&mut text, report.executed)?;
+    Ok(Text::from_vec(text))
+}
+
+/// The name of a refusal.
+fn refusal_name(fault: BeginFault) -> &'static [u8]
+    ensures { result.now ≡ refusal_name fault }
+{
+    match fault {
+        BeginFault::TooLarge => b"TooLarge",
+        BeginFault::NedSyntax(_, _) => b"NedSyntax",
+        BeginFault::IniSyntax(_) => b"IniSyntax",
+        BeginFault::DuplicateType => b"DuplicateType",
+        BeginFault::UnknownType => b"UnknownType",
+        BeginFault::KindClash => b"KindClash",
+        BeginFault::NoSuchConfig => b"NoSuchConfig",
+        BeginFault::ChainFault => b"ChainFault",
+        BeginFault::NoSuchNetwork => b"NoSuchNetwork",
+        BeginFault::NoMemory => b"NoMemory",
+    }
+}
+
+/// Adds where what is refused stands: the file, counted from 0, and the line, counted from 1.
+fn push_place(text: &mut Vec<u8>, fault: BeginFault) -> Result<(), AllocError>
+    ensures { OnOk result (text.new.items ≡ text.old.items ++ refusal_place fault) }
+{
+    match fault {
+        BeginFault::NedSyntax(file, line) => {
+            push(text, b" file ")?;
+            push_number(text, file as u64)?;
+            push(text, b" line ")?;
+            push_number(text, line as u64)
+        }
+        BeginFault::IniSyntax(line) => {
+            push(text, b" line ")?;
+            push_number(text, line as u64)
+        }
+        _ => Ok(()),
+    }
+}
+
+/// The text of a refusal: its name, and the file and line where they are known.
+pub fn refusal_text(alloc: Global, fault: BeginFault) -> Result<Text, AllocError>
+    ensures { IfOk result (λ text. text ≡ refusal_text fault) }
+{
+    let mut text = Vec::new(alloc);
+    push(&mut text, refusal_name(fault))?;
+    push_place(&mut text, fault)?;
     Ok(Text::from_vec(text))
 }

@@ -19,7 +19,6 @@ use ned_values::error::NedError;
 use sim_values::text::Text;
 use sqlite_items::Items;
 use std::alloc::{AllocError, Global};
-use thiserror::Error;
 
 /// The longest text that is read, in bytes: 1 MiB.
 pub const MAX_TEXT: usize = 1 << 20;
@@ -29,37 +28,28 @@ pub const MAX_FILES: usize = 256;
 
 /// Why texts make no model. Of several reasons the first in this order is told, and want of memory
 /// in any place.
-#[derive(Clone, Copy, Debug, PartialEq, Eq, Error)]
+#[derive(Clone, Copy, Debug, PartialEq, Eq)]
 pub enum BeginFault {
     /// A text is longer than 1 MiB, or there are more than 256 NED files.
-    #[error("TooLarge")]
     TooLarge,
     /// A NED file, counted from 0, and the line of the first byte that can't go on.
-    #[error("NedSyntax file {0} line {1}")]
     NedSyntax(usize, usize),
     /// The first line of the ini text that means nothing.
-    #[error("IniSyntax line {0}")]
     IniSyntax(usize),
     /// Two types have one name, or one has that of a built-in channel.
-    #[error("DuplicateType")]
     DuplicateType,
     /// A submodule's type isn't declared.
-    #[error("UnknownType")]
     UnknownType,
     /// A member is declared twice, a value is given to an undeclared parameter or after a fixed
     /// one, or a submodule's type is no simple type.
-    #[error("KindClash")]
     KindClash,
     /// The configuration isn't in the ini text.
-    #[error("NoSuchConfig")]
     NoSuchConfig,
     /// The configuration extends one that isn't in the ini text, several, or in the end itself.
-    #[error("ChainFault")]
     ChainFault,
     /// The option `network` names no network.
-    #[error("NoSuchNetwork")]
     NoSuchNetwork,
-    #[error("NoMemory")]
+    /// Memory ran out.
     NoMemory,
 }
 

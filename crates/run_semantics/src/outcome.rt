@@ -7,43 +7,33 @@ ghost use Rattle.run_semantics.specs.Run.{is_fault};
 use model_answers::answer::ModelFault;
 use sim_values::text::Text;
 use std::alloc::{AllocError, Global};
-use thiserror::Error;
 
 /// Why a run can't go on.
-#[derive(Debug, Drop, Error)]
+#[derive(Debug, Drop)]
 pub enum Fault {
-    #[error("UnknownType")]
+    /// A submodule's type isn't declared.
     UnknownType,
-    #[error("Unassigned")]
+    /// A parameter has no value.
     Unassigned,
-    #[error("Mismatch")]
+    /// A parameter's value is of another kind than its declaration.
     Mismatch,
     /// More than 65,536 modules would live.
-    #[error("TooManyModules")]
     TooManyModules,
     /// No box is there for a module's class.
-    #[error("UnknownClass")]
     UnknownClass,
     /// A reply read a parameter that the module doesn't have.
-    #[error("NoParameter")]
     NoParameter,
     /// A reply read a gate that the module doesn't have.
-    #[error("NoGate")]
     NoGate,
     /// A reply has more than 1,000 actions.
-    #[error("TooManyActions")]
     TooManyActions,
     /// A reply to the end of the run has an action that is not for it.
-    #[error("NotInFinish")]
     NotInFinish,
     /// A time is above the greatest time.
-    #[error("TimeOverflow")]
     TimeOverflow,
     /// The timer is pending already.
-    #[error("AlreadyScheduled")]
     AlreadyScheduled,
     /// The module said so.
-    #[error("ModuleFailed")]
     ModuleFailed(Text),
 }
 

@@ -3,6 +3,7 @@
 ghost use Rattle.std.specs.Prelude.{◌≡◌, ◌++◌, ◌∷◌, [], OnOk};
 
 use crate::scenario::Scenario;
+use desk::answers::refusal_text;
 use edit_session::begin::BeginFault;
 use sim_values::NoMemory;
 use sim_values::text::Text;
@@ -72,8 +73,9 @@ fn tell(alloc: Global, asked: &str, replies: &[Reply]) -> Result<Vec<u8>, NoMemo
 /// Says why the texts make no model.
 fn refused(alloc: Global, fault: BeginFault) -> Result<Vec<u8>, NoMemory> {
     let mut told = Vec::new(alloc);
-    let line = format!(in alloc; "refused {fault}")?;
-    say(&mut told, line.as_bytes())?;
+    let text = refusal_text(alloc, fault)?;
+    told.extend_from_slice(b"refused ")?;
+    say(&mut told, text.as_bytes())?;
     Ok(told)
 }
 
