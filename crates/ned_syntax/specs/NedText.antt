@@ -1,6 +1,8 @@
 -- What NED texts mean, and why they are refused.
-use Rattle.std.specs.Prelude.{◌≡◌, ◌↔◌, ℕ, suc, ◌≤◌, List, length}
+use Rattle.std.specs.Prelude.{◌≡◌, ◌↔◌, ℕ, suc, ◌≤◌, List, length, Option, Some, None, Result, Ok, Err}
 use Rattle.ned_tokens.specs.Meaning.{Means, MayBlame, max_length}
+use Rattle.ned_tokens.specs.Rule.{all_read}
+use Rattle.ned_tokens.specs.declared.token.Token.{Token}
 use Rattle.ned_tokens.specs.Viable.{IsFirstBadLine}
 use Rattle.ned_tokens.specs.Lines.{tokens_of}
 use Rattle.ned_syntax.specs.declared.ast.NedFile.{NedFile}
@@ -31,3 +33,12 @@ HasOneMeaning bytes = (first second : NedFile) → IsNedFile bytes first → IsN
 -- Two texts of the same tokens, as those that differ only in blanks and comments between tokens, mean the same or nothing.
 abbrev pub MeanTheSame : List ℕ → List ℕ → Type 0
 MeanTheSame first second = tokens_of first ≡ tokens_of second → length first ≤ max_length → length second ≤ max_length → (declared : NedFile) → IsNedFile first declared ↔ IsNedFile second declared
+
+-- the tokens that are left where no file goes on, of what was read
+abbrev pub left_of : {X : Type 0} → Result X ℕ → Option ℕ
+left_of (Ok read) = None
+left_of (Err left) = Some left
+
+-- how many of the tokens are left at the first with which no file goes on; none where they are a file
+abbrev pub tokens_left : List Token → Option ℕ
+tokens_left tokens = left_of (all_read file tokens)

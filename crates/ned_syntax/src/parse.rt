@@ -2,7 +2,7 @@
 
 ghost use Rattle.std.specs.Prelude.{◌≡◌, ◌<◌, length, IfOk, IfErr, Err};
 ghost use Rattle.ned_tokens.specs.Meaning.{max_length};
-ghost use Rattle.ned_syntax.specs.NedText.{IsNedFile, ExplainsFile, NamesFirstOfFile};
+ghost use Rattle.ned_syntax.specs.NedText.{IsNedFile, ExplainsFile, NamesFirstOfFile, tokens_left};
 ghost use Rattle.ned_values.specs.ExpressionText.{Answers};
 ghost use Rattle.ned_syntax.specs.declared.ast.NedFile.{NedFile};
 
@@ -10,10 +10,11 @@ use crate::ast::NedFile;
 use crate::types::whole_file;
 use ned_tokens::lines::{blamed_line, tokenize};
 use ned_tokens::refusal::Refusal;
+use ned_tokens::token::Token;
 use ned_values::error::NedError;
 use ned_values::parse::MAX_LENGTH;
 pub use ned_values::parse::parse_expression;
-use std::alloc::Global;
+use std::alloc::{AllocError, Global};
 
 /// The declarations of a NED text (OMNeT++ Simulation Manual, "The NED Language").
 pub fn parse_ned(alloc: Global, bytes: &[u8]) -> Result<NedFile, NedError>
@@ -39,5 +40,16 @@ pub fn parse_ned(alloc: Global, bytes: &[u8]) -> Result<NedFile, NedError>
             list.lines.as_slice(),
             left,
         ))),
+    }
+}
+
+/// How many tokens are left at the first with which no file goes on, none where the tokens are a file.
+pub fn tokens_left(alloc: Global, tokens: &[Token]) -> Result<Option<usize>, AllocError>
+    ensures { IfOk result (λ left. left ≡ tokens_left tokens.now) }
+{
+    match whole_file(alloc, tokens) {
+        Ok(_) => Ok(None),
+        Err(Refusal::At(left)) => Ok(Some(left)),
+        Err(Refusal::Memory) => Err(AllocError),
     }
 }

@@ -1,10 +1,18 @@
 -- Why the program ends early.
+use Rattle.std.specs.Prelude.{◌≡◌}
+use Rattle.desk.specs.Answers.{refusal_text}
 use Rattle.edit_session.specs.declared.begin.BeginFault.{BeginFault}
 use Rattle.edit_session.specs.declared.begin.BeginFault.TheVariants as fault
-use Rattle.nedrun.specs.declared.words.Stop.{Stop}
-use Rattle.nedrun.specs.declared.words.Stop.TheVariants as stop
+use Rattle.nedrun.specs.declared.stops.Stop.{Stop}
+use Rattle.nedrun.specs.declared.stops.Stop.TheVariants as stop
+
+-- the program ends with the text of that refusal, or memory ran out
+abbrev pub IsNamed : BeginFault → Stop → Type 0
+IsNamed f (stop.Refused text line) = text ≡ refusal_text f
+IsNamed f stop.NoMemory = Unit {0}
+IsNamed f _ = ⊥
 
 -- what ends the program where the texts make no model
-abbrev pub stop_of : BeginFault → Stop
-stop_of fault.NoMemory = stop.NoMemory
-stop_of f = stop.Refused f
+abbrev pub IsStopOf : BeginFault → Stop → Type 0
+IsStopOf fault.NoMemory s = s ≡ stop.NoMemory
+IsStopOf f s = IsNamed f s

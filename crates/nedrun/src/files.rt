@@ -1,6 +1,6 @@
 //! Texts of files.
 
-use crate::words::Stop;
+use crate::stops::Stop;
 use edit_session::begin::MAX_TEXT;
 use ned_syntax::texts::NedTexts;
 use std::fs::File;
@@ -12,7 +12,7 @@ use std::rt::Files;
 const CHUNK: usize = 4096;
 
 /// The bytes of a file: all, or one more than a text may have.
-pub fn read_text<R: Files + AllocGlobal>(rt: &R, path: &str) -> io::Result<Vec<u8>> {
+fn bytes_of<R: Files + AllocGlobal>(rt: &R, path: &str) -> io::Result<Vec<u8>> {
     let mut file = File::open(rt, path)?;
     let mut bytes = Vec::new(rt.alloc());
     let mut left = MAX_TEXT + 1;
@@ -27,6 +27,14 @@ pub fn read_text<R: Files + AllocGlobal>(rt: &R, path: &str) -> io::Result<Vec<u
         left -= count;
     }
     Ok(bytes)
+}
+
+/// The text of a file: all its bytes, or one more than a text may have.
+pub fn read_text<R: Files + AllocGlobal>(rt: &R, path: &str) -> Result<Vec<u8>, Stop> {
+    match bytes_of(rt, path) {
+        Ok(bytes) => Ok(bytes),
+        Err(error) => Err(Stop::failed(rt.alloc(), "this file can't be read", path, error)),
+    }
 }
 
 /// The texts of the files, in order.

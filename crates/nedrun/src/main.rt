@@ -2,40 +2,18 @@
 #![tactic(auto)]
 
 mod files;
+mod output;
+mod stops;
 mod words;
 
+use explanations::sources::Sources;
 use sim_values::text::Text;
 use std::alloc::Global;
-use std::io::Write;
 use std::process::ExitCode;
 use std::rt::{Env, Files};
-use std::{fs, io};
-use stock_desk::replies::{Reply, replies_to};
-use words::{Stop, Words};
-
-/// Prints a line of bytes.
-fn say<R: Print>(rt: &R, line: &[u8]) -> io::Result<()> {
-    let mut out = io::writer(rt);
-    out.write_all(line)?;
-    out.write_all(b"\n".as_slice())
-}
-
-/// Prints what a command line led to, and writes the run's file, named by the configuration, into the directory.
-fn tell<R: Files + Print + AllocGlobal>(rt: &R, words: &Words, reply: &Reply) -> Result<(), Stop> {
-    match reply {
-        Reply::Done(answer, file) => {
-            say(rt, answer.as_bytes())?;
-            let directory = words.directory.as_str();
-            let config = words.config.as_str();
-            fs::create_dir_all(rt, directory)?;
-            let path = format!(in rt.alloc(); "{directory}/{config}-#0.vec")?;
-            fs::write(rt, path.as_str(), file.as_bytes())?;
-            Ok(say(rt, b"written".as_slice())?)
-        }
-        Reply::Refused(answer) => Ok(say(rt, answer.as_bytes())?),
-        Reply::NoMemory => Ok(say(rt, b"refused NoMemory".as_slice())?),
-    }
-}
+use stock_desk::replies::replies_to;
+use stops::Stop;
+use words::Words;
 
 /// The command line of a run for at most so many events.
 fn run_line(alloc: Global, limit: u64) -> Result<Text, Stop> {
@@ -43,19 +21,42 @@ fn run_line(alloc: Global, limit: u64) -> Result<Text, Stop> {
     Ok(Text::from_str(alloc, line.as_str())?)
 }
 
-/// Does what the words ask for.
-fn work<R: Files + Env + Print + AllocGlobal>(rt: &R) -> Result<(), Stop> {
+/// Runs the files to the limit, and tells what becomes of it.
+fn run<R: Files + Print + Eprint + AllocGlobal>(
+    rt: &R,
+    words: &Words,
+    sources: &Sources<'_>,
+) -> Result<(), Stop> {
     let alloc = rt.alloc();
-    let words = Words::read(rt)?;
-    let ini = files::read_text(rt, words.ini.as_str())?;
-    let texts = files::read_texts(rt, words.texts.as_slice())?;
     let line = run_line(alloc, words.limit)?;
     let lines = std::slice::from_ref(&line);
     let config = words.config.as_bytes();
-    for reply in &replies_to(alloc, &texts, ini.as_slice(), config, lines)? {
-        tell(rt, &words, reply)?;
+    match replies_to(alloc, sources.texts, sources.ini, config, lines) {
+        Err(fault) => Err(Stop::refused(alloc, fault, sources)),
+        Ok(replies) => {
+            output::warn(rt, sources)?;
+            for reply in &replies {
+                output::tell(rt, words, sources, reply)?;
+            }
+            Ok(())
+        }
     }
-    Ok(())
+}
+
+/// Does what the words ask for.
+fn work<R: Files + Env + Print + Eprint + AllocGlobal>(rt: &R) -> Result<(), Stop> {
+    let words = Words::read(rt)?;
+    let ini = files::read_text(rt, words.ini.as_str())?;
+    let texts = files::read_texts(rt, words.texts.as_slice())?;
+    output::make_folder(rt, words.directory.as_str())?;
+    let sources = Sources {
+        ini_path: words.ini.as_str(),
+        ini: ini.as_slice(),
+        ned_paths: words.texts.as_slice(),
+        texts: &texts,
+        config: words.config.as_str(),
+    };
+    run(rt, &words, &sources)
 }
 
 /// Status 0; 1 where a file or a stream fails, or memory runs out before the run; 2 where the words

@@ -1,102 +1,21 @@
-//! What the program is asked for, and why it ends early.
+//! What the program is asked for.
 
-ghost use Rattle.std.specs.Prelude.{◌≡◌};
-ghost use Rattle.nedrun.specs.Stops.{stop_of};
-ghost use Rattle.nedrun.specs.declared.words.Stop.TheVariants as stops;
-
-use clap::error::ErrorKind;
+use crate::stops::Stop;
 use clap::{Arg, ArgAction, Command, value_parser};
-use edit_session::begin::BeginFault;
-use sim_values::NoMemory;
-use std::alloc::{AllocError, AllocFailed, Global};
+use std::alloc::{AllocError, Global};
+use std::env;
 use std::rt::Env;
-use std::{env, io};
 
-/// Why the program ends early.
-#[derive(Drop)]
-pub enum Stop {
-    /// The words aren't as they should be, or ask for help.
-    Words(clap::Error),
-    /// The texts make no model.
-    Refused(BeginFault),
-    /// A file or a stream failed.
-    Failed(io::Error),
-    /// Memory ran out.
-    NoMemory,
-}
+/// The version of the program.
+const VERSION: &str = "0.1.0";
 
-impl Stop {
-    /// Says it, on standard error but for help, and answers the status.
-    pub fn tell<R: Print + Eprint>(&self, rt: &R) -> u8 {
-        let (told, status) = match self {
-            Stop::Words(error) => (error.print(rt), words_status(error)),
-            Stop::Refused(fault) => (eprintln!(rt; "nedrun: {fault}"), 2),
-            Stop::Failed(error) => (eprintln!(rt; "nedrun: {error}"), 1),
-            Stop::NoMemory => (eprintln!(rt; "nedrun: NoMemory"), 1),
-        };
-        if told.is_ok() { status } else { 1 }
-    }
-}
+/// What `--help` says at its end.
+const MORE: &str = "Examples:
+  nedrun -o results omnetpp.ini network.ned
+  nedrun --config Fast --limit 1000 omnetpp.ini network.ned more.ned
 
-/// The status after words that aren't as they should be.
-fn words_status(error: &clap::Error) -> u8 {
-    match error.kind() {
-        ErrorKind::OutOfMemory => 1,
-        ErrorKind::DisplayHelp => 0,
-        _ => 2,
-    }
-}
-
-impl From<clap::Error> for Stop {
-    ghost from_gives = { λ error stop. stop ≡ stops.Words error };
-
-    fn from(error: clap::Error) -> Stop {
-        Stop::Words(error)
-    }
-}
-
-impl From<BeginFault> for Stop {
-    ghost from_gives = { λ fault stop. stop ≡ stop_of fault };
-
-    fn from(fault: BeginFault) -> Stop {
-        match fault {
-            BeginFault::NoMemory => Stop::NoMemory,
-            _ => Stop::Refused(fault),
-        }
-    }
-}
-
-impl From<io::Error> for Stop {
-    ghost from_gives = { λ error stop. stop ≡ stops.Failed error };
-
-    fn from(error: io::Error) -> Stop {
-        Stop::Failed(error)
-    }
-}
-
-impl From<NoMemory> for Stop {
-    ghost from_gives = { λ _ stop. stop ≡ stops.NoMemory };
-
-    fn from(_e: NoMemory) -> Stop {
-        Stop::NoMemory
-    }
-}
-
-impl From<AllocError> for Stop {
-    ghost from_gives = { λ _ stop. stop ≡ stops.NoMemory };
-
-    fn from(_e: AllocError) -> Stop {
-        Stop::NoMemory
-    }
-}
-
-impl<T: Drop> From<AllocFailed<T>> for Stop {
-    ghost from_gives = { λ _ stop. stop ≡ stops.NoMemory };
-
-    fn from(_e: AllocFailed<T>) -> Stop {
-        Stop::NoMemory
-    }
-}
+Exit status: 0 the run was answered, faults included; 1 a file or a stream failed, or memory ran out; 2 the words or the texts are refused.
+docs/REFUSALS.md says what each refusal and fault means, and what to change.";
 
 /// What the program is asked for.
 #[derive(Drop)]
@@ -117,6 +36,7 @@ pub struct Words {
 fn config_word<'a>(alloc: Global) -> Arg<'a> {
     Arg::new(alloc, "config")
         .short('c')
+        .long("config")
         .value_name("CONFIG")
         .default_value("General")
         .help("The configuration of the ini file that is run")
@@ -126,6 +46,7 @@ fn config_word<'a>(alloc: Global) -> Arg<'a> {
 fn limit_word<'a>(alloc: Global) -> Arg<'a> {
     Arg::new(alloc, "limit")
         .short('l')
+        .long("limit")
         .value_name("LIMIT")
         .value_parser(value_parser!(u64))
         .default_value("1000000")
@@ -136,6 +57,7 @@ fn limit_word<'a>(alloc: Global) -> Arg<'a> {
 fn directory_word<'a>(alloc: Global) -> Arg<'a> {
     Arg::new(alloc, "directory")
         .short('o')
+        .long("output")
         .value_name("DIR")
         .default_value(".")
         .help("Where the result file is written")
@@ -176,15 +98,34 @@ fn with_files<'a>(alloc: Global, command: Command<'a>) -> Result<Command<'a>, Al
 fn command<'a>(alloc: Global) -> Result<Command<'a>, AllocError> {
     let command = Command::new(alloc, "nedrun");
     let command = command.about("Runs a network of modules and writes its vector file");
+    let command = command.version(VERSION).after_help(MORE);
     let command = with_options(alloc, command)?;
     with_files(alloc, command)
+}
+
+/// The folder of that name: an empty one is the folder that the program runs in.
+fn folder(name: &str) -> &str {
+    if name.is_empty() { "." } else { name }
+}
+
+/// The words that the program was started with.
+fn given_words<R: Env + AllocGlobal>(rt: &R) -> Result<Vec<String>, Stop> {
+    match env::args(rt) {
+        Ok(words) => Ok(words.collect(rt.alloc())?),
+        Err(error) => Err(Stop::failed(
+            rt.alloc(),
+            "the words can't be read",
+            "command line",
+            error,
+        )),
+    }
 }
 
 impl Words {
     /// The program's own words.
     pub fn read<R: Env + AllocGlobal>(rt: &R) -> Result<Words, Stop> {
         let alloc = rt.alloc();
-        let given: Vec<String> = env::args(rt)?.collect(alloc)?;
+        let given = given_words(rt)?;
         let matches = command(alloc)?.try_get_matches_from(given.as_slice())?;
         let mut texts = Vec::new(alloc);
         for path in matches.get_strs("ned").unwrap_or(&[]) {
@@ -193,7 +134,10 @@ impl Words {
         Ok(Words {
             config: String::from_str(alloc, matches.get_str("config").unwrap_or("General"))?,
             limit: matches.get_one::<u64>("limit").unwrap_or(1000000),
-            directory: String::from_str(alloc, matches.get_str("directory").unwrap_or("."))?,
+            directory: String::from_str(
+                alloc,
+                folder(matches.get_str("directory").unwrap_or(".")),
+            )?,
             ini: String::from_str(alloc, matches.get_str("ini").unwrap_or(""))?,
             texts,
         })

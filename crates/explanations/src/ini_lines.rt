@@ -1,0 +1,124 @@
+//! Why a line of an ini text means nothing.
+
+use crate::names::shown;
+use ini_pattern::Pattern;
+use sim_values::NoMemory;
+use std::alloc::Global;
+use std::fmt::Write;
+
+/// The line of that number, counted from 1, without its end.
+pub fn line_at(bytes: &[u8], number: usize) -> &[u8] {
+    let mut at = 1usize;
+    for line in bytes.split(|b| *b == b'\n') {
+        if at == number {
+            return match line {
+                [front @ .., b'\r'] => front,
+                _ => line,
+            };
+        }
+        at = at.saturating_add(1);
+    }
+    b"".as_slice()
+}
+
+/// What is wrong with an option of that name, which has no dot.
+fn wrong_option(key: &str) -> &'static str {
+    match key {
+        "include" => "include is not supported: put the lines of that file here",
+        "warmup-period" => "this option is not supported",
+        "repeat" => "only 'repeat = 1' is supported",
+        "simtime-resolution" => "only 'simtime-resolution = ps' is supported",
+        "sim-time-limit" => "a time has a unit, as in 100s or 5ms",
+        "network" => "the value is the name of a network, as in 'network = N'",
+        "extends" => "the value is the name of a configuration, as in 'extends = Base'",
+        _ => "this value can't be read",
+    }
+}
+
+/// What is wrong with the value of a per-object option of that name.
+fn wrong_object(name: &str) -> &'static str {
+    match name {
+        "result-recording-modes" => {
+            "the value is a list, parted by commas, of default, all, or one of count, sum, min, max, last, vector, with + or - before it or not"
+        }
+        "scalar-recording" | "vector-recording" | "statistic-recording" =>
+            "the value is true or false",
+        _ => "this value can't be read",
+    }
+}
+
+/// Adds what is wrong with an entry whose key has a dot.
+fn tell_dotted(alloc: Global, told: &mut String, key: &str, value: &str) -> Result<(), NoMemory> {
+    if Pattern::parse(alloc, key).is_err() {
+        write!(
+            told,
+            "the key '{key}' is no pattern: a '{{' or '[' is not closed, or nothing stands in it"
+        )?;
+        return Ok(());
+    }
+    let name = match key.rsplit_once('.') {
+        Some((_, name)) => name,
+        None => key,
+    };
+    if name.contains('-') {
+        told.push_str(wrong_object(name))?;
+    } else if value.is_empty() {
+        told.push_str("there is no value behind '='")?;
+    } else {
+        write!(
+            told,
+            "the value '{value}' is no literal: a whole number, a quantity as 5s, true, false, a text in quotes, or the word default; "
+        )?;
+        told.push_str("expressions, functions and random numbers are not supported")?;
+    }
+    Ok(())
+}
+
+/// Adds what is wrong with an entry.
+fn tell_entry(alloc: Global, told: &mut String, key: &str, value: &str) -> Result<(), NoMemory> {
+    if key.is_empty() {
+        told.push_str("there is no key before '='")?;
+    } else if !key.bytes().all(|b| b.is_ascii_graphic()) {
+        told.push_str("a key is of ASCII characters, without blanks")?;
+    } else if value.ends_with('\\') {
+        told.push_str("continuation lines are not supported: write the whole entry on one line")?;
+    } else if value.contains("${") {
+        told.push_str("parameter studies (${..}) are not supported: write one value")?;
+    } else if key.contains('.') {
+        tell_dotted(alloc, told, key, value)?;
+    } else {
+        told.push_str(wrong_option(key))?;
+    }
+    Ok(())
+}
+
+/// The value of an entry, without the blanks around it and what stands behind a `#`.
+fn plain_value(behind: &str) -> &str {
+    let value = match behind.split_once('#') {
+        Some((value, _)) => value,
+        None => behind,
+    };
+    value.trim_ascii()
+}
+
+/// Adds what is wrong with a line of an ini text that means nothing.
+pub fn tell_ini_line(alloc: Global, told: &mut String, line: &[u8]) -> Result<(), NoMemory> {
+    let text = shown(line);
+    if text.starts_with('[') {
+        told.push_str(
+            "a section is written [General], [Config NAME] or [NAME], alone on its line, without blanks around it",
+        )?;
+    } else if text.starts_with(' ') || text.starts_with('\t') {
+        told.push_str("an entry can't begin with a blank: continuation lines are not supported")?;
+    } else if text.starts_with("include ") {
+        told.push_str(wrong_option("include"))?;
+    } else {
+        match text.split_once('=') {
+            Some((key, behind)) => tell_entry(alloc, told, key.trim_ascii(), plain_value(behind))?,
+            None => told.push_str(
+                "this is no entry: it is written KEY = VALUE, a comment begins with #",
+            )?,
+        }
+    }
+    Ok(())
+}

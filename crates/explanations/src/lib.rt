@@ -1,0 +1,16 @@
+//! What is wrong with the files of a run, and what would be right: lines for a person, `path:line: ..`.
+//!
+//! Everything here looks at the files once more, after they were refused or run. It decides nothing.
+#![tactic(auto)]
+
+mod configurations;
+mod ini_lines;
+pub mod names;
+mod ned_files;
+pub mod refusals;
+pub mod runs;
+pub mod sources;
+mod syntax;
+mod tokens;
+mod types;
+pub mod warnings;

@@ -1,0 +1,60 @@
+//! Names as they are shown, and names that are near to one another.
+
+use sim_values::NoMemory;
+use std::fmt::Write;
+
+/// The characters of a name.
+pub fn shown(bytes: &[u8]) -> &str {
+    match std::str::from_utf8(bytes) {
+        Ok(text) => text,
+        Err(_) => "?",
+    }
+}
+
+/// How many bytes two texts have in common, from their front on.
+fn common(one: &[u8], other: &[u8]) -> usize {
+    one.iter()
+        .zip(other.iter())
+        .take_while(|pair| pair.0 == pair.1)
+        .count()
+}
+
+/// How many bytes two texts have in common, from their end on.
+fn common_end(one: &[u8], other: &[u8]) -> usize {
+    one.iter()
+        .rev()
+        .zip(other.iter().rev())
+        .take_while(|pair| pair.0 == pair.1)
+        .count()
+}
+
+/// Whether the texts differ in one place only, where at most two bytes stand in each.
+pub fn is_near(one: &[u8], other: &[u8]) -> bool {
+    let same = common(one, other)
+        .saturating_add(common_end(one, other))
+        .saturating_add(2);
+    one != other && one.len().max(other.len()) <= same && same >= 4
+}
+
+/// Adds the first of the names that is near, as a question.
+pub fn tell_near(told: &mut String, name: &[u8], known: &[&[u8]]) -> Result<(), NoMemory> {
+    for it in known {
+        if is_near(name, it) {
+            write!(told, "; did you mean '{}'?", shown(it))?;
+            return Ok(());
+        }
+    }
+    Ok(())
+}
+
+/// Adds names, with commas between them; `none` where there are none.
+pub fn tell_list(told: &mut String, names: &[&[u8]]) -> Result<(), NoMemory> {
+    if names.is_empty() {
+        told.push_str("none")?;
+    }
+    for (at, name) in names.iter().enumerate() {
+        let before = if at == 0 { "" } else { ", " };
+        write!(told, "{before}{}", shown(name))?;
+    }
+    Ok(())
+}

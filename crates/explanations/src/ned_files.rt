@@ -1,0 +1,237 @@
+//! NED files that were read, with the lines of what they declare.
+
+use crate::sources::Sources;
+use ned_syntax::ast::{NedFile, TypeDeclaration, TypeKind};
+use ned_syntax::parse::parse_ned;
+use ned_tokens::lines::{TokenList, tokenize};
+use ned_tokens::token::{Keyword, Mark, Token};
+use sim_values::NoMemory;
+use std::alloc::Global;
+
+/// A NED file that was read.
+#[derive(Drop)]
+pub struct ReadFile {
+    list: TokenList,
+    file: NedFile,
+    /// Which tokens begin its types, in order.
+    heads: Vec<usize>,
+}
+
+/// What stands at a place.
+#[derive(Clone, Copy)]
+pub enum Sign {
+    /// `NAME :`, a submodule.
+    Submodule,
+    /// `int NAME`, or another word of a parameter.
+    Parameter,
+    /// `NAME`.
+    Name,
+}
+
+/// Whether the word declares a parameter.
+fn is_parameter_word(word: Keyword) -> bool {
+    matches!(
+        word,
+        Keyword::Bool | Keyword::Int | Keyword::Text | Keyword::Double
+    )
+}
+
+/// Whether tokens begin with what the sign says of the name.
+fn begins_with(tokens: &[Token], sign: Sign, name: &[u8]) -> bool {
+    match (sign, tokens) {
+        (Sign::Submodule, [Token::Name(found), Token::Mark(Mark::Colon), ..]) => found.is(name),
+        (Sign::Parameter, [Token::Word(word), Token::Name(found), ..]) => {
+            is_parameter_word(*word) && found.is(name)
+        }
+        (Sign::Name, [Token::Name(found), ..]) => found.is(name),
+        _ => false,
+    }
+}
+
+/// How many parentheses and braces are open.
+#[derive(Clone, Copy)]
+struct Open {
+    parens: u64,
+    /// Braces outside of parentheses.
+    braces: u64,
+}
+
+impl Open {
+    /// What is open behind a mark.
+    fn behind_mark(self, mark: Mark) -> Open {
+        let Open { parens, braces } = self;
+        if mark == Mark::LeftParen {
+            Open {
+                parens: parens.saturating_add(1),
+                braces,
+            }
+        } else if mark == Mark::RightParen {
+            Open {
+                parens: parens.saturating_sub(1),
+                braces,
+            }
+        } else if mark == Mark::Open && parens == 0 {
+            Open {
+                parens,
+                braces: braces.saturating_add(1),
+            }
+        } else if mark == Mark::Close && parens == 0 {
+            Open {
+                parens,
+                braces: braces.saturating_sub(1),
+            }
+        } else {
+            self
+        }
+    }
+
+    /// What is open behind a token.
+    fn behind(self, token: &Token) -> Open {
+        match token {
+            Token::Mark(mark) => self.behind_mark(*mark),
+            _ => self,
+        }
+    }
+}
+
+/// Whether the word declares a type.
+fn is_type_word(word: Keyword) -> bool {
+    matches!(word, Keyword::Simple | Keyword::Network)
+}
+
+/// Whether a token is a word that begins a type.
+fn is_head(token: &Token) -> bool {
+    match token {
+        Token::Word(word) => is_type_word(*word),
+        _ => false,
+    }
+}
+
+/// The tokens that begin types: those at which no brace is open.
+fn heads_of(alloc: Global, tokens: &[Token]) -> Result<Vec<usize>, NoMemory> {
+    let mut heads = Vec::new(alloc);
+    let mut open = Open {
+        parens: 0,
+        braces: 0,
+    };
+    for (at, token) in tokens.iter().enumerate() {
+        if open.braces == 0 && is_head(token) {
+            heads.push(at)?;
+        }
+        open = open.behind(token);
+    }
+    Ok(heads)
+}
+
+impl ReadFile {
+    /// Reads a file.
+    fn read(alloc: Global, text: &[u8]) -> Result<ReadFile, NoMemory> {
+        let list = tokenize(alloc, text)?;
+        let heads = heads_of(alloc, list.tokens.as_slice())?;
+        match parse_ned(alloc, text) {
+            Ok(file) => Ok(ReadFile { list, file, heads }),
+            Err(_) => Err(NoMemory),
+        }
+    }
+
+    /// The types that it declares.
+    pub fn types(&self) -> &[TypeDeclaration] {
+        self.file.types.as_slice()
+    }
+
+    /// The token that begins the type of that number.
+    fn head(&self, number: usize) -> usize {
+        match self.heads.get(number) {
+            Some(head) => *head,
+            None => 0,
+        }
+    }
+
+    /// The line of the type of that number.
+    pub fn line_of_type(&self, number: usize) -> usize {
+        match self.list.lines.get(self.head(number)) {
+            Some(line) => *line,
+            None => 1,
+        }
+    }
+
+    /// The line where the type of that number says that of a name, behind so many such places.
+    pub fn line_of(&self, number: usize, sign: Sign, name: &[u8], behind: usize) -> usize {
+        let mut left = behind;
+        let tokens = self.list.tokens.as_slice();
+        for (at, line) in self
+            .list
+            .lines
+            .as_slice()
+            .iter()
+            .enumerate()
+            .skip(self.head(number))
+        {
+            let rest = match tokens.get(at..) {
+                Some(rest) => rest,
+                None => tokens,
+            };
+            if begins_with(rest, sign, name) {
+                if left == 0 {
+                    return *line;
+                }
+                left -= 1;
+            }
+        }
+        self.line_of_type(number)
+    }
+}
+
+/// The NED files of a run that were all read before.
+pub fn read_files(alloc: Global, sources: &Sources<'_>) -> Result<Vec<ReadFile>, NoMemory> {
+    let mut files = Vec::new(alloc);
+    for text in sources.texts.as_slice() {
+        files.push(ReadFile::read(alloc, text.as_bytes())?)?;
+    }
+    Ok(files)
+}
+
+/// Where a type is declared, and what it declares.
+#[derive(Clone, Copy)]
+pub struct Declared<'a> {
+    pub file: usize,
+    /// Its number among the types of its file.
+    pub number: usize,
+    pub of: &'a TypeDeclaration,
+}
+
+/// All types of the files, in order.
+pub fn all_types(alloc: Global, files: &[ReadFile]) -> Result<Vec<Declared<'_>>, NoMemory> {
+    let mut types = Vec::new(alloc);
+    for (file, read) in files.iter().enumerate() {
+        for (number, of) in read.types().iter().enumerate() {
+            types.push(Declared { file, number, of })?;
+        }
+    }
+    Ok(types)
+}
+
+/// The type of that name.
+pub fn type_named<'a>(types: &[Declared<'a>], name: &[u8]) -> Option<Declared<'a>> {
+    for it in types {
+        if it.of.name.is(name) {
+            return Some(*it);
+        }
+    }
+    None
+}
+
+/// The names of the types of that kind, or of all.
+pub fn names_of<'a>(
+    alloc: Global,
+    types: &[Declared<'a>],
+    kind: TypeKind,
+) -> Result<Vec<&'a [u8]>, NoMemory> {
+    let mut names = Vec::new(alloc);
+    for it in types {
+        if it.of.kind == kind {
+            names.push(it.of.name.as_bytes())?;
+        }
+    }
+    Ok(names)
+}

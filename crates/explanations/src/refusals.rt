@@ -1,0 +1,62 @@
+//! Why the files make no model.
+
+use crate::configurations::{tell_no_chain, tell_no_config, tell_no_network};
+use crate::ini_lines::{line_at, tell_ini_line};
+use crate::sources::Sources;
+use crate::syntax::tell_syntax;
+use crate::types::tell_types;
+use edit_session::begin::{BeginFault, MAX_FILES, MAX_TEXT};
+use sim_values::NoMemory;
+use std::alloc::Global;
+use std::fmt::Write;
+
+/// Adds which text is too long, or that there are too many.
+fn tell_large(told: &mut String, sources: &Sources<'_>) -> Result<(), NoMemory> {
+    if sources.texts.len() > MAX_FILES {
+        write!(
+            told,
+            "{} NED files are given, and {MAX_FILES} are read at most",
+            sources.texts.len()
+        )?;
+        return Ok(());
+    }
+    let mut path = sources.ini_path;
+    for (file, text) in sources.texts.as_slice().iter().enumerate() {
+        if text.as_bytes().len() > MAX_TEXT {
+            path = sources.path(file);
+        }
+    }
+    write!(
+        told,
+        "{path}: the file is longer than 1 MiB ({MAX_TEXT} bytes); part it into several, or leave out what isn't used"
+    )?;
+    Ok(())
+}
+
+/// What is wrong with files that were refused, and what would be right: a line for a person.
+pub fn refusal_line(
+    alloc: Global,
+    fault: BeginFault,
+    sources: &Sources<'_>,
+) -> Result<String, NoMemory> {
+    let mut told = String::new(alloc);
+    match fault {
+        BeginFault::TooLarge => tell_large(&mut told, sources)?,
+        BeginFault::NedSyntax(file, line) => {
+            write!(told, "{}:{line}: ", sources.path(file))?;
+            tell_syntax(alloc, &mut told, sources.text(file))?;
+        }
+        BeginFault::IniSyntax(line) => {
+            write!(told, "{}:{line}: ", sources.ini_path)?;
+            tell_ini_line(alloc, &mut told, line_at(sources.ini, line))?;
+        }
+        BeginFault::DuplicateType | BeginFault::UnknownType | BeginFault::KindClash => {
+            tell_types(alloc, &mut told, sources)?
+        }
+        BeginFault::NoSuchConfig => tell_no_config(alloc, &mut told, sources)?,
+        BeginFault::ChainFault => tell_no_chain(alloc, &mut told, sources)?,
+        BeginFault::NoSuchNetwork => tell_no_network(alloc, &mut told, sources)?,
+        BeginFault::NoMemory => told.push_str("memory ran out: give fewer or shorter texts")?,
+    }
+    Ok(told)
+}

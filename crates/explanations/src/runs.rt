@@ -1,0 +1,194 @@
+//! Why a run ended with a fault.
+
+use crate::names::{shown, tell_list};
+use crate::sources::Sources;
+use edit_session::begin::model_of;
+use model_answers::answer::ModelFault;
+use model_answers::model::Model;
+use model_answers::parameters::parameter_value;
+use ned_syntax::ast::{Declaration, ParameterWord, SectionLine, TypeDeclaration};
+use ned_types::flat::{class_of, submodule_named};
+use sim_values::NoMemory;
+use sim_values::value::Dimension;
+use std::alloc::Global;
+use std::fmt::Write;
+
+/// A fault as the answer of a run tells it.
+#[derive(Clone, Copy)]
+struct Told<'a> {
+    path: &'a str,
+    name: &'a str,
+}
+
+/// The fault that an answer tells, as in `done fault 1 N.t TimeOverflow from start executed 1`.
+fn told_fault(answer: &str) -> Option<Told<'_>> {
+    let rest = answer.strip_prefix("done fault ")?;
+    let (_event, rest) = rest.split_once(' ')?;
+    let (path, rest) = rest.split_once(' ')?;
+    let (name, _rest) = rest.split_once(' ')?;
+    Some(Told { path, name })
+}
+
+/// The type of the module of that path: the network, or a submodule of it.
+fn type_of<'a>(model: &'a Model, path: &str) -> Option<&'a TypeDeclaration> {
+    let network = model.network()?;
+    match path.split_once('.') {
+        None => Some(network),
+        Some((_, name)) => {
+            let submodule = submodule_named(name.as_bytes(), network.submodules.as_slice())?;
+            model.types.find(submodule.type_name.as_bytes())
+        }
+    }
+}
+
+/// What values a parameter takes.
+fn kind_of(declaration: &Declaration) -> &'static str {
+    match (declaration.word, declaration.unit) {
+        (ParameterWord::Bool, _) => "true or false",
+        (ParameterWord::Text, _) => "a text in quotes",
+        (_, Some(Dimension::Time)) => "a time, as 5s",
+        (_, Some(Dimension::Rate)) => "a rate, as 10Mbps",
+        (_, Some(Dimension::Length)) => "a length, as 100B",
+        (_, None) => "a whole number",
+    }
+}
+
+/// The first parameter of a type whose value at that path has that fault.
+fn blamed<'a>(
+    alloc: Global,
+    model: &Model,
+    path: &str,
+    of: &'a TypeDeclaration,
+    fault: ModelFault,
+) -> Result<Option<&'a Declaration>, NoMemory> {
+    let lines = of.lines.as_slice();
+    for line in lines {
+        if let SectionLine::Declaration(declaration) = line {
+            let value = parameter_value(alloc, model, path.as_bytes(), lines, declaration)?;
+            if value.is_err_and(|found| found == fault) {
+                return Ok(Some(declaration));
+            }
+        }
+    }
+    Ok(None)
+}
+
+/// Adds which parameter has no value, or one of another kind.
+fn tell_parameter(
+    alloc: Global,
+    told: &mut String,
+    sources: &Sources<'_>,
+    model: &Model,
+    fault: &Told<'_>,
+    of: &TypeDeclaration,
+) -> Result<(), NoMemory> {
+    let kind = if fault.name == "Mismatch" {
+        ModelFault::Mismatch
+    } else {
+        ModelFault::Unassigned
+    };
+    let Some(declaration) = blamed(alloc, model, fault.path, of, kind)? else {
+        return Ok(());
+    };
+    let (path, name) = (fault.path, shown(declaration.name.as_bytes()));
+    let kind = kind_of(declaration);
+    if fault.name == "Mismatch" {
+        write!(
+            told,
+            "{}: '{path}.{name}' takes {kind}, and its value is of another kind",
+            sources.ini_path
+        )?;
+    } else {
+        write!(
+            told,
+            "{}: '{path}.{name}' has no value: write '{path}.{name} = VALUE' with {kind}, or a default in the NED file",
+            sources.ini_path
+        )?;
+    }
+    Ok(())
+}
+
+/// Adds which parameters a type declares, of which the module reads another.
+fn tell_declared(
+    alloc: Global,
+    told: &mut String,
+    path: &str,
+    of: &TypeDeclaration,
+) -> Result<(), NoMemory> {
+    let mut names: Vec<&[u8]> = Vec::new(alloc);
+    for line in of.lines.as_slice() {
+        if let SectionLine::Declaration(declaration) = line {
+            names.push(declaration.name.as_bytes())?;
+        }
+    }
+    write!(
+        told,
+        "{path}: the class '{}' reads a parameter that the type '{}' doesn't declare; declared are: ",
+        shown(class_of(of)),
+        shown(of.name.as_bytes())
+    )?;
+    tell_list(told, names.as_slice())
+}
+
+/// Adds what is behind a fault of a module of that type.
+fn tell_fault(
+    alloc: Global,
+    told: &mut String,
+    sources: &Sources<'_>,
+    model: &Model,
+    fault: &Told<'_>,
+    of: &TypeDeclaration,
+    classes: &[&[u8]],
+) -> Result<(), NoMemory> {
+    match fault.name {
+        "Unassigned" | "Mismatch" => tell_parameter(alloc, told, sources, model, fault, of),
+        "NoParameter" => tell_declared(alloc, told, fault.path, of),
+        "UnknownClass" => {
+            write!(
+                told,
+                "{}: this program has no module of the class '{}'; it has: ",
+                fault.path,
+                shown(class_of(of))
+            )?;
+            tell_list(told, classes)
+        }
+        "TimeOverflow" => {
+            write!(
+                told,
+                "{}: a time is above 9223372.036854775807s: a shorter delay, or a sim-time-limit, ends the run before",
+                fault.path
+            )?;
+            Ok(())
+        }
+        "ModuleFailed:" => {
+            write!(
+                told,
+                "{}: the module can't take the value of the parameter that its message names",
+                fault.path
+            )?;
+            Ok(())
+        }
+        _ => Ok(()),
+    }
+}
+
+/// What is behind the fault that the answer of a run tells, and what to change: a line for a person. Empty where the
+/// answer tells none, or there is no more to say. `classes` are those that the program has modules of.
+pub fn fault_line(
+    alloc: Global,
+    answer: &[u8],
+    sources: &Sources<'_>,
+    classes: &[&[u8]],
+) -> Result<String, NoMemory> {
+    let mut told = String::new(alloc);
+    let Some(fault) = told_fault(shown(answer)) else {
+        return Ok(told);
+    };
+    let Ok(model) = model_of(alloc, sources.texts, sources.ini, sources.config.as_bytes()) else {
+        return Ok(told);
+    };
+    if let Some(of) = type_of(&model, fault.path) {
+        tell_fault(alloc, &mut told, sources, &model, &fault, of, classes)?;
+    }
+    Ok(told)
+}

@@ -1,0 +1,125 @@
+//! Why the program ends early.
+
+ghost use Rattle.std.specs.Prelude.{◌≡◌};
+ghost use Rattle.nedrun.specs.Stops.{IsNamed, IsStopOf};
+ghost use Rattle.nedrun.specs.declared.stops.Stop.TheVariants as stops;
+
+use clap::error::ErrorKind;
+use desk::answers::refusal_text;
+use edit_session::begin::BeginFault;
+use explanations::names::shown;
+use explanations::refusals::refusal_line;
+use explanations::sources::Sources;
+use sim_values::NoMemory;
+use sim_values::text::Text;
+use std::alloc::{AllocError, AllocFailed, Global};
+use std::io;
+
+/// Why the program ends early.
+#[derive(Drop)]
+pub enum Stop {
+    /// The words aren't as they should be, or ask for help.
+    Words(clap::Error),
+    /// The texts make no model: the text of the refusal, and the line for a person.
+    Refused(Text, String),
+    /// A file, a folder or a stream failed: which, and what failed.
+    Failed(String, io::Error),
+    /// Memory ran out.
+    NoMemory,
+}
+
+impl Stop {
+    /// What ends the program where texts make no model.
+    pub fn refused(alloc: Global, fault: BeginFault, sources: &Sources<'_>) -> Stop
+        ensures { IsStopOf fault result }
+    {
+        match fault {
+            BeginFault::NoMemory => Stop::NoMemory,
+            _ => Stop::named(alloc, fault, line_for(alloc, fault, sources)),
+        }
+    }
+
+    /// What ends the program at a refusal that has this line for a person.
+    fn named(alloc: Global, fault: BeginFault, line: String) -> Stop
+        ensures { IsNamed fault result }
+    {
+        match refusal_text(alloc, fault) {
+            Ok(text) => Stop::Refused(text, line),
+            Err(_) => Stop::NoMemory,
+        }
+    }
+
+    /// What ends the program where a file, a folder or a stream failed.
+    pub fn failed(alloc: Global, what: &str, name: &str, error: io::Error) -> Stop {
+        match format!(in alloc; "{name}: {what}") {
+            Ok(line) => Stop::Failed(line, error),
+            Err(_) => Stop::NoMemory,
+        }
+    }
+
+    /// Says it, on standard error but for help, and answers the status. The first line has the name of a refusal, the second
+    /// is for a person.
+    pub fn tell<R: Print + Eprint>(&self, rt: &R) -> u8 {
+        let (told, status) = match self {
+            Stop::Words(error) => (error.print(rt), words_status(error)),
+            Stop::Refused(text, line) => (say_refused(rt, text, line.as_str()), 2),
+            Stop::Failed(line, error) => (eprintln!(rt; "nedrun: {error}\n{line}"), 1),
+            Stop::NoMemory => (eprintln!(rt; "nedrun: NoMemory"), 1),
+        };
+        if told.is_ok() { status } else { 1 }
+    }
+}
+
+/// Says a refusal on standard error, and behind it the line for a person.
+fn say_refused<R: Eprint>(rt: &R, text: &Text, line: &str) -> io::Result<()> {
+    eprintln!(rt; "nedrun: {}\n{line}", shown(text.as_bytes()))
+}
+
+/// The line for a person of a refusal; an empty one where memory runs out.
+fn line_for(alloc: Global, fault: BeginFault, sources: &Sources<'_>) -> String {
+    match refusal_line(alloc, fault, sources) {
+        Ok(line) => line,
+        Err(_) => String::new(alloc),
+    }
+}
+
+/// The status after words that aren't as they should be.
+fn words_status(error: &clap::Error) -> u8 {
+    match error.kind() {
+        ErrorKind::OutOfMemory => 1,
+        ErrorKind::DisplayHelp | ErrorKind::DisplayVersion => 0,
+        _ => 2,
+    }
+}
+
+impl From<clap::Error> for Stop {
+    ghost from_gives = { λ error stop. stop ≡ stops.Words error };
+
+    fn from(error: clap::Error) -> Stop {
+        Stop::Words(error)
+    }
+}
+
+impl From<NoMemory> for Stop {
+    ghost from_gives = { λ _ stop. stop ≡ stops.NoMemory };
+
+    fn from(_e: NoMemory) -> Stop {
+        Stop::NoMemory
+    }
+}
+
+impl From<AllocError> for Stop {
+    ghost from_gives = { λ _ stop. stop ≡ stops.NoMemory };
+
+    fn from(_e: AllocError) -> Stop {
+        Stop::NoMemory
+    }
+}
+
+impl<T: Drop> From<AllocFailed<T>> for Stop {
+    ghost from_gives = { λ _ stop. stop ≡ stops.NoMemory };
+
+    fn from(_e: AllocFailed<T>) -> Stop {
+        Stop::NoMemory
+    }
+}
