@@ -130,9 +130,9 @@ no_literal taken (c ∷ cs) h =
   where
     -- a `"` that a `\` takes along begins none either: what follows it is the same
     behind : (taken : Bool) (t : Bool) → eqb c 34 ≡ t → ends_literal taken c ≡ false → literal_rest (takes_next taken c) cs ≡ None → literal_behind c cs ≡ 0
-    behind taken false e open none = rw e refl
-    behind true true e open none = rw (e, none) refl
-    behind false true e open none = absurd (true≢false (sym e ∙ open))
+    behind taken false e going none = rw e refl
+    behind true true e going none = rw (e, none) refl
+    behind false true e going none = absurd (true≢false (sym e ∙ going))
 
     go : (t : Bool) → literal_behind c cs ≡ 0 → uncommented 0 cs ≡ before_hash cs → cond t [] (c ∷ uncommented (literal_behind c cs) cs) ≡ cond t [] (c ∷ before_hash cs)
     go true e ih = refl

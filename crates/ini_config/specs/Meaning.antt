@@ -30,10 +30,14 @@ abbrev pub is_value : Bytes → Bool
 is_value [] = false
 is_value (b ∷ bs) = is_utf8 (b ∷ bs) && not (ends_with 92 (b ∷ bs)) && not (holds_variable 0 (b ∷ bs))
 
--- the first byte is no blank, and begins no comment
+-- no blank, and no byte that begins a comment
+abbrev pub is_first_of_entry : ℕ → Bool
+is_first_of_entry b = not (is_blank b) && not (b == 35)
+
+-- the first byte is such a byte
 abbrev pub begins_entry : Bytes → Bool
 begins_entry [] = false
-begins_entry (b ∷ bs) = not (is_blank b) && not (b == 35)
+begins_entry (b ∷ bs) = is_first_of_entry b
 
 -- The text is a key, the first `=`, and a value. Blanks round the `=` and at the end of the value belong to neither,
 -- and a comment behind the value doesn't.

@@ -5,7 +5,7 @@ ghost use Rattle.std.specs.List.{list_all};
 ghost use Rattle.std.specs.Str.{is_utf8};
 ghost use Rattle.ini_config.specs.Texts.{lines_of_ini};
 ghost use Rattle.ini_entries.specs.Meaning.{Tells, is_key, is_key_byte};
-ghost use Rattle.ini_config.specs.Meaning.{IsIniText, IsIniLine, IsLine, IsEntry, IsNamed, IsParted, IsSection, Settles, Answers, Explains, begins_entry, ends_with, in_brackets, is_extends, is_value, may_stand, max_length};
+ghost use Rattle.ini_config.specs.Meaning.{IsIniText, IsIniLine, IsLine, IsEntry, IsNamed, IsParted, IsSection, Settles, Answers, Explains, begins_entry, ends_with, in_brackets, is_first_of_entry, is_extends, is_value, may_stand, max_length};
 ghost use Rattle.ini_config.specs.Sections.{section_behind};
 ghost use Rattle.ini_config.specs.declared.lines.IniLine.{IniLine};
 
@@ -91,13 +91,20 @@ fn entry(alloc: Global, line: &[u8]) -> Result<Option<Entry>, AllocError>
     }))
 }
 
-/// Whether the first byte is no blank, and begins no comment.
+/// Whether a byte is no blank, and begins no comment.
+fn is_first_of_entry(byte: u8) -> bool
+    ensures { result ≡ is_first_of_entry byte }
+{
+    !is_blank(byte) && byte != b'#'
+}
+
+/// Whether the first byte is such a byte.
 fn begins_entry(line: &[u8]) -> bool
     ensures { result ≡ begins_entry line.now }
 {
     match line {
         [] => false,
-        [first, ..] => !is_blank(*first) && *first != b'#',
+        [first, ..] => is_first_of_entry(*first),
     }
 }
 

@@ -5,14 +5,31 @@ ghost use Rattle.ini_config.specs.Texts as texts;
 
 use ini_entries::blanks::{after_blanks, before_blanks};
 
+/// What is behind an LF, where the text begins with one.
+fn after_feed(bytes: &[u8]) -> Option<&[u8]>
+    ensures { option_map (λ rest. rest.now) result ≡ texts.after_feed bytes.now }
+{
+    match bytes {
+        [] => None,
+        [first, rest @ ..] => if *first == b'\n' { Some(rest) } else { None },
+    }
+}
+
 /// What is behind the end of a line, where the text begins with one.
 fn after_line_end(bytes: &[u8]) -> Option<&[u8]>
     ensures { option_map (λ rest. rest.now) result ≡ texts.after_line_end bytes.now }
 {
     match bytes {
-        [b'\n', rest @ ..] => Some(rest),
-        [b'\r', b'\n', rest @ ..] => Some(rest),
-        _ => None,
+        [] => None,
+        [first, rest @ ..] => {
+            if *first == b'\n' {
+                Some(rest)
+            } else if *first == b'\r' {
+                after_feed(rest)
+            } else {
+                None
+            }
+        }
     }
 }
 
