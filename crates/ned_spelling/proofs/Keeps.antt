@@ -180,7 +180,7 @@ keeps_expression = mapped (λ v h. h) keeps_literal
 -- a value, or `default(..)`
 keeps_given : Keeps value_rule CanBeGiven
 unfolding value_rule default_value
-keeps_given = choice (mapped (λ e h. h) (before (word k.Default) (before (mark m.LeftParen) (after (mark m.RightParen) keeps_expression)))) (mapped (λ e h. h) keeps_expression)
+keeps_given = choice (before (word k.Default) (before (mark m.LeftParen) (after (mark m.RightParen) (mapped (λ e h. h) keeps_expression)))) (mapped (λ e h. h) keeps_expression)
 
 -- ---- properties
 

@@ -173,7 +173,7 @@ an_expression (expressions.Literal v) h = mapped (a_value v h)
 a_given : (g : ParameterValue) → CanBeGiven g → Spells value_rule (given_tokens g) g
 unfolding value_rule default_value
 a_given (given.Fixed e) h = that default_value (mapped (an_expression e h))
-a_given (given.Default e) h = this (made given.Fixed expression) (mapped (before (a_word k.Default) (before (a_mark m.LeftParen) (after (an_expression e h) (a_mark m.RightParen)))))
+a_given (given.Default e) h = this (made given.Fixed expression) (before (a_word k.Default) (before (a_mark m.LeftParen) (after (mapped (an_expression e h)) (a_mark m.RightParen))))
 
 -- ---- properties
 

@@ -38,7 +38,7 @@ in_parens-lawful = before (mark-lawful m.LeftParen) (after (balanced-lawful turn
 
 pub default_value-lawful : Lawful default_value
 unfolding default_value word mark expression literal negative_literal plain_literal number
-default_value-lawful = mapped (before (word-lawful k.Default) (before (mark-lawful m.LeftParen) (after expression-lawful (mark-lawful m.RightParen) (λ t e. refl)) (λ t e. refl)) (λ t e. refl))
+default_value-lawful = before (word-lawful k.Default) (before (mark-lawful m.LeftParen) (after (mapped expression-lawful) (mark-lawful m.RightParen) (λ t e. refl)) (λ t e. refl)) (λ t e. refl)
 
 default_apart : (t : Token) → (made given.Fixed expression).starts t ≡ true → default_value.starts t ≡ false
 unfolding word mark name in_parens plain_literal number negative_literal literal expression default_value value_rule property_name bracketed index body property mode_word question mode_rule next_mode modes group loose_token piece pieces loose_text no_value source_value record_value source_tail record_tail source_word record_word source_part record_part other_part record_or_other any_part part next_part statistic_body optional_body indexed_statistic unnamed_statistic named_or_not statistic_tail statistic_word statistic plain_name plain_line property_text property_line valued tail parameter_word volatile any_declaration declaration assignment assigned_or_said any_line section_line heading section simple submodule submodules network type_rule file

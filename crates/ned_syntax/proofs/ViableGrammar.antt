@@ -31,6 +31,7 @@ use Rattle.ned_syntax.specs.declared.statistics.Except.{Except}
 use Rattle.ned_syntax.specs.declared.statistics.Except.TheVariants as except_is
 use Rattle.ned_syntax.specs.Grammar.{word, mark, name, in_parens, plain_literal, number, negative_literal, literal, expression, default_value, value_rule, property_name, bracketed, index, body, property, mode_word, question, mode_rule, next_mode, modes, group, loose_token, piece, pieces, loose_text, no_value, source_value, record_value, source_tail, record_tail, source_word, record_word, source_part, record_part, other_part, record_or_other, any_part, part, next_part, statistic_body, optional_body, indexed_statistic, unnamed_statistic, named_or_not, statistic_tail, statistic_word, statistic, plain_name, plain_line, property_text, property_line, valued, tail, parameter_word, volatile, any_declaration, declaration, assignment, assigned_or_said, any_line, section_line, heading, section, simple, submodule, submodules, network, type_rule, file, is_word, is_mark, name_of, turn_of, literal_of, number_of, property_name_of, mode_of, loose_of, source_of, record_of, statistic_of, plain_name_of, parameter_word_of, is_measured, first_unit, unit_behind, declared}
 use Rattle.ned_tokens.proofs.ViableLaws.{Viable, token-viable, such_that-viable, either-viable, optional-viable, many-viable, balanced-viable, then_on, before_on, after_on, mapped_on}
+use Rattle.ned_tokens.proofs.Laws.{mapped}
 use Rattle.ned_tokens.proofs.BalancedLaws.{balanced-lawful}
 use Rattle.ned_values.proofs.ViableGrammar.{word_on, mark_on, letter, name_on, expression_on}
 use Rattle.ned_syntax.proofs.GrammarLaws as laws
@@ -41,7 +42,7 @@ in_parens_on = before_on (laws.mark-lawful m.LeftParen) (mark_on m.LeftParen ref
 
 default_value_on : Viable default_value
 unfolding default_value
-default_value_on = mapped_on (before_on (laws.word-lawful k.Default) (word_on k.Default refl) (before_on (laws.mark-lawful m.LeftParen) (mark_on m.LeftParen refl) (after_on laws.expression-lawful expression_on (mark_on m.RightParen refl))))
+default_value_on = before_on (laws.word-lawful k.Default) (word_on k.Default refl) (before_on (laws.mark-lawful m.LeftParen) (mark_on m.LeftParen refl) (after_on (mapped laws.expression-lawful) (mapped_on expression_on) (mark_on m.RightParen refl)))
 
 value_on : Viable value_rule
 unfolding value_rule

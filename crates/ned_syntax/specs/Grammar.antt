@@ -72,7 +72,7 @@ in_parens = mark m.LeftParen ▷ (balanced turn_of ◁ mark m.RightParen)
 
 -- "default" "(" expression ")"
 unfoldable pub default_value : Rule ParameterValue
-default_value = made given.Default (word k.Default ▷ (mark m.LeftParen ▷ (expression ◁ mark m.RightParen)))
+default_value = word k.Default ▷ (mark m.LeftParen ▷ (made given.Default expression ◁ mark m.RightParen))
 
 -- value = expression | "default" "(" expression ")"
 unfoldable pub value_rule : Rule ParameterValue
@@ -464,9 +464,13 @@ section_block = mark m.Open ▷ (section ◁ mark m.Close)
 unfoldable pub simple : Rule TypeDeclaration
 simple = made (λ p. record { kind = kinds.Simple; name = p.0; lines = p.1; submodules = [] }) (word k.Simple ▷ (name ⊗ section_block))
 
+-- ":" name ";"
+abbrev pub submodule_type : Rule Bytes
+submodule_type = mark m.Colon ▷ (name ◁ mark m.Semi)
+
 -- name ":" name ";"
 unfoldable pub submodule : Rule Submodule
-submodule = made (λ p. record { name = p.0; type_name = p.1 }) (name ⊗ (mark m.Colon ▷ (name ◁ mark m.Semi)))
+submodule = made (λ p. record { name = p.0; type_name = p.1 }) (name ⊗ submodule_type)
 
 abbrev pub listed : {X : Type 0} → Option (List X) → List X
 listed None = []

@@ -59,7 +59,7 @@ pub(crate) fn ended<T: Drop>(
 ) -> Result<(T, &[Token]), Refusal>
     ensures { Gives (λ x. (x.0, x.1.now)) result (grammar.ended_read value wanted tokens.now) }
 {
-    let rest = mark(wanted, tokens)?;
+    let rest = read!(mark(wanted, tokens));
     Ok((value, rest))
 }
 
@@ -67,8 +67,8 @@ pub(crate) fn ended<T: Drop>(
 pub(crate) fn in_parens(tokens: &[Token]) -> Result<(&[Token], &[Token]), Refusal>
     ensures { Gives (λ x. (x.0.now, x.1.now)) result (grammar.in_parens.read tokens.now) }
 {
-    let rest = mark(Mark::LeftParen, tokens)?;
-    let (text, rest) = balanced_text(rest)?;
-    let rest = mark(Mark::RightParen, rest)?;
+    let rest = read!(mark(Mark::LeftParen, tokens));
+    let (text, rest) = read!(balanced_text(rest));
+    let rest = read!(mark(Mark::RightParen, rest));
     Ok((text, rest))
 }

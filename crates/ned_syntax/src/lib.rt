@@ -1,6 +1,17 @@
 //! The NED language: what a text declares (OMNeT++ Simulation Manual, "The NED Language").
 #![tactic(auto)]
 
+/// The value that was read; a refusal is the caller's own. It is `?` for an error that needs no conversion: the two
+/// calls that `?` stands for would be steps of each reader's proof.
+macro_rules! read {
+    ($reading:expr) => {
+        match $reading {
+            Ok(it) => it,
+            Err(refusal) => return Err(refusal),
+        }
+    };
+}
+
 pub mod ast;
 pub mod laws;
 mod leaves;

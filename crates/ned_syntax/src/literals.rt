@@ -10,15 +10,14 @@ use ned_tokens::token::{Keyword, Mark, Token};
 use ned_values::literals::expression;
 use std::alloc::Global;
 
-#[tactic(auto, unfolding(crate::specs::Grammar::default_value, crate::specs::Grammar::word, crate::specs::Grammar::mark))]
+#[tactic(auto, unfolding(crate::specs::Grammar::default_value))]
 fn default_value(alloc: Global, tokens: &[Token]) -> Result<(ParameterValue, &[Token]), Refusal>
     ensures { Gives (λ x. (x.0, x.1.now)) result (grammar.default_value.read tokens.now) }
 {
-    let rest = word(Keyword::Default, tokens)?;
-    let rest = mark(Mark::LeftParen, rest)?;
-    let (expression, rest) = expression(alloc, rest)?;
-    let (expression, rest) = ended(expression, Mark::RightParen, rest)?;
-    Ok((ParameterValue::Default(expression), rest))
+    let rest = read!(word(Keyword::Default, tokens));
+    let rest = read!(mark(Mark::LeftParen, rest));
+    let (expression, rest) = read!(expression(alloc, rest));
+    ended(ParameterValue::Default(expression), Mark::RightParen, rest)
 }
 
 #[tactic(auto, unfolding(crate::specs::Grammar::value_rule, crate::specs::Grammar::default_value, crate::specs::Grammar::word))]
@@ -28,7 +27,7 @@ pub(crate) fn value(alloc: Global, tokens: &[Token]) -> Result<(ParameterValue, 
     if begins_word(Keyword::Default, tokens) {
         default_value(alloc, tokens)
     } else {
-        let (expression, rest) = expression(alloc, tokens)?;
+        let (expression, rest) = read!(expression(alloc, tokens));
         Ok((ParameterValue::Fixed(expression), rest))
     }
 }

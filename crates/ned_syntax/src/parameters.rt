@@ -38,9 +38,9 @@ pub struct Tail {
 fn read_valued(alloc: Global, tokens: &[Token]) -> Result<(Valued, &[Token]), Refusal>
     ensures { Gives (λ x. (x.0, x.1.now)) result (grammar.valued.read tokens.now) }
 {
-    let rest = mark(Mark::Equals, tokens)?;
-    let (value, rest) = value(alloc, rest)?;
-    let (behind, rest) = properties(alloc, rest)?;
+    let rest = read!(mark(Mark::Equals, tokens));
+    let (value, rest) = read!(value(alloc, rest));
+    let (behind, rest) = read!(properties(alloc, rest));
     Ok((Valued { value, behind }, rest))
 }
 
@@ -51,7 +51,7 @@ fn optional_value(alloc: Global, tokens: &[Token]) -> Result<(Option<Valued>, &[
     if !begins_mark(Mark::Equals, tokens) {
         return Ok((None, tokens));
     }
-    let (valued, rest) = read_valued(alloc, tokens)?;
+    let (valued, rest) = read!(read_valued(alloc, tokens));
     Ok((Some(valued), rest))
 }
 
@@ -59,8 +59,8 @@ fn optional_value(alloc: Global, tokens: &[Token]) -> Result<(Option<Valued>, &[
 fn read_tail(alloc: Global, tokens: &[Token]) -> Result<(Tail, &[Token]), Refusal>
     ensures { Gives (λ x. (x.0, x.1.now)) result (grammar.tail.read tokens.now) }
 {
-    let (before, rest) = properties(alloc, tokens)?;
-    let (valued, rest) = optional_value(alloc, rest)?;
+    let (before, rest) = read!(properties(alloc, tokens));
+    let (valued, rest) = read!(optional_value(alloc, rest));
     Ok((Tail { before, valued }, rest))
 }
 
@@ -155,10 +155,10 @@ fn volatile(tokens: &[Token]) -> Result<&[Token], Refusal>
 fn any_declaration(alloc: Global, tokens: &[Token]) -> Result<(Declaration, &[Token]), Refusal>
     ensures { Gives (λ x. (x.0, x.1.now)) result (grammar.any_declaration.read tokens.now) }
 {
-    let rest = volatile(tokens)?;
-    let (word, rest) = parameter_word(rest)?;
-    let (name, rest) = name(alloc, rest)?;
-    let (tail, rest) = read_tail(alloc, rest)?;
+    let rest = read!(volatile(tokens));
+    let (word, rest) = read!(parameter_word(rest));
+    let (name, rest) = read!(name(alloc, rest));
+    let (tail, rest) = read!(read_tail(alloc, rest));
     Ok((declared(word, name, tail), rest))
 }
 
@@ -176,7 +176,7 @@ fn is_measured(declaration: &Declaration) -> bool
 fn declaration(alloc: Global, tokens: &[Token]) -> Result<(Declaration, &[Token]), Refusal>
     ensures { Gives (λ x. (x.0, x.1.now)) result (grammar.declaration.read tokens.now) }
 {
-    let (declaration, rest) = any_declaration(alloc, tokens)?;
+    let (declaration, rest) = read!(any_declaration(alloc, tokens));
     if !is_measured(&declaration) {
         return Err(Refusal::At(rest.len()));
     }
@@ -196,8 +196,8 @@ fn assigned(name: Text, tail: Tail) -> Assignment
 fn assignment(alloc: Global, tokens: &[Token]) -> Result<(Assignment, &[Token]), Refusal>
     ensures { Gives (λ x. (x.0, x.1.now)) result (grammar.assignment.read tokens.now) }
 {
-    let (name, rest) = name(alloc, tokens)?;
-    let (tail, rest) = read_tail(alloc, rest)?;
+    let (name, rest) = read!(name(alloc, tokens));
+    let (tail, rest) = read!(read_tail(alloc, rest));
     Ok((assigned(name, tail), rest))
 }
 
@@ -217,7 +217,7 @@ fn property_text(alloc: Global, tokens: &[Token]) -> Result<(SectionLine, &[Toke
 fn property_line(alloc: Global, tokens: &[Token]) -> Result<(SectionLine, &[Token]), Refusal>
     ensures { Gives (λ x. (x.0, x.1.now)) result (grammar.property_line.read tokens.now) }
 {
-    let rest = mark(Mark::At, tokens)?;
+    let rest = read!(mark(Mark::At, tokens));
     property_text(alloc, rest)
 }
 
@@ -226,7 +226,7 @@ fn assigned_or_said(alloc: Global, tokens: &[Token]) -> Result<(SectionLine, &[T
     ensures { Gives (λ x. (x.0, x.1.now)) result (grammar.assigned_or_said.read tokens.now) }
 {
     if begins_name(tokens) {
-        let (assignment, rest) = assignment(alloc, tokens)?;
+        let (assignment, rest) = read!(assignment(alloc, tokens));
         Ok((SectionLine::Assignment(assignment), rest))
     } else {
         property_line(alloc, tokens)
@@ -253,7 +253,7 @@ fn any_line(alloc: Global, tokens: &[Token]) -> Result<(SectionLine, &[Token]), 
     ensures { Gives (λ x. (x.0, x.1.now)) result (grammar.any_line.read tokens.now) }
 {
     if begins_declaration(tokens) {
-        let (declaration, rest) = declaration(alloc, tokens)?;
+        let (declaration, rest) = read!(declaration(alloc, tokens));
         Ok((SectionLine::Declaration(declaration), rest))
     } else {
         assigned_or_said(alloc, tokens)
@@ -264,7 +264,7 @@ fn any_line(alloc: Global, tokens: &[Token]) -> Result<(SectionLine, &[Token]), 
 fn section_line(alloc: Global, tokens: &[Token]) -> Result<(SectionLine, &[Token]), Refusal>
     ensures { Gives (λ x. (x.0, x.1.now)) result (grammar.section_line.read tokens.now) }
 {
-    let (line, rest) = any_line(alloc, tokens)?;
+    let (line, rest) = read!(any_line(alloc, tokens));
     ended(line, Mark::Semi, rest)
 }
 
@@ -281,7 +281,7 @@ fn section_lines(alloc: Global, tokens: &[Token]) -> Result<(Items<SectionLine>,
     let mut lines = Items::new(alloc);
     let mut rest = tokens;
     'items: while begins_line(rest) {
-        let (next, after) = section_line(alloc, rest)?;
+        let (next, after) = read!(section_line(alloc, rest));
         lines.push(next)?;
         rest = after;
     }
@@ -295,7 +295,7 @@ fn heading(tokens: &[Token]) -> Result<&[Token], Refusal>
     if !begins_word(Keyword::Parameters, tokens) {
         return Ok(tokens);
     }
-    let rest = word(Keyword::Parameters, tokens)?;
+    let rest = read!(word(Keyword::Parameters, tokens));
     mark(Mark::Colon, rest)
 }
 
@@ -307,6 +307,6 @@ pub(crate) fn section(
 ) -> Result<(Items<SectionLine>, &[Token]), Refusal>
     ensures { Gives (λ x. (x.0, x.1.now)) result (grammar.section.read tokens.now) }
 {
-    let rest = heading(tokens)?;
+    let rest = read!(heading(tokens));
     section_lines(alloc, rest)
 }

@@ -79,8 +79,8 @@ fn property_name(tokens: &[Token]) -> Result<(PropertyName, &[Token]), Refusal>
 pub(crate) fn bracketed(alloc: Global, tokens: &[Token]) -> Result<(Text, &[Token]), Refusal>
     ensures { Gives (λ x. (x.0, x.1.now)) result (grammar.bracketed.read tokens.now) }
 {
-    let rest = mark(Mark::LeftBracket, tokens)?;
-    let (index, rest) = name(alloc, rest)?;
+    let rest = read!(mark(Mark::LeftBracket, tokens));
+    let (index, rest) = read!(name(alloc, rest));
     ended(index, Mark::RightBracket, rest)
 }
 
@@ -91,7 +91,7 @@ fn index(alloc: Global, tokens: &[Token]) -> Result<(Option<Text>, &[Token]), Re
     if !begins_mark(Mark::LeftBracket, tokens) {
         return Ok((None, tokens));
     }
-    let (index, rest) = bracketed(alloc, tokens)?;
+    let (index, rest) = read!(bracketed(alloc, tokens));
     Ok((Some(index), rest))
 }
 
@@ -102,7 +102,7 @@ fn body(tokens: &[Token]) -> Result<(Option<&[Token]>, &[Token]), Refusal>
     if !begins_mark(Mark::LeftParen, tokens) {
         return Ok((None, tokens));
     }
-    let (text, rest) = in_parens(tokens)?;
+    let (text, rest) = read!(in_parens(tokens));
     Ok((Some(text), rest))
 }
 
@@ -143,17 +143,17 @@ fn effect_behind(
 ) -> Result<(Effect, &[Token]), Refusal>
     ensures { Gives (λ x. (x.0, x.1.now)) result (grammar.effect_read name tokens.now) }
 {
-    let (index, rest) = index(alloc, tokens)?;
-    let (body, rest) = body(rest)?;
+    let (index, rest) = read!(index(alloc, tokens));
+    let (body, rest) = read!(body(rest));
     Ok((effect_of(alloc, name, index, body)?, rest))
 }
 
-#[tactic(auto, unfolding(crate::specs::Grammar::property, crate::specs::Grammar::mark))]
+#[tactic(auto, unfolding(crate::specs::Grammar::property))]
 pub(crate) fn property(alloc: Global, tokens: &[Token]) -> Result<(Effect, &[Token]), Refusal>
     ensures { Gives (λ x. (x.0, x.1.now)) result (grammar.property.read tokens.now) }
 {
-    let rest = mark(Mark::At, tokens)?;
-    let (name, rest) = property_name(rest)?;
+    let rest = read!(mark(Mark::At, tokens));
+    let (name, rest) = read!(property_name(rest));
     effect_behind(alloc, name, rest)
 }
 
@@ -173,7 +173,7 @@ pub(crate) fn properties(
     let mut properties = Items::new(alloc);
     let mut rest = tokens;
     'items: while begins_property(rest) {
-        let (next, after) = property(alloc, rest)?;
+        let (next, after) = read!(property(alloc, rest));
         properties.push(next)?;
         rest = after;
     }
@@ -233,7 +233,7 @@ pub(crate) fn plain_line(
 ) -> Result<(SectionLine, &[Token]), Refusal>
     ensures { Gives (λ x. (x.0, x.1.now)) result (grammar.plain_line.read tokens.now) }
 {
-    let (name, rest) = plain_name(tokens)?;
-    let (effect, rest) = effect_behind(alloc, name, rest)?;
+    let (name, rest) = read!(plain_name(tokens));
+    let (effect, rest) = read!(effect_behind(alloc, name, rest));
     Ok((line_of(effect), rest))
 }

@@ -46,7 +46,7 @@ fn question(tokens: &[Token]) -> Result<(bool, &[Token]), Refusal>
     if !begins_mark(Mark::Question, tokens) {
         return Ok((false, tokens));
     }
-    let rest = mark(Mark::Question, tokens)?;
+    let rest = read!(mark(Mark::Question, tokens));
     Ok((true, rest))
 }
 
@@ -54,8 +54,8 @@ fn question(tokens: &[Token]) -> Result<(bool, &[Token]), Refusal>
 fn mode(tokens: &[Token]) -> Result<(RecordedMode, &[Token]), Refusal>
     ensures { Gives (λ x. (x.0, x.1.now)) result (grammar.mode_rule.read tokens.now) }
 {
-    let (mode, rest) = mode_word(tokens)?;
-    let (optional, rest) = question(rest)?;
+    let (mode, rest) = read!(mode_word(tokens));
+    let (optional, rest) = read!(question(rest));
     Ok((RecordedMode { mode, optional }, rest))
 }
 
@@ -63,7 +63,7 @@ fn mode(tokens: &[Token]) -> Result<(RecordedMode, &[Token]), Refusal>
 fn next_mode(tokens: &[Token]) -> Result<(RecordedMode, &[Token]), Refusal>
     ensures { Gives (λ x. (x.0, x.1.now)) result (grammar.next_mode.read tokens.now) }
 {
-    let rest = mark(Mark::Comma, tokens)?;
+    let rest = read!(mark(Mark::Comma, tokens));
     mode(rest)
 }
 
@@ -80,7 +80,7 @@ fn next_modes(alloc: Global, tokens: &[Token]) -> Result<(Items<RecordedMode>, &
     let mut modes = Items::new(alloc);
     let mut rest = tokens;
     'items: while begins_next_mode(rest) {
-        let (next, after) = next_mode(rest)?;
+        let (next, after) = read!(next_mode(rest));
         modes.push(next)?;
         rest = after;
     }
@@ -104,18 +104,18 @@ fn with_first(
 fn modes(alloc: Global, tokens: &[Token]) -> Result<(Items<RecordedMode>, &[Token]), Refusal>
     ensures { Gives (λ x. (x.0, x.1.now)) result (grammar.modes.read tokens.now) }
 {
-    let (first, rest) = mode(tokens)?;
-    let (others, rest) = next_modes(alloc, rest)?;
+    let (first, rest) = read!(mode(tokens));
+    let (others, rest) = read!(next_modes(alloc, rest));
     Ok((with_first(alloc, first, others)?, rest))
 }
 
 // ---- loose text
 
-#[tactic(auto, unfolding(crate::specs::Grammar::group, crate::specs::Grammar::in_parens))]
+#[tactic(auto, unfolding(crate::specs::Grammar::group))]
 fn group(tokens: &[Token]) -> Result<&[Token], Refusal>
     ensures { Gives (λ rest. (tt, rest.now)) result (grammar.group.read tokens.now) }
 {
-    let (_, rest) = in_parens(tokens)?;
+    let (_, rest) = read!(in_parens(tokens));
     Ok(rest)
 }
 
@@ -208,7 +208,7 @@ fn pieces(tokens: &[Token]) -> Result<&[Token], Refusal>
 {
     let mut rest = tokens;
     'items: while begins_piece(Except::Nothing, rest) {
-        let after = piece(Except::Nothing, rest)?;
+        let after = read!(piece(Except::Nothing, rest));
         rest = after;
     }
     Ok(rest)
@@ -218,7 +218,7 @@ fn pieces(tokens: &[Token]) -> Result<&[Token], Refusal>
 fn loose_text(except: Except, tokens: &[Token]) -> Result<&[Token], Refusal>
     ensures { Gives (λ rest. (tt, rest.now)) result ((grammar.loose_text except).read tokens.now) }
 {
-    let rest = piece(except, tokens)?;
+    let rest = read!(piece(except, tokens));
     pieces(rest)
 }
 
@@ -235,7 +235,7 @@ fn begins_loose_text(except: Except, tokens: &[Token]) -> bool
 fn no_value(tokens: &[Token]) -> Result<(Part, &[Token]), Refusal>
     ensures { Gives (λ x. (x.0, x.1.now)) result (grammar.no_value.read tokens.now) }
 {
-    let rest = loose_text(Except::Equals, tokens)?;
+    let rest = read!(loose_text(Except::Equals, tokens));
     Ok((Part::Other, rest))
 }
 
@@ -243,8 +243,8 @@ fn no_value(tokens: &[Token]) -> Result<(Part, &[Token]), Refusal>
 fn source_value(alloc: Global, tokens: &[Token]) -> Result<(Part, &[Token]), Refusal>
     ensures { Gives (λ x. (x.0, x.1.now)) result (grammar.source_value.read tokens.now) }
 {
-    let rest = mark(Mark::Equals, tokens)?;
-    let (source, rest) = name(alloc, rest)?;
+    let rest = read!(mark(Mark::Equals, tokens));
+    let (source, rest) = read!(name(alloc, rest));
     Ok((Part::Source(source), rest))
 }
 
@@ -252,8 +252,8 @@ fn source_value(alloc: Global, tokens: &[Token]) -> Result<(Part, &[Token]), Ref
 fn record_value(alloc: Global, tokens: &[Token]) -> Result<(Part, &[Token]), Refusal>
     ensures { Gives (λ x. (x.0, x.1.now)) result (grammar.record_value.read tokens.now) }
 {
-    let rest = mark(Mark::Equals, tokens)?;
-    let (modes, rest) = modes(alloc, rest)?;
+    let rest = read!(mark(Mark::Equals, tokens));
+    let (modes, rest) = read!(modes(alloc, rest));
     Ok((Part::Record(modes), rest))
 }
 
@@ -312,7 +312,7 @@ fn record_word(tokens: &[Token]) -> Result<&[Token], Refusal>
 fn source_part(alloc: Global, tokens: &[Token]) -> Result<(Part, &[Token]), Refusal>
     ensures { Gives (λ x. (x.0, x.1.now)) result (grammar.source_part.read tokens.now) }
 {
-    let rest = source_word(tokens)?;
+    let rest = read!(source_word(tokens));
     if !begins_tail(rest) {
         return Ok((Part::Other, rest));
     }
@@ -323,7 +323,7 @@ fn source_part(alloc: Global, tokens: &[Token]) -> Result<(Part, &[Token]), Refu
 fn record_part(alloc: Global, tokens: &[Token]) -> Result<(Part, &[Token]), Refusal>
     ensures { Gives (λ x. (x.0, x.1.now)) result (grammar.record_part.read tokens.now) }
 {
-    let rest = record_word(tokens)?;
+    let rest = read!(record_word(tokens));
     if !begins_tail(rest) {
         return Ok((Part::Other, rest));
     }
@@ -334,7 +334,7 @@ fn record_part(alloc: Global, tokens: &[Token]) -> Result<(Part, &[Token]), Refu
 fn other_part(tokens: &[Token]) -> Result<(Part, &[Token]), Refusal>
     ensures { Gives (λ x. (x.0, x.1.now)) result (grammar.other_part.read tokens.now) }
 {
-    let rest = loose_text(Except::Keys, tokens)?;
+    let rest = read!(loose_text(Except::Keys, tokens));
     Ok((Part::Other, rest))
 }
 
@@ -394,7 +394,7 @@ fn optional_part(alloc: Global, tokens: &[Token]) -> Result<(Option<Part>, &[Tok
     if !begins_part(tokens) {
         return Ok((None, tokens));
     }
-    let (part, rest) = any_part(alloc, tokens)?;
+    let (part, rest) = read!(any_part(alloc, tokens));
     Ok((Some(part), rest))
 }
 
@@ -402,7 +402,7 @@ fn optional_part(alloc: Global, tokens: &[Token]) -> Result<(Option<Part>, &[Tok
 fn next_part(alloc: Global, tokens: &[Token]) -> Result<(Option<Part>, &[Token]), Refusal>
     ensures { Gives (λ x. (x.0, x.1.now)) result (grammar.next_part.read tokens.now) }
 {
-    let rest = mark(Mark::Semi, tokens)?;
+    let rest = read!(mark(Mark::Semi, tokens));
     optional_part(alloc, rest)
 }
 
@@ -419,7 +419,7 @@ fn next_parts(alloc: Global, tokens: &[Token]) -> Result<(Items<Option<Part>>, &
     let mut parts = Items::new(alloc);
     let mut rest = tokens;
     'items: while begins_next_part(rest) {
-        let (next, after) = next_part(alloc, rest)?;
+        let (next, after) = read!(next_part(alloc, rest));
         parts.push(next)?;
         rest = after;
     }
@@ -472,9 +472,9 @@ fn said_by_all(first: Option<Part>, others: Items<Option<Part>>) -> Said
 fn statistic_body(alloc: Global, tokens: &[Token]) -> Result<(Said, &[Token]), Refusal>
     ensures { Gives (λ x. (x.0, x.1.now)) result (grammar.statistic_body.read tokens.now) }
 {
-    let rest = mark(Mark::LeftParen, tokens)?;
-    let (first, rest) = optional_part(alloc, rest)?;
-    let (others, rest) = next_parts(alloc, rest)?;
+    let rest = read!(mark(Mark::LeftParen, tokens));
+    let (first, rest) = read!(optional_part(alloc, rest));
+    let (others, rest) = read!(next_parts(alloc, rest));
     ended(said_by_all(first, others), Mark::RightParen, rest)
 }
 
@@ -485,7 +485,7 @@ fn optional_body(alloc: Global, tokens: &[Token]) -> Result<(Option<Said>, &[Tok
     if !begins_mark(Mark::LeftParen, tokens) {
         return Ok((None, tokens));
     }
-    let (said, rest) = statistic_body(alloc, tokens)?;
+    let (said, rest) = read!(statistic_body(alloc, tokens));
     Ok((Some(said), rest))
 }
 
@@ -518,8 +518,8 @@ fn statistic_from(alloc: Global, name: Text, said: Option<Said>) -> Result<Secti
 fn indexed_statistic(alloc: Global, tokens: &[Token]) -> Result<(SectionLine, &[Token]), Refusal>
     ensures { Gives (λ x. (x.0, x.1.now)) result (grammar.indexed_statistic.read tokens.now) }
 {
-    let (name, rest) = bracketed(alloc, tokens)?;
-    let (said, rest) = optional_body(alloc, rest)?;
+    let (name, rest) = read!(bracketed(alloc, tokens));
+    let (said, rest) = read!(optional_body(alloc, rest));
     Ok((statistic_from(alloc, name, said)?, rest))
 }
 
@@ -527,7 +527,7 @@ fn indexed_statistic(alloc: Global, tokens: &[Token]) -> Result<(SectionLine, &[
 fn unnamed_statistic(tokens: &[Token]) -> Result<(SectionLine, &[Token]), Refusal>
     ensures { Gives (λ x. (x.0, x.1.now)) result (grammar.unnamed_statistic.read tokens.now) }
 {
-    let (_, rest) = in_parens(tokens)?;
+    let (_, rest) = read!(in_parens(tokens));
     Ok((SectionLine::Ignored, rest))
 }
 
@@ -573,7 +573,7 @@ fn is_statistic(text: &[u8]) -> bool
 pub(crate) fn statistic(alloc: Global, tokens: &[Token]) -> Result<(SectionLine, &[Token]), Refusal>
     ensures { Gives (λ x. (x.0, x.1.now)) result (grammar.statistic.read tokens.now) }
 {
-    let rest = statistic_word(tokens)?;
+    let rest = read!(statistic_word(tokens));
     statistic_tail(alloc, rest)
 }
 

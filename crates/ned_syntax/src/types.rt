@@ -9,14 +9,15 @@ use crate::leaves::{begins_name, begins_word, ended, mark, name, word};
 use crate::parameters::section;
 use ned_tokens::refusal::Refusal;
 use ned_tokens::token::{Keyword, Mark, Token};
+use sim_values::text::Text;
 use sqlite_items::Items;
 use std::alloc::Global;
 
 fn section_block(alloc: Global, tokens: &[Token]) -> Result<(Items<SectionLine>, &[Token]), Refusal>
     ensures { Gives (λ x. (x.0, x.1.now)) result (grammar.section_block.read tokens.now) }
 {
-    let rest = mark(Mark::Open, tokens)?;
-    let (lines, rest) = section(alloc, rest)?;
+    let rest = read!(mark(Mark::Open, tokens));
+    let (lines, rest) = read!(section(alloc, rest));
     ended(lines, Mark::Close, rest)
 }
 
@@ -24,9 +25,9 @@ fn section_block(alloc: Global, tokens: &[Token]) -> Result<(Items<SectionLine>,
 fn simple(alloc: Global, tokens: &[Token]) -> Result<(TypeDeclaration, &[Token]), Refusal>
     ensures { Gives (λ x. (x.0, x.1.now)) result (grammar.simple.read tokens.now) }
 {
-    let rest = word(Keyword::Simple, tokens)?;
-    let (name, rest) = name(alloc, rest)?;
-    let (lines, rest) = section_block(alloc, rest)?;
+    let rest = read!(word(Keyword::Simple, tokens));
+    let (name, rest) = read!(name(alloc, rest));
+    let (lines, rest) = read!(section_block(alloc, rest));
     Ok((
         TypeDeclaration {
             kind: TypeKind::Simple,
@@ -38,14 +39,20 @@ fn simple(alloc: Global, tokens: &[Token]) -> Result<(TypeDeclaration, &[Token])
     ))
 }
 
+fn submodule_type(alloc: Global, tokens: &[Token]) -> Result<(Text, &[Token]), Refusal>
+    ensures { Gives (λ x. (x.0, x.1.now)) result (grammar.submodule_type.read tokens.now) }
+{
+    let rest = read!(mark(Mark::Colon, tokens));
+    let (type_name, rest) = read!(name(alloc, rest));
+    ended(type_name, Mark::Semi, rest)
+}
+
 #[tactic(auto, unfolding(crate::specs::Grammar::submodule))]
 fn submodule(alloc: Global, tokens: &[Token]) -> Result<(Submodule, &[Token]), Refusal>
     ensures { Gives (λ x. (x.0, x.1.now)) result (grammar.submodule.read tokens.now) }
 {
-    let (own, rest) = name(alloc, tokens)?;
-    let rest = mark(Mark::Colon, rest)?;
-    let (type_name, rest) = name(alloc, rest)?;
-    let rest = mark(Mark::Semi, rest)?;
+    let (own, rest) = read!(name(alloc, tokens));
+    let (type_name, rest) = read!(submodule_type(alloc, rest));
     Ok((
         Submodule {
             name: own,
@@ -68,7 +75,7 @@ fn submodule_list(alloc: Global, tokens: &[Token]) -> Result<(Items<Submodule>, 
     let mut submodules = Items::new(alloc);
     let mut rest = tokens;
     'items: while begins_submodule(rest) {
-        let (next, after) = submodule(alloc, rest)?;
+        let (next, after) = read!(submodule(alloc, rest));
         submodules.push(next)?;
         rest = after;
     }
@@ -82,8 +89,8 @@ fn submodules(alloc: Global, tokens: &[Token]) -> Result<(Items<Submodule>, &[To
     if !begins_word(Keyword::Submodules, tokens) {
         return Ok((Items::new(alloc), tokens));
     }
-    let rest = word(Keyword::Submodules, tokens)?;
-    let rest = mark(Mark::Colon, rest)?;
+    let rest = read!(word(Keyword::Submodules, tokens));
+    let rest = read!(mark(Mark::Colon, rest));
     submodule_list(alloc, rest)
 }
 
@@ -93,8 +100,8 @@ fn submodules_block(
 ) -> Result<(Items<Submodule>, &[Token]), Refusal>
     ensures { Gives (λ x. (x.0, x.1.now)) result (grammar.submodules_block.read tokens.now) }
 {
-    let rest = mark(Mark::Open, tokens)?;
-    let (submodules, rest) = submodules(alloc, rest)?;
+    let rest = read!(mark(Mark::Open, tokens));
+    let (submodules, rest) = read!(submodules(alloc, rest));
     ended(submodules, Mark::Close, rest)
 }
 
@@ -102,9 +109,9 @@ fn submodules_block(
 fn network(alloc: Global, tokens: &[Token]) -> Result<(TypeDeclaration, &[Token]), Refusal>
     ensures { Gives (λ x. (x.0, x.1.now)) result (grammar.network.read tokens.now) }
 {
-    let rest = word(Keyword::Network, tokens)?;
-    let (name, rest) = name(alloc, rest)?;
-    let (submodules, rest) = submodules_block(alloc, rest)?;
+    let rest = read!(word(Keyword::Network, tokens));
+    let (name, rest) = read!(name(alloc, rest));
+    let (submodules, rest) = read!(submodules_block(alloc, rest));
     Ok((
         TypeDeclaration {
             kind: TypeKind::Network,
@@ -140,7 +147,7 @@ fn type_list(alloc: Global, tokens: &[Token]) -> Result<(Items<TypeDeclaration>,
     let mut types = Items::new(alloc);
     let mut rest = tokens;
     'items: while begins_type(rest) {
-        let (next, after) = type_declaration(alloc, rest)?;
+        let (next, after) = read!(type_declaration(alloc, rest));
         types.push(next)?;
         rest = after;
     }
@@ -152,7 +159,7 @@ fn type_list(alloc: Global, tokens: &[Token]) -> Result<(Items<TypeDeclaration>,
 pub(crate) fn whole_file(alloc: Global, tokens: &[Token]) -> Result<NedFile, Refusal>
     ensures { Gives (λ x. x) result (all_read grammar.file tokens.now) }
 {
-    let (types, rest) = type_list(alloc, tokens)?;
+    let (types, rest) = read!(type_list(alloc, tokens));
     match rest {
         [] => Ok(NedFile { types }),
         _ => Err(Refusal::At(rest.len())),

@@ -1,4 +1,3 @@
-use Rattle.std.proofs.lemmas.Result.{err_from_is_err_and}
 use Rattle.ned_tokens.specs.Rule.{many}
 use Rattle.ned_tokens.proofs.Many.{shorter}
 use Rattle.ned_tokens.proofs.Loop.{goes_on, fails, ends}
@@ -6,16 +5,14 @@ use Rattle.ned_syntax.specs.Grammar as grammar
 use Rattle.ned_syntax.proofs.GrammarLaws.{next_mode-lawful, next_mode-full}
 use Rattle.ned_syntax.proofs.statistics.next_modes.Goals as goal
 
-pub returns-in_err-next : goal.returns-in_err-next
-returns-in_err-next c =
-    let p = err_from_is_err_and c.from_residual.result c.from_residual.ensures.1 in
-    rw (p.1, p.2) (fails grammar.next_mode next_mode-lawful next_mode-full c.in_err-next.field-0.0 c.items.modes c.items.rest.now ((many grammar.next_mode).read c.args.tokens.now) (cc) c.in_err-next.ensures c.items.invariant)
+pub returns-in-Err : goal.returns-in-Err
+returns-in-Err c = fails grammar.next_mode next_mode-lawful next_mode-full c.in-Err.refusal c.items.modes c.items.rest.now ((many grammar.next_mode).read c.args.tokens.now) (cc) c.in-Err.ensures c.items.invariant
 
 pub items-smaller : goal.items-smaller
-items-smaller c = shorter grammar.next_mode next_mode-lawful next_mode-full c.items.rest.now c.in_ok-next.next c.in_ok-next.after.now c.in_ok-next.ensures
+items-smaller c = shorter grammar.next_mode next_mode-lawful next_mode-full c.items.rest.now c.in-Ok.it.0 c.in-Ok.it.1.now c.in-Ok.ensures
 
 pub items-preserved : goal.items-preserved
-items-preserved c = rw c.in_ok-push.ensures.ok (goes_on grammar.next_mode next_mode-lawful next_mode-full c.items.modes c.items.rest.now c.in_ok-next.next c.in_ok-next.after.now ((many grammar.next_mode).read c.args.tokens.now) (cc) c.in_ok-next.ensures c.items.invariant)
+items-preserved c = rw c.in_ok-push.ensures.ok (goes_on grammar.next_mode next_mode-lawful next_mode-full c.items.modes c.items.rest.now c.in-Ok.it.0 c.in-Ok.it.1.now ((many grammar.next_mode).read c.args.tokens.now) (cc) c.in-Ok.ensures c.items.invariant)
 
 pub returns : goal.returns
 returns c = ends grammar.next_mode next_mode-lawful next_mode-full c.items.modes c.items.rest.now ((many grammar.next_mode).read c.args.tokens.now) (cc) c.items.invariant
