@@ -1,6 +1,6 @@
 //! The values that parameters are given.
 
-ghost use Rattle.ned_tokens.specs.Rule.{Gives};
+ghost use Rattle.ned_tokens.specs.Rule.{Reads};
 ghost use Rattle.ned_syntax.specs.Grammar as grammar;
 
 use crate::ast::ParameterValue;
@@ -12,7 +12,7 @@ use std::alloc::Global;
 
 #[tactic(auto, unfolding(crate::specs::Grammar::default_value))]
 fn default_value(alloc: Global, tokens: &[Token]) -> Result<(ParameterValue, &[Token]), Refusal>
-    ensures { Gives (λ x. (x.0, x.1.now)) result (grammar.default_value.read tokens.now) }
+    ensures { Reads grammar.default_value tokens.now result }
 {
     let rest = read!(word(Keyword::Default, tokens));
     let rest = read!(mark(Mark::LeftParen, rest));
@@ -22,7 +22,7 @@ fn default_value(alloc: Global, tokens: &[Token]) -> Result<(ParameterValue, &[T
 
 #[tactic(auto, unfolding(crate::specs::Grammar::value_rule, crate::specs::Grammar::default_value, crate::specs::Grammar::word))]
 pub(crate) fn value(alloc: Global, tokens: &[Token]) -> Result<(ParameterValue, &[Token]), Refusal>
-    ensures { Gives (λ x. (x.0, x.1.now)) result (grammar.value_rule.read tokens.now) }
+    ensures { Reads grammar.value_rule tokens.now result }
 {
     if begins_word(Keyword::Default, tokens) {
         default_value(alloc, tokens)

@@ -1,7 +1,7 @@
 //! The lines of a parameter section.
 
 ghost use Rattle.std.specs.Prelude.{◌≡◌};
-ghost use Rattle.ned_tokens.specs.Rule.{Gives, begins, many, optional};
+ghost use Rattle.ned_tokens.specs.Rule.{Gives, Reads, begins, many, optional};
 ghost use Rattle.ned_syntax.specs.Grammar as grammar;
 
 use crate::ast::{Assignment, Declaration, ParameterValue, ParameterWord, SectionLine};
@@ -36,7 +36,7 @@ pub struct Tail {
 
 #[tactic(auto, unfolding(crate::specs::Grammar::valued))]
 fn read_valued(alloc: Global, tokens: &[Token]) -> Result<(Valued, &[Token]), Refusal>
-    ensures { Gives (λ x. (x.0, x.1.now)) result (grammar.valued.read tokens.now) }
+    ensures { Reads grammar.valued tokens.now result }
 {
     let rest = read!(mark(Mark::Equals, tokens));
     let (value, rest) = read!(value(alloc, rest));
@@ -46,7 +46,7 @@ fn read_valued(alloc: Global, tokens: &[Token]) -> Result<(Valued, &[Token]), Re
 
 #[tactic(auto, unfolding(crate::specs::Grammar::valued, crate::specs::Grammar::mark))]
 fn optional_value(alloc: Global, tokens: &[Token]) -> Result<(Option<Valued>, &[Token]), Refusal>
-    ensures { Gives (λ x. (x.0, x.1.now)) result ((optional grammar.valued).read tokens.now) }
+    ensures { Reads (optional grammar.valued) tokens.now result }
 {
     if !begins_mark(Mark::Equals, tokens) {
         return Ok((None, tokens));
@@ -57,7 +57,7 @@ fn optional_value(alloc: Global, tokens: &[Token]) -> Result<(Option<Valued>, &[
 
 #[tactic(auto, unfolding(crate::specs::Grammar::tail))]
 fn read_tail(alloc: Global, tokens: &[Token]) -> Result<(Tail, &[Token]), Refusal>
-    ensures { Gives (λ x. (x.0, x.1.now)) result (grammar.tail.read tokens.now) }
+    ensures { Reads grammar.tail tokens.now result }
 {
     let (before, rest) = read!(properties(alloc, tokens));
     let (valued, rest) = read!(optional_value(alloc, rest));
@@ -131,7 +131,7 @@ fn parameter_word_of(token: &Token) -> Option<ParameterWord>
 
 #[tactic(auto, unfolding(crate::specs::Grammar::parameter_word))]
 fn parameter_word(tokens: &[Token]) -> Result<(ParameterWord, &[Token]), Refusal>
-    ensures { Gives (λ x. (x.0, x.1.now)) result (grammar.parameter_word.read tokens.now) }
+    ensures { Reads grammar.parameter_word tokens.now result }
 {
     if let [first, rest @ ..] = tokens {
         if let Some(word) = parameter_word_of(first) {
@@ -153,7 +153,7 @@ fn volatile(tokens: &[Token]) -> Result<&[Token], Refusal>
 
 #[tactic(auto, unfolding(crate::specs::Grammar::any_declaration))]
 fn any_declaration(alloc: Global, tokens: &[Token]) -> Result<(Declaration, &[Token]), Refusal>
-    ensures { Gives (λ x. (x.0, x.1.now)) result (grammar.any_declaration.read tokens.now) }
+    ensures { Reads grammar.any_declaration tokens.now result }
 {
     let rest = read!(volatile(tokens));
     let (word, rest) = read!(parameter_word(rest));
@@ -174,7 +174,7 @@ fn is_measured(declaration: &Declaration) -> bool
 
 #[tactic(auto, unfolding(crate::specs::Grammar::declaration))]
 fn declaration(alloc: Global, tokens: &[Token]) -> Result<(Declaration, &[Token]), Refusal>
-    ensures { Gives (λ x. (x.0, x.1.now)) result (grammar.declaration.read tokens.now) }
+    ensures { Reads grammar.declaration tokens.now result }
 {
     let (declaration, rest) = read!(any_declaration(alloc, tokens));
     if !is_measured(&declaration) {
@@ -194,7 +194,7 @@ fn assigned(name: Text, tail: Tail) -> Assignment
 
 #[tactic(auto, unfolding(crate::specs::Grammar::assignment))]
 fn assignment(alloc: Global, tokens: &[Token]) -> Result<(Assignment, &[Token]), Refusal>
-    ensures { Gives (λ x. (x.0, x.1.now)) result (grammar.assignment.read tokens.now) }
+    ensures { Reads grammar.assignment tokens.now result }
 {
     let (name, rest) = read!(name(alloc, tokens));
     let (tail, rest) = read!(read_tail(alloc, rest));
@@ -204,7 +204,7 @@ fn assignment(alloc: Global, tokens: &[Token]) -> Result<(Assignment, &[Token]),
 /// A property as a line of its own, behind its `@`.
 #[tactic(auto, unfolding(crate::specs::Grammar::property_text))]
 fn property_text(alloc: Global, tokens: &[Token]) -> Result<(SectionLine, &[Token]), Refusal>
-    ensures { Gives (λ x. (x.0, x.1.now)) result (grammar.property_text.read tokens.now) }
+    ensures { Reads grammar.property_text tokens.now result }
 {
     if begins_statistic(tokens) {
         statistic(alloc, tokens)
@@ -215,7 +215,7 @@ fn property_text(alloc: Global, tokens: &[Token]) -> Result<(SectionLine, &[Toke
 
 #[tactic(auto, unfolding(crate::specs::Grammar::property_line))]
 fn property_line(alloc: Global, tokens: &[Token]) -> Result<(SectionLine, &[Token]), Refusal>
-    ensures { Gives (λ x. (x.0, x.1.now)) result (grammar.property_line.read tokens.now) }
+    ensures { Reads grammar.property_line tokens.now result }
 {
     let rest = read!(mark(Mark::At, tokens));
     property_text(alloc, rest)
@@ -223,7 +223,7 @@ fn property_line(alloc: Global, tokens: &[Token]) -> Result<(SectionLine, &[Toke
 
 #[tactic(auto, unfolding(crate::specs::Grammar::assigned_or_said, crate::specs::Grammar::assignment, crate::specs::Grammar::name))]
 fn assigned_or_said(alloc: Global, tokens: &[Token]) -> Result<(SectionLine, &[Token]), Refusal>
-    ensures { Gives (λ x. (x.0, x.1.now)) result (grammar.assigned_or_said.read tokens.now) }
+    ensures { Reads grammar.assigned_or_said tokens.now result }
 {
     if begins_name(tokens) {
         let (assignment, rest) = read!(assignment(alloc, tokens));
@@ -250,7 +250,7 @@ fn begins_declaration(tokens: &[Token]) -> bool
 
 #[tactic(auto, unfolding(crate::specs::Grammar::any_line))]
 fn any_line(alloc: Global, tokens: &[Token]) -> Result<(SectionLine, &[Token]), Refusal>
-    ensures { Gives (λ x. (x.0, x.1.now)) result (grammar.any_line.read tokens.now) }
+    ensures { Reads grammar.any_line tokens.now result }
 {
     if begins_declaration(tokens) {
         let (declaration, rest) = read!(declaration(alloc, tokens));
@@ -262,7 +262,7 @@ fn any_line(alloc: Global, tokens: &[Token]) -> Result<(SectionLine, &[Token]), 
 
 #[tactic(auto, unfolding(crate::specs::Grammar::section_line))]
 fn section_line(alloc: Global, tokens: &[Token]) -> Result<(SectionLine, &[Token]), Refusal>
-    ensures { Gives (λ x. (x.0, x.1.now)) result (grammar.section_line.read tokens.now) }
+    ensures { Reads grammar.section_line tokens.now result }
 {
     let (line, rest) = read!(any_line(alloc, tokens));
     ended(line, Mark::Semi, rest)
@@ -276,7 +276,7 @@ fn begins_line(tokens: &[Token]) -> bool
 }
 
 fn section_lines(alloc: Global, tokens: &[Token]) -> Result<(Items<SectionLine>, &[Token]), Refusal>
-    ensures { Gives (λ x. (x.0, x.1.now)) result ((many grammar.section_line).read tokens.now) }
+    ensures { Reads (many grammar.section_line) tokens.now result }
 {
     let mut lines = Items::new(alloc);
     let mut rest = tokens;
@@ -305,7 +305,7 @@ pub(crate) fn section(
     alloc: Global,
     tokens: &[Token],
 ) -> Result<(Items<SectionLine>, &[Token]), Refusal>
-    ensures { Gives (λ x. (x.0, x.1.now)) result (grammar.section.read tokens.now) }
+    ensures { Reads grammar.section tokens.now result }
 {
     let rest = read!(heading(tokens));
     section_lines(alloc, rest)

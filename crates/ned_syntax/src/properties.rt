@@ -1,7 +1,7 @@
 //! Properties: `@name`, perhaps an index in brackets, perhaps a text in parentheses.
 
 ghost use Rattle.std.specs.Prelude.{◌≡◌, IfOk, option_map};
-ghost use Rattle.ned_tokens.specs.Rule.{Gives, begins, many};
+ghost use Rattle.ned_tokens.specs.Rule.{Gives, Reads, begins, many};
 ghost use Rattle.ned_syntax.specs.Grammar as grammar;
 
 use crate::ast::SectionLine;
@@ -65,7 +65,7 @@ fn property_name_of(token: &Token) -> Option<PropertyName>
 
 #[tactic(auto, unfolding(crate::specs::Grammar::property_name))]
 fn property_name(tokens: &[Token]) -> Result<(PropertyName, &[Token]), Refusal>
-    ensures { Gives (λ x. (x.0, x.1.now)) result (grammar.property_name.read tokens.now) }
+    ensures { Reads grammar.property_name tokens.now result }
 {
     if let [first, rest @ ..] = tokens {
         if let Some(name) = property_name_of(first) {
@@ -77,7 +77,7 @@ fn property_name(tokens: &[Token]) -> Result<(PropertyName, &[Token]), Refusal>
 
 #[tactic(auto, unfolding(crate::specs::Grammar::bracketed))]
 pub(crate) fn bracketed(alloc: Global, tokens: &[Token]) -> Result<(Text, &[Token]), Refusal>
-    ensures { Gives (λ x. (x.0, x.1.now)) result (grammar.bracketed.read tokens.now) }
+    ensures { Reads grammar.bracketed tokens.now result }
 {
     let rest = read!(mark(Mark::LeftBracket, tokens));
     let (index, rest) = read!(name(alloc, rest));
@@ -86,7 +86,7 @@ pub(crate) fn bracketed(alloc: Global, tokens: &[Token]) -> Result<(Text, &[Toke
 
 #[tactic(auto, unfolding(crate::specs::Grammar::index, crate::specs::Grammar::bracketed, crate::specs::Grammar::mark))]
 fn index(alloc: Global, tokens: &[Token]) -> Result<(Option<Text>, &[Token]), Refusal>
-    ensures { Gives (λ x. (x.0, x.1.now)) result (grammar.index.read tokens.now) }
+    ensures { Reads grammar.index tokens.now result }
 {
     if !begins_mark(Mark::LeftBracket, tokens) {
         return Ok((None, tokens));
@@ -150,7 +150,7 @@ fn effect_behind(
 
 #[tactic(auto, unfolding(crate::specs::Grammar::property))]
 pub(crate) fn property(alloc: Global, tokens: &[Token]) -> Result<(Effect, &[Token]), Refusal>
-    ensures { Gives (λ x. (x.0, x.1.now)) result (grammar.property.read tokens.now) }
+    ensures { Reads grammar.property tokens.now result }
 {
     let rest = read!(mark(Mark::At, tokens));
     let (name, rest) = read!(property_name(rest));
@@ -168,7 +168,7 @@ pub(crate) fn properties(
     alloc: Global,
     tokens: &[Token],
 ) -> Result<(Items<Effect>, &[Token]), Refusal>
-    ensures { Gives (λ x. (x.0, x.1.now)) result ((many grammar.property).read tokens.now) }
+    ensures { Reads (many grammar.property) tokens.now result }
 {
     let mut properties = Items::new(alloc);
     let mut rest = tokens;
@@ -206,7 +206,7 @@ fn plain_name_of(token: &Token) -> Option<PropertyName>
 /// The name of a property that is no statistic.
 #[tactic(auto, unfolding(crate::specs::Grammar::plain_name))]
 fn plain_name(tokens: &[Token]) -> Result<(PropertyName, &[Token]), Refusal>
-    ensures { Gives (λ x. (x.0, x.1.now)) result (grammar.plain_name.read tokens.now) }
+    ensures { Reads grammar.plain_name tokens.now result }
 {
     if let [first, rest @ ..] = tokens {
         if let Some(name) = plain_name_of(first) {
@@ -231,7 +231,7 @@ pub(crate) fn plain_line(
     alloc: Global,
     tokens: &[Token],
 ) -> Result<(SectionLine, &[Token]), Refusal>
-    ensures { Gives (λ x. (x.0, x.1.now)) result (grammar.plain_line.read tokens.now) }
+    ensures { Reads grammar.plain_line tokens.now result }
 {
     let (name, rest) = read!(plain_name(tokens));
     let (effect, rest) = read!(effect_behind(alloc, name, rest));

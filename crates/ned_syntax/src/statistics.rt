@@ -1,7 +1,7 @@
 //! Statistics: `@statistic[name](key=value;..)` (OMNeT++ Simulation Manual, "Declaring Statistics").
 
 ghost use Rattle.std.specs.Prelude.{◌≡◌, ◌∷◌, IfOk};
-ghost use Rattle.ned_tokens.specs.Rule.{Gives, begins, many};
+ghost use Rattle.ned_tokens.specs.Rule.{Gives, Reads, begins, many};
 ghost use Rattle.ned_syntax.specs.Grammar as grammar;
 
 use crate::ast::{Mode, RecordedMode, SectionLine, Statistic};
@@ -29,7 +29,7 @@ pub enum Part {
 
 #[tactic(auto, unfolding(crate::specs::Grammar::mode_word))]
 fn mode_word(tokens: &[Token]) -> Result<(Mode, &[Token]), Refusal>
-    ensures { Gives (λ x. (x.0, x.1.now)) result (grammar.mode_word.read tokens.now) }
+    ensures { Reads grammar.mode_word tokens.now result }
 {
     if let [Token::Name(text), rest @ ..] = tokens {
         if let Some(mode) = mode_named(text.as_bytes()) {
@@ -41,7 +41,7 @@ fn mode_word(tokens: &[Token]) -> Result<(Mode, &[Token]), Refusal>
 
 #[tactic(auto, unfolding(crate::specs::Grammar::question, crate::specs::Grammar::mark))]
 fn question(tokens: &[Token]) -> Result<(bool, &[Token]), Refusal>
-    ensures { Gives (λ x. (x.0, x.1.now)) result (grammar.question.read tokens.now) }
+    ensures { Reads grammar.question tokens.now result }
 {
     if !begins_mark(Mark::Question, tokens) {
         return Ok((false, tokens));
@@ -52,7 +52,7 @@ fn question(tokens: &[Token]) -> Result<(bool, &[Token]), Refusal>
 
 #[tactic(auto, unfolding(crate::specs::Grammar::mode_rule))]
 fn mode(tokens: &[Token]) -> Result<(RecordedMode, &[Token]), Refusal>
-    ensures { Gives (λ x. (x.0, x.1.now)) result (grammar.mode_rule.read tokens.now) }
+    ensures { Reads grammar.mode_rule tokens.now result }
 {
     let (mode, rest) = read!(mode_word(tokens));
     let (optional, rest) = read!(question(rest));
@@ -61,7 +61,7 @@ fn mode(tokens: &[Token]) -> Result<(RecordedMode, &[Token]), Refusal>
 
 #[tactic(auto, unfolding(crate::specs::Grammar::next_mode))]
 fn next_mode(tokens: &[Token]) -> Result<(RecordedMode, &[Token]), Refusal>
-    ensures { Gives (λ x. (x.0, x.1.now)) result (grammar.next_mode.read tokens.now) }
+    ensures { Reads grammar.next_mode tokens.now result }
 {
     let rest = read!(mark(Mark::Comma, tokens));
     mode(rest)
@@ -75,7 +75,7 @@ fn begins_next_mode(tokens: &[Token]) -> bool
 }
 
 fn next_modes(alloc: Global, tokens: &[Token]) -> Result<(Items<RecordedMode>, &[Token]), Refusal>
-    ensures { Gives (λ x. (x.0, x.1.now)) result ((many grammar.next_mode).read tokens.now) }
+    ensures { Reads (many grammar.next_mode) tokens.now result }
 {
     let mut modes = Items::new(alloc);
     let mut rest = tokens;
@@ -102,7 +102,7 @@ fn with_first(
 
 #[tactic(auto, unfolding(crate::specs::Grammar::modes))]
 fn modes(alloc: Global, tokens: &[Token]) -> Result<(Items<RecordedMode>, &[Token]), Refusal>
-    ensures { Gives (λ x. (x.0, x.1.now)) result (grammar.modes.read tokens.now) }
+    ensures { Reads grammar.modes tokens.now result }
 {
     let (first, rest) = read!(mode(tokens));
     let (others, rest) = read!(next_modes(alloc, rest));
@@ -233,7 +233,7 @@ fn begins_loose_text(except: Except, tokens: &[Token]) -> bool
 
 #[tactic(auto, unfolding(crate::specs::Grammar::no_value))]
 fn no_value(tokens: &[Token]) -> Result<(Part, &[Token]), Refusal>
-    ensures { Gives (λ x. (x.0, x.1.now)) result (grammar.no_value.read tokens.now) }
+    ensures { Reads grammar.no_value tokens.now result }
 {
     let rest = read!(loose_text(Except::Equals, tokens));
     Ok((Part::Other, rest))
@@ -241,7 +241,7 @@ fn no_value(tokens: &[Token]) -> Result<(Part, &[Token]), Refusal>
 
 #[tactic(auto, unfolding(crate::specs::Grammar::source_value))]
 fn source_value(alloc: Global, tokens: &[Token]) -> Result<(Part, &[Token]), Refusal>
-    ensures { Gives (λ x. (x.0, x.1.now)) result (grammar.source_value.read tokens.now) }
+    ensures { Reads grammar.source_value tokens.now result }
 {
     let rest = read!(mark(Mark::Equals, tokens));
     let (source, rest) = read!(name(alloc, rest));
@@ -250,7 +250,7 @@ fn source_value(alloc: Global, tokens: &[Token]) -> Result<(Part, &[Token]), Ref
 
 #[tactic(auto, unfolding(crate::specs::Grammar::record_value))]
 fn record_value(alloc: Global, tokens: &[Token]) -> Result<(Part, &[Token]), Refusal>
-    ensures { Gives (λ x. (x.0, x.1.now)) result (grammar.record_value.read tokens.now) }
+    ensures { Reads grammar.record_value tokens.now result }
 {
     let rest = read!(mark(Mark::Equals, tokens));
     let (modes, rest) = read!(modes(alloc, rest));
@@ -259,7 +259,7 @@ fn record_value(alloc: Global, tokens: &[Token]) -> Result<(Part, &[Token]), Ref
 
 #[tactic(auto, unfolding(crate::specs::Grammar::source_tail, crate::specs::Grammar::source_value, crate::specs::Grammar::mark))]
 fn source_tail(alloc: Global, tokens: &[Token]) -> Result<(Part, &[Token]), Refusal>
-    ensures { Gives (λ x. (x.0, x.1.now)) result (grammar.source_tail.read tokens.now) }
+    ensures { Reads grammar.source_tail tokens.now result }
 {
     if begins_mark(Mark::Equals, tokens) {
         source_value(alloc, tokens)
@@ -270,7 +270,7 @@ fn source_tail(alloc: Global, tokens: &[Token]) -> Result<(Part, &[Token]), Refu
 
 #[tactic(auto, unfolding(crate::specs::Grammar::record_tail, crate::specs::Grammar::record_value, crate::specs::Grammar::mark))]
 fn record_tail(alloc: Global, tokens: &[Token]) -> Result<(Part, &[Token]), Refusal>
-    ensures { Gives (λ x. (x.0, x.1.now)) result (grammar.record_tail.read tokens.now) }
+    ensures { Reads grammar.record_tail tokens.now result }
 {
     if begins_mark(Mark::Equals, tokens) {
         record_value(alloc, tokens)
@@ -310,7 +310,7 @@ fn record_word(tokens: &[Token]) -> Result<&[Token], Refusal>
 
 #[tactic(auto, unfolding(crate::specs::Grammar::source_part))]
 fn source_part(alloc: Global, tokens: &[Token]) -> Result<(Part, &[Token]), Refusal>
-    ensures { Gives (λ x. (x.0, x.1.now)) result (grammar.source_part.read tokens.now) }
+    ensures { Reads grammar.source_part tokens.now result }
 {
     let rest = read!(source_word(tokens));
     if !begins_tail(rest) {
@@ -321,7 +321,7 @@ fn source_part(alloc: Global, tokens: &[Token]) -> Result<(Part, &[Token]), Refu
 
 #[tactic(auto, unfolding(crate::specs::Grammar::record_part))]
 fn record_part(alloc: Global, tokens: &[Token]) -> Result<(Part, &[Token]), Refusal>
-    ensures { Gives (λ x. (x.0, x.1.now)) result (grammar.record_part.read tokens.now) }
+    ensures { Reads grammar.record_part tokens.now result }
 {
     let rest = read!(record_word(tokens));
     if !begins_tail(rest) {
@@ -332,7 +332,7 @@ fn record_part(alloc: Global, tokens: &[Token]) -> Result<(Part, &[Token]), Refu
 
 #[tactic(auto, unfolding(crate::specs::Grammar::other_part))]
 fn other_part(tokens: &[Token]) -> Result<(Part, &[Token]), Refusal>
-    ensures { Gives (λ x. (x.0, x.1.now)) result (grammar.other_part.read tokens.now) }
+    ensures { Reads grammar.other_part tokens.now result }
 {
     let rest = read!(loose_text(Except::Keys, tokens));
     Ok((Part::Other, rest))
@@ -360,7 +360,7 @@ fn begins_record(tokens: &[Token]) -> bool
 
 #[tactic(auto, unfolding(crate::specs::Grammar::record_or_other))]
 fn record_or_other(alloc: Global, tokens: &[Token]) -> Result<(Part, &[Token]), Refusal>
-    ensures { Gives (λ x. (x.0, x.1.now)) result (grammar.record_or_other.read tokens.now) }
+    ensures { Reads grammar.record_or_other tokens.now result }
 {
     if begins_record(tokens) {
         record_part(alloc, tokens)
@@ -371,7 +371,7 @@ fn record_or_other(alloc: Global, tokens: &[Token]) -> Result<(Part, &[Token]), 
 
 #[tactic(auto, unfolding(crate::specs::Grammar::any_part))]
 fn any_part(alloc: Global, tokens: &[Token]) -> Result<(Part, &[Token]), Refusal>
-    ensures { Gives (λ x. (x.0, x.1.now)) result (grammar.any_part.read tokens.now) }
+    ensures { Reads grammar.any_part tokens.now result }
 {
     if begins_source(tokens) {
         source_part(alloc, tokens)
@@ -389,7 +389,7 @@ fn begins_part(tokens: &[Token]) -> bool
 
 #[tactic(auto, unfolding(crate::specs::Grammar::part))]
 fn optional_part(alloc: Global, tokens: &[Token]) -> Result<(Option<Part>, &[Token]), Refusal>
-    ensures { Gives (λ x. (x.0, x.1.now)) result (grammar.part.read tokens.now) }
+    ensures { Reads grammar.part tokens.now result }
 {
     if !begins_part(tokens) {
         return Ok((None, tokens));
@@ -400,7 +400,7 @@ fn optional_part(alloc: Global, tokens: &[Token]) -> Result<(Option<Part>, &[Tok
 
 #[tactic(auto, unfolding(crate::specs::Grammar::next_part))]
 fn next_part(alloc: Global, tokens: &[Token]) -> Result<(Option<Part>, &[Token]), Refusal>
-    ensures { Gives (λ x. (x.0, x.1.now)) result (grammar.next_part.read tokens.now) }
+    ensures { Reads grammar.next_part tokens.now result }
 {
     let rest = read!(mark(Mark::Semi, tokens));
     optional_part(alloc, rest)
@@ -414,7 +414,7 @@ fn begins_next_part(tokens: &[Token]) -> bool
 }
 
 fn next_parts(alloc: Global, tokens: &[Token]) -> Result<(Items<Option<Part>>, &[Token]), Refusal>
-    ensures { Gives (λ x. (x.0, x.1.now)) result ((many grammar.next_part).read tokens.now) }
+    ensures { Reads (many grammar.next_part) tokens.now result }
 {
     let mut parts = Items::new(alloc);
     let mut rest = tokens;
@@ -470,7 +470,7 @@ fn said_by_all(first: Option<Part>, others: Items<Option<Part>>) -> Said
 
 #[tactic(auto, unfolding(crate::specs::Grammar::statistic_body))]
 fn statistic_body(alloc: Global, tokens: &[Token]) -> Result<(Said, &[Token]), Refusal>
-    ensures { Gives (λ x. (x.0, x.1.now)) result (grammar.statistic_body.read tokens.now) }
+    ensures { Reads grammar.statistic_body tokens.now result }
 {
     let rest = read!(mark(Mark::LeftParen, tokens));
     let (first, rest) = read!(optional_part(alloc, rest));
@@ -480,7 +480,7 @@ fn statistic_body(alloc: Global, tokens: &[Token]) -> Result<(Said, &[Token]), R
 
 #[tactic(auto, unfolding(crate::specs::Grammar::optional_body, crate::specs::Grammar::statistic_body, crate::specs::Grammar::mark))]
 fn optional_body(alloc: Global, tokens: &[Token]) -> Result<(Option<Said>, &[Token]), Refusal>
-    ensures { Gives (λ x. (x.0, x.1.now)) result (grammar.optional_body.read tokens.now) }
+    ensures { Reads grammar.optional_body tokens.now result }
 {
     if !begins_mark(Mark::LeftParen, tokens) {
         return Ok((None, tokens));
@@ -516,7 +516,7 @@ fn statistic_from(alloc: Global, name: Text, said: Option<Said>) -> Result<Secti
 
 #[tactic(auto, unfolding(crate::specs::Grammar::indexed_statistic))]
 fn indexed_statistic(alloc: Global, tokens: &[Token]) -> Result<(SectionLine, &[Token]), Refusal>
-    ensures { Gives (λ x. (x.0, x.1.now)) result (grammar.indexed_statistic.read tokens.now) }
+    ensures { Reads grammar.indexed_statistic tokens.now result }
 {
     let (name, rest) = read!(bracketed(alloc, tokens));
     let (said, rest) = read!(optional_body(alloc, rest));
@@ -525,7 +525,7 @@ fn indexed_statistic(alloc: Global, tokens: &[Token]) -> Result<(SectionLine, &[
 
 #[tactic(auto, unfolding(crate::specs::Grammar::unnamed_statistic))]
 fn unnamed_statistic(tokens: &[Token]) -> Result<(SectionLine, &[Token]), Refusal>
-    ensures { Gives (λ x. (x.0, x.1.now)) result (grammar.unnamed_statistic.read tokens.now) }
+    ensures { Reads grammar.unnamed_statistic tokens.now result }
 {
     let (_, rest) = read!(in_parens(tokens));
     Ok((SectionLine::Ignored, rest))
@@ -533,7 +533,7 @@ fn unnamed_statistic(tokens: &[Token]) -> Result<(SectionLine, &[Token]), Refusa
 
 #[tactic(auto, unfolding(crate::specs::Grammar::named_or_not, crate::specs::Grammar::indexed_statistic, crate::specs::Grammar::bracketed, crate::specs::Grammar::mark))]
 fn named_or_not(alloc: Global, tokens: &[Token]) -> Result<(SectionLine, &[Token]), Refusal>
-    ensures { Gives (λ x. (x.0, x.1.now)) result (grammar.named_or_not.read tokens.now) }
+    ensures { Reads grammar.named_or_not tokens.now result }
 {
     if begins_mark(Mark::LeftBracket, tokens) {
         indexed_statistic(alloc, tokens)
@@ -544,7 +544,7 @@ fn named_or_not(alloc: Global, tokens: &[Token]) -> Result<(SectionLine, &[Token
 
 #[tactic(auto, unfolding(crate::specs::Grammar::statistic_tail, crate::specs::Grammar::named_or_not, crate::specs::Grammar::indexed_statistic, crate::specs::Grammar::unnamed_statistic, crate::specs::Grammar::bracketed, crate::specs::Grammar::in_parens, crate::specs::Grammar::mark))]
 fn statistic_tail(alloc: Global, tokens: &[Token]) -> Result<(SectionLine, &[Token]), Refusal>
-    ensures { Gives (λ x. (x.0, x.1.now)) result (grammar.statistic_tail.read tokens.now) }
+    ensures { Reads grammar.statistic_tail tokens.now result }
 {
     if !begins_mark(Mark::LeftBracket, tokens) && !begins_mark(Mark::LeftParen, tokens) {
         return Ok((SectionLine::Ignored, tokens));
@@ -571,7 +571,7 @@ fn is_statistic(text: &[u8]) -> bool
 
 #[tactic(auto, unfolding(crate::specs::Grammar::statistic))]
 pub(crate) fn statistic(alloc: Global, tokens: &[Token]) -> Result<(SectionLine, &[Token]), Refusal>
-    ensures { Gives (λ x. (x.0, x.1.now)) result (grammar.statistic.read tokens.now) }
+    ensures { Reads grammar.statistic tokens.now result }
 {
     let rest = read!(statistic_word(tokens));
     statistic_tail(alloc, rest)

@@ -1,7 +1,7 @@
 //! Types, and the whole of a file.
 
 ghost use Rattle.std.specs.Prelude.{◌≡◌};
-ghost use Rattle.ned_tokens.specs.Rule.{Gives, begins, many, all_read};
+ghost use Rattle.ned_tokens.specs.Rule.{Gives, Reads, begins, many, all_read};
 ghost use Rattle.ned_syntax.specs.Grammar as grammar;
 
 use crate::ast::{NedFile, SectionLine, Submodule, TypeDeclaration, TypeKind};
@@ -14,7 +14,7 @@ use sqlite_items::Items;
 use std::alloc::Global;
 
 fn section_block(alloc: Global, tokens: &[Token]) -> Result<(Items<SectionLine>, &[Token]), Refusal>
-    ensures { Gives (λ x. (x.0, x.1.now)) result (grammar.section_block.read tokens.now) }
+    ensures { Reads grammar.section_block tokens.now result }
 {
     let rest = read!(mark(Mark::Open, tokens));
     let (lines, rest) = read!(section(alloc, rest));
@@ -23,7 +23,7 @@ fn section_block(alloc: Global, tokens: &[Token]) -> Result<(Items<SectionLine>,
 
 #[tactic(auto, unfolding(crate::specs::Grammar::simple))]
 fn simple(alloc: Global, tokens: &[Token]) -> Result<(TypeDeclaration, &[Token]), Refusal>
-    ensures { Gives (λ x. (x.0, x.1.now)) result (grammar.simple.read tokens.now) }
+    ensures { Reads grammar.simple tokens.now result }
 {
     let rest = read!(word(Keyword::Simple, tokens));
     let (name, rest) = read!(name(alloc, rest));
@@ -40,7 +40,7 @@ fn simple(alloc: Global, tokens: &[Token]) -> Result<(TypeDeclaration, &[Token])
 }
 
 fn submodule_type(alloc: Global, tokens: &[Token]) -> Result<(Text, &[Token]), Refusal>
-    ensures { Gives (λ x. (x.0, x.1.now)) result (grammar.submodule_type.read tokens.now) }
+    ensures { Reads grammar.submodule_type tokens.now result }
 {
     let rest = read!(mark(Mark::Colon, tokens));
     let (type_name, rest) = read!(name(alloc, rest));
@@ -49,7 +49,7 @@ fn submodule_type(alloc: Global, tokens: &[Token]) -> Result<(Text, &[Token]), R
 
 #[tactic(auto, unfolding(crate::specs::Grammar::submodule))]
 fn submodule(alloc: Global, tokens: &[Token]) -> Result<(Submodule, &[Token]), Refusal>
-    ensures { Gives (λ x. (x.0, x.1.now)) result (grammar.submodule.read tokens.now) }
+    ensures { Reads grammar.submodule tokens.now result }
 {
     let (own, rest) = read!(name(alloc, tokens));
     let (type_name, rest) = read!(submodule_type(alloc, rest));
@@ -70,7 +70,7 @@ fn begins_submodule(tokens: &[Token]) -> bool
 }
 
 fn submodule_list(alloc: Global, tokens: &[Token]) -> Result<(Items<Submodule>, &[Token]), Refusal>
-    ensures { Gives (λ x. (x.0, x.1.now)) result ((many grammar.submodule).read tokens.now) }
+    ensures { Reads (many grammar.submodule) tokens.now result }
 {
     let mut submodules = Items::new(alloc);
     let mut rest = tokens;
@@ -84,7 +84,7 @@ fn submodule_list(alloc: Global, tokens: &[Token]) -> Result<(Items<Submodule>, 
 
 #[tactic(auto, unfolding(crate::specs::Grammar::submodules, crate::specs::Grammar::word))]
 fn submodules(alloc: Global, tokens: &[Token]) -> Result<(Items<Submodule>, &[Token]), Refusal>
-    ensures { Gives (λ x. (x.0, x.1.now)) result (grammar.submodules.read tokens.now) }
+    ensures { Reads grammar.submodules tokens.now result }
 {
     if !begins_word(Keyword::Submodules, tokens) {
         return Ok((Items::new(alloc), tokens));
@@ -98,7 +98,7 @@ fn submodules_block(
     alloc: Global,
     tokens: &[Token],
 ) -> Result<(Items<Submodule>, &[Token]), Refusal>
-    ensures { Gives (λ x. (x.0, x.1.now)) result (grammar.submodules_block.read tokens.now) }
+    ensures { Reads grammar.submodules_block tokens.now result }
 {
     let rest = read!(mark(Mark::Open, tokens));
     let (submodules, rest) = read!(submodules(alloc, rest));
@@ -107,7 +107,7 @@ fn submodules_block(
 
 #[tactic(auto, unfolding(crate::specs::Grammar::network))]
 fn network(alloc: Global, tokens: &[Token]) -> Result<(TypeDeclaration, &[Token]), Refusal>
-    ensures { Gives (λ x. (x.0, x.1.now)) result (grammar.network.read tokens.now) }
+    ensures { Reads grammar.network tokens.now result }
 {
     let rest = read!(word(Keyword::Network, tokens));
     let (name, rest) = read!(name(alloc, rest));
@@ -125,7 +125,7 @@ fn network(alloc: Global, tokens: &[Token]) -> Result<(TypeDeclaration, &[Token]
 
 #[tactic(auto, unfolding(crate::specs::Grammar::type_rule, crate::specs::Grammar::simple, crate::specs::Grammar::word))]
 fn type_declaration(alloc: Global, tokens: &[Token]) -> Result<(TypeDeclaration, &[Token]), Refusal>
-    ensures { Gives (λ x. (x.0, x.1.now)) result (grammar.type_rule.read tokens.now) }
+    ensures { Reads grammar.type_rule tokens.now result }
 {
     if begins_word(Keyword::Simple, tokens) {
         simple(alloc, tokens)
@@ -142,7 +142,7 @@ fn begins_type(tokens: &[Token]) -> bool
 }
 
 fn type_list(alloc: Global, tokens: &[Token]) -> Result<(Items<TypeDeclaration>, &[Token]), Refusal>
-    ensures { Gives (λ x. (x.0, x.1.now)) result ((many grammar.type_rule).read tokens.now) }
+    ensures { Reads (many grammar.type_rule) tokens.now result }
 {
     let mut types = Items::new(alloc);
     let mut rest = tokens;

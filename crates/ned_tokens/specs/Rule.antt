@@ -1,5 +1,6 @@
 -- Rules of a grammar over tokens. A rule says which tokens spell which value, and how the value at the front is read.
 use Rattle.std.specs.Prelude.{◌≡◌, ℕ, zero, suc, Bool, true, false, ◌&&◌, ◌||◌, List, [], ◌∷◌, ◌++◌, length, Option, Some, None, Result, Ok, Err, ◌⊎◌, if◌then◌else◌, is_some}
+use Rattle.std.specs.Borrow.{Bor}
 use Rattle.ned_tokens.specs.declared.token.Token.{Token}
 use Rattle.ned_tokens.specs.declared.refusal.Refusal.{Refusal}
 use Rattle.ned_tokens.specs.declared.refusal.Refusal.TheVariants.{Memory, At}
@@ -171,6 +172,10 @@ Fails (At n) read = read ≡ Err n
 abbrev pub Gives : {X Y : Type 0} → (X → Y) → Result X Refusal → Result Y ℕ → Type 0
 Gives view (Ok x) read = read ≡ Ok (view x)
 Gives view (Err e) read = Fails e read
+
+-- What a reader returned, a value and the tokens after it, is what the rule reads of these tokens, unless memory ran out.
+abbrev pub Reads : {X : Type 0} → Rule X → List Token → Result (X × Bor (List Token)) Refusal → Type 0
+Reads rule ts result = Gives (λ x. (x.0, x.1.now)) result (rule.read ts)
 
 -- ---- all of the tokens
 

@@ -1,7 +1,7 @@
 //! Single tokens.
 
 ghost use Rattle.std.specs.Prelude.{◌≡◌};
-ghost use Rattle.ned_tokens.specs.Rule.{Gives, begins};
+ghost use Rattle.ned_tokens.specs.Rule.{Gives, Reads, begins};
 ghost use Rattle.ned_values.specs.Grammar as grammar;
 
 use ned_tokens::refusal::Refusal;
@@ -68,7 +68,7 @@ pub fn begins_mark(wanted: Mark, tokens: &[Token]) -> bool
 /// Reads a name.
 #[tactic(auto, unfolding(crate::specs::Grammar::name))]
 pub fn name(alloc: Global, tokens: &[Token]) -> Result<(Text, &[Token]), Refusal>
-    ensures { Gives (λ x. (x.0, x.1.now)) result (grammar.name.read tokens.now) }
+    ensures { Reads grammar.name tokens.now result }
 {
     match tokens {
         [Token::Name(found), rest @ ..] => Ok((found.copy(alloc)?, rest)),

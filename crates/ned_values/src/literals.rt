@@ -1,7 +1,7 @@
 //! Literals, and expressions.
 
 ghost use Rattle.std.specs.Prelude.{◌≡◌, ◌<◌, ◌^◌, IfOk};
-ghost use Rattle.ned_tokens.specs.Rule.{Gives, begins, all_read};
+ghost use Rattle.ned_tokens.specs.Rule.{Gives, Reads, begins, all_read};
 ghost use Rattle.ned_values.specs.Grammar as grammar;
 
 use crate::ast::Expression;
@@ -16,7 +16,7 @@ const LIMIT: u64 = 1 << 63;
 /// A literal of one token.
 #[tactic(auto, unfolding(crate::specs::Grammar::plain_literal))]
 fn plain_literal(alloc: Global, tokens: &[Token]) -> Result<(Value, &[Token]), Refusal>
-    ensures { Gives (λ x. (x.0, x.1.now)) result (grammar.plain_literal.read tokens.now) }
+    ensures { Reads grammar.plain_literal tokens.now result }
 {
     match tokens {
         [Token::Number(number), rest @ ..] if *number < LIMIT => {
@@ -34,7 +34,7 @@ fn plain_literal(alloc: Global, tokens: &[Token]) -> Result<(Value, &[Token]), R
 
 #[tactic(auto, unfolding(crate::specs::Grammar::number))]
 fn number(tokens: &[Token]) -> Result<(u64, &[Token]), Refusal>
-    ensures read { Gives (λ x. (x.0, x.1.now)) result (grammar.number.read tokens.now) }
+    ensures read { Reads grammar.number tokens.now result }
     ensures small { IfOk result (λ x. x.0 < 2 ^ 63) }
 {
     match tokens {
@@ -52,7 +52,7 @@ fn negated(number: u64) -> Value
 
 #[tactic(auto, unfolding(crate::specs::Grammar::negative_literal, crate::specs::Grammar::mark))]
 fn negative_literal(tokens: &[Token]) -> Result<(Value, &[Token]), Refusal>
-    ensures { Gives (λ x. (x.0, x.1.now)) result (grammar.negative_literal.read tokens.now) }
+    ensures { Reads grammar.negative_literal tokens.now result }
 {
     let rest = mark(Mark::Minus, tokens)?;
     let (number, rest) = number(rest)?;
@@ -61,7 +61,7 @@ fn negative_literal(tokens: &[Token]) -> Result<(Value, &[Token]), Refusal>
 
 #[tactic(auto, unfolding(crate::specs::Grammar::literal, crate::specs::Grammar::negative_literal, crate::specs::Grammar::mark))]
 fn literal(alloc: Global, tokens: &[Token]) -> Result<(Value, &[Token]), Refusal>
-    ensures { Gives (λ x. (x.0, x.1.now)) result (grammar.literal.read tokens.now) }
+    ensures { Reads grammar.literal tokens.now result }
 {
     if begins_mark(Mark::Minus, tokens) {
         negative_literal(tokens)
@@ -73,7 +73,7 @@ fn literal(alloc: Global, tokens: &[Token]) -> Result<(Value, &[Token]), Refusal
 /// An expression: so far a literal.
 #[tactic(auto, unfolding(crate::specs::Grammar::expression))]
 pub fn expression(alloc: Global, tokens: &[Token]) -> Result<(Expression, &[Token]), Refusal>
-    ensures { Gives (λ x. (x.0, x.1.now)) result (grammar.expression.read tokens.now) }
+    ensures { Reads grammar.expression tokens.now result }
 {
     let (literal, rest) = literal(alloc, tokens)?;
     Ok((Expression::Literal(literal), rest))
