@@ -29,6 +29,7 @@ fn closes(token: &Token) -> bool
 }
 
 /// Text in which each parenthesis is closed, up to one that isn't opened in it.
+/// `balanced = { token | "(" balanced ")" }`, where a token is no parenthesis and no broken one.
 pub(crate) fn balanced_text(tokens: &[Token]) -> Result<(&[Token], &[Token]), Refusal>
     ensures { Gives (λ x. (x.0.now, x.1.now)) result ((balanced grammar.turn_of).read tokens.now) }
 {
@@ -63,6 +64,7 @@ pub(crate) fn ended<T: Drop>(
     Ok((value, rest))
 }
 
+/// `in_parens = "(" balanced ")"`.
 #[tactic(auto, unfolding(crate::specs::Grammar::in_parens))]
 pub(crate) fn in_parens(tokens: &[Token]) -> Result<(&[Token], &[Token]), Refusal>
     ensures { Gives (λ x. (x.0.now, x.1.now)) result (grammar.in_parens.read tokens.now) }

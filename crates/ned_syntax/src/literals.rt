@@ -10,6 +10,7 @@ use ned_tokens::token::{Keyword, Mark, Token};
 use ned_values::literals::expression;
 use std::alloc::Global;
 
+/// `default_value = "default" "(" expression ")"`.
 #[tactic(auto, unfolding(crate::specs::Grammar::default_value))]
 fn default_value(alloc: Global, tokens: &[Token]) -> Result<(ParameterValue, &[Token]), Refusal>
     ensures { Reads grammar.default_value tokens.now result }
@@ -20,6 +21,7 @@ fn default_value(alloc: Global, tokens: &[Token]) -> Result<(ParameterValue, &[T
     ended(ParameterValue::Default(expression), Mark::RightParen, rest)
 }
 
+/// `value = default_value | expression`.
 #[tactic(auto, unfolding(crate::specs::Grammar::value_rule, crate::specs::Grammar::default_value, crate::specs::Grammar::word))]
 pub(crate) fn value(alloc: Global, tokens: &[Token]) -> Result<(ParameterValue, &[Token]), Refusal>
     ensures { Reads grammar.value_rule tokens.now result }

@@ -34,6 +34,7 @@ pub struct Tail {
     pub valued: Option<Valued>,
 }
 
+/// `valued = "=" value { property }`.
 #[tactic(auto, unfolding(crate::specs::Grammar::valued))]
 fn read_valued(alloc: Global, tokens: &[Token]) -> Result<(Valued, &[Token]), Refusal>
     ensures { Reads grammar.valued tokens.now result }
@@ -44,6 +45,7 @@ fn read_valued(alloc: Global, tokens: &[Token]) -> Result<(Valued, &[Token]), Re
     Ok((Valued { value, behind }, rest))
 }
 
+/// `[ valued ]`.
 #[tactic(auto, unfolding(crate::specs::Grammar::valued, crate::specs::Grammar::mark))]
 fn optional_value(alloc: Global, tokens: &[Token]) -> Result<(Option<Valued>, &[Token]), Refusal>
     ensures { Reads (optional grammar.valued) tokens.now result }
@@ -55,6 +57,7 @@ fn optional_value(alloc: Global, tokens: &[Token]) -> Result<(Option<Valued>, &[
     Ok((Some(valued), rest))
 }
 
+/// `tail = { property } [ valued ]`.
 #[tactic(auto, unfolding(crate::specs::Grammar::tail))]
 fn read_tail(alloc: Global, tokens: &[Token]) -> Result<(Tail, &[Token]), Refusal>
     ensures { Reads grammar.tail tokens.now result }
@@ -129,6 +132,7 @@ fn parameter_word_of(token: &Token) -> Option<ParameterWord>
     }
 }
 
+/// `parameter_word = "bool" | "int" | "string" | "double"`.
 #[tactic(auto, unfolding(crate::specs::Grammar::parameter_word))]
 fn parameter_word(tokens: &[Token]) -> Result<(ParameterWord, &[Token]), Refusal>
     ensures { Reads grammar.parameter_word tokens.now result }
@@ -141,6 +145,7 @@ fn parameter_word(tokens: &[Token]) -> Result<(ParameterWord, &[Token]), Refusal
     Err(Refusal::At(tokens.len()))
 }
 
+/// `volatile = [ "volatile" ]`, which changes nothing.
 #[tactic(auto, unfolding(crate::specs::Grammar::volatile, crate::specs::Grammar::word))]
 fn volatile(tokens: &[Token]) -> Result<&[Token], Refusal>
     ensures { Gives (λ rest. (tt, rest.now)) result (grammar.volatile.read tokens.now) }
@@ -151,6 +156,7 @@ fn volatile(tokens: &[Token]) -> Result<&[Token], Refusal>
     word(Keyword::Volatile, tokens)
 }
 
+/// `any_declaration = volatile parameter_word name tail`.
 #[tactic(auto, unfolding(crate::specs::Grammar::any_declaration))]
 fn any_declaration(alloc: Global, tokens: &[Token]) -> Result<(Declaration, &[Token]), Refusal>
     ensures { Reads grammar.any_declaration tokens.now result }
@@ -172,6 +178,7 @@ fn is_measured(declaration: &Declaration) -> bool
     }
 }
 
+/// `declaration = any_declaration`, where a `double` has a unit.
 #[tactic(auto, unfolding(crate::specs::Grammar::declaration))]
 fn declaration(alloc: Global, tokens: &[Token]) -> Result<(Declaration, &[Token]), Refusal>
     ensures { Reads grammar.declaration tokens.now result }
@@ -192,6 +199,7 @@ fn assigned(name: Text, tail: Tail) -> Assignment
     }
 }
 
+/// `assignment = name tail`.
 #[tactic(auto, unfolding(crate::specs::Grammar::assignment))]
 fn assignment(alloc: Global, tokens: &[Token]) -> Result<(Assignment, &[Token]), Refusal>
     ensures { Reads grammar.assignment tokens.now result }
@@ -202,6 +210,7 @@ fn assignment(alloc: Global, tokens: &[Token]) -> Result<(Assignment, &[Token]),
 }
 
 /// A property as a line of its own, behind its `@`.
+/// `property_text = statistic | plain_line`.
 #[tactic(auto, unfolding(crate::specs::Grammar::property_text))]
 fn property_text(alloc: Global, tokens: &[Token]) -> Result<(SectionLine, &[Token]), Refusal>
     ensures { Reads grammar.property_text tokens.now result }
@@ -213,6 +222,7 @@ fn property_text(alloc: Global, tokens: &[Token]) -> Result<(SectionLine, &[Toke
     }
 }
 
+/// `property_line = "@" property_text`.
 #[tactic(auto, unfolding(crate::specs::Grammar::property_line))]
 fn property_line(alloc: Global, tokens: &[Token]) -> Result<(SectionLine, &[Token]), Refusal>
     ensures { Reads grammar.property_line tokens.now result }
@@ -221,6 +231,7 @@ fn property_line(alloc: Global, tokens: &[Token]) -> Result<(SectionLine, &[Toke
     property_text(alloc, rest)
 }
 
+/// `assigned_or_said = assignment | property_line`.
 #[tactic(auto, unfolding(crate::specs::Grammar::assigned_or_said, crate::specs::Grammar::assignment, crate::specs::Grammar::name))]
 fn assigned_or_said(alloc: Global, tokens: &[Token]) -> Result<(SectionLine, &[Token]), Refusal>
     ensures { Reads grammar.assigned_or_said tokens.now result }
@@ -248,6 +259,7 @@ fn begins_declaration(tokens: &[Token]) -> bool
     )
 }
 
+/// `any_line = declaration | assigned_or_said`.
 #[tactic(auto, unfolding(crate::specs::Grammar::any_line))]
 fn any_line(alloc: Global, tokens: &[Token]) -> Result<(SectionLine, &[Token]), Refusal>
     ensures { Reads grammar.any_line tokens.now result }
@@ -260,6 +272,7 @@ fn any_line(alloc: Global, tokens: &[Token]) -> Result<(SectionLine, &[Token]), 
     }
 }
 
+/// `section_line = any_line ";"`.
 #[tactic(auto, unfolding(crate::specs::Grammar::section_line))]
 fn section_line(alloc: Global, tokens: &[Token]) -> Result<(SectionLine, &[Token]), Refusal>
     ensures { Reads grammar.section_line tokens.now result }
@@ -275,6 +288,7 @@ fn begins_line(tokens: &[Token]) -> bool
     begins_declaration(tokens) || (begins_name(tokens) || begins_mark(Mark::At, tokens))
 }
 
+/// `{ section_line }`.
 fn section_lines(alloc: Global, tokens: &[Token]) -> Result<(Items<SectionLine>, &[Token]), Refusal>
     ensures { Reads (many grammar.section_line) tokens.now result }
 {
@@ -288,6 +302,7 @@ fn section_lines(alloc: Global, tokens: &[Token]) -> Result<(Items<SectionLine>,
     Ok((lines, rest))
 }
 
+/// `heading = [ "parameters" ":" ]`.
 #[tactic(auto, unfolding(crate::specs::Grammar::heading, crate::specs::Grammar::word))]
 fn heading(tokens: &[Token]) -> Result<&[Token], Refusal>
     ensures { Gives (λ rest. (tt, rest.now)) result (grammar.heading.read tokens.now) }
@@ -300,6 +315,7 @@ fn heading(tokens: &[Token]) -> Result<&[Token], Refusal>
 }
 
 /// A parameter section.
+/// `section = heading { section_line }`.
 #[tactic(auto, unfolding(crate::specs::Grammar::section))]
 pub(crate) fn section(
     alloc: Global,

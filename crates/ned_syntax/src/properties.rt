@@ -63,6 +63,7 @@ fn property_name_of(token: &Token) -> Option<PropertyName>
     }
 }
 
+/// `property_name = name | word`, where a word is any word of the language.
 #[tactic(auto, unfolding(crate::specs::Grammar::property_name))]
 fn property_name(tokens: &[Token]) -> Result<(PropertyName, &[Token]), Refusal>
     ensures { Reads grammar.property_name tokens.now result }
@@ -75,6 +76,7 @@ fn property_name(tokens: &[Token]) -> Result<(PropertyName, &[Token]), Refusal>
     Err(Refusal::At(tokens.len()))
 }
 
+/// `bracketed = "[" name "]"`.
 #[tactic(auto, unfolding(crate::specs::Grammar::bracketed))]
 pub(crate) fn bracketed(alloc: Global, tokens: &[Token]) -> Result<(Text, &[Token]), Refusal>
     ensures { Reads grammar.bracketed tokens.now result }
@@ -84,6 +86,7 @@ pub(crate) fn bracketed(alloc: Global, tokens: &[Token]) -> Result<(Text, &[Toke
     ended(index, Mark::RightBracket, rest)
 }
 
+/// `index = [ bracketed ]`.
 #[tactic(auto, unfolding(crate::specs::Grammar::index, crate::specs::Grammar::bracketed, crate::specs::Grammar::mark))]
 fn index(alloc: Global, tokens: &[Token]) -> Result<(Option<Text>, &[Token]), Refusal>
     ensures { Reads grammar.index tokens.now result }
@@ -95,6 +98,7 @@ fn index(alloc: Global, tokens: &[Token]) -> Result<(Option<Text>, &[Token]), Re
     Ok((Some(index), rest))
 }
 
+/// `body = [ in_parens ]`.
 #[tactic(auto, unfolding(crate::specs::Grammar::body, crate::specs::Grammar::in_parens, crate::specs::Grammar::mark))]
 fn body(tokens: &[Token]) -> Result<(Option<&[Token]>, &[Token]), Refusal>
     ensures { Gives (λ x. (option_map (λ b. b.now) x.0, x.1.now)) result (grammar.body.read tokens.now) }
@@ -136,6 +140,7 @@ fn effect_of(
 }
 
 /// What a property of this name says by what is behind the name.
+/// `index body`.
 fn effect_behind(
     alloc: Global,
     name: PropertyName,
@@ -148,6 +153,7 @@ fn effect_behind(
     Ok((effect_of(alloc, name, index, body)?, rest))
 }
 
+/// `property = "@" property_name index body`.
 #[tactic(auto, unfolding(crate::specs::Grammar::property))]
 pub(crate) fn property(alloc: Global, tokens: &[Token]) -> Result<(Effect, &[Token]), Refusal>
     ensures { Reads grammar.property tokens.now result }
@@ -164,6 +170,7 @@ pub(crate) fn begins_property(tokens: &[Token]) -> bool
     begins_mark(Mark::At, tokens)
 }
 
+/// `{ property }`.
 pub(crate) fn properties(
     alloc: Global,
     tokens: &[Token],
@@ -204,6 +211,7 @@ fn plain_name_of(token: &Token) -> Option<PropertyName>
 }
 
 /// The name of a property that is no statistic.
+/// `plain_name = property_name`, but not `statistic`.
 #[tactic(auto, unfolding(crate::specs::Grammar::plain_name))]
 fn plain_name(tokens: &[Token]) -> Result<(PropertyName, &[Token]), Refusal>
     ensures { Reads grammar.plain_name tokens.now result }
@@ -226,6 +234,7 @@ fn line_of(effect: Effect) -> SectionLine
 }
 
 /// A property that is no statistic, behind its `@`, as a line.
+/// `plain_line = plain_name index body`.
 #[tactic(auto, unfolding(crate::specs::Grammar::plain_line))]
 pub(crate) fn plain_line(
     alloc: Global,

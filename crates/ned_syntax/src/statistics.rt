@@ -27,6 +27,7 @@ pub enum Part {
 
 // ---- modes
 
+/// `mode_word = "count" | "sum" | "min" | "max" | "last" | "vector"`.
 #[tactic(auto, unfolding(crate::specs::Grammar::mode_word))]
 fn mode_word(tokens: &[Token]) -> Result<(Mode, &[Token]), Refusal>
     ensures { Reads grammar.mode_word tokens.now result }
@@ -39,6 +40,7 @@ fn mode_word(tokens: &[Token]) -> Result<(Mode, &[Token]), Refusal>
     Err(Refusal::At(tokens.len()))
 }
 
+/// `question = [ "?" ]`.
 #[tactic(auto, unfolding(crate::specs::Grammar::question, crate::specs::Grammar::mark))]
 fn question(tokens: &[Token]) -> Result<(bool, &[Token]), Refusal>
     ensures { Reads grammar.question tokens.now result }
@@ -50,6 +52,7 @@ fn question(tokens: &[Token]) -> Result<(bool, &[Token]), Refusal>
     Ok((true, rest))
 }
 
+/// `mode = mode_word question`.
 #[tactic(auto, unfolding(crate::specs::Grammar::mode_rule))]
 fn mode(tokens: &[Token]) -> Result<(RecordedMode, &[Token]), Refusal>
     ensures { Reads grammar.mode_rule tokens.now result }
@@ -59,6 +62,7 @@ fn mode(tokens: &[Token]) -> Result<(RecordedMode, &[Token]), Refusal>
     Ok((RecordedMode { mode, optional }, rest))
 }
 
+/// `next_mode = "," mode`.
 #[tactic(auto, unfolding(crate::specs::Grammar::next_mode))]
 fn next_mode(tokens: &[Token]) -> Result<(RecordedMode, &[Token]), Refusal>
     ensures { Reads grammar.next_mode tokens.now result }
@@ -74,6 +78,7 @@ fn begins_next_mode(tokens: &[Token]) -> bool
     begins_mark(Mark::Comma, tokens)
 }
 
+/// `{ next_mode }`.
 fn next_modes(alloc: Global, tokens: &[Token]) -> Result<(Items<RecordedMode>, &[Token]), Refusal>
     ensures { Reads (many grammar.next_mode) tokens.now result }
 {
@@ -100,6 +105,7 @@ fn with_first(
     Ok(modes)
 }
 
+/// `modes = mode { next_mode }`.
 #[tactic(auto, unfolding(crate::specs::Grammar::modes))]
 fn modes(alloc: Global, tokens: &[Token]) -> Result<(Items<RecordedMode>, &[Token]), Refusal>
     ensures { Reads grammar.modes tokens.now result }
@@ -111,6 +117,7 @@ fn modes(alloc: Global, tokens: &[Token]) -> Result<(Items<RecordedMode>, &[Toke
 
 // ---- loose text
 
+/// `group = in_parens`.
 #[tactic(auto, unfolding(crate::specs::Grammar::group))]
 fn group(tokens: &[Token]) -> Result<&[Token], Refusal>
     ensures { Gives (λ rest. (tt, rest.now)) result (grammar.group.read tokens.now) }
@@ -157,6 +164,7 @@ fn is_loose(except: Except, token: &Token) -> bool
     }
 }
 
+/// `loose_token`: any token but `(`, `)`, `;`, a broken one and what is excepted.
 #[tactic(auto, unfolding(crate::specs::Grammar::loose_token))]
 fn loose_token(except: Except, tokens: &[Token]) -> Result<&[Token], Refusal>
     ensures { Gives (λ rest. (tt, rest.now)) result ((grammar.loose_token except).read tokens.now) }
@@ -184,6 +192,7 @@ fn begins_group(tokens: &[Token]) -> bool
     begins_mark(Mark::LeftParen, tokens)
 }
 
+/// `piece = group | loose_token`.
 #[tactic(auto, unfolding(crate::specs::Grammar::piece))]
 fn piece(except: Except, tokens: &[Token]) -> Result<&[Token], Refusal>
     ensures { Gives (λ rest. (tt, rest.now)) result ((grammar.piece except).read tokens.now) }
@@ -202,6 +211,7 @@ fn begins_piece(except: Except, tokens: &[Token]) -> bool
     begins_group(tokens) || begins_loose_token(except, tokens)
 }
 
+/// `pieces = { piece }`.
 #[tactic(auto, unfolding(crate::specs::Grammar::pieces))]
 fn pieces(tokens: &[Token]) -> Result<&[Token], Refusal>
     ensures { Gives (λ rest. (tt, rest.now)) result (grammar.pieces.read tokens.now) }
@@ -214,6 +224,7 @@ fn pieces(tokens: &[Token]) -> Result<&[Token], Refusal>
     Ok(rest)
 }
 
+/// `loose_text = piece pieces`, where the first piece is nothing that is excepted.
 #[tactic(auto, unfolding(crate::specs::Grammar::loose_text))]
 fn loose_text(except: Except, tokens: &[Token]) -> Result<&[Token], Refusal>
     ensures { Gives (λ rest. (tt, rest.now)) result ((grammar.loose_text except).read tokens.now) }
@@ -231,6 +242,7 @@ fn begins_loose_text(except: Except, tokens: &[Token]) -> bool
 
 // ---- parts
 
+/// `no_value = loose_text`, which does not begin with `=`.
 #[tactic(auto, unfolding(crate::specs::Grammar::no_value))]
 fn no_value(tokens: &[Token]) -> Result<(Part, &[Token]), Refusal>
     ensures { Reads grammar.no_value tokens.now result }
@@ -239,6 +251,7 @@ fn no_value(tokens: &[Token]) -> Result<(Part, &[Token]), Refusal>
     Ok((Part::Other, rest))
 }
 
+/// `source_value = "=" name`.
 #[tactic(auto, unfolding(crate::specs::Grammar::source_value))]
 fn source_value(alloc: Global, tokens: &[Token]) -> Result<(Part, &[Token]), Refusal>
     ensures { Reads grammar.source_value tokens.now result }
@@ -248,6 +261,7 @@ fn source_value(alloc: Global, tokens: &[Token]) -> Result<(Part, &[Token]), Ref
     Ok((Part::Source(source), rest))
 }
 
+/// `record_value = "=" modes`.
 #[tactic(auto, unfolding(crate::specs::Grammar::record_value))]
 fn record_value(alloc: Global, tokens: &[Token]) -> Result<(Part, &[Token]), Refusal>
     ensures { Reads grammar.record_value tokens.now result }
@@ -257,6 +271,7 @@ fn record_value(alloc: Global, tokens: &[Token]) -> Result<(Part, &[Token]), Ref
     Ok((Part::Record(modes), rest))
 }
 
+/// `source_tail = source_value | no_value`.
 #[tactic(auto, unfolding(crate::specs::Grammar::source_tail, crate::specs::Grammar::source_value, crate::specs::Grammar::mark))]
 fn source_tail(alloc: Global, tokens: &[Token]) -> Result<(Part, &[Token]), Refusal>
     ensures { Reads grammar.source_tail tokens.now result }
@@ -268,6 +283,7 @@ fn source_tail(alloc: Global, tokens: &[Token]) -> Result<(Part, &[Token]), Refu
     }
 }
 
+/// `record_tail = record_value | no_value`.
 #[tactic(auto, unfolding(crate::specs::Grammar::record_tail, crate::specs::Grammar::record_value, crate::specs::Grammar::mark))]
 fn record_tail(alloc: Global, tokens: &[Token]) -> Result<(Part, &[Token]), Refusal>
     ensures { Reads grammar.record_tail tokens.now result }
@@ -288,6 +304,7 @@ fn begins_tail(tokens: &[Token]) -> bool
     begins_mark(Mark::Equals, tokens) || begins_loose_text(Except::Equals, tokens)
 }
 
+/// `source_word = "source"`.
 #[tactic(auto, unfolding(crate::specs::Grammar::source_word))]
 fn source_word(tokens: &[Token]) -> Result<&[Token], Refusal>
     ensures { Gives (λ rest. (tt, rest.now)) result (grammar.source_word.read tokens.now) }
@@ -298,6 +315,7 @@ fn source_word(tokens: &[Token]) -> Result<&[Token], Refusal>
     }
 }
 
+/// `record_word = "record"`.
 #[tactic(auto, unfolding(crate::specs::Grammar::record_word))]
 fn record_word(tokens: &[Token]) -> Result<&[Token], Refusal>
     ensures { Gives (λ rest. (tt, rest.now)) result (grammar.record_word.read tokens.now) }
@@ -308,6 +326,7 @@ fn record_word(tokens: &[Token]) -> Result<&[Token], Refusal>
     }
 }
 
+/// `source_part = source_word [ source_tail ]`.
 #[tactic(auto, unfolding(crate::specs::Grammar::source_part))]
 fn source_part(alloc: Global, tokens: &[Token]) -> Result<(Part, &[Token]), Refusal>
     ensures { Reads grammar.source_part tokens.now result }
@@ -319,6 +338,7 @@ fn source_part(alloc: Global, tokens: &[Token]) -> Result<(Part, &[Token]), Refu
     source_tail(alloc, rest)
 }
 
+/// `record_part = record_word [ record_tail ]`.
 #[tactic(auto, unfolding(crate::specs::Grammar::record_part))]
 fn record_part(alloc: Global, tokens: &[Token]) -> Result<(Part, &[Token]), Refusal>
     ensures { Reads grammar.record_part tokens.now result }
@@ -330,6 +350,7 @@ fn record_part(alloc: Global, tokens: &[Token]) -> Result<(Part, &[Token]), Refu
     record_tail(alloc, rest)
 }
 
+/// `other_part = loose_text`, which does not begin with a key.
 #[tactic(auto, unfolding(crate::specs::Grammar::other_part))]
 fn other_part(tokens: &[Token]) -> Result<(Part, &[Token]), Refusal>
     ensures { Reads grammar.other_part tokens.now result }
@@ -358,6 +379,7 @@ fn begins_record(tokens: &[Token]) -> bool
     }
 }
 
+/// `record_or_other = record_part | other_part`.
 #[tactic(auto, unfolding(crate::specs::Grammar::record_or_other))]
 fn record_or_other(alloc: Global, tokens: &[Token]) -> Result<(Part, &[Token]), Refusal>
     ensures { Reads grammar.record_or_other tokens.now result }
@@ -369,6 +391,7 @@ fn record_or_other(alloc: Global, tokens: &[Token]) -> Result<(Part, &[Token]), 
     }
 }
 
+/// `any_part = source_part | record_or_other`.
 #[tactic(auto, unfolding(crate::specs::Grammar::any_part))]
 fn any_part(alloc: Global, tokens: &[Token]) -> Result<(Part, &[Token]), Refusal>
     ensures { Reads grammar.any_part tokens.now result }
@@ -387,6 +410,7 @@ fn begins_part(tokens: &[Token]) -> bool
     begins_source(tokens) || (begins_record(tokens) || begins_loose_text(Except::Keys, tokens))
 }
 
+/// `part = [ any_part ]`.
 #[tactic(auto, unfolding(crate::specs::Grammar::part))]
 fn optional_part(alloc: Global, tokens: &[Token]) -> Result<(Option<Part>, &[Token]), Refusal>
     ensures { Reads grammar.part tokens.now result }
@@ -398,6 +422,7 @@ fn optional_part(alloc: Global, tokens: &[Token]) -> Result<(Option<Part>, &[Tok
     Ok((Some(part), rest))
 }
 
+/// `next_part = ";" part`.
 #[tactic(auto, unfolding(crate::specs::Grammar::next_part))]
 fn next_part(alloc: Global, tokens: &[Token]) -> Result<(Option<Part>, &[Token]), Refusal>
     ensures { Reads grammar.next_part tokens.now result }
@@ -413,6 +438,7 @@ fn begins_next_part(tokens: &[Token]) -> bool
     begins_mark(Mark::Semi, tokens)
 }
 
+/// `{ next_part }`.
 fn next_parts(alloc: Global, tokens: &[Token]) -> Result<(Items<Option<Part>>, &[Token]), Refusal>
     ensures { Reads (many grammar.next_part) tokens.now result }
 {
@@ -468,6 +494,7 @@ fn said_by_all(first: Option<Part>, others: Items<Option<Part>>) -> Said
     over(first, said)
 }
 
+/// `statistic_body = "(" part { next_part } ")"`.
 #[tactic(auto, unfolding(crate::specs::Grammar::statistic_body))]
 fn statistic_body(alloc: Global, tokens: &[Token]) -> Result<(Said, &[Token]), Refusal>
     ensures { Reads grammar.statistic_body tokens.now result }
@@ -478,6 +505,7 @@ fn statistic_body(alloc: Global, tokens: &[Token]) -> Result<(Said, &[Token]), R
     ended(said_by_all(first, others), Mark::RightParen, rest)
 }
 
+/// `optional_body = [ statistic_body ]`.
 #[tactic(auto, unfolding(crate::specs::Grammar::optional_body, crate::specs::Grammar::statistic_body, crate::specs::Grammar::mark))]
 fn optional_body(alloc: Global, tokens: &[Token]) -> Result<(Option<Said>, &[Token]), Refusal>
     ensures { Reads grammar.optional_body tokens.now result }
@@ -514,6 +542,7 @@ fn statistic_from(alloc: Global, name: Text, said: Option<Said>) -> Result<Secti
     }))
 }
 
+/// `indexed_statistic = bracketed optional_body`.
 #[tactic(auto, unfolding(crate::specs::Grammar::indexed_statistic))]
 fn indexed_statistic(alloc: Global, tokens: &[Token]) -> Result<(SectionLine, &[Token]), Refusal>
     ensures { Reads grammar.indexed_statistic tokens.now result }
@@ -523,6 +552,7 @@ fn indexed_statistic(alloc: Global, tokens: &[Token]) -> Result<(SectionLine, &[
     Ok((statistic_from(alloc, name, said)?, rest))
 }
 
+/// `unnamed_statistic = in_parens`, a property without effect.
 #[tactic(auto, unfolding(crate::specs::Grammar::unnamed_statistic))]
 fn unnamed_statistic(tokens: &[Token]) -> Result<(SectionLine, &[Token]), Refusal>
     ensures { Reads grammar.unnamed_statistic tokens.now result }
@@ -531,6 +561,7 @@ fn unnamed_statistic(tokens: &[Token]) -> Result<(SectionLine, &[Token]), Refusa
     Ok((SectionLine::Ignored, rest))
 }
 
+/// `named_or_not = indexed_statistic | unnamed_statistic`.
 #[tactic(auto, unfolding(crate::specs::Grammar::named_or_not, crate::specs::Grammar::indexed_statistic, crate::specs::Grammar::bracketed, crate::specs::Grammar::mark))]
 fn named_or_not(alloc: Global, tokens: &[Token]) -> Result<(SectionLine, &[Token]), Refusal>
     ensures { Reads grammar.named_or_not tokens.now result }
@@ -542,6 +573,7 @@ fn named_or_not(alloc: Global, tokens: &[Token]) -> Result<(SectionLine, &[Token
     }
 }
 
+/// `statistic_tail = [ named_or_not ]`.
 #[tactic(auto, unfolding(crate::specs::Grammar::statistic_tail, crate::specs::Grammar::named_or_not, crate::specs::Grammar::indexed_statistic, crate::specs::Grammar::unnamed_statistic, crate::specs::Grammar::bracketed, crate::specs::Grammar::in_parens, crate::specs::Grammar::mark))]
 fn statistic_tail(alloc: Global, tokens: &[Token]) -> Result<(SectionLine, &[Token]), Refusal>
     ensures { Reads grammar.statistic_tail tokens.now result }
@@ -553,6 +585,7 @@ fn statistic_tail(alloc: Global, tokens: &[Token]) -> Result<(SectionLine, &[Tok
 }
 
 /// The property name `statistic`.
+/// `statistic_word = "statistic"`.
 #[tactic(auto, unfolding(crate::specs::Grammar::statistic_word))]
 fn statistic_word(tokens: &[Token]) -> Result<&[Token], Refusal>
     ensures { Gives (λ rest. (tt, rest.now)) result (grammar.statistic_word.read tokens.now) }
@@ -569,6 +602,7 @@ fn is_statistic(text: &[u8]) -> bool
     text == b"statistic".as_slice()
 }
 
+/// `statistic = statistic_word statistic_tail`: a statistic behind its `@`.
 #[tactic(auto, unfolding(crate::specs::Grammar::statistic))]
 pub(crate) fn statistic(alloc: Global, tokens: &[Token]) -> Result<(SectionLine, &[Token]), Refusal>
     ensures { Reads grammar.statistic tokens.now result }

@@ -13,6 +13,7 @@ use sim_values::text::Text;
 use sqlite_items::Items;
 use std::alloc::Global;
 
+/// `section_block = "{" section "}"`.
 fn section_block(alloc: Global, tokens: &[Token]) -> Result<(Items<SectionLine>, &[Token]), Refusal>
     ensures { Reads grammar.section_block tokens.now result }
 {
@@ -21,6 +22,7 @@ fn section_block(alloc: Global, tokens: &[Token]) -> Result<(Items<SectionLine>,
     ended(lines, Mark::Close, rest)
 }
 
+/// `simple = "simple" name section_block`.
 #[tactic(auto, unfolding(crate::specs::Grammar::simple))]
 fn simple(alloc: Global, tokens: &[Token]) -> Result<(TypeDeclaration, &[Token]), Refusal>
     ensures { Reads grammar.simple tokens.now result }
@@ -39,6 +41,7 @@ fn simple(alloc: Global, tokens: &[Token]) -> Result<(TypeDeclaration, &[Token])
     ))
 }
 
+/// `submodule_type = ":" name ";"`.
 fn submodule_type(alloc: Global, tokens: &[Token]) -> Result<(Text, &[Token]), Refusal>
     ensures { Reads grammar.submodule_type tokens.now result }
 {
@@ -47,6 +50,7 @@ fn submodule_type(alloc: Global, tokens: &[Token]) -> Result<(Text, &[Token]), R
     ended(type_name, Mark::Semi, rest)
 }
 
+/// `submodule = name submodule_type`.
 #[tactic(auto, unfolding(crate::specs::Grammar::submodule))]
 fn submodule(alloc: Global, tokens: &[Token]) -> Result<(Submodule, &[Token]), Refusal>
     ensures { Reads grammar.submodule tokens.now result }
@@ -69,6 +73,7 @@ fn begins_submodule(tokens: &[Token]) -> bool
     begins_name(tokens)
 }
 
+/// `{ submodule }`.
 fn submodule_list(alloc: Global, tokens: &[Token]) -> Result<(Items<Submodule>, &[Token]), Refusal>
     ensures { Reads (many grammar.submodule) tokens.now result }
 {
@@ -82,6 +87,7 @@ fn submodule_list(alloc: Global, tokens: &[Token]) -> Result<(Items<Submodule>, 
     Ok((submodules, rest))
 }
 
+/// `submodules = [ "submodules" ":" { submodule } ]`.
 #[tactic(auto, unfolding(crate::specs::Grammar::submodules, crate::specs::Grammar::word))]
 fn submodules(alloc: Global, tokens: &[Token]) -> Result<(Items<Submodule>, &[Token]), Refusal>
     ensures { Reads grammar.submodules tokens.now result }
@@ -94,6 +100,7 @@ fn submodules(alloc: Global, tokens: &[Token]) -> Result<(Items<Submodule>, &[To
     submodule_list(alloc, rest)
 }
 
+/// `submodules_block = "{" submodules "}"`.
 fn submodules_block(
     alloc: Global,
     tokens: &[Token],
@@ -105,6 +112,7 @@ fn submodules_block(
     ended(submodules, Mark::Close, rest)
 }
 
+/// `network = "network" name submodules_block`.
 #[tactic(auto, unfolding(crate::specs::Grammar::network))]
 fn network(alloc: Global, tokens: &[Token]) -> Result<(TypeDeclaration, &[Token]), Refusal>
     ensures { Reads grammar.network tokens.now result }
@@ -123,6 +131,7 @@ fn network(alloc: Global, tokens: &[Token]) -> Result<(TypeDeclaration, &[Token]
     ))
 }
 
+/// `type = simple | network`.
 #[tactic(auto, unfolding(crate::specs::Grammar::type_rule, crate::specs::Grammar::simple, crate::specs::Grammar::word))]
 fn type_declaration(alloc: Global, tokens: &[Token]) -> Result<(TypeDeclaration, &[Token]), Refusal>
     ensures { Reads grammar.type_rule tokens.now result }
@@ -141,6 +150,7 @@ fn begins_type(tokens: &[Token]) -> bool
     begins_word(Keyword::Simple, tokens) || begins_word(Keyword::Network, tokens)
 }
 
+/// `{ type }`.
 fn type_list(alloc: Global, tokens: &[Token]) -> Result<(Items<TypeDeclaration>, &[Token]), Refusal>
     ensures { Reads (many grammar.type_rule) tokens.now result }
 {
@@ -155,6 +165,7 @@ fn type_list(alloc: Global, tokens: &[Token]) -> Result<(Items<TypeDeclaration>,
 }
 
 /// A whole file.
+/// `file = { type }`.
 #[tactic(auto, unfolding(crate::specs::Grammar::file))]
 pub(crate) fn whole_file(alloc: Global, tokens: &[Token]) -> Result<NedFile, Refusal>
     ensures { Gives (λ x. x) result (all_read grammar.file tokens.now) }

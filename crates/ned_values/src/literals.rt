@@ -14,6 +14,7 @@ use std::alloc::Global;
 const LIMIT: u64 = 1 << 63;
 
 /// A literal of one token.
+/// `plain_literal = number | "true" | "false" | text | quantity`.
 #[tactic(auto, unfolding(crate::specs::Grammar::plain_literal))]
 fn plain_literal(alloc: Global, tokens: &[Token]) -> Result<(Value, &[Token]), Refusal>
     ensures { Reads grammar.plain_literal tokens.now result }
@@ -32,6 +33,7 @@ fn plain_literal(alloc: Global, tokens: &[Token]) -> Result<(Value, &[Token]), R
     }
 }
 
+/// `number`: a whole number up to 2^63 - 1.
 #[tactic(auto, unfolding(crate::specs::Grammar::number))]
 fn number(tokens: &[Token]) -> Result<(u64, &[Token]), Refusal>
     ensures read { Reads grammar.number tokens.now result }
@@ -50,6 +52,7 @@ fn negated(number: u64) -> Value
     Value::Whole(-(number as i64))
 }
 
+/// `negative_literal = "-" number`.
 #[tactic(auto, unfolding(crate::specs::Grammar::negative_literal, crate::specs::Grammar::mark))]
 fn negative_literal(tokens: &[Token]) -> Result<(Value, &[Token]), Refusal>
     ensures { Reads grammar.negative_literal tokens.now result }
@@ -59,6 +62,7 @@ fn negative_literal(tokens: &[Token]) -> Result<(Value, &[Token]), Refusal>
     Ok((negated(number), rest))
 }
 
+/// `literal = negative_literal | plain_literal`.
 #[tactic(auto, unfolding(crate::specs::Grammar::literal, crate::specs::Grammar::negative_literal, crate::specs::Grammar::mark))]
 fn literal(alloc: Global, tokens: &[Token]) -> Result<(Value, &[Token]), Refusal>
     ensures { Reads grammar.literal tokens.now result }
@@ -71,6 +75,7 @@ fn literal(alloc: Global, tokens: &[Token]) -> Result<(Value, &[Token]), Refusal
 }
 
 /// An expression: so far a literal.
+/// `expression = literal`.
 #[tactic(auto, unfolding(crate::specs::Grammar::expression))]
 pub fn expression(alloc: Global, tokens: &[Token]) -> Result<(Expression, &[Token]), Refusal>
     ensures { Reads grammar.expression tokens.now result }
