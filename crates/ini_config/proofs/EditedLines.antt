@@ -8,7 +8,7 @@ use Rattle.ini_entries.specs.Texts.{Bytes}
 use Rattle.ini_config.specs.Texts.{add_front, begins_with, lines_of_ini}
 use Rattle.ini_config.specs.Meaning.{AreLines, IsIniText}
 use Rattle.ini_config.specs.Sections.{section_behind}
-use Rattle.ini_config.specs.Edits.{HasLines, IsEdited, bytes_of, holds_feed, texts_of, with_between, without_return}
+use Rattle.ini_config.specs.Edits.{HasLines, IsEdited, bytes_of, edit_with, edit_without, holds_feed, texts_of, with_between, without_return}
 
 -- ---- texts without LF
 
@@ -88,18 +88,15 @@ changed_lines : (lines : List Bytes) (edited : List IniLine) → AreWhole lines 
 changed_lines lines edited h t = texts_read None (lines_of_ini (bytes_of lines)) edited t.lines ∙ bytes_read lines h
 
 -- the lines of a text with another line between them
-pub lines_between : (text : Bytes) (k m : ℕ) (found : Bool) (old before behind : List IniLine) (r : Result (List IniLine) EditError) → before ≡ take k old → behind ≡ drop m old → IfOk r (λ edited. IsEdited (with_between before text behind) found (holds_feed text) edited) → IfOk r (λ edited. HasLines old (with_between (take k old) text (drop m old)) edited)
-lines_between text k m found old before behind (Ok edited) front back h = λ bytes t.
+pub lines_between : (text : Bytes) (k m n : ℕ) (found : Bool) (old : List IniLine) (r : Result (List IniLine) EditError) → IfOk r (IsEdited (edit_with (take k old) text (drop m old) n found)) → IfOk r (HasLines old (edit_with (take k old) text (drop m old) n found))
+lines_between text k m n found old (Ok edited) made = λ bytes t.
     let whole = text_whole bytes old t in
-    let made : IsEdited (with_between (take k old) text (drop m old)) found (holds_feed text) edited = subst (λ (x : List IniLine). IsEdited (with_between (take k old) text x) found (holds_feed text) edited) back (subst (λ (x : List IniLine). IsEdited (with_between x text behind) found (holds_feed text) edited) front h) in
     changed_lines (with_between (take k old) text (drop m old)) edited (whole_joined (texts_of (take k old)) (text ∷ texts_of (drop m old)) (whole_take k old whole) (made.whole, whole_drop m old whole)) made.means
-lines_between text k m found old before behind (Err e) front back h = tt
+lines_between text k m n found old (Err e) made = tt
 
 -- the lines of a text without some
-pub lines_joined : (k m : ℕ) (old before behind : List IniLine) (bytes : Bytes) (r : Result (List IniLine) EditError) → before ≡ take k old → behind ≡ drop m old → bytes ≡ bytes_of (texts_of before ++ texts_of behind) → IfOk r (λ edited. IsIniText bytes edited) → IfOk r (λ edited. HasLines old (texts_of (take k old) ++ texts_of (drop m old)) edited)
-lines_joined k m old before behind made (Ok edited) front back e h = λ bytes t.
+pub lines_joined : (k m n : ℕ) (found : Bool) (old : List IniLine) (r : Result (List IniLine) EditError) → IfOk r (IsEdited (edit_without (take k old) (drop m old) n found)) → IfOk r (HasLines old (edit_without (take k old) (drop m old) n found))
+lines_joined k m n found old (Ok edited) made = λ bytes t.
     let whole = text_whole bytes old t in
-    let lines : List Bytes = texts_of (take k old) ++ texts_of (drop m old) in
-    let same : made ≡ bytes_of lines = e ∙ ap (λ (x : List IniLine). bytes_of (texts_of x ++ texts_of behind)) front ∙ ap (λ (x : List IniLine). bytes_of (texts_of (take k old) ++ texts_of x)) back in
-    changed_lines lines edited (whole_joined (texts_of (take k old)) (texts_of (drop m old)) (whole_take k old whole) (whole_drop m old whole)) (subst (λ (x : Bytes). IsIniText x edited) same h)
-lines_joined k m old before behind made (Err e) front back same h = tt
+    changed_lines (texts_of (take k old) ++ texts_of (drop m old)) edited (whole_joined (texts_of (take k old)) (texts_of (drop m old)) (whole_take k old whole) (whole_drop m old whole)) made.means
+lines_joined k m n found old (Err e) made = tt

@@ -1,9 +1,9 @@
 -- Laws of the pieces of an ini text.
-use Rattle.std.proofs.Common.{◌≡◌, ℕ, zero, suc, ◌+◌, ◌-◌, ◌<◌, ◌≤◌, Bool, true, false, cond, eqb, ◌&&◌, not, List, [], ◌∷◌, ◌++◌, length, take, drop, get_or, Option, Some, None, option_map, refl, sym, ap, ◌∙◌, arith, append_assoc, add-one, drop-cons, length-drop, take_all}
+use Rattle.std.proofs.Common.{◌≡◌, ℕ, zero, suc, ◌+◌, ◌<◌, ◌≤◌, Bool, true, false, cond, eqb, ◌&&◌, List, [], ◌∷◌, ◌++◌, length, take, drop, get_or, Option, Some, None, option_map, refl, sym, ap, ◌∙◌, arith, append_assoc, add-one, drop-cons, length-drop, take_all}
 use Rattle.std.proofs.lemmas.Bool.{eqb-true, true≢false}
 use Rattle.std.proofs.Math.Seq.{take-add}
 use Rattle.std.proofs.lemmas.List.{append-nil, take_more, nil_from_length, drop-drop}
-use Rattle.ini_entries.specs.Texts.{Bytes, is_blank, unless_last_blank, before_blanks}
+use Rattle.ini_entries.specs.Texts.{Bytes}
 use Rattle.ini_config.specs.Texts.{add_front, begins_with, lines_of_ini, after_feed, after_line_end, ends_literal, takes_next, literal_rest, literal_behind, uncommented, before_hash}
 
 -- ---- the end of a line

@@ -1,5 +1,5 @@
 -- Edits of an ini text: the changed lines, their bytes, and why an edit is refused.
-use Rattle.std.specs.Prelude.{◌≡◌, ℕ, ◌+◌, ◌-◌, ◌<◌, ◌≤◌, Bool, true, false, ◌&&◌, List, [], ◌∷◌, ◌++◌, length, take, drop, Result, Ok, Err, ◌==◌, if◌then◌else◌, map, nat_le}
+use Rattle.std.specs.Prelude.{◌≡◌, ℕ, ◌+◌, ◌-◌, Bool, true, false, ◌&&◌, List, [], ◌∷◌, ◌++◌, length, take, drop, Option, Some, None, Result, Ok, Err, IfErr, ◌==◌, if◌then◌else◌, map, nat_le}
 use Rattle.std.specs.List.{list_any}
 use Rattle.ini_config.specs.declared.error.EditError.{EditError}
 use Rattle.ini_config.specs.declared.error.EditError.TheVariants as errors
@@ -18,18 +18,49 @@ texts_of (line ∷ lines) = line.text ∷ texts_of lines
 abbrev pub with_between : List IniLine → Bytes → List IniLine → List Bytes
 with_between before text behind = texts_of before ++ text ∷ texts_of behind
 
+-- whether LF is in a given text, which is then more than a line
+abbrev pub holds_feed : Bytes → Bool
+holds_feed text = list_any (λ b. b == 10) text
+
+-- there is a line of this number
+abbrev pub is_line : ℕ → List IniLine → Bool
+is_line n lines = nat_le 1 n && nat_le n (length lines)
+
+-- there is a line of this number, or it is the number behind the last
+abbrev pub is_place : ℕ → List IniLine → Bool
+is_place n lines = nat_le 1 n && nat_le n (length lines + 1)
+
+-- AN EDIT of a text:
+pub record Edit : Type 0 where
+  -- the lines that it leaves;
+  pub lines : List Bytes
+  -- the number of the line that it is of, from 1;
+  pub number : ℕ
+  -- whether the text has such a line, or such a place for one;
+  pub found : Bool
+  -- whether the line that it gives is broken: LF is in it.
+  pub broken : Bool
+
 -- The lines count from 1. Where there is no line of the number, nothing is taken out, and a given text stands at an end.
--- the lines with this text before line number n
-abbrev pub inserted : ℕ → Bytes → List IniLine → List Bytes
-inserted n text lines = with_between (take (n - 1) lines) text (drop (n - 1) lines)
+-- this text stands between lines, as the line of this number
+abbrev pub edit_with : List IniLine → Bytes → List IniLine → ℕ → Bool → Edit
+edit_with before text behind n found = record { lines = with_between before text behind; number = n; found = found; broken = holds_feed text }
 
--- the lines with this text instead of line number n
-abbrev pub replaced : ℕ → Bytes → List IniLine → List Bytes
-replaced n text lines = with_between (take (n - 1) lines) text (drop n lines)
+-- nothing stands between lines, where the line of this number stood
+abbrev pub edit_without : List IniLine → List IniLine → ℕ → Bool → Edit
+edit_without before behind n found = record { lines = texts_of before ++ texts_of behind; number = n; found = found; broken = false }
 
--- the lines without line number n
-abbrev pub removed : ℕ → List IniLine → List Bytes
-removed n lines = texts_of (take (n - 1) lines) ++ texts_of (drop n lines)
+-- a line of this text is put before line number n
+abbrev pub insertion : ℕ → Bytes → List IniLine → Edit
+insertion n text lines = edit_with (take (n - 1) lines) text (drop (n - 1) lines) n (is_place n lines)
+
+-- a line of this text stands instead of line number n
+abbrev pub replacement : ℕ → Bytes → List IniLine → Edit
+replacement n text lines = edit_with (take (n - 1) lines) text (drop n lines) n (is_line n lines)
+
+-- line number n is taken out
+abbrev pub removal : ℕ → List IniLine → Edit
+removal n lines = edit_without (take (n - 1) lines) (drop n lines) n (is_line n lines)
 
 -- THE CHANGED TEXT: its lines, each followed by LF
 abbrev pub bytes_of : List Bytes → Bytes
@@ -42,47 +73,15 @@ without_return [] = []
 without_return (b ∷ []) = if b == 13 then [] else b ∷ []
 without_return (b ∷ c ∷ cs) = b ∷ without_return (c ∷ cs)
 
--- Where the old text was a text, the new one has these lines.
-abbrev pub HasLines : List IniLine → List Bytes → List IniLine → Type 0
-HasLines old lines edited = (bytes : Bytes) → IsIniText bytes old → texts_of edited ≡ map without_return lines
+-- Where the old text was a text, the new one has the lines that the edit leaves.
+abbrev pub HasLines : List IniLine → Edit → List IniLine → Type 0
+HasLines old edit edited = (bytes : Bytes) → IsIniText bytes old → texts_of edited ≡ map without_return edit.lines
 
--- ---- refusals
-
--- there is a line of this number
-abbrev pub is_line : ℕ → List IniLine → Bool
-is_line n lines = nat_le 1 n && nat_le n (length lines)
-
--- there is a line of this number, or it is the number behind the last
-abbrev pub is_place : ℕ → List IniLine → Bool
-is_place n lines = nat_le 1 n && nat_le n (length lines + 1)
-
--- whether LF is in a given text, which is then more than a line
-abbrev pub holds_feed : Bytes → Bool
-holds_feed text = list_any (λ b. b == 10) text
-
--- the first bad line of the changed text: where the given text of a line isn't a line, that one
-abbrev pub IsBadLine : Bool → ℕ → List Bytes → ℕ → Type 0
-IsBadLine true number lines bad = bad ≡ number
-IsBadLine false number lines bad = FirstBad bad (bytes_of lines)
-
--- What is refused, in this order, of an edit that leaves these lines: `found` says whether the number is right, and
--- `broken` whether LF is in the given text.
-abbrev pub RefusesEdit : List Bytes → Bool → Bool → ℕ → EditError → Type 0
--- The changed text is longer than 1 MiB;
-RefusesEdit lines found broken number errors.TooLarge = max_length < length (bytes_of lines)
--- then the number is wrong;
-RefusesEdit lines found broken number errors.NoSuchLine = (length (bytes_of lines) ≤ max_length) × (found ≡ false)
--- then a line of the changed text means nothing, or is an entry before the first section.
-RefusesEdit lines found broken number (errors.IniSyntax bad) = (length (bytes_of lines) ≤ max_length) × (found ≡ true) × IsBadLine broken number lines bad
--- Memory can run out in any place.
-RefusesEdit lines found broken number errors.NoMemory = Unit {0}
-
--- What an accepted edit makes: the number is right, the given text is a line, and the new text means what the changed
--- lines say.
-pub record IsEdited (lines : List Bytes) (found broken : Bool) (edited : List IniLine) : Type 0 where
-  pub there : found ≡ true
-  pub whole : broken ≡ false
-  pub means : IsIniText (bytes_of lines) edited
+-- What an edit makes: its number is right, the given text is a line, and the new text means what the changed lines say.
+pub record IsEdited (edit : Edit) (edited : List IniLine) : Type 0 where
+  pub there : edit.found ≡ true
+  pub whole : edit.broken ≡ false
+  pub means : IsIniText (bytes_of edit.lines) edited
 
 -- this text, or want of memory
 abbrev pub AnswersEdit : List IniLine → Result (List IniLine) EditError → Type 0
@@ -92,16 +91,35 @@ AnswersEdit lines (Err errors.TooLarge) = ⊥
 AnswersEdit lines (Err errors.NoSuchLine) = ⊥
 AnswersEdit lines (Err (errors.IniSyntax line)) = ⊥
 
--- why changed bytes that are not too long are no text
+-- ---- refusals
+
+-- the changed text is no longer than 1 MiB
+abbrev pub fits : Edit → Bool
+fits edit = nat_le (length (bytes_of edit.lines)) max_length
+
+-- what is wrong, in this order: it doesn't fit; the number is wrong; the line of this number is broken
+abbrev pub edit_fault : Bool → Bool → Bool → ℕ → Option EditError
+edit_fault false found broken number = Some errors.TooLarge
+edit_fault true false broken number = Some errors.NoSuchLine
+edit_fault true true true number = Some (errors.IniSyntax number)
+edit_fault true true false number = None
+
+-- THE REFUSAL of an edit that needs no reading of the changed text
+abbrev pub refusal_of : Edit → Option EditError
+refusal_of edit = edit_fault (fits edit) edit.found edit.broken edit.number
+
+-- why a changed text that needs reading is refused: its first bad line has this number; memory runs out
 abbrev pub RefusesBytes : Bytes → EditError → Type 0
 RefusesBytes bytes errors.TooLarge = ⊥
 RefusesBytes bytes errors.NoSuchLine = ⊥
 RefusesBytes bytes (errors.IniSyntax bad) = FirstBad bad bytes
 RefusesBytes bytes errors.NoMemory = Unit {0}
 
--- why lines that are changed by a text are no text
-abbrev pub RefusesLine : List Bytes → Bool → ℕ → EditError → Type 0
-RefusesLine lines broken number errors.TooLarge = ⊥
-RefusesLine lines broken number errors.NoSuchLine = ⊥
-RefusesLine lines broken number (errors.IniSyntax bad) = IsBadLine broken number lines bad
-RefusesLine lines broken number errors.NoMemory = Unit {0}
+-- what comes of an edit that has this refusal, or else whose changed text is read
+abbrev pub RefusedBy : Option EditError → Bytes → Result (List IniLine) EditError → Type 0
+RefusedBy (Some refusal) bytes result = result ≡ Err refusal
+RefusedBy None bytes result = IfErr result (RefusesBytes bytes)
+
+-- An edit is refused by its refusal, whatever memory there is; and one without a refusal only for what reading tells.
+abbrev pub Refused : Edit → Result (List IniLine) EditError → Type 0
+Refused edit result = RefusedBy (refusal_of edit) (bytes_of edit.lines) result

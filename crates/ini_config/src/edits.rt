@@ -1,10 +1,9 @@
 //! Edits of an ini text. Each gives a new text, and leaves the old one as it was.
 
-ghost use Rattle.std.specs.Prelude.{◌≡◌, ◌+◌, ◌<◌, ◌≤◌, ◌∷◌, ◌++◌, [], true, false, IfOk, IfErr, OnOk, MatchOption, Err, List, length, take, drop};
+ghost use Rattle.std.specs.Prelude.{◌≡◌, ◌+◌, ◌<◌, ◌≤◌, ◌∷◌, ◌++◌, [], IfOk, IfErr, OnOk, MatchOption, List, length, take, drop, nat_le};
 ghost use Rattle.ini_config.specs.Meaning.{IsIniText, max_length};
-ghost use Rattle.ini_config.specs.Edits.{AnswersEdit, HasLines, IsEdited, RefusesBytes, RefusesEdit, RefusesLine, bytes_of, holds_feed, inserted, is_line, is_place, removed, replaced, texts_of, with_between};
+ghost use Rattle.ini_config.specs.Edits.{AnswersEdit, HasLines, IsEdited, Refused, RefusesBytes, bytes_of, edit_with, edit_without, holds_feed, insertion, is_line, is_place, removal, replacement, texts_of, with_between};
 ghost use Rattle.ini_config.specs.declared.lines.IniLine.{IniLine};
-ghost use Rattle.ini_config.specs.declared.error.EditError.TheVariants as errors;
 
 use crate::error::{EditError, IniError};
 use crate::lines::{IniLine, IniText};
@@ -78,8 +77,7 @@ fn room_behind(room: usize, lines: &[IniLine]) -> Option<usize>
 
 /// Whether lines and more lines, each with its LF, fit into 1 MiB.
 fn fit_without(before: &[IniLine], behind: &[IniLine]) -> bool
-    ensures small { result ≡ true → length (bytes_of (texts_of before.now ++ texts_of behind.now)) ≤ max_length }
-    ensures large { result ≡ false → max_length < length (bytes_of (texts_of before.now ++ texts_of behind.now)) }
+    ensures { result ≡ nat_le (length (bytes_of (texts_of before.now ++ texts_of behind.now))) max_length }
 {
     let Some(room) = room_behind(MAX_LENGTH, before) else {
         return false;
@@ -89,8 +87,7 @@ fn fit_without(before: &[IniLine], behind: &[IniLine]) -> bool
 
 /// Whether lines with a text between them, each with its LF, fit into 1 MiB.
 fn fit_with(before: &[IniLine], text: &[u8], behind: &[IniLine]) -> bool
-    ensures small { result ≡ true → length (bytes_of (with_between before.now text.now behind.now)) ≤ max_length }
-    ensures large { result ≡ false → max_length < length (bytes_of (with_between before.now text.now behind.now)) }
+    ensures { result ≡ nat_le (length (bytes_of (with_between before.now text.now behind.now))) max_length }
 {
     let Some(room) = room_behind(MAX_LENGTH, before) else {
         return false;
@@ -165,24 +162,57 @@ fn reread(alloc: Global, bytes: &[u8]) -> Result<IniText, EditError>
     }
 }
 
-/// The text of lines with a text between them, which becomes the line of that number.
-fn read_with(
+/// The text of lines with a text between them, as the line of that number, if there may be one.
+fn edited_with(
     alloc: Global,
     before: &[IniLine],
     text: &[u8],
     behind: &[IniLine],
     number: usize,
+    found: bool,
 ) -> Result<IniText, EditError>
-    requires { length (bytes_of (with_between before.now text.now behind.now)) ≤ max_length }
-    ensures accepted { IfOk result (λ edited. IsEdited (with_between before.now text.now behind.now) true (holds_feed text.now) edited) }
-    ensures complete { (lines : List IniLine) → IsEdited (with_between before.now text.now behind.now) true (holds_feed text.now) lines → AnswersEdit lines result }
-    ensures refused { IfErr result (λ e. RefusesLine (with_between before.now text.now behind.now) (holds_feed text.now) number e) }
-    ensures broken { holds_feed text.now ≡ true → result ≡ Err (errors.IniSyntax number) }
+    ensures accepted { IfOk result
+        (λ edited. IsEdited (edit_with before.now text.now behind.now number found) edited) }
+    ensures complete { (lines : List IniLine)
+        → IsEdited (edit_with before.now text.now behind.now number found) lines
+        → AnswersEdit lines result }
+    ensures refused { Refused (edit_with before.now text.now behind.now number found) result }
 {
+    if !fit_with(before, text, behind) {
+        return Err(EditError::TooLarge);
+    }
+    if !found {
+        return Err(EditError::NoSuchLine);
+    }
     if holds_feed(text) {
         return Err(EditError::IniSyntax(number));
     }
     let bytes = bytes_with(alloc, before, text, behind)?;
+    reread(alloc, bytes.as_slice())
+}
+
+/// The text of lines and more lines, without the line of that number between them, if there is one.
+fn edited_without(
+    alloc: Global,
+    before: &[IniLine],
+    behind: &[IniLine],
+    number: usize,
+    found: bool,
+) -> Result<IniText, EditError>
+    ensures accepted { IfOk result
+        (λ edited. IsEdited (edit_without before.now behind.now number found) edited) }
+    ensures complete { (lines : List IniLine)
+        → IsEdited (edit_without before.now behind.now number found) lines
+        → AnswersEdit lines result }
+    ensures refused { Refused (edit_without before.now behind.now number found) result }
+{
+    if !fit_without(before, behind) {
+        return Err(EditError::TooLarge);
+    }
+    if !found {
+        return Err(EditError::NoSuchLine);
+    }
+    let bytes = bytes_without(alloc, before, behind)?;
     reread(alloc, bytes.as_slice())
 }
 
@@ -195,27 +225,21 @@ impl IniText {
         text: &[u8],
     ) -> Result<IniText, EditError>
         // What is made is the text with that line.
-        ensures accepted { IfOk result (λ edited. IsEdited (inserted line text.now self.now) (is_place line self.now) (holds_feed text.now) edited) }
+        ensures accepted { IfOk result (IsEdited (insertion line text.now self.now)) }
         // Such a text is made, unless memory runs out.
-        ensures complete { (lines : List IniLine) → IsEdited (inserted line text.now self.now) (is_place line self.now) (holds_feed text.now) lines → AnswersEdit lines result }
+        ensures complete { (lines : List IniLine)
+            → IsEdited (insertion line text.now self.now) lines
+            → AnswersEdit lines result }
         // Its lines are those of the old text with the edit.
-        ensures lines { IfOk result (λ edited. HasLines self.now (inserted line text.now self.now) edited) }
-        // Each refusal has its reason.
-        ensures refused { IfErr result (λ e. RefusesEdit (inserted line text.now self.now) (is_place line self.now) (holds_feed text.now) line e) }
-        ensures large { max_length < length (bytes_of (inserted line text.now self.now)) → result ≡ Err errors.TooLarge }
-        ensures missing { length (bytes_of (inserted line text.now self.now)) ≤ max_length → is_place line self.now ≡ false → result ≡ Err errors.NoSuchLine }
-        ensures broken { length (bytes_of (inserted line text.now self.now)) ≤ max_length → is_place line self.now ≡ true → holds_feed text.now ≡ true → result ≡ Err (errors.IniSyntax line) }
+        ensures lines { IfOk result (HasLines self.now (insertion line text.now self.now)) }
+        // Each refusal comes where it is due, in its order.
+        ensures refused { Refused (insertion line text.now self.now) result }
     {
         let at = line.saturating_sub(1);
         let before = first_lines(self.lines(), at);
         let behind = lines_behind(self.lines(), at);
-        if !fit_with(before, text, behind) {
-            return Err(EditError::TooLarge);
-        }
-        if !is_place(line, self.lines()) {
-            return Err(EditError::NoSuchLine);
-        }
-        read_with(alloc, before, text, behind, line)
+        let found = is_place(line, self.lines());
+        edited_with(alloc, before, text, behind, line, found)
     }
 
     /// The text with another line instead of the line of that number.
@@ -226,50 +250,38 @@ impl IniText {
         text: &[u8],
     ) -> Result<IniText, EditError>
         // What is made is the text with that line.
-        ensures accepted { IfOk result (λ edited. IsEdited (replaced line text.now self.now) (is_line line self.now) (holds_feed text.now) edited) }
+        ensures accepted { IfOk result (IsEdited (replacement line text.now self.now)) }
         // Such a text is made, unless memory runs out.
-        ensures complete { (lines : List IniLine) → IsEdited (replaced line text.now self.now) (is_line line self.now) (holds_feed text.now) lines → AnswersEdit lines result }
+        ensures complete { (lines : List IniLine)
+            → IsEdited (replacement line text.now self.now) lines
+            → AnswersEdit lines result }
         // Its lines are those of the old text with the edit.
-        ensures lines { IfOk result (λ edited. HasLines self.now (replaced line text.now self.now) edited) }
-        // Each refusal has its reason.
-        ensures refused { IfErr result (λ e. RefusesEdit (replaced line text.now self.now) (is_line line self.now) (holds_feed text.now) line e) }
-        ensures large { max_length < length (bytes_of (replaced line text.now self.now)) → result ≡ Err errors.TooLarge }
-        ensures missing { length (bytes_of (replaced line text.now self.now)) ≤ max_length → is_line line self.now ≡ false → result ≡ Err errors.NoSuchLine }
-        ensures broken { length (bytes_of (replaced line text.now self.now)) ≤ max_length → is_line line self.now ≡ true → holds_feed text.now ≡ true → result ≡ Err (errors.IniSyntax line) }
+        ensures lines { IfOk result (HasLines self.now (replacement line text.now self.now)) }
+        // Each refusal comes where it is due, in its order.
+        ensures refused { Refused (replacement line text.now self.now) result }
     {
         let before = first_lines(self.lines(), line.saturating_sub(1));
         let after = lines_behind(self.lines(), line);
-        if !fit_with(before, text, after) {
-            return Err(EditError::TooLarge);
-        }
-        if !is_line(line, self.lines()) {
-            return Err(EditError::NoSuchLine);
-        }
-        read_with(alloc, before, text, after, line)
+        let found = is_line(line, self.lines());
+        edited_with(alloc, before, text, after, line, found)
     }
 
     /// The text without the line of that number.
     pub fn with_removed(&self, alloc: Global, line: usize) -> Result<IniText, EditError>
         // What is made is the text without that line.
-        ensures accepted { IfOk result (λ edited. IsEdited (removed line self.now) (is_line line self.now) false edited) }
+        ensures accepted { IfOk result (IsEdited (removal line self.now)) }
         // Such a text is made, unless memory runs out.
-        ensures complete { (lines : List IniLine) → IsEdited (removed line self.now) (is_line line self.now) false lines → AnswersEdit lines result }
+        ensures complete { (lines : List IniLine)
+            → IsEdited (removal line self.now) lines
+            → AnswersEdit lines result }
         // Its lines are those of the old text with the edit.
-        ensures lines { IfOk result (λ edited. HasLines self.now (removed line self.now) edited) }
-        // Each refusal has its reason.
-        ensures refused { IfErr result (λ e. RefusesEdit (removed line self.now) (is_line line self.now) false line e) }
-        ensures large { max_length < length (bytes_of (removed line self.now)) → result ≡ Err errors.TooLarge }
-        ensures missing { length (bytes_of (removed line self.now)) ≤ max_length → is_line line self.now ≡ false → result ≡ Err errors.NoSuchLine }
+        ensures lines { IfOk result (HasLines self.now (removal line self.now)) }
+        // Each refusal comes where it is due, in its order.
+        ensures refused { Refused (removal line self.now) result }
     {
         let front = first_lines(self.lines(), line.saturating_sub(1));
         let behind = lines_behind(self.lines(), line);
-        if !fit_without(front, behind) {
-            return Err(EditError::TooLarge);
-        }
-        if !is_line(line, self.lines()) {
-            return Err(EditError::NoSuchLine);
-        }
-        let bytes = bytes_without(alloc, front, behind)?;
-        reread(alloc, bytes.as_slice())
+        let found = is_line(line, self.lines());
+        edited_without(alloc, front, behind, line, found)
     }
 }

@@ -5,13 +5,13 @@ ghost use Rattle.std.specs.List.{list_all};
 ghost use Rattle.std.specs.Str.{is_utf8};
 ghost use Rattle.ini_config.specs.Texts.{lines_of_ini};
 ghost use Rattle.ini_entries.specs.Meaning.{Tells, is_key, is_key_byte};
-ghost use Rattle.ini_config.specs.Meaning.{IsIniText, IsIniLine, IsLine, IsEntry, IsNamed, IsParted, IsSection, Settles, Answers, Explains, begins_entry, ends_with, in_brackets, is_first_of_entry, is_extends, is_value, may_stand, max_length};
+ghost use Rattle.ini_config.specs.Meaning.{IsIniText, IsIniLine, IsLine, IsEntry, IsNamed, IsParted, IsSection, Settles, Answers, Explains, begins_entry, ends_with, in_brackets, is_first_of_entry, is_extends, is_value, may_stand, max_length, SettlesLine};
 ghost use Rattle.ini_config.specs.Sections.{section_behind};
 ghost use Rattle.ini_config.specs.declared.lines.IniLine.{IniLine};
 
 use crate::error::IniError;
 use crate::lines::{Entry, IniLine, IniText, LineMeaning};
-use crate::pieces::{first_line, holds_variable, value_text};
+use crate::pieces::{first_ini_line, holds_variable, value_text};
 use ini_entries::blanks::{after_blanks, before_blanks, is_blank};
 use ini_entries::entry::EntryMeaning;
 use ini_entries::keys::is_key;
@@ -79,16 +79,16 @@ fn entry(alloc: Global, line: &[u8]) -> Result<Option<Entry>, AllocError>
     let Some((key, value)) = key_and_value(line) else {
         return Ok(None);
     };
-    let Some(meaning) = entry_meaning(alloc, key, value)? else {
-        return Ok(None);
-    };
-    let key = Text::from_bytes(alloc, key)?;
-    let value = Text::from_bytes(alloc, value)?;
-    Ok(Some(Entry {
-        key,
-        value,
-        meaning,
-    }))
+    let key_text = Text::from_bytes(alloc, key)?;
+    let value_text = Text::from_bytes(alloc, value)?;
+    match entry_meaning(alloc, key, value)? {
+        None => Ok(None),
+        Some(meaning) => Ok(Some(Entry {
+            key: key_text,
+            value: value_text,
+            meaning,
+        })),
+    }
 }
 
 /// Whether a byte is no blank, and begins no comment.
@@ -180,8 +180,8 @@ fn line_meaning(alloc: Global, line: &[u8]) -> Result<Option<LineMeaning>, Alloc
     }
 }
 
-/// The section that the lines behind a line stand in.
-fn section_behind(
+/// The section that the lines behind a line stand in, as a text of its own.
+fn own_section_behind(
     alloc: Global,
     section: Option<Text>,
     line: &LineMeaning,
@@ -222,14 +222,30 @@ fn ini_line(
 ) -> Result<Option<IniLine>, AllocError>
     ensures { IfOk result (λ found. Tells (IsIniLine section.now line.now) found) }
 {
-    let Some(meaning) = line_meaning(alloc, line)? else {
-        return Ok(None);
-    };
-    if !may_stand(section, &meaning) {
-        return Ok(None);
-    }
     let text = Text::from_bytes(alloc, line)?;
-    Ok(Some(IniLine { text, meaning }))
+    match line_meaning(alloc, line)? {
+        Some(meaning) if may_stand(section, &meaning) => Ok(Some(IniLine { text, meaning })),
+        _ => Ok(None),
+    }
+}
+
+/// Reads the line of that number, which stands in this section, behind those that were read. It answers the section
+/// behind the line.
+fn push_ini_line(
+    alloc: Global,
+    lines: &mut Items<IniLine>,
+    section: Option<Text>,
+    line: &[u8],
+    number: usize,
+) -> Result<Option<Text>, IniError>
+    ensures { SettlesLine section line.now number lines.old lines.new result }
+{
+    let Some(read) = ini_line(alloc, &section, line)? else {
+        return Err(IniError::IniSyntax(number));
+    };
+    let behind = own_section_behind(alloc, section, &read.meaning)?;
+    lines.push(read)?;
+    Ok(behind)
 }
 
 /// The lines of a text.
@@ -241,12 +257,8 @@ fn read(alloc: Global, bytes: &[u8]) -> Result<Items<IniLine>, IniError>
     let mut number: usize = 1;
     let mut section = None;
     'lines: while !rest.is_empty() {
-        let (line, after) = first_line(rest);
-        let Some(read) = ini_line(alloc, &section, line)? else {
-            return Err(IniError::IniSyntax(number));
-        };
-        section = section_behind(alloc, section, &read.meaning)?;
-        lines.push(read)?;
+        let (line, after) = first_ini_line(rest);
+        section = push_ini_line(alloc, &mut lines, section, line, number)?;
         rest = after;
         number += 1;
     }

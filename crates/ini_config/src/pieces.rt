@@ -34,7 +34,7 @@ fn after_line_end(bytes: &[u8]) -> Option<&[u8]>
 }
 
 /// The first line, without its end, and what is behind that.
-pub(crate) fn first_line(bytes: &[u8]) -> (&[u8], &[u8])
+pub(crate) fn first_ini_line(bytes: &[u8]) -> (&[u8], &[u8])
     requires { 0 < length bytes.now }
     ensures lines { texts.lines_of_ini bytes.now ≡ result.0.now ∷ texts.lines_of_ini result.1.now }
     ensures shorter { length result.1.now < length bytes.now }

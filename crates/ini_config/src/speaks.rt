@@ -27,7 +27,7 @@ fn is_typename(name: &[u8]) -> bool
 }
 
 /// Whether a name has a `-`.
-fn has_hyphen(name: &[u8]) -> bool
+fn is_hyphenated(name: &[u8]) -> bool
     ensures { result ≡ list_any (λ b. b == 45) name.now }
 {
     name.iter().any(|b| *b == b'-')
@@ -37,7 +37,7 @@ fn has_hyphen(name: &[u8]) -> bool
 fn is_parameter_name(name: &[u8]) -> bool
     ensures { result ≡ is_parameter_name name.now }
 {
-    !is_typename(name) && !has_hyphen(name)
+    !is_typename(name) && !is_hyphenated(name)
 }
 
 /// Whether an entry counts for a path and matches it.

@@ -1,4 +1,4 @@
-use Rattle.std.proofs.Common.{Bool, ℕ, drop, get_or, ◌+◌, option_map, sym, ap, ◌∙◌, arith}
+use Rattle.std.proofs.Common.{Bool, drop, ◌+◌, option_map, sym, ap, ◌∙◌, arith}
 use Rattle.ini_config.specs.Texts as texts
 use Rattle.ini_config.proofs.PieceLaws.{literal_step_at, literal_ends_at, literal_none_at}
 use Rattle.ini_config.proofs.pieces.literal_rest.Goals as goal

@@ -1,7 +1,7 @@
 use Rattle.std.proofs.Common.{◌≡◌, ◌-◌, ◌≤◌, length, take, drop}
 use Rattle.ini_config.specs.Texts.{lines_of_ini}
 use Rattle.ini_config.proofs.PieceLaws.{join_front}
-use Rattle.ini_config.proofs.pieces.first_line.Given as goal
+use Rattle.ini_config.proofs.pieces.first_ini_line.Given as goal
 
 abbrev pub invariant-bytes : goal.invariant-bytes
 invariant-bytes l = record {

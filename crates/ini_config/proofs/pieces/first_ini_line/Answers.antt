@@ -1,7 +1,7 @@
 use Rattle.std.proofs.Common.{◌≡◌, Some, None, sym, ap, ◌∙◌, arith}
 use Rattle.ini_config.specs.Texts.{after_line_end}
 use Rattle.ini_config.proofs.PieceLaws.{join_nil, join_step, join_ends, join_all}
-use Rattle.ini_config.proofs.pieces.first_line.Goals as goal
+use Rattle.ini_config.proofs.pieces.first_ini_line.Goals as goal
 
 pub bytes-init : goal.bytes-init
 bytes-init c = record { within = omega arith; lines = join_nil c.args.bytes.now c.requires }
