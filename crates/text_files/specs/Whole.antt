@@ -1,0 +1,27 @@
+-- What is read of a text.
+use Rattle.std.specs.Prelude.{◌≡◌, ◌⊎◌, ℕ, ◌≤◌, ◌<◌, List, ◌++◌, length}
+use Rattle.ned_tokens.specs.Meaning.{max_length}
+use Rattle.text_files.specs.Given.{most, one_more}
+use Rattle.text_files.specs.declared.reading.ReadFault.{ReadFault}
+use Rattle.text_files.specs.declared.reading.ReadFault.TheVariants as faults
+
+-- THE WHOLE TEXT of a source, up to one byte more than a text may have: the source gave these bytes and no others, and either
+-- said then, once, that it was at its end, or there are as many bytes as are read at most.
+pub record IsWhole (given : List ℕ) (ends : ℕ) (given' : List ℕ) (ends' : ℕ) (text : List ℕ) : Type 0 where
+  pub gave : given' ≡ given ++ text
+  pub to_the_end : ((length text ≤ max_length) × (ends' ≡ one_more ends)) ⊎ ((length text ≡ most) × (ends' ≡ ends))
+
+-- The source gave so many bytes more, which stand behind the text now. Where it gave none it was at its end.
+pub record IsMore (given : List ℕ) (ends : ℕ) (text : List ℕ) (given' : List ℕ) (ends' : ℕ) (text' : List ℕ) (n : ℕ) : Type 0 where
+  pub bytes : List ℕ
+  pub gave : given' ≡ given ++ bytes
+  pub kept : text' ≡ text ++ bytes
+  pub count : length bytes ≡ n
+  pub within : length text' ≤ most
+  pub ended : n ≡ 0 → length text < most → ends' ≡ one_more ends
+  pub goes_on : 0 < n → ends' ≡ ends
+
+-- why a text isn't read: the source failed, once; or memory ran out, and the source did not fail
+abbrev pub Explains : ℕ → ℕ → ReadFault → Type 0
+Explains failures failures' (faults.Failed error) = failures' ≡ one_more failures
+Explains failures failures' faults.NoMemory = failures' ≡ failures

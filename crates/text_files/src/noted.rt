@@ -1,0 +1,34 @@
+//! Bytes that only clauses read.
+
+ghost use Rattle.std.specs.Prelude.{◌≡◌, ℕ, List, [], ◌++◌};
+ghost use Rattle.std.specs.Borrow.{ftrue};
+
+use std::marker::{Model, PhantomData};
+
+/// Bytes that were noted, one part behind the other. They take no memory, and only clauses can read them: so a reader or a
+/// writer of the system, of which no clause says what is in its file, can say what it was given or gave.
+#[derive(Drop)]
+pub struct Noted {
+    marker: PhantomData<u8>,
+    pub ghost bytes: { List ℕ },
+}
+
+impl Model for Noted {
+    ghost also_owns = { λ _. ftrue };
+}
+
+impl Noted {
+    /// No bytes.
+    pub fn new() -> Noted
+        ensures { result.bytes ≡ [] }
+    {
+        Noted {
+            marker: PhantomData,
+        }
+    }
+
+    /// Notes further bytes behind those that were noted.
+    pub fn note(&mut self, _bytes: &[u8])
+        ensures { self.new.bytes ≡ self.old.bytes ++ _bytes.now }
+    {}
+}
