@@ -11,7 +11,8 @@ use Rattle.ned_tokens.specs.declared.token.Mark.TheVariants as m
 use Rattle.ned_tokens.specs.declared.token.Token.{Token}
 use Rattle.ned_tokens.specs.declared.token.Token.TheVariants as token
 use Rattle.ned_tokens.specs.Rule.{Rule, token as one_token, ◌⊗◌, ◌◁◌, ◌▷◌, made, such_that, either, optional, many}
-use Rattle.ned_tokens.specs.Units.{unit_of, time_unit, rate_unit, length_unit}
+use Rattle.sim_values.specs.Units.{time_unit}
+use Rattle.ned_tokens.specs.Units.{unit_of, rate_unit, length_unit}
 use Rattle.ned_spelling.specs.Tokens.{unit_text}
 use Rattle.ned_values.specs.declared.ast.Expression.{Expression}
 use Rattle.ned_values.specs.declared.ast.Expression.TheVariants as expressions

@@ -22,7 +22,8 @@ use Rattle.ned_syntax.specs.declared.ast.ParameterWord.{ParameterWord}
 use Rattle.ned_syntax.specs.declared.parameters.Valued.{Valued}
 use Rattle.ned_syntax.specs.declared.parameters.Tail.{Tail}
 use Rattle.ned_tokens.specs.Words.{or_else}
-use Rattle.ned_tokens.specs.Units.{unit_of, time_unit}
+use Rattle.sim_values.specs.Units.{time_unit}
+use Rattle.ned_tokens.specs.Units.{unit_of}
 use Rattle.ned_tokens.proofs.Whole.{all_took}
 use Rattle.ned_syntax.specs.declared.properties.PropertyName.TheVariants as names
 use Rattle.ned_syntax.specs.declared.properties.Effect.{Effect}

@@ -3,21 +3,9 @@ use Rattle.std.specs.Prelude.{ℕ, Option, Some, None, if◌then◌else◌, code
 use Rattle.std.specs.Str.{bytes_eq}
 use Rattle.sim_values.specs.declared.value.Dimension.{Dimension}
 use Rattle.sim_values.specs.declared.value.Dimension.TheVariants as dimension
+use Rattle.sim_values.specs.Units.{time_unit}
 use Rattle.ned_tokens.specs.Runs.{Bytes}
 use Rattle.ned_tokens.specs.Words.{or_else}
-
--- units of time: how many ps they are
-unfoldable pub time_unit : Bytes → Option ℕ
-time_unit word =
-    if bytes_eq word (codes "d") then Some 86400000000000000
-    else (if bytes_eq word (codes "h") then Some 3600000000000000
-    else (if bytes_eq word (codes "min") then Some 60000000000000
-    else (if bytes_eq word (codes "s") then Some 1000000000000
-    else (if bytes_eq word (codes "ms") then Some 1000000000
-    else (if bytes_eq word (codes "us") then Some 1000000
-    else (if bytes_eq word (codes "ns") then Some 1000
-    else (if bytes_eq word (codes "ps") then Some 1
-    else None)))))))
 
 -- units of a rate: how many bits a second they are
 unfoldable pub rate_unit : Bytes → Option ℕ

@@ -3,33 +3,8 @@
 ghost use Rattle.std.specs.Prelude.{◌≡◌, ◌<◌, ◌≤◌, ◌*◌, ◌^◌, IfSome};
 ghost use Rattle.ned_tokens.specs.Units as units;
 
+use sim_values::units::time_unit;
 use sim_values::value::Dimension;
-
-#[tactic(auto, unfolding(crate::specs::Units::time_unit))]
-fn time_unit(word: &[u8]) -> Option<u64>
-    ensures value { result ≡ units.time_unit word.now }
-    ensures bounds { IfSome result (λ n. (0 < n) × (n ≤ 9 * 10 ^ 16)) }
-{
-    if word == b"d".as_slice() {
-        Some(86_400_000_000_000_000)
-    } else if word == b"h".as_slice() {
-        Some(3_600_000_000_000_000)
-    } else if word == b"min".as_slice() {
-        Some(60_000_000_000_000)
-    } else if word == b"s".as_slice() {
-        Some(1_000_000_000_000)
-    } else if word == b"ms".as_slice() {
-        Some(1_000_000_000)
-    } else if word == b"us".as_slice() {
-        Some(1_000_000)
-    } else if word == b"ns".as_slice() {
-        Some(1_000)
-    } else if word == b"ps".as_slice() {
-        Some(1)
-    } else {
-        None
-    }
-}
 
 #[tactic(auto, unfolding(crate::specs::Units::rate_unit))]
 fn rate_unit(word: &[u8]) -> Option<u64>

@@ -1,7 +1,8 @@
-//! The small values that every layer shares: texts, values of parameters, and want of memory.
+//! The small values that every layer shares: texts, values of parameters, units of time, and want of memory.
 #![tactic(auto)]
 
 pub mod text;
+pub mod units;
 pub mod value;
 
 use std::alloc::{AllocError, AllocFailed};
