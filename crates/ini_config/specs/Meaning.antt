@@ -140,12 +140,10 @@ Settles bytes (Err errors.NoMemory) = Unit {0}
 Settles bytes (Err errors.TooLarge) = ⊥
 Settles bytes (Err (errors.IniSyntax bad)) = FirstBadOf bad 1 None bytes × Tells (AreLines None bytes) None
 
--- What was read of the line of this number, in this section and behind these lines: it is put behind them, and the section
--- behind it is answered; or why it was refused.
-abbrev pub SettlesLine : Option Bytes → Bytes → ℕ → List IniLine → List IniLine → Result (Option Bytes) IniError → Type 0
-SettlesLine section bytes number before behind (Ok next) =
-    (read : IniLine) × Tells (IsIniLine section bytes) (Some read)
-    × (behind ≡ before ++ read ∷ []) × (next ≡ section_behind section read.meaning)
+-- What was read of the line of this number, in this section, and put behind these lines, or why it was refused.
+abbrev pub SettlesLine : Option Bytes → Bytes → ℕ → List IniLine → List IniLine → Result (Unit {0}) IniError → Type 0
+SettlesLine section bytes number before behind (Ok done) =
+    (read : IniLine) × Tells (IsIniLine section bytes) (Some read) × (behind ≡ before ++ read ∷ [])
 SettlesLine section bytes number before behind (Err errors.NoMemory) = Unit {0}
 SettlesLine section bytes number before behind (Err errors.TooLarge) = ⊥
 SettlesLine section bytes number before behind (Err (errors.IniSyntax bad)) =

@@ -55,7 +55,8 @@ fn holds_feed(text: &[u8]) -> bool
 
 /// The room that is left behind a line and its LF, where they fit.
 fn room_after(room: usize, line: &[u8]) -> Option<usize>
-    ensures { MatchOption result (room < length line.now + 1) (λ left. left + (length line.now + 1) ≡ room) }
+    ensures { MatchOption result (room < length line.now + 1)
+        (λ left. left + (length line.now + 1) ≡ room) }
 {
     if line.len() < room {
         Some(room - line.len() - 1)
@@ -66,7 +67,8 @@ fn room_after(room: usize, line: &[u8]) -> Option<usize>
 
 /// The room that is left behind lines, each with its LF, where they fit.
 fn room_behind(room: usize, lines: &[IniLine]) -> Option<usize>
-    ensures { MatchOption result (room < length (bytes_of (texts_of lines.now))) (λ left. left + length (bytes_of (texts_of lines.now)) ≡ room) }
+    ensures { MatchOption result (room < length (bytes_of (texts_of lines.now)))
+        (λ left. left + length (bytes_of (texts_of lines.now)) ≡ room) }
 {
     let mut left = room;
     for line in lines {
@@ -77,7 +79,8 @@ fn room_behind(room: usize, lines: &[IniLine]) -> Option<usize>
 
 /// Whether lines and more lines, each with its LF, fit into 1 MiB.
 fn fit_without(before: &[IniLine], behind: &[IniLine]) -> bool
-    ensures { result ≡ nat_le (length (bytes_of (texts_of before.now ++ texts_of behind.now))) max_length }
+    ensures { result
+        ≡ nat_le (length (bytes_of (texts_of before.now ++ texts_of behind.now))) max_length }
 {
     let Some(room) = room_behind(MAX_LENGTH, before) else {
         return false;
@@ -87,7 +90,8 @@ fn fit_without(before: &[IniLine], behind: &[IniLine]) -> bool
 
 /// Whether lines with a text between them, each with its LF, fit into 1 MiB.
 fn fit_with(before: &[IniLine], text: &[u8], behind: &[IniLine]) -> bool
-    ensures { result ≡ nat_le (length (bytes_of (with_between before.now text.now behind.now))) max_length }
+    ensures { result
+        ≡ nat_le (length (bytes_of (with_between before.now text.now behind.now))) max_length }
 {
     let Some(room) = room_behind(MAX_LENGTH, before) else {
         return false;
@@ -124,7 +128,8 @@ fn bytes_with(
     text: &[u8],
     behind: &[IniLine],
 ) -> Result<Vec<u8>, AllocError>
-    ensures { IfOk result (λ bytes. bytes.items ≡ bytes_of (with_between before.now text.now behind.now)) }
+    ensures { IfOk result
+        (λ bytes. bytes.items ≡ bytes_of (with_between before.now text.now behind.now)) }
 {
     let mut bytes = Vec::new(alloc);
     push_lines(&mut bytes, before)?;
@@ -139,7 +144,8 @@ fn bytes_without(
     before: &[IniLine],
     behind: &[IniLine],
 ) -> Result<Vec<u8>, AllocError>
-    ensures { IfOk result (λ bytes. bytes.items ≡ bytes_of (texts_of before.now ++ texts_of behind.now)) }
+    ensures { IfOk result
+        (λ bytes. bytes.items ≡ bytes_of (texts_of before.now ++ texts_of behind.now)) }
 {
     let mut bytes = Vec::new(alloc);
     push_lines(&mut bytes, before)?;
@@ -151,7 +157,9 @@ fn bytes_without(
 fn reread(alloc: Global, bytes: &[u8]) -> Result<IniText, EditError>
     requires { length bytes.now ≤ max_length }
     ensures accepted { IfOk result (λ text. IsIniText bytes.now text) }
-    ensures complete { (lines : List IniLine) → IsIniText bytes.now lines → AnswersEdit lines result }
+    ensures complete { (lines : List IniLine)
+        → IsIniText bytes.now lines
+        → AnswersEdit lines result }
     ensures refused { IfErr result (λ e. RefusesBytes bytes.now e) }
 {
     match IniText::parse(alloc, bytes) {

@@ -8,6 +8,7 @@ ghost use Rattle.ini_entries.specs.Meaning.{Tells, is_key, is_key_byte};
 ghost use Rattle.ini_config.specs.Meaning.{IsIniText, IsIniLine, IsLine, IsEntry, IsNamed, IsParted, IsSection, Settles, Answers, Explains, begins_entry, ends_with, in_brackets, is_first_of_entry, is_extends, is_value, may_stand, max_length, SettlesLine};
 ghost use Rattle.ini_config.specs.Sections.{section_behind};
 ghost use Rattle.ini_config.specs.declared.lines.IniLine.{IniLine};
+ghost use Rattle.ini_config.specs.declared.lines.LineMeaning.{LineMeaning};
 
 use crate::error::IniError;
 use crate::lines::{Entry, IniLine, IniText, LineMeaning};
@@ -180,17 +181,18 @@ fn line_meaning(alloc: Global, line: &[u8]) -> Result<Option<LineMeaning>, Alloc
     }
 }
 
-/// The section that the lines behind a line stand in, as a text of its own.
-fn own_section_behind(
+/// The section that the lines behind a line stand in, where this line stands in `section` and means something.
+fn section_after(
     alloc: Global,
     section: Option<Text>,
-    line: &LineMeaning,
+    line: &[u8],
 ) -> Result<Option<Text>, AllocError>
-    ensures { IfOk result (λ behind. behind ≡ section_behind section line.now) }
+    ensures { (meaning : LineMeaning) → IsLine line.now meaning
+        → IfOk result (λ behind. behind ≡ section_behind section meaning) }
 {
-    match line {
-        LineMeaning::Section(name) => Ok(Some(name.copy(alloc)?)),
-        _ => Ok(section),
+    match section_name(line) {
+        Some(name) => Ok(Some(Text::from_bytes(alloc, name)?)),
+        None => Ok(section),
     }
 }
 
@@ -223,29 +225,28 @@ fn ini_line(
     ensures { IfOk result (λ found. Tells (IsIniLine section.now line.now) found) }
 {
     let text = Text::from_bytes(alloc, line)?;
-    match line_meaning(alloc, line)? {
-        Some(meaning) if may_stand(section, &meaning) => Ok(Some(IniLine { text, meaning })),
-        _ => Ok(None),
+    let found = line_meaning(alloc, line)?;
+    match found.filter(|meaning| may_stand(section, meaning)) {
+        Some(meaning) => Ok(Some(IniLine { text, meaning })),
+        None => Ok(None),
     }
 }
 
-/// Reads the line of that number, which stands in this section, behind those that were read. It answers the section
-/// behind the line.
+/// Reads the line of that number, which stands in this section, behind those that were read.
 fn push_ini_line(
     alloc: Global,
     lines: &mut Items<IniLine>,
-    section: Option<Text>,
+    section: &Option<Text>,
     line: &[u8],
     number: usize,
-) -> Result<Option<Text>, IniError>
-    ensures { SettlesLine section line.now number lines.old lines.new result }
+) -> Result<(), IniError>
+    ensures { SettlesLine section.now line.now number lines.old lines.new result }
 {
-    let Some(read) = ini_line(alloc, &section, line)? else {
+    let Some(read) = ini_line(alloc, section, line)? else {
         return Err(IniError::IniSyntax(number));
     };
-    let behind = own_section_behind(alloc, section, &read.meaning)?;
     lines.push(read)?;
-    Ok(behind)
+    Ok(())
 }
 
 /// The lines of a text.
@@ -258,7 +259,8 @@ fn read(alloc: Global, bytes: &[u8]) -> Result<Items<IniLine>, IniError>
     let mut section = None;
     'lines: while !rest.is_empty() {
         let (line, after) = first_ini_line(rest);
-        section = push_ini_line(alloc, &mut lines, section, line, number)?;
+        push_ini_line(alloc, &mut lines, &section, line, number)?;
+        section = section_after(alloc, section, line)?;
         rest = after;
         number += 1;
     }
