@@ -1,7 +1,8 @@
 //! Why declared types make no model.
 
-ghost use Rattle.std.specs.Prelude.{◌≡◌, ◌||◌};
+ghost use Rattle.std.specs.Prelude.{◌≡◌, ◌||◌, ◌↔◌, None};
 ghost use Rattle.ned_types.specs.Types.{fault_of, has_duplicate, has_unknown, has_clash, is_built_in, is_type_named, names_unknown, is_submodule_known, clashes, section_clashes, submodules_clash, is_submodule_simple, is_simple, is_submodule_named, repeats_submodule, has_other_kind, redeclares, declares, is_declaration, is_declared, is_undeclared, gives_undeclared, gives_again, gives, is_given, is_fixed, name_in, value_in};
+ghost use Rattle.ned_types.specs.WellFormed.{IsWellFormed};
 ghost use Rattle.std.specs.Option.{option_copied};
 
 use crate::table::{TypeFault, find_type};
@@ -9,6 +10,15 @@ use ned_syntax::ast::{ParameterValue, SectionLine, Submodule, TypeDeclaration, T
 
 /// The first fault of these types, in the order of TypeFault.
 pub fn fault_of(types: &[TypeDeclaration]) -> Option<TypeFault>
+    ensures first { result ≡ fault_of types.now }
+    // Exactly types that keep the rules have no fault.
+    ensures rules { (result ≡ None) ↔ IsWellFormed types.now }
+{
+    found_fault(types)
+}
+
+/// The first of the three faults that the types have.
+fn found_fault(types: &[TypeDeclaration]) -> Option<TypeFault>
     ensures { result ≡ fault_of types.now }
 {
     if has_duplicate(types) {

@@ -1,0 +1,282 @@
+-- Types have no fault exactly where they are well formed.
+use Rattle.std.proofs.Common.{◌≡◌, ◌≢◌, inl, inr, ℕ, Bool, true, false, not, ◌||◌, ◌&&◌, List, [], ◌∷◌, Option, Some, None, refl, sym, ap, subst, ◌∙◌, if◌then◌else◌}
+use Rattle.std.specs.Prelude.{is_some, ◌↔◌}
+use Rattle.std.specs.List.{list_any}
+use Rattle.std.specs.Str.{bytes_eq}
+use Rattle.std.proofs.lemmas.Bool.{cases_Bool, false≢true, or_parts}
+use Rattle.std.proofs.lemmas.Slice.Eq.{bytes_eq-Decides}
+use Rattle.ned_syntax.specs.declared.ast.Declaration.{Declaration}
+use Rattle.ned_syntax.specs.declared.ast.SectionLine.{SectionLine}
+use Rattle.ned_syntax.specs.declared.ast.SectionLine.TheVariants as line
+use Rattle.ned_syntax.specs.declared.ast.Submodule.{Submodule}
+use Rattle.ned_syntax.specs.declared.ast.TypeDeclaration.{TypeDeclaration}
+use Rattle.ned_syntax.specs.declared.ast.TypeKind.{TypeKind}
+use Rattle.ned_syntax.specs.declared.ast.TypeKind.TheVariants.{Simple, Network}
+use Rattle.ned_types.specs.declared.table.TypeFault.{TypeFault}
+use Rattle.ned_types.specs.declared.table.TypeFault.TheVariants.{DuplicateType, UnknownType, KindClash}
+use Rattle.ned_types.specs.Types as t
+use Rattle.ned_types.specs.WellFormed.{IsAmong, StandsBefore, IsParameter, IsSound, IsSimpleType, IsWellFormed}
+
+-- ---- tests
+
+is_true : (b : Bool) → (b ≡ false → ⊥) → b ≡ true
+is_true true h = refl
+is_true false h = absurd (h refl)
+
+not_false : (b : Bool) → not b ≡ false → b ≡ true
+not_false true h = refl
+not_false false h = absurd (false≢true (sym h))
+
+false_not : (b : Bool) → b ≡ true → not b ≡ false
+false_not true h = refl
+false_not false h = absurd (false≢true h)
+
+or_false : (x y : Bool) → x ≡ false → y ≡ false → (x || y) ≡ false
+or_false false y e f = f
+or_false true y e f = absurd (false≢true (sym e))
+
+-- a test that is false behind one that is true
+and_told : (x y : Bool) → (x && y) ≡ false → x ≡ true → y ≡ false
+and_told true y h e = h
+and_told false y h e = absurd (false≢true e)
+
+and_made : (x y : Bool) → (x ≡ true → y ≡ false) → (x && y) ≡ false
+and_made true y h = h refl
+and_made false y h = refl
+
+names_apart : (a b : List ℕ) → bytes_eq a b ≡ false → b ≢ a
+names_apart a b h e = false≢true (sym h ∙ (bytes_eq-Decides a b).1 (sym e))
+
+apart_names : (a b : List ℕ) → b ≢ a → bytes_eq a b ≡ false
+apart_names a b h =
+    elim (cases_Bool (bytes_eq a b)) [
+      | inl same ↦ absurd (h (sym ((bytes_eq-Decides a b).0 same)))
+      | inr other ↦ other
+    ]
+
+same_names : (a b : List ℕ) → bytes_eq a b ≡ true → a ≡ b
+same_names a b h = (bytes_eq-Decides a b).0 h
+
+names_same : (a b : List ℕ) → a ≡ b → bytes_eq a b ≡ true
+names_same a b e = (bytes_eq-Decides a b).1 e
+
+-- ---- members
+
+any_told : {X : Type 0} (test : X → Bool) (xs : List X) → list_any test xs ≡ false → (x : X) → IsAmong x xs → test x ≡ false
+any_told test [] h x is = absurd is
+any_told test (y ∷ ys) h x (inl e) = ap test e ∙ (or_parts (test y) (list_any test ys) h).0
+any_told test (y ∷ ys) h x (inr is) = any_told test ys (or_parts (test y) (list_any test ys) h).1 x is
+
+any_made : {X : Type 0} (test : X → Bool) (xs : List X) → ((x : X) → IsAmong x xs → test x ≡ false) → list_any test xs ≡ false
+any_made test [] h = refl
+any_made test (y ∷ ys) h = or_false (test y) (list_any test ys) (h y (inl refl)) (any_made test ys (λ x is. h x (inr is)))
+
+any_found : {X : Type 0} (test : X → Bool) (xs : List X) → list_any test xs ≡ true → (x : X) × IsAmong x xs × (test x ≡ true)
+any_found test [] h = absurd (false≢true h)
+any_found test (y ∷ ys) h = go (test y) refl (any_found test ys) h
+  where
+    go : (b : Bool) → test y ≡ b → (list_any test ys ≡ true → (x : _) × IsAmong x ys × (test x ≡ true)) → (b || list_any test ys) ≡ true → (x : _) × IsAmong x (y ∷ ys) × (test x ≡ true)
+    go true e more h = (y, inl refl, e)
+    go false e more h = let found = more h in (found.0, inr found.1, found.2)
+
+any_is : {X : Type 0} (test : X → Bool) (xs : List X) (x : X) → IsAmong x xs → test x ≡ true → list_any test xs ≡ true
+any_is test xs x is h = is_true (list_any test xs) (λ none. false≢true (sym (any_told test xs none x is) ∙ h))
+
+-- ---- pairs
+
+-- what a test of each member and those behind it tells, where it is nowhere true
+pairs_told : {X : Type 0} (R : X → X → Type 0) (bad : X → List X → Bool) (any : List X → Bool) → ((x : X) (xs : List X) → any (x ∷ xs) ≡ (bad x xs || any xs)) → ((x : X) (xs : List X) → bad x xs ≡ false → (y : X) → IsAmong y xs → R x y) → (xs : List X) → any xs ≡ false → (x y : X) → StandsBefore x y xs → R x y
+pairs_told R bad any step one [] h x y is = absurd is
+pairs_told R bad any step one (z ∷ zs) h x y (inl p) =
+    let both = or_parts (bad z zs) (any zs) (sym (step z zs) ∙ h) in
+    subst (λ u. R u y) (sym p.0) (one z zs both.0 y p.1)
+pairs_told R bad any step one (z ∷ zs) h x y (inr is) =
+    let both = or_parts (bad z zs) (any zs) (sym (step z zs) ∙ h) in
+    pairs_told R bad any step one zs both.1 x y is
+
+pairs_made : {X : Type 0} (Q : X → Type 0) (R : X → X → Type 0) (bad : X → List X → Bool) (any : List X → Bool) → any [] ≡ false → ((x : X) (xs : List X) → any (x ∷ xs) ≡ (bad x xs || any xs)) → ((x : X) (xs : List X) → Q x → ((y : X) → IsAmong y xs → R x y) → bad x xs ≡ false) → (xs : List X) → ((x : X) → IsAmong x xs → Q x) → ((x y : X) → StandsBefore x y xs → R x y) → any xs ≡ false
+pairs_made Q R bad any none step one [] q r = none
+pairs_made Q R bad any none step one (z ∷ zs) q r =
+    step z zs
+    ∙ or_false (bad z zs) (any zs)
+    (one z zs (q z (inl refl)) (λ y is. r z y (inl (refl, is))))
+    (pairs_made Q R bad any none step one zs (λ x is. q x (inr is)) (λ x y is. r x y (inr is)))
+
+-- ---- two types of one name
+
+types_apart : (types : List TypeDeclaration) → t.has_duplicate types ≡ false → (a b : TypeDeclaration) → StandsBefore a b types → a.name ≢ b.name
+types_apart types h = pairs_told {X = TypeDeclaration} (λ a b. a.name ≢ b.name) (λ a behind. t.is_built_in a.name || t.is_type_named a.name behind) t.has_duplicate (λ a behind. refl) (λ a behind none b is. names_apart b.name a.name (any_told (λ u. bytes_eq u.name a.name) behind (or_parts (t.is_built_in a.name) _ none).1 b is)) types h
+
+types_own : (types : List TypeDeclaration) → t.has_duplicate types ≡ false → (a : TypeDeclaration) → IsAmong a types → t.is_built_in a.name ≡ false
+types_own [] h a is = absurd is
+types_own (b ∷ bs) h a (inl e) =
+    let parts = or_parts (t.is_built_in b.name || t.is_type_named b.name bs) (t.has_duplicate bs) h in
+    ap (λ (x : TypeDeclaration). t.is_built_in x.name) e ∙ (or_parts (t.is_built_in b.name) (t.is_type_named b.name bs) parts.0).0
+types_own (b ∷ bs) h a (inr is) = types_own bs (or_parts (t.is_built_in b.name || t.is_type_named b.name bs) (t.has_duplicate bs) h).1 a is
+
+no_duplicate : (types : List TypeDeclaration) → IsWellFormed types → t.has_duplicate types ≡ false
+no_duplicate types w = pairs_made {X = TypeDeclaration} (λ a. t.is_built_in a.name ≡ false) (λ a b. a.name ≢ b.name) (λ a behind. t.is_built_in a.name || t.is_type_named a.name behind) t.has_duplicate refl (λ a behind. refl) (λ a behind own apart. or_false (t.is_built_in a.name) _ own (any_made (λ u. bytes_eq u.name a.name) behind (λ b is. apart_names b.name a.name (apart b is)))) types w.own w.names
+
+-- ---- submodules
+
+submodules_apart : (ss : List Submodule) → t.repeats_submodule ss ≡ false → (s r : Submodule) → StandsBefore s r ss → s.name ≢ r.name
+submodules_apart ss h = pairs_told {X = Submodule} (λ s r. s.name ≢ r.name) (λ s rs. t.is_submodule_named s.name rs) t.repeats_submodule (λ s rs. refl) (λ s rs none r is. names_apart r.name s.name (any_told (λ u. bytes_eq u.name s.name) rs none r is)) ss h
+
+no_repeat : (ss : List Submodule) → ((s r : Submodule) → StandsBefore s r ss → s.name ≢ r.name) → t.repeats_submodule ss ≡ false
+no_repeat ss apart = pairs_made {X = Submodule} (λ s. Unit {0}) (λ s r. s.name ≢ r.name) (λ s rs. t.is_submodule_named s.name rs) t.repeats_submodule refl (λ s rs. refl) (λ s rs q other. any_made (λ u. bytes_eq u.name s.name) rs (λ r is. apart_names r.name s.name (other r is))) ss (λ s is. tt) apart
+
+simple_kind : (k : TypeKind) → t.is_simple_kind k ≡ true → k ≡ Simple
+simple_kind Simple h = refl
+simple_kind Network h = absurd (false≢true h)
+
+-- a simple type of that name is found
+simple_found : (types : List TypeDeclaration) (name : List ℕ) → t.is_simple (t.type_named name types) ≡ true → IsSimpleType name types
+simple_found [] name h = absurd (false≢true h)
+simple_found (a ∷ behind) name h = go (bytes_eq a.name name) refl h (simple_found behind name)
+  where
+    go : (b : Bool) → bytes_eq a.name name ≡ b → t.is_simple (if b then Some a else t.type_named name behind) ≡ true → (t.is_simple (t.type_named name behind) ≡ true → IsSimpleType name behind) → IsSimpleType name (a ∷ behind)
+    go true e h more = (a, inl refl, same_names a.name name e, simple_kind a.kind h)
+    go false e h more = let found = more h in (found.0, inr found.1, found.2, found.3)
+
+-- the type of its name is the type itself
+type_is : (types : List TypeDeclaration) (u : TypeDeclaration) → ((a b : TypeDeclaration) → StandsBefore a b types → a.name ≢ b.name) → IsAmong u types → t.type_named u.name types ≡ Some u
+type_is [] u apart is = absurd is
+type_is (a ∷ behind) u apart (inl e) = let same = names_same a.name u.name (sym (ap (λ (x : TypeDeclaration). x.name) e)) in rw same (ap Some (sym e))
+type_is (a ∷ behind) u apart (inr is) =
+    let other = apart_names a.name u.name (λ e. apart a u (inl (refl, is)) (sym e)) in
+    rw other (type_is behind u (λ x y before. apart x y (inr before)) is)
+
+simple_is : (types : List TypeDeclaration) (name : List ℕ) → ((a b : TypeDeclaration) → StandsBefore a b types → a.name ≢ b.name) → IsSimpleType name types → t.is_simple (t.type_named name types) ≡ true
+simple_is types name apart s =
+    ap (λ (n : List ℕ). t.is_simple (t.type_named n types)) (sym s.2)
+    ∙ ap t.is_simple (type_is types s.0 apart s.1)
+    ∙ ap t.is_simple_kind s.3
+
+-- a type that is found has its name
+named_found : (types : List TypeDeclaration) (name : List ℕ) → IsSimpleType name types → t.is_type_named name types ≡ true
+named_found types name s = any_is (λ u. bytes_eq u.name name) types s.0 s.1 (names_same s.0.name name s.2)
+
+or_second : (x y : Bool) → y ≡ true → (x || y) ≡ true
+or_second true y h = refl
+or_second false y h = h
+
+no_unknown : (types : List TypeDeclaration) → IsWellFormed types → t.has_unknown types ≡ false
+no_unknown types w = any_made (λ a. t.names_unknown types a.submodules) types (λ a is. any_made (λ s. not (t.is_submodule_known types s)) a.submodules (λ s in-a. false_not _ (or_second (t.is_built_in s.type_name) _ (named_found types s.type_name (w.simple a is s in-a)))))
+
+no_other_kind : (types : List TypeDeclaration) → IsWellFormed types → (a : TypeDeclaration) → IsAmong a types → t.has_other_kind types a.submodules ≡ false
+no_other_kind types w a is = any_made (λ s. not (t.is_submodule_simple types s)) a.submodules (λ s in-a. false_not _ (simple_is types s.type_name w.names (w.simple a is s in-a)))
+
+all_simple : (types : List TypeDeclaration) (ss : List Submodule) → t.has_other_kind types ss ≡ false → (s : Submodule) → IsAmong s ss → IsSimpleType s.type_name types
+all_simple types ss h s is = simple_found types s.type_name (not_false _ (any_told (λ r. not (t.is_submodule_simple types r)) ss h s is))
+
+-- ---- parameter sections
+
+declaration_of : (name : List ℕ) (l : SectionLine) (lines : List SectionLine) → IsAmong l lines → t.declares name l ≡ true → IsParameter name lines
+declaration_of name (line.Declaration d) lines is h = (d, is, same_names d.name name h)
+declaration_of name (line.Assignment a) lines is h = absurd (false≢true h)
+declaration_of name (line.Statistic s) lines is h = absurd (false≢true h)
+declaration_of name (line.Class c) lines is h = absurd (false≢true h)
+declaration_of name line.Ignored lines is h = absurd (false≢true h)
+
+declared_found : (name : List ℕ) (lines : List SectionLine) → t.is_declared name lines ≡ true → IsParameter name lines
+declared_found name lines h = let found = any_found (λ l. t.declares name l) lines h in declaration_of name found.0 lines found.1 found.2
+
+declared_is : (name : List ℕ) (lines : List SectionLine) → IsParameter name lines → t.is_declared name lines ≡ true
+declared_is name lines p = any_is (λ l. t.declares name l) lines (line.Declaration p.0) p.1 (names_same p.0.name name p.2)
+
+-- two lines that declare parameters declare different ones
+abbrev AreOthers : SectionLine → SectionLine → Type 0
+AreOthers l k = (d e : Declaration) → l ≡ line.Declaration d → k ≡ line.Declaration e → d.name ≢ e.name
+
+once_told : (l : SectionLine) (ls : List SectionLine) → (t.is_declaration l && t.is_declared (t.name_in l) ls) ≡ false → (k : SectionLine) → IsAmong k ls → (d e : Declaration) → l ≡ line.Declaration d → k ≡ line.Declaration e → d.name ≢ e.name
+once_told l ls h k is d e p q =
+    let none : t.is_declared d.name ls ≡ false = subst (λ (x : SectionLine). (t.is_declaration x && t.is_declared (t.name_in x) ls) ≡ false) p h in
+    let one : t.declares d.name (line.Declaration e) ≡ false = sym (ap (t.declares d.name) q) ∙ any_told (λ x. t.declares d.name x) ls none k is in
+    names_apart e.name d.name one
+
+declares_other : (d : Declaration) (k : SectionLine) → ((e : Declaration) → k ≡ line.Declaration e → d.name ≢ e.name) → t.declares d.name k ≡ false
+declares_other d (line.Declaration e) h = apart_names e.name d.name (h e refl)
+declares_other d (line.Assignment a) h = refl
+declares_other d (line.Statistic s) h = refl
+declares_other d (line.Class c) h = refl
+declares_other d line.Ignored h = refl
+
+once_made : (l : SectionLine) (ls : List SectionLine) → ((k : SectionLine) → IsAmong k ls → (d e : Declaration) → l ≡ line.Declaration d → k ≡ line.Declaration e → d.name ≢ e.name) → (t.is_declaration l && t.is_declared (t.name_in l) ls) ≡ false
+once_made (line.Declaration d) ls h = any_made (λ x. t.declares d.name x) ls (λ k is. declares_other d k (λ e q. h k is d e refl q))
+once_made (line.Assignment a) ls h = refl
+once_made (line.Statistic s) ls h = refl
+once_made (line.Class c) ls h = refl
+once_made line.Ignored ls h = refl
+
+-- behind a line that fixes a value the other gives its parameter none
+abbrev IsFixedOnce : SectionLine → SectionLine → Type 0
+IsFixedOnce l k = t.is_fixed (t.value_in l) ≡ true → is_some (t.value_in k) ≡ true → t.name_in k ≢ t.name_in l
+
+fixed_told : (l : SectionLine) (ls : List SectionLine) → (t.is_fixed (t.value_in l) && t.is_given (t.name_in l) ls) ≡ false → (k : SectionLine) → IsAmong k ls → IsFixedOnce l k
+fixed_told l ls h k is = λ fix give e.
+    let none = and_told (t.is_fixed (t.value_in l)) _ h fix in
+    let other = and_told (is_some (t.value_in k)) _ (any_told (λ x. t.gives (t.name_in l) x) ls none k is) give in
+    false≢true (sym other ∙ names_same (t.name_in k) (t.name_in l) e)
+
+fixed_made : (l : SectionLine) (ls : List SectionLine) → ((k : SectionLine) → IsAmong k ls → IsFixedOnce l k) → (t.is_fixed (t.value_in l) && t.is_given (t.name_in l) ls) ≡ false
+fixed_made l ls h = and_made (t.is_fixed (t.value_in l)) _ (λ fix. any_made (λ x. t.gives (t.name_in l) x) ls (λ k is. and_made (is_some (t.value_in k)) _ (λ give. apart_names (t.name_in k) (t.name_in l) (λ e. h k is fix give (sym e)))))
+
+sound_told : (lines : List SectionLine) → t.section_clashes lines ≡ false → IsSound lines
+sound_told lines h =
+    let first = or_parts (t.redeclares lines) (t.gives_undeclared lines || t.gives_again lines) h in
+    let rest = or_parts (t.gives_undeclared lines) (t.gives_again lines) first.1 in
+    record {
+      names = λ d e is. pairs_told {X = SectionLine} AreOthers (λ l ls. t.is_declaration l && t.is_declared (t.name_in l) ls) t.redeclares (λ l ls. refl) once_told lines first.0 (line.Declaration d) (line.Declaration e) is d e refl refl;
+      given = λ l is give. declared_found (t.name_in l) lines (not_false _ (and_told (is_some (t.value_in l)) _ (any_told (λ x. t.is_undeclared lines x) lines rest.0 l is) give));
+      fixed = λ l k is. pairs_told {X = SectionLine} IsFixedOnce (λ x ls. t.is_fixed (t.value_in x) && t.is_given (t.name_in x) ls) t.gives_again (λ x ls. refl) fixed_told lines rest.1 l k is;
+    }
+
+sound_made : (lines : List SectionLine) → IsSound lines → t.section_clashes lines ≡ false
+sound_made lines s =
+    or_false (t.redeclares lines) _
+    (pairs_made {X = SectionLine} (λ l. Unit {0}) AreOthers (λ l ls. t.is_declaration l && t.is_declared (t.name_in l) ls) t.redeclares refl (λ l ls. refl) (λ l ls q h. once_made l ls h) lines (λ l is. tt) (λ l k is d e p q. s.names d e (subst (λ (x : SectionLine). StandsBefore x (line.Declaration e) lines) p (subst (λ (x : SectionLine). StandsBefore l x lines) q is))))
+    (or_false (t.gives_undeclared lines) _
+    (any_made (λ x. t.is_undeclared lines x) lines (λ l is. and_made (is_some (t.value_in l)) _ (λ give. false_not _ (declared_is (t.name_in l) lines (s.given l is give)))))
+    (pairs_made {X = SectionLine} (λ l. Unit {0}) IsFixedOnce (λ x ls. t.is_fixed (t.value_in x) && t.is_given (t.name_in x) ls) t.gives_again refl (λ x ls. refl) (λ x ls q h. fixed_made x ls h) lines (λ l is. tt) s.fixed))
+
+-- ---- all rules
+
+fault_by : (duplicate unknown clash : Bool) → (if duplicate then Some DuplicateType else (if unknown then Some UnknownType else (if clash then Some KindClash else None))) ≡ None → (duplicate ≡ false) × (clash ≡ false)
+fault_by false false false h = (refl, refl)
+fault_by false false true h = absurd cc
+fault_by false true clash h = absurd cc
+fault_by true unknown clash h = absurd cc
+
+well_formed : (types : List TypeDeclaration) → t.has_duplicate types ≡ false → t.has_clash types ≡ false → IsWellFormed types
+well_formed types duplicate clash = record {
+  names = types_apart types duplicate;
+  own = types_own types duplicate;
+  parameters = λ a is. sound_told a.lines (section a is);
+  submodules = λ a is. submodules_apart a.submodules (or_parts (t.repeats_submodule a.submodules) _ (members a is)).0;
+  simple = λ a is. all_simple types a.submodules (or_parts (t.repeats_submodule a.submodules) _ (members a is)).1;
+}
+  where
+    parts : (a : TypeDeclaration) → IsAmong a types → (t.section_clashes a.lines ≡ false) × (t.submodules_clash types a.submodules ≡ false)
+    parts a is = or_parts (t.section_clashes a.lines) (t.submodules_clash types a.submodules) (any_told (λ x. t.clashes types x) types clash a is)
+
+    section : (a : TypeDeclaration) → IsAmong a types → t.section_clashes a.lines ≡ false
+    section a is = (parts a is).0
+
+    members : (a : TypeDeclaration) → IsAmong a types → t.submodules_clash types a.submodules ≡ false
+    members a is = (parts a is).1
+
+no_clash : (types : List TypeDeclaration) → IsWellFormed types → t.has_clash types ≡ false
+no_clash types w = any_made (λ x. t.clashes types x) types (λ a is. or_false (t.section_clashes a.lines) _ (sound_made a.lines (w.parameters a is)) (or_false (t.repeats_submodule a.submodules) _ (no_repeat a.submodules (w.submodules a is)) (no_other_kind types w a is)))
+
+faultless : (types : List TypeDeclaration) → IsWellFormed types → t.fault_of types ≡ None
+faultless types w = let duplicate = no_duplicate types w in let unknown = no_unknown types w in let clash = no_clash types w in rw (duplicate, unknown, clash) refl
+
+-- types without a fault are well formed, and well formed types have none
+pub fault_is : (types : List TypeDeclaration) (fault : Option TypeFault) → fault ≡ t.fault_of types → (fault ≡ None) ↔ IsWellFormed types
+fault_is types fault e = (forth, back)
+  where
+    forth : fault ≡ None → IsWellFormed types
+    forth none = let parts = fault_by (t.has_duplicate types) (t.has_unknown types) (t.has_clash types) (sym e ∙ none) in well_formed types parts.0 parts.1
+
+    back : IsWellFormed types → fault ≡ None
+    back w = e ∙ faultless types w

@@ -1,0 +1,5 @@
+use Rattle.ned_types.proofs.WellFormedLaws.{fault_is}
+use Rattle.ned_types.proofs.faults.fault_of.Goals as goal
+
+pub returns-clause-rules : goal.returns-clause-rules
+returns-clause-rules c = fault_is c.args.types.now c.found_fault.result c.found_fault.ensures

@@ -1,0 +1,50 @@
+-- Types that make a model, by the rules of the language.
+-- OMNeT++ Simulation Manual, "Simple Modules", "Submodules", "Parameters".
+use Rattle.std.specs.Prelude.{◌≡◌, ◌≢◌, ◌⊎◌, ℕ, true, false, List, [], ◌∷◌, is_some}
+use Rattle.ned_syntax.specs.declared.ast.Declaration.{Declaration}
+use Rattle.ned_syntax.specs.declared.ast.SectionLine.{SectionLine}
+use Rattle.ned_syntax.specs.declared.ast.SectionLine.TheVariants as line
+use Rattle.ned_syntax.specs.declared.ast.Submodule.{Submodule}
+use Rattle.ned_syntax.specs.declared.ast.TypeDeclaration.{TypeDeclaration}
+use Rattle.ned_syntax.specs.declared.ast.TypeKind.TheVariants.{Simple}
+use Rattle.ned_types.specs.Types.{is_built_in, is_fixed, name_in, value_in}
+
+-- it is one of these
+abbrev pub IsAmong : {X : Type 0} → X → List X → Type 0
+IsAmong x [] = ⊥
+IsAmong x (y ∷ ys) = (x ≡ y) ⊎ IsAmong x ys
+
+-- the one stands somewhere before the other
+abbrev pub StandsBefore : {X : Type 0} → X → X → List X → Type 0
+StandsBefore x y [] = ⊥
+StandsBefore x y (z ∷ zs) = ((x ≡ z) × IsAmong y zs) ⊎ StandsBefore x y zs
+
+-- lines declare the parameter of that name
+abbrev pub IsParameter : List ℕ → List SectionLine → Type 0
+IsParameter name lines = (d : Declaration) × IsAmong (line.Declaration d) lines × (d.name ≡ name)
+
+-- THE RULES of a parameter section:
+pub record IsSound (lines : List SectionLine) : Type 0 where
+  -- no two parameters have one name;
+  pub names : (d e : Declaration) → StandsBefore (line.Declaration d) (line.Declaration e) lines → d.name ≢ e.name
+  -- a value is given to a parameter that is declared;
+  pub given : (l : SectionLine) → IsAmong l lines → is_some (value_in l) ≡ true → IsParameter (name_in l) lines
+  -- behind a fixed value a parameter is given no other.
+  pub fixed : (l k : SectionLine) → StandsBefore l k lines → is_fixed (value_in l) ≡ true → is_some (value_in k) ≡ true → name_in k ≢ name_in l
+
+-- one of the types is a simple type of that name
+abbrev pub IsSimpleType : List ℕ → List TypeDeclaration → Type 0
+IsSimpleType name types = (u : TypeDeclaration) × IsAmong u types × (u.name ≡ name) × (u.kind ≡ Simple)
+
+-- THE RULES of types:
+pub record IsWellFormed (types : List TypeDeclaration) : Type 0 where
+  -- no two types have one name;
+  pub names : (t u : TypeDeclaration) → StandsBefore t u types → t.name ≢ u.name
+  -- none has the name of a built-in channel;
+  pub own : (t : TypeDeclaration) → IsAmong t types → is_built_in t.name ≡ false
+  -- the parameter section of each is sound;
+  pub parameters : (t : TypeDeclaration) → IsAmong t types → IsSound t.lines
+  -- no two submodules of a type have one name;
+  pub submodules : (t : TypeDeclaration) → IsAmong t types → (s r : Submodule) → StandsBefore s r t.submodules → s.name ≢ r.name
+  -- and the type of each is a simple type among these.
+  pub simple : (t : TypeDeclaration) → IsAmong t types → (s : Submodule) → IsAmong s t.submodules → IsSimpleType s.type_name types
