@@ -2,7 +2,8 @@
 
 ghost use Rattle.std.specs.Prelude.{◌≡◌, IfOk};
 ghost use Rattle.std.specs.Option.{option_copied};
-ghost use Rattle.ned_types.specs.Types.{type_named, types_of, Builds};
+ghost use Rattle.ned_types.specs.Types.{type_named, types_of, AnswersTable, Builds};
+ghost use Rattle.ned_types.specs.WellFormed.{IsWellFormed};
 
 use crate::faults;
 use ned_syntax::ast::{NedFile, TypeDeclaration};
@@ -58,7 +59,13 @@ impl Model for TypeTable {
 impl TypeTable {
     /// The table of the files' types, or the first reason why they make none.
     pub fn build(alloc: Global, files: Vec<NedFile>) -> Result<TypeTable, TypeFault>
-        ensures { Builds (types_of files.items) result }
+        // The table has the types of all files, or the first fault is told.
+        ensures built { Builds (types_of files.items) result }
+        // What is built keeps the rules of types.
+        ensures rules { IfOk result IsWellFormed }
+        // Types that keep the rules are built, unless memory runs out.
+        ensures complete { IsWellFormed (types_of files.items)
+            → AnswersTable (types_of files.items) result }
     {
         let types = joined(alloc, files)?;
         match faults::fault_of(types.as_slice()) {
