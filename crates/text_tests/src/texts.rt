@@ -77,6 +77,11 @@ fn long_text(alloc: Global, length: usize) -> Result<Vec<u8>, AllocError> {
     Ok(text)
 }
 
+/// The part of a text between two places.
+fn part(text: &[u8], from: usize, to: usize) -> &[u8] {
+    text.get(from..to).unwrap_or(b"")
+}
+
 #[test]
 fn in_parts(rt: HostRuntime) -> Result<(), Fail> {
     let alloc = rt.alloc();
@@ -102,25 +107,37 @@ fn failing(rt: HostRuntime) -> Result<(), Fail> {
     Ok(())
 }
 
+/// Whether of a text that begins at that place of a long one, and has so many bytes, so many are read, in parts of that length.
+fn is_front_read(
+    alloc: Global,
+    text: &[u8],
+    from: usize,
+    given: usize,
+    wanted: usize,
+    step: usize,
+) -> bool {
+    let all = part(text, from, from.saturating_add(given));
+    let want = part(text, from, from.saturating_add(wanted));
+    all.len() == given && is_read(read(alloc, all, step), want)
+}
+
 #[test]
 fn long(rt: HostRuntime) -> Result<(), Fail> {
     let alloc = rt.alloc();
-    let text = long_text(alloc, 1_048_580)?;
+    let text = long_text(alloc, 1_048_590)?;
     let text = text.as_slice();
-    for step in [1000, 4096, 1_000_000] {
+    for (from, given, wanted, step) in [
+        (0, 1_048_576, 1_048_576, 1000),
+        (0, 1_048_577, 1_048_577, 1000),
+        (0, 1_048_578, 1_048_577, 1000),
+        (0, 1_048_577, 1_048_577, 1_000_000),
+        (0, 1_048_590, 1_048_577, 1_000_000),
+        (7, 1_048_580, 1_048_577, 1),
+    ] {
         assert!(rt;
-            is_read(read(alloc, &text[..1_048_576], step), &text[..1_048_576]),
-            "{step}"
-        );
-        assert!(rt;
-            is_read(read(alloc, &text[..1_048_577], step), &text[..1_048_577]),
-            "{step}"
-        );
-        assert!(rt;
-            is_read(read(alloc, text, step), &text[..1_048_577]),
-            "{step}"
+            is_front_read(alloc, text, from, given, wanted, step),
+            "{given} {step}"
         );
     }
-    assert!(rt; is_read(read(alloc, &text[1..], 1), &text[1..1_048_578]));
     Ok(())
 }
