@@ -272,7 +272,7 @@ no_chain_from_walk lines config errors.ChainFault other w = no_chain
     no_chain chain (inl v) = other v.0
     no_chain chain (inr v) = w v.1 v.3
 no_chain_from_walk lines config errors.NoSuchConfig other w = w
-no_chain_from_walk lines config errors.NoMemory other w = w
+no_chain_from_walk lines config (errors.NoMemory _) other w = w
 
 pub accepted_by : (lines : List IniLine) (config : Bytes) (r : Result (List Bytes) ChainError) → is_section config lines ≡ true → SettlesChain lines config r → IfOk r (λ chain. IsChain lines config chain × (is_section config lines ≡ true))
 accepted_by lines config (Ok chain) is w = (w, is)
@@ -282,10 +282,10 @@ pub complete_by : (lines : List IniLine) (config : Bytes) (r : Result (List Byte
 complete_by lines config (Ok found) w chain v = one_chain_law lines config found chain w v
 complete_by lines config (Err errors.ChainFault) w chain v = w chain v
 complete_by lines config (Err errors.NoSuchConfig) w chain v = w
-complete_by lines config (Err errors.NoMemory) w chain v = tt
+complete_by lines config (Err (errors.NoMemory _)) w chain v = tt
 
 pub refused_by : (lines : List IniLine) (config : Bytes) (r : Result (List Bytes) ChainError) → is_section config lines ≡ true → SettlesChain lines config r → IfErr r (λ e. RefusesChain lines config e)
 refused_by lines config (Ok found) is w = tt
 refused_by lines config (Err errors.ChainFault) is w = (is, w)
 refused_by lines config (Err errors.NoSuchConfig) is w = absurd w
-refused_by lines config (Err errors.NoMemory) is w = tt
+refused_by lines config (Err (errors.NoMemory _)) is w = tt

@@ -13,7 +13,7 @@ use Rattle.ini_config.specs.declared.error.IniError.TheVariants as errors
 use Rattle.ini_entries.specs.Texts.{Bytes, before_blanks, is_blank, after_blanks}
 use Rattle.ini_config.specs.Texts.{lines_of_ini, value_text}
 use Rattle.ini_entries.specs.Meaning.{is_key, IsEntryMeaning, Tells}
-use Rattle.ini_config.specs.Meaning.{IsIniText, is_value, begins_entry, IsParted, IsEntry, IsLine, IsSection, IsIniLine, AreLines, FirstBadOf, Settles}
+use Rattle.ini_config.specs.Meaning.{IsIniText, is_value, begins_entry, IsParted, IsEntry, IsLine, IsSection, IsIniLine, AreLines, FirstBad, FirstBadOf, Settles}
 use Rattle.ini_config.specs.Sections.{section_behind}
 use Rattle.ini_entries.proofs.EntryLaws.{meaning_same}
 use Rattle.ini_config.proofs.SectionLaws.{section_begins, section_no_entry, section_same}
@@ -201,3 +201,17 @@ lines_same section (b ∷ bs) (x ∷ xs) (y ∷ ys) p q =
 
 pub text_same : (bytes : Bytes) (first second : List IniLine) → IsIniText bytes first → IsIniText bytes second → first ≡ second
 text_same bytes first second p q = lines_same None (lines_of_ini bytes) first second p.lines q.lines
+
+-- ---- a text with a bad line means nothing
+
+bad_lines : (bad n : ℕ) (section : Option Bytes) (bytes : List Bytes) (reads : List IniLine) → FirstBadOf bad n section bytes → AreLines section bytes reads → ⊥
+bad_lines bad n section [] reads w p = absurd w
+bad_lines bad n section (x ∷ xs) [] w p = absurd p
+bad_lines bad n section (x ∷ xs) (y ∷ ys) (inl w) p = w.1 y p.0
+bad_lines bad n section (x ∷ xs) (y ∷ ys) (inr w) p =
+    let same : w.0.meaning ≡ y.meaning = line_same x w.0.meaning y.meaning w.1.means p.0.means in
+    let more : FirstBadOf bad (suc n) (section_behind section y.meaning) xs = subst (λ (m : LineMeaning). FirstBadOf bad (suc n) (section_behind section m) xs) same w.2 in
+    bad_lines bad (suc n) (section_behind section y.meaning) xs ys more p.1
+
+pub bad_text : (bad : ℕ) (bytes : Bytes) (reads : List IniLine) → FirstBad bad bytes → IsIniText bytes reads → ⊥
+bad_text bad bytes reads w p = bad_lines bad 1 None (lines_of_ini bytes) reads w p.lines

@@ -86,7 +86,7 @@ pub record IsEdited (edit : Edit) (edited : List IniLine) : Type 0 where
 -- this text, or want of memory
 abbrev pub AnswersEdit : List IniLine → Result (List IniLine) EditError → Type 0
 AnswersEdit lines (Ok edited) = edited ≡ lines
-AnswersEdit lines (Err errors.NoMemory) = Unit {0}
+AnswersEdit lines (Err (errors.NoMemory _)) = Unit {0}
 AnswersEdit lines (Err errors.TooLarge) = ⊥
 AnswersEdit lines (Err errors.NoSuchLine) = ⊥
 AnswersEdit lines (Err (errors.IniSyntax line)) = ⊥
@@ -113,7 +113,7 @@ abbrev pub RefusesBytes : Bytes → EditError → Type 0
 RefusesBytes bytes errors.TooLarge = ⊥
 RefusesBytes bytes errors.NoSuchLine = ⊥
 RefusesBytes bytes (errors.IniSyntax bad) = FirstBad bad bytes
-RefusesBytes bytes errors.NoMemory = Unit {0}
+RefusesBytes bytes (errors.NoMemory _) = Unit {0}
 
 -- what comes of an edit that has this refusal, or else whose changed text is read
 abbrev pub RefusedBy : Option EditError → Bytes → Result (List IniLine) EditError → Type 0

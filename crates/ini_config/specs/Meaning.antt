@@ -136,7 +136,7 @@ FirstBad bad bytes = FirstBadOf bad 1 None (lines_of_ini bytes)
 -- What was read of the lines of a text, or why it was refused.
 abbrev pub Settles : List Bytes → Result (List IniLine) IniError → Type 0
 Settles bytes (Ok reads) = Tells (AreLines None bytes) (Some reads)
-Settles bytes (Err errors.NoMemory) = Unit {0}
+Settles bytes (Err (errors.NoMemory _)) = Unit {0}
 Settles bytes (Err errors.TooLarge) = ⊥
 Settles bytes (Err (errors.IniSyntax bad)) = FirstBadOf bad 1 None bytes × Tells (AreLines None bytes) None
 
@@ -144,7 +144,7 @@ Settles bytes (Err (errors.IniSyntax bad)) = FirstBadOf bad 1 None bytes × Tell
 abbrev pub SettlesLine : Option Bytes → Bytes → ℕ → List IniLine → List IniLine → Result (Unit {0}) IniError → Type 0
 SettlesLine section bytes number before behind (Ok done) =
     (read : IniLine) × Tells (IsIniLine section bytes) (Some read) × (behind ≡ before ++ read ∷ [])
-SettlesLine section bytes number before behind (Err errors.NoMemory) = Unit {0}
+SettlesLine section bytes number before behind (Err (errors.NoMemory _)) = Unit {0}
 SettlesLine section bytes number before behind (Err errors.TooLarge) = ⊥
 SettlesLine section bytes number before behind (Err (errors.IniSyntax bad)) =
     (bad ≡ number) × Tells (IsIniLine section bytes) None
@@ -152,12 +152,12 @@ SettlesLine section bytes number before behind (Err (errors.IniSyntax bad)) =
 -- this value, or want of memory
 abbrev pub Answers : {X : Type 0} → X → Result X IniError → Type 0
 Answers x (Ok found) = found ≡ x
-Answers x (Err errors.NoMemory) = Unit {0}
+Answers x (Err (errors.NoMemory _)) = Unit {0}
 Answers x (Err errors.TooLarge) = ⊥
 Answers x (Err (errors.IniSyntax line)) = ⊥
 
 -- Each refusal but want of memory has its reason.
 abbrev pub Explains : Bytes → IniError → Type 0
-Explains bytes errors.NoMemory = Unit {0}
+Explains bytes (errors.NoMemory _) = Unit {0}
 Explains bytes errors.TooLarge = max_length < length bytes
 Explains bytes (errors.IniSyntax line) = (length bytes ≤ max_length) × FirstBad line bytes

@@ -108,11 +108,11 @@ abbrev pub RefusesChain : List IniLine → Bytes → ChainError → Type 0
 RefusesChain lines config errors.NoSuchConfig = is_section config lines ≡ false
 RefusesChain lines config errors.ChainFault =
     (is_section config lines ≡ true) × ((chain : List Bytes) → IsChain lines config chain → ⊥)
-RefusesChain lines config errors.NoMemory = Unit {0}
+RefusesChain lines config (errors.NoMemory _) = Unit {0}
 
 -- this chain, or want of memory
 abbrev pub AnswersChain : List Bytes → Result (List Bytes) ChainError → Type 0
 AnswersChain chain (Ok found) = found ≡ chain
-AnswersChain chain (Err errors.NoMemory) = Unit {0}
+AnswersChain chain (Err (errors.NoMemory _)) = Unit {0}
 AnswersChain chain (Err errors.NoSuchConfig) = ⊥
 AnswersChain chain (Err errors.ChainFault) = ⊥

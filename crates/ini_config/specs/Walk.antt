@@ -47,11 +47,11 @@ abbrev pub SettlesWalk : List IniLine → Bytes → Result (List Bytes) ChainErr
 SettlesWalk lines config (Ok walked) = (more : List Bytes) × (walked ≡ config ∷ more) × AreAncestors lines config more
 SettlesWalk lines config (Err errors.ChainFault) = (more : List Bytes) → AreAncestors lines config more → ⊥
 SettlesWalk lines config (Err errors.NoSuchConfig) = ⊥
-SettlesWalk lines config (Err errors.NoMemory) = Unit {0}
+SettlesWalk lines config (Err (errors.NoMemory _)) = Unit {0}
 
 -- the chain of a configuration that is there, or why there is none
 abbrev pub SettlesChain : List IniLine → Bytes → Result (List Bytes) ChainError → Type 0
 SettlesChain lines config (Ok chain) = IsChain lines config chain
 SettlesChain lines config (Err errors.ChainFault) = (chain : List Bytes) → IsChain lines config chain → ⊥
 SettlesChain lines config (Err errors.NoSuchConfig) = ⊥
-SettlesChain lines config (Err errors.NoMemory) = Unit {0}
+SettlesChain lines config (Err (errors.NoMemory _)) = Unit {0}

@@ -166,7 +166,7 @@ fn reread(alloc: Global, bytes: &[u8]) -> Result<IniText, EditError>
         Ok(text) => Ok(text),
         Err(IniError::IniSyntax(line)) => Err(EditError::IniSyntax(line)),
         Err(IniError::TooLarge) => Err(EditError::TooLarge),
-        Err(IniError::NoMemory) => Err(EditError::NoMemory),
+        Err(IniError::NoMemory(error)) => Err(EditError::NoMemory(error)),
     }
 }
 

@@ -1,8 +1,10 @@
 //! Why an ini text is refused.
 
 ghost use Rattle.std.specs.Prelude.{◌≡◌};
+ghost use Rattle.sim_values.specs.Memory.{no_memory};
 ghost use Rattle.ini_config.specs.declared.error.IniError.TheVariants as errors;
 
+use sim_values::NoMemory;
 use std::alloc::AllocError;
 use thiserror::Error;
 
@@ -17,14 +19,14 @@ pub enum IniError {
     TooLarge,
     /// Memory ran out.
     #[error("out of memory")]
-    NoMemory,
+    NoMemory(NoMemory),
 }
 
 impl From<AllocError> for IniError {
-    ghost from_gives = { λ _ e. e ≡ errors.NoMemory };
+    ghost from_gives = { λ _ e. e ≡ errors.NoMemory no_memory };
 
-    fn from(_e: AllocError) -> IniError {
-        IniError::NoMemory
+    fn from(error: AllocError) -> IniError {
+        IniError::NoMemory(error.into())
     }
 }
 
@@ -44,16 +46,16 @@ pub enum EditError {
     IniSyntax(usize),
     /// Memory ran out.
     #[error("out of memory")]
-    NoMemory,
+    NoMemory(NoMemory),
 }
 
 impl From<AllocError> for EditError {
     ghost use Rattle.ini_config.specs.declared.error.EditError.TheVariants as refusals;
 
-    ghost from_gives = { λ _ e. e ≡ refusals.NoMemory };
+    ghost from_gives = { λ _ e. e ≡ refusals.NoMemory no_memory };
 
-    fn from(_e: AllocError) -> EditError {
-        EditError::NoMemory
+    fn from(error: AllocError) -> EditError {
+        EditError::NoMemory(error.into())
     }
 }
 
@@ -68,15 +70,15 @@ pub enum ChainError {
     ChainFault,
     /// Memory ran out.
     #[error("out of memory")]
-    NoMemory,
+    NoMemory(NoMemory),
 }
 
 impl From<AllocError> for ChainError {
     ghost use Rattle.ini_config.specs.declared.error.ChainError.TheVariants as faults;
 
-    ghost from_gives = { λ _ e. e ≡ faults.NoMemory };
+    ghost from_gives = { λ _ e. e ≡ faults.NoMemory no_memory };
 
-    fn from(_e: AllocError) -> ChainError {
-        ChainError::NoMemory
+    fn from(error: AllocError) -> ChainError {
+        ChainError::NoMemory(error.into())
     }
 }

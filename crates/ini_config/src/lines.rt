@@ -49,7 +49,7 @@ impl IniText {
     ghost use Rattle.std.specs.Prelude.{◌≡◌};
 
     /// The text of these lines.
-    pub(crate) fn of_lines(lines: Items<IniLine>) -> IniText
+    pub fn of_lines(lines: Items<IniLine>) -> IniText
         ensures { result ≡ lines }
     {
         IniText { lines }

@@ -30,7 +30,7 @@ fn key_pattern(alloc: Global, key: &[u8]) -> Result<Option<Pattern>, AllocError>
     match Pattern::parse(alloc, text) {
         Ok(pattern) => Ok(Some(pattern)),
         Err(PatternFault::BadPattern) => Ok(None),
-        Err(PatternFault::NoMemory) => Err(AllocError),
+        Err(PatternFault::NoMemory(error)) => Err(error.error()),
     }
 }
 
@@ -51,7 +51,7 @@ fn entry_value(alloc: Global, bytes: &[u8]) -> Result<Option<EntryValue>, AllocE
     }
     match parse_expression(alloc, bytes) {
         Ok(expression) => Ok(Some(EntryValue::Given(expression))),
-        Err(NedError::NoMemory) => Err(AllocError),
+        Err(NedError::NoMemory(error)) => Err(error.error()),
         Err(_) => Ok(None),
     }
 }

@@ -71,7 +71,7 @@ pub(crate) fn time_limit(alloc: Global, bytes: &[u8]) -> Result<Option<u64>, All
 {
     match parse_expression(alloc, bytes) {
         Ok(expression) => Ok(time_said(&expression)),
-        Err(NedError::NoMemory) => Err(AllocError),
+        Err(NedError::NoMemory(error)) => Err(error.error()),
         Err(_) => Ok(None),
     }
 }

@@ -277,4 +277,4 @@ braced_no_set t o e found = rw (e, found) refl
 
 pub kept_fault : (P Q : Type 0) (e : PatternFault) → (P → Q) → OnBadPattern P e → OnBadPattern Q e
 kept_fault P Q BadPattern f h = f h
-kept_fault P Q NoMemory f h = tt
+kept_fault P Q (NoMemory _) f h = tt

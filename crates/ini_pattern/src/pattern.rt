@@ -9,6 +9,7 @@ ghost use Rattle.ini_pattern.specs.PatternOf.{pattern_of};
 use crate::matching::matches_pieces;
 use crate::parse::parse_pieces;
 use crate::piece::{Piece, copy_pieces};
+use sim_values::NoMemory;
 use sqlite_items::Items;
 use std::alloc::{AllocError, AllocFailed, Global};
 use std::marker::Model;
@@ -23,17 +24,18 @@ pub enum PatternFault {
     BadPattern,
     /// Memory ran out.
     #[error("out of memory")]
-    NoMemory,
+    NoMemory(NoMemory),
 }
 
 impl From<AllocError> for PatternFault {
     ghost use Rattle.std.specs.Prelude.{◌≡◌};
+    ghost use Rattle.sim_values.specs.Memory.{no_memory};
     ghost use Rattle.ini_pattern.specs.declared.pattern.PatternFault.TheVariants.{NoMemory};
 
-    ghost from_gives = { λ _ e. e ≡ NoMemory };
+    ghost from_gives = { λ _ e. e ≡ NoMemory no_memory };
 
-    fn from(_e: AllocError) -> PatternFault {
-        PatternFault::NoMemory
+    fn from(error: AllocError) -> PatternFault {
+        PatternFault::NoMemory(error.into())
     }
 }
 

@@ -16,13 +16,13 @@ IsNedFile bytes declared = Means file bytes declared
 
 -- Each refusal but want of memory has its reason.
 abbrev pub ExplainsFile : List ℕ → NedError → Type 0
-ExplainsFile bytes errors.NoMemory = Unit {0}
+ExplainsFile bytes (errors.NoMemory _) = Unit {0}
 ExplainsFile bytes errors.TooLarge = suc max_length ≤ length bytes
 ExplainsFile bytes (errors.NedSyntax line) = MayBlame file bytes line
 
 -- A line that is named is that of the first token that can't go on; where the tokens ran out, that of the last byte.
 abbrev pub NamesFirstOfFile : List ℕ → NedError → Type 0
-NamesFirstOfFile bytes errors.NoMemory = Unit {0}
+NamesFirstOfFile bytes (errors.NoMemory _) = Unit {0}
 NamesFirstOfFile bytes errors.TooLarge = Unit {0}
 NamesFirstOfFile bytes (errors.NedSyntax line) = IsFirstBadLine file bytes line
 

@@ -34,7 +34,7 @@ pub fn parse_ned(alloc: Global, bytes: &[u8]) -> Result<NedFile, NedError>
     let list = tokenize(alloc, bytes)?;
     match whole_file(alloc, list.tokens.as_slice()) {
         Ok(file) => Ok(file),
-        Err(Refusal::Memory) => Err(NedError::NoMemory),
+        Err(Refusal::Memory(error)) => Err(NedError::NoMemory(error)),
         Err(Refusal::At(left)) => Err(NedError::NedSyntax(blamed_line(
             bytes,
             list.lines.as_slice(),
@@ -50,6 +50,6 @@ pub fn tokens_left(alloc: Global, tokens: &[Token]) -> Result<Option<usize>, All
     match whole_file(alloc, tokens) {
         Ok(_) => Ok(None),
         Err(Refusal::At(left)) => Ok(Some(left)),
-        Err(Refusal::Memory) => Err(AllocError),
+        Err(Refusal::Memory(error)) => Err(error.error()),
     }
 }

@@ -23,7 +23,7 @@ module _ {X : Type 0} (r : Rule X) (lr : Lawful r) (full : r.empty ≡ false) wh
       sym one ∙ so_far
 
   pub fails : (e : Refusal) (front : List X) (ts : List Token) (total : Reading (List X)) → begins r.starts ts ≡ true → Fails e (r.read ts) → with_front front ((many r).read ts) ≡ total → Fails e total
-  fails Memory front ts total begun read so_far = tt
+  fails (Memory _) front ts total begun read so_far = tt
   fails (At n) front ts total begun read so_far =
       let one : with_front front ((many r).read ts) ≡ Err n = rw (many_goes_on r lr full ts begun, read) refl in
       sym so_far ∙ one
@@ -49,7 +49,7 @@ module _ {X : Type 0} (r : Rule X) (lr : Lawful r) (full : r.empty ≡ false) wh
       sym one ∙ so_far
 
   pub skip_fails : (e : Refusal) (ts : List Token) (total : Reading (Unit {0})) → begins r.starts ts ≡ true → Fails e (r.read ts) → skipped ((many r).read ts) ≡ total → Fails e total
-  skip_fails Memory ts total begun read so_far = tt
+  skip_fails (Memory _) ts total begun read so_far = tt
   skip_fails (At n) ts total begun read so_far =
       let one : skipped ((many r).read ts) ≡ Err n = rw (many_goes_on r lr full ts begun, read) refl in
       sym so_far ∙ one
@@ -78,7 +78,7 @@ module _ {O X : Type 0} (f : O → X → X → X) (op : Rule O) (operand : Rule 
       go (Err n) = refl
 
   pub left_first_fails : (e : Refusal) (ts : List Token) → Fails e (operand.read ts) → Fails e ((left f op operand).read ts)
-  left_first_fails Memory ts h = tt
+  left_first_fails (Memory _) ts h = tt
   left_first_fails (At n) ts h = rw h refl
 
   module _ (lawful : Lawful (op ⊗ operand)) (full : (op ⊗ operand).empty ≡ false) where
@@ -88,7 +88,7 @@ module _ {O X : Type 0} (f : O → X → X → X) (op : Rule O) (operand : Rule 
         sym one ∙ so_far
 
     pub left_fails : (e : Refusal) (x : X) (ts : List Token) (total : Reading X) → begins (op ⊗ operand).starts ts ≡ true → Fails e ((op ⊗ operand).read ts) → with_left f x ((many (op ⊗ operand)).read ts) ≡ total → Fails e total
-    left_fails Memory x ts total begun read so_far = tt
+    left_fails (Memory _) x ts total begun read so_far = tt
     left_fails (At n) x ts total begun read so_far =
         let one : with_left f x ((many (op ⊗ operand)).read ts) ≡ Err n = ap (with_left f x) (many_goes_on (op ⊗ operand) lawful full ts begun ∙ ap (λ (r : Reading (O × X)). r >>= others (op ⊗ operand) lawful full) read) in
         sym so_far ∙ one

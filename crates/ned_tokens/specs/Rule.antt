@@ -165,7 +165,7 @@ left f op operand = made (λ p. fold_left f p.0 p.1) (operand ⊗ many (op ⊗ o
 
 -- why nothing was read: memory ran out, or this many tokens are left at the first that can't go on
 abbrev pub Fails : {Y : Type 0} → Refusal → Result Y ℕ → Type 0
-Fails Memory read = Unit {0}
+Fails (Memory _) read = Unit {0}
 Fails (At n) read = read ≡ Err n
 
 -- What a function returned is what the rule reads, unless memory ran out.

@@ -156,13 +156,13 @@ fault_of types =
 -- the answer to these types: all of them, or their first fault; or memory ran out
 abbrev pub Builds : List TypeDeclaration → Result (List TypeDeclaration) TypeFault → Type 0
 Builds types (Ok table) = (table ≡ types) × (fault_of types ≡ None)
-Builds types (Err NoMemory) = Unit {0}
+Builds types (Err (NoMemory _)) = Unit {0}
 Builds types (Err fault) = fault_of types ≡ Some fault
 
 -- this table, or want of memory
 abbrev pub AnswersTable : List TypeDeclaration → Result (List TypeDeclaration) TypeFault → Type 0
 AnswersTable types (Ok table) = table ≡ types
-AnswersTable types (Err NoMemory) = Unit {0}
+AnswersTable types (Err (NoMemory _)) = Unit {0}
 AnswersTable types (Err DuplicateType) = ⊥
 AnswersTable types (Err UnknownType) = ⊥
 AnswersTable types (Err KindClash) = ⊥

@@ -27,17 +27,18 @@ pub enum TypeFault {
     #[error("KindClash")]
     KindClash,
     #[error("NoMemory")]
-    NoMemory,
+    NoMemory(NoMemory),
 }
 
 impl From<AllocError> for TypeFault {
     ghost use Rattle.std.specs.Prelude.{◌≡◌};
+    ghost use Rattle.sim_values.specs.Memory.{no_memory};
     ghost use Rattle.ned_types.specs.declared.table.TypeFault.TheVariants.{NoMemory};
 
-    ghost from_gives = { λ _ e. e ≡ NoMemory };
+    ghost from_gives = { λ _ e. e ≡ NoMemory no_memory };
 
-    fn from(_e: AllocError) -> TypeFault {
-        TypeFault::NoMemory
+    fn from(error: AllocError) -> TypeFault {
+        TypeFault::NoMemory(error.into())
     }
 }
 

@@ -13,20 +13,20 @@ IsExpressionText bytes e = Means expression bytes e
 
 -- Each refusal but want of memory has its reason.
 abbrev pub ExplainsExpression : List ℕ → NedError → Type 0
-ExplainsExpression bytes errors.NoMemory = Unit {0}
+ExplainsExpression bytes (errors.NoMemory _) = Unit {0}
 ExplainsExpression bytes errors.TooLarge = suc max_length ≤ length bytes
 ExplainsExpression bytes (errors.NedSyntax line) = MayBlame expression bytes line
 
 -- A line that is named is that of the first token that can't go on; where the tokens ran out, that of the last byte.
 abbrev pub NamesFirstOfExpression : List ℕ → NedError → Type 0
-NamesFirstOfExpression bytes errors.NoMemory = Unit {0}
+NamesFirstOfExpression bytes (errors.NoMemory _) = Unit {0}
 NamesFirstOfExpression bytes errors.TooLarge = Unit {0}
 NamesFirstOfExpression bytes (errors.NedSyntax line) = IsFirstBadLine expression bytes line
 
 -- this value, or want of memory
 abbrev pub Answers : {X : Type 0} → X → Result X NedError → Type 0
 Answers x (Ok found) = found ≡ x
-Answers x (Err errors.NoMemory) = Unit {0}
+Answers x (Err (errors.NoMemory _)) = Unit {0}
 Answers x (Err errors.TooLarge) = ⊥
 Answers x (Err (errors.NedSyntax line)) = ⊥
 

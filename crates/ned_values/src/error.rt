@@ -1,8 +1,10 @@
 //! Why a text is refused.
 
 ghost use Rattle.std.specs.Prelude.{◌≡◌};
+ghost use Rattle.sim_values.specs.Memory.{no_memory};
 ghost use Rattle.ned_values.specs.declared.error.NedError.TheVariants as errors;
 
+use sim_values::NoMemory;
 use std::alloc::AllocError;
 use thiserror::Error;
 
@@ -17,13 +19,13 @@ pub enum NedError {
     TooLarge,
     /// Memory ran out.
     #[error("out of memory")]
-    NoMemory,
+    NoMemory(NoMemory),
 }
 
 impl From<AllocError> for NedError {
-    ghost from_gives = { λ _ e. e ≡ errors.NoMemory };
+    ghost from_gives = { λ _ e. e ≡ errors.NoMemory no_memory };
 
-    fn from(_e: AllocError) -> NedError {
-        NedError::NoMemory
+    fn from(error: AllocError) -> NedError {
+        NedError::NoMemory(error.into())
     }
 }

@@ -33,7 +33,7 @@ pub fn parse_expression(alloc: Global, bytes: &[u8]) -> Result<Expression, NedEr
     let list = tokenize(alloc, bytes)?;
     match whole_expression(alloc, list.tokens.as_slice()) {
         Ok(expression) => Ok(expression),
-        Err(Refusal::Memory) => Err(NedError::NoMemory),
+        Err(Refusal::Memory(error)) => Err(NedError::NoMemory(error)),
         Err(Refusal::At(left)) => Err(NedError::NedSyntax(blamed_line(
             bytes,
             list.lines.as_slice(),

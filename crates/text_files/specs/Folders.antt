@@ -13,4 +13,4 @@ AreTextsOf Gave (path ∷ paths) (text ∷ texts) = Gave (string_bytes path) tex
 -- the file that can't be read is one of so many
 abbrev pub IsWithin : ℕ → FolderFault → Type 0
 IsWithin count (faults.Failed number error) = number < count
-IsWithin count faults.NoMemory = Unit {0}
+IsWithin count (faults.NoMemory _) = Unit {0}

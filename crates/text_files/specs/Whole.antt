@@ -24,4 +24,4 @@ pub record IsMore (given : List ℕ) (ends : ℕ) (text : List ℕ) (given' : Li
 -- why a text isn't read: the source failed, once; or memory ran out, and the source did not fail
 abbrev pub Explains : ℕ → ℕ → ReadFault → Type 0
 Explains failures failures' (faults.Failed error) = failures' ≡ one_more failures
-Explains failures failures' faults.NoMemory = failures' ≡ failures
+Explains failures failures' (faults.NoMemory _) = failures' ≡ failures

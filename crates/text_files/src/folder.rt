@@ -1,10 +1,12 @@
 //! Texts by the paths of their files.
 
 ghost use Rattle.std.specs.Prelude.{◌≡◌, ℕ, List, [], ◌∷◌, ◌++◌, length, IfOk, IfErr, OnOk};
+ghost use Rattle.sim_values.specs.Memory.{no_memory};
 ghost use Rattle.text_files.specs.Folders.{AreTextsOf, IsWithin};
 
 use crate::reading::ReadFault;
 use ned_syntax::texts::NedTexts;
+use sim_values::NoMemory;
 use std::alloc::Global;
 use std::io;
 
@@ -24,7 +26,7 @@ pub enum FolderFault {
     /// The file of that path, counted from 0, can't be read.
     Failed(usize, io::Error),
     /// Memory ran out.
-    NoMemory,
+    NoMemory(NoMemory),
 }
 
 /// The texts of the files of these paths, in their order.
@@ -41,7 +43,7 @@ pub fn read_texts<F: Folder>(
         match folder.text_of(alloc, path.as_str()) {
             Ok(text) => push(&mut texts, text.as_slice())?,
             Err(ReadFault::Failed(error)) => return Err(FolderFault::Failed(number, error)),
-            Err(ReadFault::NoMemory) => return Err(FolderFault::NoMemory),
+            Err(ReadFault::NoMemory(error)) => return Err(FolderFault::NoMemory(error)),
         }
     }
     Ok(texts)
@@ -50,10 +52,10 @@ pub fn read_texts<F: Folder>(
 /// Adds a text at the end.
 fn push(texts: &mut NedTexts, text: &[u8]) -> Result<(), FolderFault>
     ensures ok { OnOk result (texts.new ≡ texts.old ++ text.now ∷ []) }
-    ensures err { IfErr result (λ fault. fault ≡ FolderFault.NoMemory) }
+    ensures err { IfErr result (λ fault. fault ≡ FolderFault.NoMemory no_memory) }
 {
     match texts.push(text) {
         Ok(()) => Ok(()),
-        Err(_) => Err(FolderFault::NoMemory),
+        Err(error) => Err(FolderFault::NoMemory(error.into())),
     }
 }

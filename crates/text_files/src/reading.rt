@@ -5,6 +5,7 @@ ghost use Rattle.text_files.specs.Given.{most};
 ghost use Rattle.text_files.specs.Whole.{Explains, IsMore, IsWhole};
 
 use crate::source::Source;
+use sim_values::NoMemory;
 use std::alloc::Global;
 use std::io;
 
@@ -21,7 +22,7 @@ pub enum ReadFault {
     /// The source failed.
     Failed(io::Error),
     /// Memory ran out.
-    NoMemory,
+    NoMemory(NoMemory),
 }
 
 /// Reads once, and adds what the source gives at the end of the text. Answers how many bytes that was.
@@ -37,7 +38,7 @@ fn read_part<S: Source>(source: &mut S, text: &mut Vec<u8>) -> Result<usize, Rea
     match source.read(&mut chunk[..wanted]) {
         Ok(count) => match text.extend_from_slice(&chunk[..count]) {
             Ok(()) => Ok(count),
-            Err(_) => Err(ReadFault::NoMemory),
+            Err(error) => Err(ReadFault::NoMemory(error.into())),
         },
         Err(error) => Err(ReadFault::Failed(error)),
     }
