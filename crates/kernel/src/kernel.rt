@@ -69,7 +69,8 @@ impl<C: Catalogue> Kernel<C> {
 
     /// The modules that were created.
     pub fn records(&self) -> &[Record]
-        ensures { result.now ≡ (world_in SimpleModule-box self.now).records }
+        ensures records { result.now ≡ (world_in SimpleModule-box self.now).records }
+        ensures few { length result.now < 2 ^ 32 }
     {
         self.core.records()
     }

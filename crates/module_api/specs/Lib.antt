@@ -1,4 +1,5 @@
-pub mod Values
 pub mod Behaviour
 pub mod Laws
 pub mod Meaning
+pub mod Prompts
+pub mod Values

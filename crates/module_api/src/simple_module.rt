@@ -2,6 +2,7 @@
 
 ghost use Rattle.std.specs.Prelude.{◌≡◌};
 ghost use Rattle.module_api.specs.Meaning.{Module, IsSameModule, Answered};
+ghost use Rattle.module_api.specs.Prompts.{IsInitialize, IsMessage, IsFinish};
 
 use crate::call::Call;
 use crate::reply::Reply;
@@ -24,16 +25,19 @@ pub trait SimpleModule: Drop {
 
     /// Initializes it, at the stage that the call names. After NoMemory nothing is known of its state.
     fn initialize(&mut self, alloc: Global, call: &Call) -> Result<Reply, NoMemory>
+        requires prompt { IsInitialize call.now.prompt }
         ensures answered { Answered (meaning self.old) call.now result (meaning self.new) }
         ensures same { IsSameModule (meaning self.old) (meaning self.new) };
 
     /// Hands it the message of the call. After NoMemory nothing is known of its state.
     fn handle_message(&mut self, alloc: Global, call: &Call) -> Result<Reply, NoMemory>
+        requires prompt { IsMessage call.now.prompt }
         ensures answered { Answered (meaning self.old) call.now result (meaning self.new) }
         ensures same { IsSameModule (meaning self.old) (meaning self.new) };
 
     /// Tells it that the run is over. After NoMemory nothing is known of its state.
     fn finish(&mut self, alloc: Global, call: &Call) -> Result<Reply, NoMemory>
+        requires prompt { IsFinish call.now.prompt }
         ensures answered { Answered (meaning self.old) call.now result (meaning self.new) }
         ensures same { IsSameModule (meaning self.old) (meaning self.new) };
 }
