@@ -2,6 +2,5 @@
 #![tactic(auto)]
 
 pub mod answers;
-pub mod buffer;
 pub mod commands;
 pub mod desk;

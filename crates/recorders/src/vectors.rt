@@ -1,6 +1,6 @@
 //! Which vectors a run records.
 
-ghost use Rattle.std.specs.Prelude.{◌≡◌, [], ◌∷◌, ◌++◌, IfOk, OnOk};
+ghost use Rattle.std.specs.Prelude.{◌≡◌, ◌<◌, ◌^◌, [], ◌∷◌, ◌++◌, IfOk, OnOk, length};
 ghost use Rattle.recorders.specs.Vectors.{vector_of, hears_any, vectors_among, vectors_at, vectors_of};
 
 use crate::hearing::hears;
@@ -109,7 +109,6 @@ fn push_vectors_at(
 
 /// The vectors that a run records, with the modules of these records and these emissions: all that
 /// the options let be recorded and that hear at least one value, by rising id of the module, then in the order of its type's statistics.
-/// More modules than ids of 32 bits are told as want of memory.
 /// See OMNeT++ Simulation Manual, "Result Recording".
 pub fn vectors(
     alloc: Global,
@@ -117,13 +116,12 @@ pub fn vectors(
     records: &[Record],
     emissions: &[Emission],
 ) -> Result<Items<VectorLine>, NoMemory>
+    requires few { length records.now < 2 ^ 32 }
     ensures { IfOk result (λ found. found ≡ vectors_of model.now records.now emissions.now) }
 {
     let mut found = Items::new(alloc);
     for (index, _record) in records.iter().enumerate() {
-        let Ok(id) = u32::try_from(index + 1) else {
-            return Err(NoMemory);
-        };
+        let id = index as u32 + 1;
         push_vectors_at(&mut found, alloc, model, records, emissions, id)?;
     }
     Ok(found)

@@ -8,3 +8,8 @@ one_more failures = (failures + 1) % 2 ^ 64
 -- the count after a write that took so many of the bytes: to take none of some bytes is a failure
 abbrev pub failures_after : ℕ → List ℕ → ℕ → ℕ
 failures_after n bytes failures = if n == 0 && nat_lt 0 (length bytes) then one_more failures else failures
+
+-- what a device took: its bytes, and how many of its writes failed, or took none of some bytes
+pub record Taken : Type 0 where
+  pub bytes : List ℕ
+  pub failures : ℕ

@@ -1,6 +1,7 @@
 //! The bytes of a result file.
 #![tactic(auto)]
 
+pub mod buffer;
 pub mod header;
 mod lines;
 mod progress;

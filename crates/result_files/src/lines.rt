@@ -19,7 +19,7 @@ fn put_vector_line<O: Out>(
     vector: &VectorLine,
 ) -> Progress
     requires { written_in progress < 2 ^ 125 }
-    ensures adds { Adds progress (O.content out.old) (O.failures out.old) result (O.content out.new) (O.failures out.new) (vector_line number vector.now) }
+    ensures adds { Adds progress (O.taken out.old) result (O.taken out.new) (vector_line number vector.now) }
     ensures short { written_in result ≤ written_in progress + 2 ^ 65 }
 {
     let progress = put(out, progress, b"vector ");
@@ -32,7 +32,7 @@ fn put_vector_line<O: Out>(
 /// Writes the lines that declare the vectors, numbered from 0.
 pub fn put_vector_lines<O: Out>(out: &mut O, progress: Progress, vectors: &[VectorLine]) -> Progress
     requires { written_in progress < 2 ^ 65 }
-    ensures adds { Adds progress (O.content out.old) (O.failures out.old) result (O.content out.new) (O.failures out.new) (vector_lines 0 vectors.now) }
+    ensures adds { Adds progress (O.taken out.old) result (O.taken out.new) (vector_lines 0 vectors.now) }
     ensures short { written_in result ≤ written_in progress + 2 ^ 122 }
 {
     let mut progress = progress;
@@ -50,7 +50,7 @@ fn put_data_line<O: Out>(
     emission: &Emission,
 ) -> Progress
     requires { written_in progress < 2 ^ 125 }
-    ensures adds { Adds progress (O.content out.old) (O.failures out.old) result (O.content out.new) (O.failures out.new) (data_line number emission.now) }
+    ensures adds { Adds progress (O.taken out.old) result (O.taken out.new) (data_line number emission.now) }
     ensures short { written_in result ≤ written_in progress + 256 }
 {
     let progress = put_number(out, progress, number, b'\t');
@@ -69,7 +69,7 @@ fn put_heard_line<O: Out>(
     vector: &VectorLine,
 ) -> Progress
     requires { written_in progress < 2 ^ 125 }
-    ensures adds { Adds progress (O.content out.old) (O.failures out.old) result (O.content out.new) (O.failures out.new) (heard_line records.now emission.now number vector.now) }
+    ensures adds { Adds progress (O.taken out.old) result (O.taken out.new) (heard_line records.now emission.now number vector.now) }
     ensures short { written_in result ≤ written_in progress + 256 }
 {
     if hears(records, vector, emission) {
@@ -88,7 +88,7 @@ fn put_heard_lines<O: Out>(
     vectors: &[VectorLine],
 ) -> Progress
     requires { written_in progress < 2 ^ 124 }
-    ensures adds { Adds progress (O.content out.old) (O.failures out.old) result (O.content out.new) (O.failures out.new) (heard_lines records.now emission.now 0 vectors.now) }
+    ensures adds { Adds progress (O.taken out.old) result (O.taken out.new) (heard_lines records.now emission.now 0 vectors.now) }
     ensures short { written_in result ≤ written_in progress + 2 ^ 65 }
 {
     let mut progress = progress;
@@ -107,7 +107,7 @@ pub fn put_data_lines<O: Out>(
     emissions: &[Emission],
 ) -> Progress
     requires { written_in progress < 2 ^ 123 }
-    ensures { Adds progress (O.content out.old) (O.failures out.old) result (O.content out.new) (O.failures out.new) (data_lines records.now vectors.now emissions.now) }
+    ensures { Adds progress (O.taken out.old) result (O.taken out.new) (data_lines records.now vectors.now emissions.now) }
 {
     let mut progress = progress;
     for emission in emissions {

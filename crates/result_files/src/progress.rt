@@ -22,7 +22,7 @@ pub enum Progress {
 /// Writes a piece of a text that stands after so many bytes.
 fn put_all<O: Out>(out: &mut O, before: u128, piece: &[u8]) -> Progress
     requires { before < 2 ^ 127 }
-    ensures { Adds (Progress.Whole before) (O.content out.old) (O.failures out.old) result (O.content out.new) (O.failures out.new) piece.now }
+    ensures { Adds (Progress.Whole before) (O.taken out.old) result (O.taken out.new) piece.now }
 {
     let mut sent = 0;
     while sent < piece.len() {
@@ -37,7 +37,7 @@ fn put_all<O: Out>(out: &mut O, before: u128, piece: &[u8]) -> Progress
 /// Writes a piece of a text, unless the device failed before.
 pub fn put<O: Out>(out: &mut O, progress: Progress, piece: &[u8]) -> Progress
     requires { written_in progress < 2 ^ 127 }
-    ensures adds { Adds progress (O.content out.old) (O.failures out.old) result (O.content out.new) (O.failures out.new) piece.now }
+    ensures adds { Adds progress (O.taken out.old) result (O.taken out.new) piece.now }
     ensures short { written_in result ≤ written_in progress + length piece.now }
 {
     match progress {
@@ -49,7 +49,7 @@ pub fn put<O: Out>(out: &mut O, progress: Progress, piece: &[u8]) -> Progress
 /// Writes a text and the byte that ends it.
 pub fn put_field<O: Out>(out: &mut O, progress: Progress, text: &[u8], end: u8) -> Progress
     requires { written_in progress < 2 ^ 126 }
-    ensures adds { Adds progress (O.content out.old) (O.failures out.old) result (O.content out.new) (O.failures out.new) (field text.now end) }
+    ensures adds { Adds progress (O.taken out.old) result (O.taken out.new) (field text.now end) }
     ensures short { written_in result ≤ written_in progress + length text.now + 1 }
 {
     let progress = put(out, progress, text);
@@ -59,7 +59,7 @@ pub fn put_field<O: Out>(out: &mut O, progress: Progress, text: &[u8], end: u8) 
 /// Writes a number and the byte that ends it.
 pub fn put_number<O: Out>(out: &mut O, progress: Progress, number: u64, end: u8) -> Progress
     requires { written_in progress < 2 ^ 126 }
-    ensures adds { Adds progress (O.content out.old) (O.failures out.old) result (O.content out.new) (O.failures out.new) (field (decimal number) end) }
+    ensures adds { Adds progress (O.taken out.old) result (O.taken out.new) (field (decimal number) end) }
     ensures short { written_in result ≤ written_in progress + 64 }
 {
     let mut buffer = Buffer::new();
@@ -69,7 +69,7 @@ pub fn put_number<O: Out>(out: &mut O, progress: Progress, number: u64, end: u8)
 /// Writes a number that may be negative and the byte that ends it.
 pub fn put_signed<O: Out>(out: &mut O, progress: Progress, number: i64, end: u8) -> Progress
     requires { written_in progress < 2 ^ 126 }
-    ensures adds { Adds progress (O.content out.old) (O.failures out.old) result (O.content out.new) (O.failures out.new) (field (signed_decimal number) end) }
+    ensures adds { Adds progress (O.taken out.old) result (O.taken out.new) (field (signed_decimal number) end) }
     ensures short { written_in result ≤ written_in progress + 64 }
 {
     let mut buffer = Buffer::new();
@@ -79,7 +79,7 @@ pub fn put_signed<O: Out>(out: &mut O, progress: Progress, number: i64, end: u8)
 /// Writes a time in seconds and the byte that ends it.
 pub fn put_time<O: Out>(out: &mut O, progress: Progress, time: SimTime, end: u8) -> Progress
     requires { written_in progress < 2 ^ 126 }
-    ensures adds { Adds progress (O.content out.old) (O.failures out.old) result (O.content out.new) (O.failures out.new) (field (text_of_time time) end) }
+    ensures adds { Adds progress (O.taken out.old) result (O.taken out.new) (field (text_of_time time) end) }
     ensures short { written_in result ≤ written_in progress + 64 }
 {
     let _ps = time.ps();

@@ -1,6 +1,6 @@
 //! The vector file.
 
-ghost use Rattle.std.specs.Prelude.{◌≡◌, IfOk};
+ghost use Rattle.std.specs.Prelude.{◌≡◌, ◌<◌, ◌^◌, IfOk, length};
 ghost use Rattle.result_files.specs.Written.{IsWritten};
 ghost use Rattle.result_files.specs.VectorText.{vector_text, vector_file_of};
 
@@ -34,6 +34,7 @@ pub fn prepare(
     records: &[Record],
     emissions: &[Emission],
 ) -> Result<VectorFile, NoMemory>
+    requires few { length records.now < 2 ^ 32 }
     ensures { IfOk result (λ file. file ≡ vector_file_of model.now records.now emissions.now) }
 {
     Ok(VectorFile {
@@ -51,7 +52,7 @@ pub fn write_vectors<O: Out>(
     records: &[Record],
     emissions: &[Emission],
 ) -> Result<(), Device>
-    ensures { IsWritten (O.content out.old) (O.failures out.old) (O.content out.new) (O.failures out.new)
+    ensures { IsWritten (O.taken out.old) (O.taken out.new)
         (vector_text file.now.header file.now.vectors records.now emissions.now) result }
 {
     let vectors = file.vectors.as_slice();

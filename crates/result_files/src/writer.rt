@@ -1,28 +1,44 @@
 //! What result files are written to.
 
-ghost use Rattle.std.specs.Prelude.{◌≡◌, ℕ, ◌≤◌, List, ◌++◌, IfOk, OnErr, length, take};
-ghost use Rattle.result_files.specs.Taken.{one_more, failures_after};
+ghost use Rattle.std.specs.Prelude.{◌≡◌, ◌≤◌, ◌++◌, IfOk, OnErr, length, take};
+ghost use Rattle.result_files.specs.Taken.{Taken, one_more, failures_after};
 
-/// A write that failed.
+use std::alloc::AllocError;
+use std::io;
+
+/// A write that failed. Its field is private, so that it is made from what refused the bytes alone: a file or a stream
+/// that failed, or the allocator.
 #[derive(Clone, Copy, Debug, PartialEq, Eq)]
-pub struct WriteFault;
+pub struct WriteFault {
+    seal: (),
+}
+
+impl From<AllocError> for WriteFault {
+    fn from(_e: AllocError) -> WriteFault {
+        WriteFault { seal: () }
+    }
+}
+
+impl From<io::Error> for WriteFault {
+    fn from(_e: io::Error) -> WriteFault {
+        WriteFault { seal: () }
+    }
+}
 
 /// What takes bytes.
 pub trait Out {
-    /// The bytes that it has taken.
-    ghost content: { Self → List ℕ };
-
-    /// How many of its writes failed, or took none of some bytes. The count starts over behind the
-    /// greatest number of 64 bits, so that a device can keep it.
-    ghost failures: { Self → ℕ };
+    /// What it has taken: its bytes, and how many of its writes failed, or took none of some bytes. The count starts over behind
+    /// the greatest number of 64 bits, so that a device can keep it.
+    ghost taken: { Self → Taken };
 
     /// Takes some of the bytes, from the first on, and answers how many.
     fn write(&mut self, bytes: &[u8]) -> Result<usize, WriteFault>
         ensures within { IfOk result (λ n. n ≤ length bytes.now) }
-        ensures taken { IfOk result (λ n. content self.new ≡ content self.old ++ take n bytes.now) }
-        ensures counted { IfOk result (λ n. failures self.new ≡ failures_after n bytes.now (failures self.old)) }
-        ensures unchanged { OnErr result (content self.new ≡ content self.old) }
-        ensures failed { OnErr result (failures self.new ≡ one_more (failures self.old)) };
+        ensures bytes { IfOk result (λ n. (taken self.new).bytes ≡ (taken self.old).bytes ++ take n bytes.now) }
+        ensures counted { IfOk result (λ n. (taken self.new).failures
+            ≡ failures_after n bytes.now (taken self.old).failures) }
+        ensures unchanged { OnErr result ((taken self.new).bytes ≡ (taken self.old).bytes) }
+        ensures failed { OnErr result ((taken self.new).failures ≡ one_more (taken self.old).failures) };
 }
 
 /// The device failed or took nothing, after so many bytes of the text.

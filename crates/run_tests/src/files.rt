@@ -24,15 +24,13 @@ struct Shelf {
 }
 
 impl Out for Shelf {
-    ghost content = { λ shelf. shelf.taken.items };
-
-    ghost failures = { λ shelf. shelf.failures };
+    ghost taken = { λ shelf. record { bytes = shelf.taken.items; failures = shelf.failures } };
 
     fn write(&mut self, bytes: &[u8]) -> Result<usize, WriteFault> {
         let count = bytes.len().min(self.step).min(self.room);
         if count == 0 || self.taken.extend_from_slice(&bytes[..count]).is_err() {
             self.failures = self.failures.wrapping_add(1);
-            return Err(WriteFault);
+            return Err(AllocError.into());
         }
         self.room -= count;
         Ok(count)

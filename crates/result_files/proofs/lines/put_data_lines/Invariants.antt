@@ -6,7 +6,7 @@ use Rattle.result_files.proofs.lines.put_data_lines.Given as goal
 
 abbrev pub invariant-loop-emission : goal.invariant-loop-emission
 invariant-loop-emission g l = record {
-  goes_on : GoesOn l.initial.progress (g.O.Out.content l.fn.out) (g.O.Out.failures l.fn.out) (data_lines l.records l.vectors l.emissions)
-      l.progress (g.O.Out.content l.out) (g.O.Out.failures l.out) (data_lines l.records l.vectors (drop l.emission-index l.emissions));
+  goes_on : GoesOn l.initial.progress (g.O.Out.taken l.fn.out) (data_lines l.records l.vectors l.emissions)
+      l.progress (g.O.Out.taken l.out) (data_lines l.records l.vectors (drop l.emission-index l.emissions));
   short : written_in l.progress ≤ written_in l.initial.progress + 2 ^ 65 * l.emission-index;
 }

@@ -6,7 +6,7 @@ use Rattle.result_files.proofs.lines.put_vector_lines.Given as goal
 
 abbrev pub invariant-loop-number : goal.invariant-loop-number
 invariant-loop-number g l = record {
-  goes_on : GoesOn l.initial.progress (g.O.Out.content l.fn.out) (g.O.Out.failures l.fn.out) (vector_lines 0 l.vectors)
-      l.progress (g.O.Out.content l.out) (g.O.Out.failures l.out) (vector_lines l.number (drop l.number l.vectors));
+  goes_on : GoesOn l.initial.progress (g.O.Out.taken l.fn.out) (vector_lines 0 l.vectors)
+      l.progress (g.O.Out.taken l.out) (vector_lines l.number (drop l.number l.vectors));
   short : written_in l.progress ≤ written_in l.initial.progress + 2 ^ 65 * l.number;
 }

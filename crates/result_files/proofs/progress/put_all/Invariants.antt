@@ -4,8 +4,8 @@ use Rattle.result_files.proofs.progress.put_all.Given as goal
 abbrev pub invariant-loop-sent : goal.invariant-loop-sent
 invariant-loop-sent g l = record {
   within : l.sent ≤ length l.piece;
-  content : g.O.Out.content l.out ≡ g.O.Out.content l.fn.out ++ take l.sent l.piece;
-  failures : g.O.Out.failures l.out ≡ g.O.Out.failures l.fn.out;
+  bytes : (g.O.Out.taken l.out).bytes ≡ (g.O.Out.taken l.fn.out).bytes ++ take l.sent l.piece;
+  failures : (g.O.Out.taken l.out).failures ≡ (g.O.Out.taken l.fn.out).failures;
 }
 
 abbrev pub decreases-loop-sent : goal.decreases-loop-sent

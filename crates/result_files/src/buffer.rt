@@ -2,7 +2,7 @@
 
 ghost use Rattle.std.specs.Prelude.{◌≡◌, []};
 
-use result_files::writer::{Out, WriteFault};
+use crate::writer::{Out, WriteFault};
 use std::alloc::Global;
 use std::marker::Model;
 
@@ -14,9 +14,9 @@ pub struct Buffer {
 }
 
 impl Model for Buffer {
-    ghost use Rattle.desk.specs.Buffers.{Buffered};
+    ghost use Rattle.result_files.specs.Taken.{Taken};
 
-    ghost Value = { Buffered };
+    ghost Value = { Taken };
 
     ghost view = { λ b. record { bytes = b.bytes.items; failures = b.failures } };
 }
@@ -41,15 +41,15 @@ impl Buffer {
 }
 
 impl Out for Buffer {
-    ghost content = { λ buffer. buffer.bytes };
-
-    ghost failures = { λ buffer. buffer.failures };
+    ghost taken = { λ buffer. buffer };
 
     fn write(&mut self, bytes: &[u8]) -> Result<usize, WriteFault> {
-        if self.bytes.extend_from_slice(bytes).is_err() {
-            self.failures = self.failures.wrapping_add(1);
-            return Err(WriteFault);
+        match self.bytes.extend_from_slice(bytes) {
+            Ok(()) => Ok(bytes.len()),
+            Err(error) => {
+                self.failures = self.failures.wrapping_add(1);
+                Err(error.into())
+            }
         }
-        Ok(bytes.len())
     }
 }
