@@ -74,6 +74,12 @@ kept_boxes Waiting held = held
 kept_boxes Idle held = 0
 kept_boxes Declined held = 0
 
+-- no box was declined
+abbrev pub IsUndeclined : Phase → Type 0
+IsUndeclined Idle = Unit {0}
+IsUndeclined Waiting = Unit {0}
+IsUndeclined Declined = ⊥
+
 -- ---- what it keeps
 
 -- a world that is being filled with boxes: all that is left to place leads where all leads
@@ -135,13 +141,13 @@ Stands b m kept w standing.Ready = (On w ≡ ready b m) × (w.next ≡ 0)
 
 -- what it waits for is what its model wants after so many boxes; it doesn't go on while there is such a box
 abbrev pub Wants : Model → ℕ → Phase → Standing → Type 0
-Wants m kept phase (standing.Missing request) = wanted_by m kept ≡ Some request
+Wants m kept phase (standing.Missing request) = IsUndeclined phase × (wanted_by m kept ≡ Some request)
 Wants m kept phase _ = (phase ≡ Declined) ⊎ (wanted_by m kept ≡ None)
 
 -- where a run is after it was asked for: it waits with the boxes that it kept, or it is done
 abbrev pub Advances : Behaviour → Model → ℕ → ℕ → Phase → World → Advance → Type 0
 Advances b m limit kept phase w (advance.Waits request) =
-    IsFilled b m w × (length w.modules ≡ kept) × (wanted_by m kept ≡ Some request)
+    IsFilled b m w × (length w.modules ≡ kept) × IsUndeclined phase × (wanted_by m kept ≡ Some request)
 Advances b m limit kept phase w (advance.Ends outcome) =
     whole_run b m limit w outcome × ((phase ≡ Declined) ⊎ (wanted_by m kept ≡ None))
 
@@ -165,8 +171,9 @@ pub record IsFreshRun (b : Behaviour) (before : Editing) (limit : ℕ) (report :
   pub done : after.done ≡ Some (completed b before.model limit)
   pub needs_none : (before.phase ≡ Declined) ⊎ (wanted_by before.model (kept_boxes before.phase before.held) ≡ None)
 
--- It waits for the box that its model wants next, with those that it kept, and none is done.
+-- It waits for the box that its model wants next, with those that it kept, and none is done. No box was declined before.
 pub record WaitsFor (before : Editing) (request : Request) (after : Editing) : Type 0 where
+  pub undeclined : IsUndeclined before.phase
   pub wanted : wanted_by before.model (kept_boxes before.phase before.held) ≡ Some request
   pub waits : after ≡ record { model = before.model; done = None; phase = Waiting; held = kept_boxes before.phase before.held }
 

@@ -2,6 +2,7 @@
 use Rattle.std.specs.Prelude.{◌≡◌, ℕ, List, Option, Some, None, Result, Ok, Err}
 use Rattle.module_api.specs.Behaviour.{Behaviour}
 use Rattle.model_answers.specs.declared.model.Model.{Model}
+use Rattle.result_files.specs.Taken.{Taken}
 use Rattle.result_files.specs.VectorText.{vector_text_of}
 use Rattle.result_files.specs.Written.{IsWritten}
 use Rattle.run_semantics.specs.Run.{run_to}
@@ -18,15 +19,13 @@ vectors_of_run b m limit =
 
 -- All of the text was written, and the device did not fail; or it failed once, and took as many of the text's first bytes
 -- as the answer says, and not all.
-abbrev pub TextWritten : List ℕ → ℕ → List ℕ → ℕ → List ℕ → Result Unit FileFault → Type 0
-TextWritten content failures content' failures' text (Ok u) = IsWritten content failures content' failures' text (Ok u)
-TextWritten content failures content' failures' text (Err (fault.Device k)) =
-    IsWritten content failures content' failures' text (Err (record { written = k }))
-TextWritten content failures content' failures' text (Err fault.NotDone) = ⊥
+abbrev pub TextWritten : Taken → Taken → List ℕ → Result Unit FileFault → Type 0
+TextWritten before after text (Ok u) = IsWritten before after text (Ok u)
+TextWritten before after text (Err (fault.Device k)) = IsWritten before after text (Err (record { written = k }))
+TextWritten before after text (Err fault.NotDone) = ⊥
 
 -- Where a run is done the text of its vector file is written; where none is, nothing.
-abbrev pub FileWritten : Behaviour → Model → Option Completed → List ℕ → ℕ → List ℕ → ℕ → Result Unit FileFault → Type 0
-FileWritten b m None content failures content' failures' result =
-    (result ≡ Err fault.NotDone) × (content' ≡ content) × (failures' ≡ failures)
-FileWritten b m (Some last) content failures content' failures' result =
-    TextWritten content failures content' failures' (vectors_of_run b m last.limit) result
+abbrev pub FileWritten : Behaviour → Model → Option Completed → Taken → Taken → Result Unit FileFault → Type 0
+FileWritten b m None before after result =
+    (result ≡ Err fault.NotDone) × (after.bytes ≡ before.bytes) × (after.failures ≡ before.failures)
+FileWritten b m (Some last) before after result = TextWritten before after (vectors_of_run b m last.limit) result

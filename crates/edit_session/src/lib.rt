@@ -1,6 +1,5 @@
 //! A session: one model, and its runs.
 #![tactic(auto)]
 
-pub mod begin;
 pub mod running;
 pub mod session;

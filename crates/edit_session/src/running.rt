@@ -4,7 +4,7 @@ ghost use Rattle.std.specs.Prelude.{◌≡◌, ◌^◌, ◌≤◌, IfOk, length}
 ghost use Rattle.run_semantics.specs.Perform.{On};
 ghost use Rattle.run_semantics.specs.Run.{Running, after, ready};
 ghost use Rattle.kernel.specs.Kernels.{world_in, ran_in, HasKinds};
-ghost use Rattle.edit_session.specs.Editing.{fresh_run, kept_boxes, Advances, IsDeclined, IsFilled, IsLive, IsStopped, Stands, Wants};
+ghost use Rattle.edit_session.specs.Editing.{fresh_run, kept_boxes, Advances, IsDeclined, IsFilled, IsLive, IsStopped, IsUndeclined, Stands, Wants};
 ghost use Rattle.edit_session.specs.declared.running.Phase.{Phase};
 
 use kernel::kernel::Kernel;
@@ -76,7 +76,7 @@ impl<C: Catalogue> Runner<C> {
             Stands C.behaviour model.now (length world.modules) world standing) }
         ensures wants { let world = world_in SimpleModule-box self.now.kernel in
             IfOk result (λ standing. (phase : Phase)
-            → Wants model.now (length world.modules) phase standing) }
+            → IsUndeclined phase → Wants model.now (length world.modules) phase standing) }
     {
         let _model = model;
         match self.kernel.missing(alloc)? {
@@ -92,7 +92,7 @@ impl<C: Catalogue> Runner<C> {
         ensures stands { IfOk result (λ standing.
             Stands C.behaviour model.now 0 (world_in SimpleModule-box self.new.kernel) standing) }
         ensures wants { IfOk result (λ standing.
-            (phase : Phase) → Wants model.now 0 phase standing) }
+            (phase : Phase) → IsUndeclined phase → Wants model.now 0 phase standing) }
     {
         match self.kernel.setup(alloc, model)? {
             Some(outcome) => Ok(Standing::Over(outcome)),

@@ -1,20 +1,21 @@
 //! A session.
 
 ghost use Rattle.std.specs.Prelude.{◌≡◌, ◌↔◌, ◌+◌, Some, None, IsSome, OnOk, OnErr, IfOk, IfErr, option_map, option_copied};
+ghost use Rattle.sim_values.specs.Memory.{no_memory};
 ghost use Rattle.model_answers.specs.declared.model.Model.{Model};
 ghost use Rattle.result_files.specs.VectorText.{vector_text};
-ghost use Rattle.edit_session.specs.Models.{IsModelOf, Refuses};
+ghost use Rattle.model_texts.specs.Models.{IsModelOf, IsRuledOut, Refuses};
 ghost use Rattle.edit_session.specs.Files.{FileWritten, TextWritten};
 ghost use Rattle.edit_session.specs.Editing.{Completed, fresh_editing, wanted_of, IfDone, IfWant, IsFor, IsFreshRun, IsIdle, IsUnknown, WaitsFor};
 ghost use Rattle.kernel.specs.declared.request.Request.{Request};
 ghost use Rattle.edit_session.specs.Sessions.{editing_of, IsSound, KeepsModel};
 
-use crate::begin::{BeginFault, model_of};
 use crate::running::{Advance, Phase, Runner};
 use kernel::kernel::Kernel;
 use kernel::request::Request;
 use model_answers::model::Model;
 use model_answers::record::Record;
+use model_texts::begin::{BeginFault, model_of};
 use module_api::catalogue::Catalogue;
 use module_api::simple_module::SimpleModule;
 use module_tree::Tree;
@@ -24,7 +25,7 @@ use result_files::writer::Out;
 use run_semantics::outcome::Outcome;
 use run_semantics::traces::Emission;
 use sim_values::NoMemory;
-use std::alloc::Global;
+use std::alloc::{AllocFailed, Global};
 use thiserror::Error;
 
 /// A run that is done.
@@ -67,7 +68,7 @@ pub enum SupplyReason {
     NotWanted,
     /// Memory ran out; the run waits still.
     #[error("NoMemory")]
-    NoMemory,
+    NoMemory(NoMemory),
 }
 
 /// Why the vector file isn't written.
@@ -111,6 +112,8 @@ impl<C: Catalogue> Session<C> {
             × IsModelOf texts.now ini.now config.now model
             × (editing_of SimpleModule-box session ≡ fresh_editing model)) }
         ensures refused { IfErr result (λ fault. Refuses texts.now ini.now config.now fault) }
+        // Where the texts make a model, there is a session of it, unless memory runs out.
+        ensures complete { IfErr result (λ fault. IsRuledOut texts.now ini.now config.now fault) }
     {
         let model = model_of(alloc, texts, ini, config)?;
         Ok(Session::of_model(alloc, model))
@@ -198,10 +201,7 @@ impl<C: Catalogue> Session<C> {
             }),
             Some(id) => match self.runner.kernel.supply(id, held) {
                 Ok(()) => Ok(()),
-                Err(failed) => Err(SupplyFault {
-                    held: failed.value,
-                    reason: SupplyReason::NoMemory,
-                }),
+                Err(failed) => Err(no_room_for(failed)),
             },
         }
     }
@@ -246,8 +246,7 @@ impl<C: Catalogue> Session<C> {
         requires sound { IsSound C.behaviour SimpleModule-box self.now }
         ensures written { let editing = editing_of SimpleModule-box self.now in
             FileWritten C.behaviour editing.model editing.done
-            (O.content out.old) (O.failures out.old) (O.content out.new) (O.failures out.new)
-            result }
+            (O.taken out.old) (O.taken out.new) result }
     {
         match &self.done {
             None => Err(FileFault::NotDone),
@@ -272,6 +271,18 @@ impl<C: Catalogue> Session<C> {
     }
 }
 
+/// A box that had no room is handed back.
+fn no_room_for(failed: AllocFailed<Box<dyn SimpleModule>>) -> SupplyFault
+    ensures held { result.held ≡ failed.value }
+    ensures reason { result.reason ≡ SupplyReason.NoMemory no_memory }
+{
+    let (held, error) = NoMemory::with_value(failed);
+    SupplyFault {
+        held,
+        reason: SupplyReason::NoMemory(error),
+    }
+}
+
 /// Writes the vector file of a run that is done.
 fn write_done<O: Out>(
     out: &mut O,
@@ -280,9 +291,7 @@ fn write_done<O: Out>(
     emissions: &[Emission],
 ) -> Result<(), FileFault>
     ensures { let text = vector_text file.now.header file.now.vectors records.now emissions.now in
-        TextWritten
-        (O.content out.old) (O.failures out.old) (O.content out.new) (O.failures out.new)
-        text result }
+        TextWritten (O.taken out.old) (O.taken out.new) text result }
 {
     match write_vectors(out, file, records, emissions) {
         Ok(()) => Ok(()),

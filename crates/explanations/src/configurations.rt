@@ -1,9 +1,7 @@
 //! Why a configuration can't be run.
 
-use crate::names::{shown, tell_list, tell_near};
-use crate::ned_files::{all_types, names_of, read_files, type_named};
-use crate::sources::Sources;
 use ini_config::entries::network_entry;
+use ini_config::error::{ChainError, IniError};
 use ini_config::lines::{IniLine, IniText, LineMeaning};
 use ini_config::scan::{entry_in, section_behind};
 use ini_config::speaks::last_name;
@@ -14,20 +12,25 @@ use sim_values::text::Text;
 use sqlite_items::Items;
 use std::alloc::Global;
 use std::fmt::Write;
+use text_explanations::names::{shown, tell_list, tell_near};
+use text_explanations::ned_files::{all_types, names_of, read_files, type_named};
+use text_explanations::sources::Sources;
 
-/// The lines of an ini text that was read before.
+/// The lines of an ini text that was read before; none where it was not.
 pub fn lines_of(alloc: Global, sources: &Sources<'_>) -> Result<IniText, NoMemory> {
     match IniText::parse(alloc, sources.ini) {
         Ok(text) => Ok(text),
-        Err(_) => Err(NoMemory),
+        Err(IniError::NoMemory(error)) => Err(error),
+        Err(_) => Ok(IniText::of_lines(Items::new(alloc))),
     }
 }
 
-/// The chain of the configuration, where it has one.
+/// The chain of the configuration; of no section where it has none.
 pub fn chain_of(alloc: Global, text: &IniText, config: &[u8]) -> Result<Items<Text>, NoMemory> {
     match text.chain(alloc, config) {
         Ok(chain) => Ok(chain),
-        Err(_) => Err(NoMemory),
+        Err(ChainError::NoMemory(error)) => Err(error),
+        Err(_) => Ok(Items::new(alloc)),
     }
 }
 

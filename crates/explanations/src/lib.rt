@@ -4,13 +4,6 @@
 #![tactic(auto)]
 
 mod configurations;
-mod ini_lines;
-pub mod names;
-mod ned_files;
 pub mod refusals;
 pub mod runs;
-pub mod sources;
-mod syntax;
-mod tokens;
-mod types;
 pub mod warnings;

@@ -1,14 +1,14 @@
 //! Why the files make no model.
 
 use crate::configurations::{tell_no_chain, tell_no_config, tell_no_network};
-use crate::ini_lines::{line_at, tell_ini_line};
-use crate::sources::Sources;
-use crate::syntax::tell_syntax;
-use crate::types::tell_types;
-use edit_session::begin::{BeginFault, MAX_FILES, MAX_TEXT};
+use model_texts::begin::{BeginFault, MAX_FILES, MAX_TEXT};
 use sim_values::NoMemory;
 use std::alloc::Global;
 use std::fmt::Write;
+use text_explanations::ini_lines::{line_at, tell_ini_line};
+use text_explanations::sources::Sources;
+use text_explanations::syntax::tell_syntax;
+use text_explanations::types::tell_types;
 
 /// Adds which text is too long, or that there are too many.
 fn tell_large(told: &mut String, sources: &Sources<'_>) -> Result<(), NoMemory> {
@@ -56,7 +56,7 @@ pub fn refusal_line(
         BeginFault::NoSuchConfig => tell_no_config(alloc, &mut told, sources)?,
         BeginFault::ChainFault => tell_no_chain(alloc, &mut told, sources)?,
         BeginFault::NoSuchNetwork => tell_no_network(alloc, &mut told, sources)?,
-        BeginFault::NoMemory => told.push_str("memory ran out: give fewer or shorter texts")?,
+        BeginFault::NoMemory(_) => told.push_str("memory ran out: give fewer or shorter texts")?,
     }
     Ok(told)
 }

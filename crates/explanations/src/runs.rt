@@ -1,17 +1,17 @@
 //! Why a run ended with a fault.
 
-use crate::names::{shown, tell_list};
-use crate::sources::Sources;
-use edit_session::begin::model_of;
 use model_answers::answer::ModelFault;
 use model_answers::model::Model;
 use model_answers::parameters::parameter_value;
+use model_texts::begin::model_of;
 use ned_syntax::ast::{Declaration, ParameterWord, SectionLine, TypeDeclaration};
 use ned_types::flat::{class_of, submodule_named};
 use sim_values::NoMemory;
 use sim_values::value::Dimension;
 use std::alloc::Global;
 use std::fmt::Write;
+use text_explanations::names::{shown, tell_list};
+use text_explanations::sources::Sources;
 
 /// A fault as the answer of a run tells it.
 #[derive(Clone, Copy)]

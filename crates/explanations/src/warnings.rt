@@ -1,9 +1,6 @@
 //! Lines of an ini text that have no effect.
 
 use crate::configurations::{chain_of, lines_of};
-use crate::names::{shown, tell_near};
-use crate::ned_files::{Declared, all_types, read_files, type_named};
-use crate::sources::Sources;
 use ini_config::entries::network_entry;
 use ini_config::lines::{Entry, IniLine};
 use ini_config::scan::{entry_in, section_behind};
@@ -15,6 +12,9 @@ use sim_values::NoMemory;
 use sim_values::text::Text;
 use std::alloc::Global;
 use std::fmt::Write;
+use text_explanations::names::{shown, tell_near};
+use text_explanations::ned_files::{Declared, all_types, read_files, type_named};
+use text_explanations::sources::Sources;
 
 /// The options that have an effect, or whose only value has.
 const OPTIONS: [&[u8]; 5] = [

@@ -5,7 +5,9 @@ use ned_syntax::ast::{NedFile, TypeDeclaration, TypeKind};
 use ned_syntax::parse::parse_ned;
 use ned_tokens::lines::{TokenList, tokenize};
 use ned_tokens::token::{Keyword, Mark, Token};
+use ned_values::error::NedError;
 use sim_values::NoMemory;
+use sqlite_items::Items;
 use std::alloc::Global;
 
 /// A NED file that was read.
@@ -123,15 +125,24 @@ fn heads_of(alloc: Global, tokens: &[Token]) -> Result<Vec<usize>, NoMemory> {
     Ok(heads)
 }
 
+/// What a text declares; nothing where it is no NED.
+fn declared_in(alloc: Global, text: &[u8]) -> Result<NedFile, NoMemory> {
+    match parse_ned(alloc, text) {
+        Ok(file) => Ok(file),
+        Err(NedError::NoMemory(error)) => Err(error),
+        Err(_) => Ok(NedFile {
+            types: Items::new(alloc),
+        }),
+    }
+}
+
 impl ReadFile {
-    /// Reads a file.
+    /// Reads a file. One that is no NED declares nothing.
     fn read(alloc: Global, text: &[u8]) -> Result<ReadFile, NoMemory> {
         let list = tokenize(alloc, text)?;
         let heads = heads_of(alloc, list.tokens.as_slice())?;
-        match parse_ned(alloc, text) {
-            Ok(file) => Ok(ReadFile { list, file, heads }),
-            Err(_) => Err(NoMemory),
-        }
+        let file = declared_in(alloc, text)?;
+        Ok(ReadFile { list, file, heads })
     }
 
     /// The types that it declares.

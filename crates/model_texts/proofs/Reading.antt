@@ -4,9 +4,9 @@ use Rattle.std.specs.List.{list_any}
 use Rattle.std.specs.Option.{option_copied}
 use Rattle.ned_syntax.specs.declared.ast.NedFile.{NedFile}
 use Rattle.ned_syntax.specs.NedText.{IsNedFile}
-use Rattle.edit_session.specs.declared.begin.BeginFault.{BeginFault}
-use Rattle.edit_session.specs.declared.begin.BeginFault.TheVariants as fault
-use Rattle.edit_session.specs.Models.{AreNedFiles, AreRead, IsBlamed, RefusesFile, RefusesFiles, RefusesConfig, Refuses, is_large}
+use Rattle.model_texts.specs.declared.begin.BeginFault.{BeginFault}
+use Rattle.model_texts.specs.declared.begin.BeginFault.TheVariants as fault
+use Rattle.model_texts.specs.Models.{AreNedFiles, AreRead, IsBlamed, RefusesFile, RefusesFiles, RefusesConfig, Refuses, is_large}
 
 large_here : (ts : List (List ℕ)) (t : List ℕ) (o : Bool) → o ≡ true → (o || list_any is_large ts) ≡ true
 large_here ts t true e = refl
@@ -32,7 +32,7 @@ blames ts n t before (fault.NedSyntax at line) declared here is = record {
   declared = subst (λ k. AreNedFiles (take k ts) before) (sym is.0) declared;
 }
 blames ts n t before fault.TooLarge declared here is = holds_large ts n t here is
-blames ts n t before fault.NoMemory declared here is = tt
+blames ts n t before (fault.NoMemory _) declared here is = tt
 blames ts n t before (fault.IniSyntax line) declared here is = absurd is
 blames ts n t before fault.DuplicateType declared here is = absurd is
 blames ts n t before fault.UnknownType declared here is = absurd is
@@ -54,7 +54,7 @@ one_more (u ∷ ts) t (g ∷ fs) f are is = (are.0, one_more ts t fs f are.1 is)
 pub config_refused : (texts : List (List ℕ)) (ini config : List ℕ) (read : AreRead texts ini) (f : BeginFault) → RefusesConfig read.lines config f → Refuses texts ini config f
 config_refused texts ini config read fault.NoSuchConfig is = record { read = read; missing = is }
 config_refused texts ini config read fault.ChainFault is = record { read = read; exists = is.0; none = is.1 }
-config_refused texts ini config read fault.NoMemory is = tt
+config_refused texts ini config read (fault.NoMemory _) is = tt
 config_refused texts ini config read (fault.NedSyntax at line) is = absurd is
 config_refused texts ini config read fault.TooLarge is = absurd is
 config_refused texts ini config read (fault.IniSyntax line) is = absurd is

@@ -1,9 +1,9 @@
 use Rattle.std.proofs.Common.{◌≡◌, Bool, true, false, not, Option, Some, None, is_some, IsSome, subst, refl, sym, ap, ◌∙◌}
 use Rattle.std.proofs.lemmas.Result.{err_from_is_err_and}
 use Rattle.std.specs.Option.{option_copied}
-use Rattle.edit_session.specs.Models.{AreRead, IsReadAs, IsModelOf, HasNoNetwork}
-use Rattle.edit_session.proofs.Reading.{config_refused, none_copied, some_copied}
-use Rattle.edit_session.proofs.begin.model_of.Goals as goal
+use Rattle.model_texts.specs.Models.{AreRead, IsReadAs, IsModelOf, HasNoNetwork}
+use Rattle.model_texts.proofs.Reading.{config_refused, none_copied, some_copied}
+use Rattle.model_texts.proofs.begin.read_model.Goals as goal
 
 pub returns-then-is_none-clause-refused : goal.returns-then-is_none-clause-refused
 returns-then-is_none-clause-refused c = record {

@@ -1,6 +1,7 @@
 -- The model that texts make, and why texts make none.
 use Rattle.std.specs.Prelude.{◌≡◌, ℕ, Bool, true, false, ◌||◌, List, [], ◌∷◌, Some, None, IsSome, codes, length, nat_lt, slice_get, take}
 use Rattle.std.specs.List.{list_any}
+use Rattle.sim_values.specs.Memory.{no_memory}
 use Rattle.ini_config.specs.declared.lines.IniLine.{IniLine}
 use Rattle.ini_config.specs.Meaning.{IsIniText, FirstBad}
 use Rattle.ini_config.specs.Sections.{IsChain, is_section}
@@ -15,8 +16,8 @@ use Rattle.ned_syntax.specs.NedText.{IsNedFile}
 use Rattle.ned_types.specs.declared.table.TypeFault.{TypeFault}
 use Rattle.ned_types.specs.declared.table.TypeFault.TheVariants as types
 use Rattle.ned_types.specs.Types.{types_of, fault_of}
-use Rattle.edit_session.specs.declared.begin.BeginFault.{BeginFault}
-use Rattle.edit_session.specs.declared.begin.BeginFault.TheVariants as fault
+use Rattle.model_texts.specs.declared.begin.BeginFault.{BeginFault}
+use Rattle.model_texts.specs.declared.begin.BeginFault.TheVariants as fault
 
 -- ---- size
 
@@ -66,7 +67,7 @@ abbrev pub RefusesFile : ℕ → List ℕ → BeginFault → Type 0
 RefusesFile number bytes (fault.NedSyntax at line) =
     (at ≡ number) × IsFirstBadLine file bytes line × ((declared : NedFile) → IsNedFile bytes declared → ⊥)
 RefusesFile number bytes fault.TooLarge = is_large bytes ≡ true
-RefusesFile number bytes fault.NoMemory = Unit {0}
+RefusesFile number bytes (fault.NoMemory _) = Unit {0}
 RefusesFile number bytes _ = ⊥
 
 -- The text of that number is no NED file, and this is its first line that can't go on; those before it are NED files.
@@ -81,20 +82,20 @@ pub record IsBlamed (texts : List (List ℕ)) (at line : ℕ) : Type 0 where
 abbrev pub RefusesFiles : List (List ℕ) → BeginFault → Type 0
 RefusesFiles texts (fault.NedSyntax at line) = IsBlamed texts at line
 RefusesFiles texts fault.TooLarge = list_any is_large texts ≡ true
-RefusesFiles texts fault.NoMemory = Unit {0}
+RefusesFiles texts (fault.NoMemory _) = Unit {0}
 RefusesFiles texts _ = ⊥
 
 abbrev pub RefusesIni : List ℕ → BeginFault → Type 0
 RefusesIni bytes (fault.IniSyntax line) = FirstBad line bytes
 RefusesIni bytes fault.TooLarge = is_large bytes ≡ true
-RefusesIni bytes fault.NoMemory = Unit {0}
+RefusesIni bytes (fault.NoMemory _) = Unit {0}
 RefusesIni bytes _ = ⊥
 
 abbrev pub RefusesTypes : List TypeDeclaration → BeginFault → Type 0
 RefusesTypes declared fault.DuplicateType = fault_of declared ≡ Some types.DuplicateType
 RefusesTypes declared fault.UnknownType = fault_of declared ≡ Some types.UnknownType
 RefusesTypes declared fault.KindClash = fault_of declared ≡ Some types.KindClash
-RefusesTypes declared fault.NoMemory = Unit {0}
+RefusesTypes declared (fault.NoMemory _) = Unit {0}
 RefusesTypes declared _ = ⊥
 
 -- The NED texts are read, and the ini text's first bad line is this one.
@@ -127,7 +128,7 @@ abbrev pub RefusesConfig : List IniLine → List ℕ → BeginFault → Type 0
 RefusesConfig lines config fault.NoSuchConfig = is_section config lines ≡ false
 RefusesConfig lines config fault.ChainFault =
     (is_section config lines ≡ true) × ((chain : List (List ℕ)) → IsChain lines config chain → ⊥)
-RefusesConfig lines config fault.NoMemory = Unit {0}
+RefusesConfig lines config (fault.NoMemory _) = Unit {0}
 RefusesConfig lines config _ = ⊥
 
 -- There is a model but for its network.
@@ -147,4 +148,12 @@ Refuses texts ini config fault.KindClash = (is_too_large texts ini ≡ false) ×
 Refuses texts ini config fault.NoSuchConfig = IsNotSelected texts ini config
 Refuses texts ini config fault.ChainFault = HasNoChain texts ini config
 Refuses texts ini config fault.NoSuchNetwork = HasNoNetwork texts ini config
-Refuses texts ini config fault.NoMemory = Unit {0}
+Refuses texts ini config (fault.NoMemory _) = Unit {0}
+
+-- Where the texts make a model, nothing refuses them but want of memory.
+abbrev pub IsRuledOut : List (List ℕ) → List ℕ → List ℕ → BeginFault → Type 0
+IsRuledOut texts ini config f = (m : Model) → IsModelOf texts ini config m → f ≡ fault.NoMemory no_memory
+
+-- The texts make this model, and no other.
+abbrev pub IsOnlyModelOf : List (List ℕ) → List ℕ → List ℕ → Model → Type 0
+IsOnlyModelOf texts ini config m = (other : Model) → IsModelOf texts ini config other → other ≡ m

@@ -2,11 +2,12 @@
 
 ghost use Rattle.std.specs.Prelude.{◌≡◌, ◌++◌, [], ◌∷◌, None, true, OnOk, IfOk, IfErr};
 ghost use Rattle.std.specs.List.{list_any};
+ghost use Rattle.sim_values.specs.Memory.{no_memory};
 ghost use Rattle.ini_config.specs.Meaning.{IsIniText};
 ghost use Rattle.ini_config.specs.Sections.{IsChain, is_section};
 ghost use Rattle.ned_syntax.specs.NedText.{IsNedFile};
 ghost use Rattle.ned_types.specs.Types.{types_of, fault_of};
-ghost use Rattle.edit_session.specs.Models.{AreNedFiles, IsModelOf, RefusesFile, RefusesFiles, RefusesIni, RefusesTypes, RefusesConfig, Refuses, is_large, is_too_large};
+ghost use Rattle.model_texts.specs.Models.{AreNedFiles, IsModelOf, IsOnlyModelOf, IsRuledOut, RefusesFile, RefusesFiles, RefusesIni, RefusesTypes, RefusesConfig, Refuses, is_large, is_too_large};
 
 use ini_config::error::{ChainError, IniError};
 use ini_config::lines::IniText;
@@ -16,6 +17,7 @@ use ned_syntax::parse::parse_ned;
 use ned_syntax::texts::NedTexts;
 use ned_types::table::{TypeFault, TypeTable};
 use ned_values::error::NedError;
+use sim_values::NoMemory;
 use sim_values::text::Text;
 use sqlite_items::Items;
 use std::alloc::{AllocError, Global};
@@ -50,17 +52,18 @@ pub enum BeginFault {
     /// The option `network` names no network.
     NoSuchNetwork,
     /// Memory ran out.
-    NoMemory,
+    NoMemory(NoMemory),
 }
 
 impl From<AllocError> for BeginFault {
     ghost use Rattle.std.specs.Prelude.{◌≡◌};
-    ghost use Rattle.edit_session.specs.declared.begin.BeginFault.TheVariants.{NoMemory};
+    ghost use Rattle.model_texts.specs.declared.begin.BeginFault.TheVariants.{NoMemory};
+    ghost use Rattle.sim_values.specs.Memory.{no_memory};
 
-    ghost from_gives = { λ _ e. e ≡ NoMemory };
+    ghost from_gives = { λ _ e. e ≡ NoMemory no_memory };
 
-    fn from(_e: AllocError) -> BeginFault {
-        BeginFault::NoMemory
+    fn from(error: AllocError) -> BeginFault {
+        BeginFault::NoMemory(error.into())
     }
 }
 
@@ -94,18 +97,18 @@ fn file_of(alloc: Global, number: usize, bytes: &[u8]) -> Result<NedFile, BeginF
         Ok(file) => Ok(file),
         Err(NedError::NedSyntax(line)) => Err(BeginFault::NedSyntax(number, line)),
         Err(NedError::TooLarge) => Err(BeginFault::TooLarge),
-        Err(NedError::NoMemory) => Err(BeginFault::NoMemory),
+        Err(NedError::NoMemory(error)) => Err(BeginFault::NoMemory(error)),
     }
 }
 
 /// Adds a file at the end.
 fn push_file(files: &mut Vec<NedFile>, file: NedFile) -> Result<(), BeginFault>
     ensures ok { OnOk result (files.new.items ≡ files.old.items ++ file ∷ []) }
-    ensures err { IfErr result (λ fault. fault ≡ BeginFault.NoMemory) }
+    ensures err { IfErr result (λ fault. fault ≡ BeginFault.NoMemory no_memory) }
 {
     match files.push(file) {
         Ok(()) => Ok(()),
-        Err(_) => Err(BeginFault::NoMemory),
+        Err(error) => Err(BeginFault::NoMemory(error.into())),
     }
 }
 
@@ -131,7 +134,7 @@ fn lines_of(alloc: Global, bytes: &[u8]) -> Result<IniText, BeginFault>
         Ok(lines) => Ok(lines),
         Err(IniError::IniSyntax(line)) => Err(BeginFault::IniSyntax(line)),
         Err(IniError::TooLarge) => Err(BeginFault::TooLarge),
-        Err(IniError::NoMemory) => Err(BeginFault::NoMemory),
+        Err(IniError::NoMemory(error)) => Err(BeginFault::NoMemory(error)),
     }
 }
 
@@ -146,7 +149,7 @@ fn table_of(alloc: Global, files: Vec<NedFile>) -> Result<TypeTable, BeginFault>
         Err(TypeFault::DuplicateType) => Err(BeginFault::DuplicateType),
         Err(TypeFault::UnknownType) => Err(BeginFault::UnknownType),
         Err(TypeFault::KindClash) => Err(BeginFault::KindClash),
-        Err(TypeFault::NoMemory) => Err(BeginFault::NoMemory),
+        Err(TypeFault::NoMemory(error)) => Err(BeginFault::NoMemory(error)),
     }
 }
 
@@ -160,12 +163,12 @@ fn chain_of(alloc: Global, lines: &IniText, config: &[u8]) -> Result<Items<Text>
         Ok(chain) => Ok(chain),
         Err(ChainError::NoSuchConfig) => Err(BeginFault::NoSuchConfig),
         Err(ChainError::ChainFault) => Err(BeginFault::ChainFault),
-        Err(ChainError::NoMemory) => Err(BeginFault::NoMemory),
+        Err(ChainError::NoMemory(error)) => Err(BeginFault::NoMemory(error)),
     }
 }
 
-/// The model that these texts make, or why they make none.
-pub fn model_of(
+/// Reads the model that these texts make, or finds why they make none.
+fn read_model(
     alloc: Global,
     texts: &NedTexts,
     ini: &[u8],
@@ -192,4 +195,21 @@ pub fn model_of(
         return Err(BeginFault::NoSuchNetwork);
     }
     Ok(model)
+}
+
+/// The model that these texts make, or why they make none.
+pub fn model_of(
+    alloc: Global,
+    texts: &NedTexts,
+    ini: &[u8],
+    config: &[u8],
+) -> Result<Model, BeginFault>
+    ensures accepted { IfOk result (λ model. IsModelOf texts.now ini.now config.now model) }
+    // The texts make no other model.
+    ensures only { IfOk result (λ model. IsOnlyModelOf texts.now ini.now config.now model) }
+    ensures refused { IfErr result (λ fault. Refuses texts.now ini.now config.now fault) }
+    // Where the texts make a model, it is answered, unless memory runs out.
+    ensures complete { IfErr result (λ fault. IsRuledOut texts.now ini.now config.now fault) }
+{
+    read_model(alloc, texts, ini, config)
 }

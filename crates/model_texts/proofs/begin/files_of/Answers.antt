@@ -2,10 +2,10 @@ use Rattle.std.proofs.Common.{◌≡◌, ◌+◌, Some, suc, arith, refl, sym, a
 use Rattle.std.proofs.Math.Seq.{take-suc}
 use Rattle.std.proofs.lemmas.Option.{slice_get-get_or}
 use Rattle.std.proofs.lemmas.Result.{err_from_is_err_and}
-use Rattle.edit_session.specs.Models.{RefusesFile}
+use Rattle.model_texts.specs.Models.{RefusesFile}
 use Rattle.ned_syntax.specs.NedText.{IsNedFile}
-use Rattle.edit_session.proofs.Reading.{blames, one_more}
-use Rattle.edit_session.proofs.begin.files_of.Goals as goal
+use Rattle.model_texts.proofs.Reading.{blames, one_more}
+use Rattle.model_texts.proofs.begin.files_of.Goals as goal
 
 pub returns-in_err-file-clause-refused : goal.returns-in_err-file-clause-refused
 returns-in_err-file-clause-refused c =

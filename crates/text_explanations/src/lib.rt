@@ -1,0 +1,12 @@
+//! What is wrong with a text among the files of a run, and what would be right, in words for a person.
+//!
+//! Everything here looks at the texts once more, after they were refused. It decides nothing.
+#![tactic(auto)]
+
+pub mod ini_lines;
+pub mod names;
+pub mod ned_files;
+pub mod sources;
+pub mod syntax;
+mod tokens;
+pub mod types;
