@@ -1,8 +1,8 @@
 -- The texts of answers.
 use Rattle.std.specs.Prelude.{ℕ, List, [], ◌++◌, Option, Some, None, codes}
 use Rattle.std.specs.Fmt.{decimal}
-use Rattle.edit_session.specs.declared.begin.BeginFault.{BeginFault}
-use Rattle.edit_session.specs.declared.begin.BeginFault.TheVariants as refusal
+use Rattle.model_texts.specs.declared.begin.BeginFault.{BeginFault}
+use Rattle.model_texts.specs.declared.begin.BeginFault.TheVariants as refusal
 use Rattle.run_semantics.specs.declared.outcome.Fault.{Fault}
 use Rattle.run_semantics.specs.declared.outcome.Fault.TheVariants as fault
 use Rattle.run_semantics.specs.declared.outcome.Outcome.{Outcome}
@@ -58,7 +58,7 @@ refusal_name refusal.KindClash = codes "KindClash"
 refusal_name refusal.NoSuchConfig = codes "NoSuchConfig"
 refusal_name refusal.ChainFault = codes "ChainFault"
 refusal_name refusal.NoSuchNetwork = codes "NoSuchNetwork"
-refusal_name refusal.NoMemory = codes "NoMemory"
+refusal_name (refusal.NoMemory _) = codes "NoMemory"
 
 -- where what is refused stands: the file, counted from 0, and the line, counted from 1
 abbrev pub refusal_place : BeginFault → List ℕ

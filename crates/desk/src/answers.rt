@@ -4,9 +4,9 @@ ghost use Rattle.std.specs.Prelude.{◌≡◌, ◌++◌, IfOk, OnOk};
 ghost use Rattle.std.specs.Fmt.{decimal};
 ghost use Rattle.desk.specs.Answers.{done_text, fault_detail, fault_name, outcome_text, refusal_name, refusal_place, refusal_text, start_text};
 
-use edit_session::begin::BeginFault;
 use edit_session::session::Report;
 use itoa::Buffer as Digits;
+use model_texts::begin::BeginFault;
 use run_semantics::outcome::{Fault, Outcome};
 use sim_values::text::Text;
 use std::alloc::{AllocError, Global};
@@ -117,7 +117,7 @@ fn refusal_name(fault: BeginFault) -> &'static [u8]
         BeginFault::NoSuchConfig => b"NoSuchConfig",
         BeginFault::ChainFault => b"ChainFault",
         BeginFault::NoSuchNetwork => b"NoSuchNetwork",
-        BeginFault::NoMemory => b"NoMemory",
+        BeginFault::NoMemory(_) => b"NoMemory",
     }
 }
 

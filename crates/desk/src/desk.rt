@@ -1,7 +1,7 @@
 //! The desk.
 
 ghost use Rattle.std.specs.Prelude.{◌≡◌, ◌↔◌, ◌+◌, Some, None, IsSome, OnOk, OnErr, IfOk, IfErr, option_map, option_copied};
-ghost use Rattle.edit_session.specs.Editing.{Completed, IsFor, IsUnknown, wanted_of};
+ghost use Rattle.edit_session.specs.Editing.{Completed, IsFor, IsUnknown, WaitsFor, wanted_of};
 ghost use Rattle.edit_session.specs.Files.{FileWritten};
 ghost use Rattle.edit_session.specs.Sessions.{editing_of, IsSound};
 ghost use Rattle.edit_session.specs.declared.running.Phase.{Phase};
@@ -66,8 +66,9 @@ impl<C: Catalogue> Desk<C> {
         ensures done { let before = editing_at SimpleModule-box self.old in
             let after = editing_at SimpleModule-box self.new in
             IfOk result (λ turn. LeavesLine C.behaviour before line.now turn after) }
-        ensures waits { let after = editing_at SimpleModule-box self.new in
-            IfOk result (λ turn. IfWanting turn (λ request. wanted_of after ≡ Some request)) }
+        ensures waits { let before = editing_at SimpleModule-box self.old in
+            let after = editing_at SimpleModule-box self.new in
+            IfOk result (λ turn. IfWanting turn (λ request. WaitsFor before request after)) }
     {
         match command_of(line) {
             Command::Run(limit) => self.run(limit),
@@ -92,8 +93,9 @@ impl<C: Catalogue> Desk<C> {
         ensures done { let before = editing_at SimpleModule-box self.old in
             let after = editing_at SimpleModule-box self.new in
             IfOk result (λ turn. LeavesRun C.behaviour before limit turn after) }
-        ensures waits { let after = editing_at SimpleModule-box self.new in
-            IfOk result (λ turn. IfWanting turn (λ request. wanted_of after ≡ Some request)) }
+        ensures waits { let before = editing_at SimpleModule-box self.old in
+            let after = editing_at SimpleModule-box self.new in
+            IfOk result (λ turn. IfWanting turn (λ request. WaitsFor before request after)) }
     {
         self.limit = limit;
         match self.session.run(limit)? {
@@ -112,8 +114,9 @@ impl<C: Catalogue> Desk<C> {
         ensures done { let before = editing_at SimpleModule-box self.old in
             let after = editing_at SimpleModule-box self.new in
             IfOk result (λ turn. LeavesRun C.behaviour before (limit_at self.old) turn after) }
-        ensures waits { let after = editing_at SimpleModule-box self.new in
-            IfOk result (λ turn. IfWanting turn (λ request. wanted_of after ≡ Some request)) }
+        ensures waits { let before = editing_at SimpleModule-box self.old in
+            let after = editing_at SimpleModule-box self.new in
+            IfOk result (λ turn. IfWanting turn (λ request. WaitsFor before request after)) }
     {
         self.run(self.limit)
     }
@@ -158,8 +161,7 @@ impl<C: Catalogue> Desk<C> {
         requires sound { IsSettled C.behaviour SimpleModule-box self.now }
         ensures written { let editing = editing_at SimpleModule-box self.now in
             FileWritten C.behaviour editing.model editing.done
-            (O.content out.old) (O.failures out.old) (O.content out.new) (O.failures out.new)
-            result }
+            (O.taken out.old) (O.taken out.new) result }
     {
         self.session.vectors(out)
     }

@@ -1,6 +1,7 @@
 -- Replies, one after the other.
 use Rattle.std.proofs.Common.{◌≡◌, ℕ, suc, zero, ◌+◌, ◌<◌, ◌≤◌, List, [], ◌∷◌, ◌++◌, Some, length, take, slice_get, arith, refl, sym, ap, ◌∙◌, subst}
 use Rattle.std.proofs.Math.Seq.{take-length}
+use Rattle.sim_values.specs.declared.NoMemory.{NoMemory}
 use Rattle.module_api.specs.Behaviour.{Behaviour}
 use Rattle.model_answers.specs.declared.model.Model.{Model}
 use Rattle.kernel.specs.Kernels.{Members}
@@ -50,8 +51,8 @@ line_at (first ∷ lines) zero there = (first, refl)
 line_at (first ∷ lines) (suc number) there = line_at lines number (omega (arith, there))
 
 -- want of memory is a reply to every line
-pub next_of_memory : (b : Behaviour) (m : Model) (lines : List (List ℕ)) (number : ℕ) → number < length lines → IsNext b m lines number reply.NoMemory
-next_of_memory b m lines number there =
+pub next_of_memory : (b : Behaviour) (m : Model) (lines : List (List ℕ)) (number : ℕ) (error : NoMemory) → number < length lines → IsNext b m lines number (reply.NoMemory error)
+next_of_memory b m lines number error there =
     let at = line_at lines number there in
     record { line = at.0; here = at.1; reply = tt }
 

@@ -1,11 +1,46 @@
 -- Replies to lines, as far as they have come.
-use Rattle.std.specs.Prelude.{◌≡◌, ◌≤◌, ℕ, List, length, take}
+use Rattle.std.specs.Prelude.{◌≡◌, ◌≤◌, ◌<◌, ℕ, suc, ◌+◌, ◌-◌, ◌*◌, List, Some, None, IsSome, length, take}
 use Rattle.module_api.specs.Behaviour.{Behaviour}
 use Rattle.model_answers.specs.declared.model.Model.{Model}
 use Rattle.kernel.specs.Kernels.{Members}
+use Rattle.run_semantics.specs.Perform.{Flow, On, Stopped, Broken}
+use Rattle.run_semantics.specs.Run.{parts_of, prepared}
+use Rattle.stock_modules.specs.Modules.{module_of}
+use Rattle.stock_modules.specs.declared.modules.StockModule.{StockModule}
+use Rattle.edit_session.specs.Editing.{Editing, wanted_of, IsFor}
+use Rattle.edit_session.specs.declared.running.Phase.{Phase}
+use Rattle.edit_session.specs.declared.running.Phase.TheVariants.{Idle, Waiting, Declined}
 use Rattle.desk.specs.Turns.{editing_at, IsSettled}
 use Rattle.stock_desk.specs.Machine.{AreReplies}
 use Rattle.stock_desk.specs.declared.replies.Answering.{Answering}
+use Rattle.stock_desk.specs.declared.replies.Next.{Next}
+use Rattle.stock_desk.specs.declared.replies.Next.TheVariants as next
+use Rattle.stock_desk.specs.declared.replies.Turn.{Turn}
+use Rattle.stock_desk.specs.declared.replies.Turn.TheVariants as turn
+
+-- ---- what is left to be done
+
+-- how many boxes a run needs
+abbrev pub boxes_after : Flow → ℕ
+boxes_after (On w) = length (parts_of w)
+boxes_after (Stopped w) = 0
+boxes_after (Broken w path f) = 0
+
+abbrev pub boxes_of : Model → ℕ
+boxes_of m = boxes_after (prepared m)
+
+-- How many turns a line's run takes at most before the line has its reply, besides that one: a turn for each box that
+-- it doesn't hold yet, and one more where a box may be declined.
+abbrev pub left_of : Phase → ℕ → ℕ → ℕ
+left_of Idle boxes held = boxes + 2
+left_of Waiting boxes held = (boxes - held) + 1
+left_of Declined boxes held = 0
+
+-- the same of so many lines
+abbrev pub turns_of : ℕ → Editing → ℕ
+turns_of lines e = lines * (boxes_of e.model + 3) + left_of e.phase (boxes_of e.model) e.held
+
+-- ---- what stays true
 
 module _ {X : Type 0} {Y : X → Type 0} where
   -- The desk is sound, and the replies are those to the first lines, by the desk's model.
@@ -18,3 +53,31 @@ module _ {X : Type 0} {Y : X → Type 0} where
   pub record GoesOn (b : Behaviour) (members : Members X Y) (lines : List (List ℕ)) (before after : Answering X Y) : Type 0 where
     pub so_far : IsSoFar b members lines after
     pub model : (editing_at members after.desk).model ≡ (editing_at members before.desk).model
+
+  -- how many turns are left at most
+  abbrev pub turns_left : Members X Y → List (List ℕ) → Answering X Y → ℕ
+  turns_left members lines a = turns_of (length lines - length a.replies.items) (editing_at members a.desk)
+
+  -- one line more has its reply, or there was no room for it
+  abbrev pub IsKept : Answering X Y → Answering X Y → Next → Type 0
+  IsKept before after next.GoOn = length after.replies.items ≡ suc (length before.replies.items)
+  IsKept before after (next.Stop None) = ⊥
+  IsKept before after (next.Stop (Some error)) = Unit {0}
+
+  -- less is left to be done; or each line has its reply, or a reply had no room
+  abbrev pub IsWent : Members X Y → List (List ℕ) → Answering X Y → Answering X Y → Next → Type 0
+  IsWent members lines before after next.GoOn = turns_left members lines after < turns_left members lines before
+  IsWent members lines before after (next.Stop None) = length lines ≤ length after.replies.items
+  IsWent members lines before after (next.Stop (Some error)) = Unit {0}
+
+  -- A line's run waits for a box, and a module was made for it.
+  pub record IsNeeded (b : Behaviour) (members : Members X Y) (lines : List (List ℕ)) (before after : Answering X Y) (made : StockModule) : Type 0 where
+    pub wanted : IsFor b (wanted_of (editing_at members after.desk)) (module_of made)
+    pub waits : IsSome (wanted_of (editing_at members after.desk))
+    pub line : length after.replies.items < length lines
+    pub left : turns_left members lines after ≤ turns_left members lines before
+
+  -- what a turn came to
+  abbrev pub IsTurn : Behaviour → Members X Y → List (List ℕ) → Answering X Y → Answering X Y → Turn → Type 0
+  IsTurn b members lines before after (turn.Need made) = IsNeeded b members lines before after made
+  IsTurn b members lines before after (turn.Over n) = IsWent members lines before after n

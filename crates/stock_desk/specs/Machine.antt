@@ -1,8 +1,9 @@
 -- The plain machine: it makes a fresh run for each line that asks for one, and remembers nothing.
-use Rattle.std.specs.Prelude.{◌≡◌, ℕ, List, [], ◌∷◌, Option, Some, None, IfSome, codes}
+use Rattle.std.specs.Prelude.{◌≡◌, ◌<◌, ℕ, List, [], ◌∷◌, Option, Some, None, codes, length, take}
 use Rattle.module_api.specs.Behaviour.{Behaviour}
 use Rattle.model_answers.specs.declared.model.Model.{Model}
 use Rattle.edit_session.specs.Files.{vectors_of_run}
+use Rattle.result_files.specs.Taken.{Taken}
 use Rattle.desk.specs.Commands.{command_of}
 use Rattle.desk.specs.Turns.{run_answer}
 use Rattle.desk.specs.declared.commands.Command.{Command}
@@ -24,15 +25,28 @@ said_to_command b m command.TooLarge = record { text = codes "refused TooLarge";
 abbrev pub said_to : Behaviour → Model → List ℕ → Said
 said_to b m line = said_to_command b m (command_of line)
 
--- what a reply says, where memory sufficed
-abbrev pub said_by : Reply → Option Said
-said_by (reply.Done text file) = Some (record { text = text; file = Some file.bytes })
-said_by (reply.Refused text) = Some (record { text = text; file = None })
-said_by reply.NoMemory = None
+-- A write failed once, and what was written before are the first bytes of a file.
+pub record IsCut (whole : List ℕ) (file : Taken) : Type 0 where
+  pub failed : file.failures ≡ 1
+  pub short : length file.bytes < length whole
+  pub front : file.bytes ≡ take (length file.bytes) whole
 
--- a reply to a command is the plain machine's, or memory ran out
+-- the file of what the plain machine says is cut
+abbrev pub CutsFile : Option (List ℕ) → Taken → Type 0
+CutsFile None file = ⊥
+CutsFile (Some whole) file = IsCut whole file
+
+-- A reply is what the plain machine says, or its text and the first bytes of its file, as a write of it failed, or memory
+-- ran out.
+abbrev pub IsSaid : Said → Reply → Type 0
+IsSaid said (reply.Done text file) = record { text = text; file = Some file.bytes } ≡ said
+IsSaid said (reply.Refused text) = record { text = text; file = None } ≡ said
+IsSaid said (reply.Unwritten text file) = (text ≡ said.text) × CutsFile said.file file
+IsSaid said (reply.NoMemory _) = Unit {0}
+
+-- a reply to a command
 abbrev pub RepliesTo : Behaviour → Model → Command → Reply → Type 0
-RepliesTo b m asked r = IfSome (said_by r) (λ said. said ≡ said_to_command b m asked)
+RepliesTo b m asked r = IsSaid (said_to_command b m asked) r
 
 -- the same of a line
 abbrev pub IsReplyTo : Behaviour → Model → List ℕ → Reply → Type 0

@@ -1,26 +1,27 @@
 //! Command lines, answered with boxes of the stock modules.
 
-ghost use Rattle.std.specs.Prelude.{◌≡◌, ℕ, List, [], ◌∷◌, ◌++◌, OnOk, OnErr, IfOk, IfErr, length};
+ghost use Rattle.std.specs.Prelude.{◌≡◌, ◌≤◌, ◌<◌, ℕ, List, [], ◌∷◌, ◌++◌, None, IsSome, OnOk, OnErr, IfOk, IfErr, length};
 ghost use Rattle.model_answers.specs.declared.model.Model.{Model};
 ghost use Rattle.stock_modules.specs.Stock.{stock};
+ghost use Rattle.sim_values.specs.Memory.{no_memory};
 ghost use Rattle.edit_session.specs.Editing.{wanted_of, IsFor};
-ghost use Rattle.edit_session.specs.Models.{IsModelOf, Refuses};
+ghost use Rattle.model_texts.specs.Models.{IsModelOf, IsRuledOut, Refuses};
 ghost use Rattle.edit_session.specs.Sessions.{editing_of, IsSound};
 ghost use Rattle.desk.specs.Commands.{command_of};
 ghost use Rattle.desk.specs.Turns.{editing_at, IsSettled, StaysSettled};
 ghost use Rattle.desk.specs.declared.commands.Command.TheVariants as commands;
 ghost use Rattle.stock_desk.specs.Machine.{AreReplies, IsReplyTo, RepliesTo};
-ghost use Rattle.stock_desk.specs.Steps.{HasAnswer, HasRun, IsNext, IsStep, IsTurn};
-ghost use Rattle.stock_desk.specs.Answerings.{GoesOn, IsSoFar};
+ghost use Rattle.stock_desk.specs.Steps.{HasAnswer, HasRun, IsMet, IsNext, IsStep};
+ghost use Rattle.stock_desk.specs.Answerings.{GoesOn, IsKept, IsSoFar, IsTurn, IsWent};
 
-use desk::buffer::Buffer;
 use desk::commands::{Command, command_of};
 use desk::desk::{Desk, DeskTurn};
-use edit_session::begin::BeginFault;
-use edit_session::session::Session;
+use edit_session::session::{Session, SupplyReason};
 use kernel::request::Request;
+use model_texts::begin::BeginFault;
 use module_api::simple_module::SimpleModule;
 use ned_syntax::texts::NedTexts;
+use result_files::buffer::Buffer;
 use sim_values::NoMemory;
 use sim_values::text::Text;
 use std::alloc::Global;
@@ -35,8 +36,10 @@ pub enum Reply {
     Done(Text, Buffer),
     /// The line is refused: the answer that says so.
     Refused(Text),
+    /// A run is done whose vector file has no room in memory: its answer, and the first bytes of the file.
+    Unwritten(Text, Buffer),
     /// Memory ran out.
-    NoMemory,
+    NoMemory(NoMemory),
 }
 
 /// What the desk makes of a line.
@@ -50,15 +53,22 @@ enum Step {
     Declined,
 }
 
-/// What is to be done next.
+/// What comes next.
 #[derive(Drop)]
-enum Turn {
+enum Next {
     /// The next turn.
     GoOn,
-    /// A box for the run that waits, with this in it.
+    /// Nothing: each line has its reply, or a reply had no room in memory.
+    Stop(Option<NoMemory>),
+}
+
+/// What a turn came to.
+#[derive(Drop)]
+enum Turn {
+    /// A run waits for a box, and this goes into it.
     Need(StockModule),
-    /// Nothing: each line has its reply, or memory ran out.
-    Stop,
+    /// The turn is over, and this comes next.
+    Over(Next),
 }
 
 /// A desk whose boxes are stock modules, and its replies so far.
@@ -96,7 +106,7 @@ impl Answering {
         let mut file = Buffer::new(alloc);
         match self.desk.vectors(&mut file) {
             Ok(()) => Reply::Done(text, file),
-            Err(_) => Reply::NoMemory,
+            Err(_) => Reply::Unwritten(text, file),
         }
     }
 
@@ -120,8 +130,8 @@ impl Answering {
         requires sound { IsSettled stock SimpleModule-box self.old.desk }
         ensures kept { StaysSettled stock SimpleModule-box self.old.desk self.new.desk }
         ensures replies { self.new.replies ≡ self.old.replies }
-        ensures step { let editing = editing_at SimpleModule-box self.new.desk in
-            (line : List ℕ) → IsStep stock editing line result }
+        ensures met { let before = editing_at SimpleModule-box self.old.desk in
+            IsMet stock before (editing_at SimpleModule-box self.new.desk) result }
     {
         match StockModule::of_kind(request.kind.as_bytes()) {
             Some(made) => Step::Need(made),
@@ -137,27 +147,29 @@ impl Answering {
         requires sound { IsSettled stock SimpleModule-box self.old.desk }
         ensures kept { StaysSettled stock SimpleModule-box self.old.desk self.new.desk }
         ensures replies { self.new.replies ≡ self.old.replies }
-        ensures step { IsStep stock (editing_at SimpleModule-box self.new.desk) line.now result }
+        ensures step { let before = editing_at SimpleModule-box self.old.desk in
+            IsStep stock before (editing_at SimpleModule-box self.new.desk) line.now result }
     {
         match self.desk.line(line) {
             Ok(DeskTurn::Text(text)) => Step::Replied(self.reply_with(alloc, line, text)),
             Ok(DeskTurn::Want(request)) => self.need_of(&request),
-            Err(_) => Step::Replied(Reply::NoMemory),
+            Err(error) => Step::Replied(Reply::NoMemory(error)),
         }
     }
 
     /// Keeps the reply to the next line.
-    fn keep(&mut self, lines: &[Text], reply: Reply) -> Turn
+    fn keep(&mut self, lines: &[Text], reply: Reply) -> Next
         requires so_far { IsSoFar stock SimpleModule-box lines.now self.old }
         requires next { let editing = editing_at SimpleModule-box self.old.desk in
             IsNext stock editing.model lines.now (length self.old.replies.items) reply }
         ensures so_far { GoesOn stock SimpleModule-box lines.now self.old self.new }
-        ensures turn { IsTurn stock (editing_at SimpleModule-box self.new.desk) result }
+        // One line more has its reply, or there was no room for it.
+        ensures kept { IsKept self.old self.new result }
     {
         let _lines = lines;
         match push(&mut self.replies, reply) {
-            Ok(()) => Turn::GoOn,
-            Err(_) => Turn::Stop,
+            Ok(()) => Next::GoOn,
+            Err(error) => Next::Stop(Some(error)),
         }
     }
 
@@ -165,61 +177,67 @@ impl Answering {
     fn turn(&mut self, alloc: Global, lines: &[Text]) -> Turn
         requires so_far { IsSoFar stock SimpleModule-box lines.now self.old }
         ensures so_far { GoesOn stock SimpleModule-box lines.now self.old self.new }
-        ensures turn { IsTurn stock (editing_at SimpleModule-box self.new.desk) result }
+        ensures turn { IsTurn stock SimpleModule-box lines.now self.old self.new result }
     {
         let Some(line) = lines.get(self.replies.len()) else {
-            return Turn::Stop;
+            return Turn::Over(Next::Stop(None));
         };
         match self.step(alloc, line.as_bytes()) {
-            Step::Replied(reply) => self.keep(lines, reply),
+            Step::Replied(reply) => Turn::Over(self.keep(lines, reply)),
             Step::Need(made) => Turn::Need(made),
-            Step::Declined => Turn::GoOn,
+            Step::Declined => Turn::Over(Next::GoOn),
         }
     }
 
     /// Gives the run that waits its box. Where memory runs out that is the reply to its line.
-    fn supply(&mut self, lines: &[Text], held: Box<dyn SimpleModule>) -> Turn
+    fn supply(&mut self, lines: &[Text], held: Box<dyn SimpleModule>) -> Next
         requires wanted { let editing = editing_at SimpleModule-box self.old.desk in
             IsFor stock (wanted_of editing) (meaning held) }
+        requires waits { IsSome (wanted_of (editing_at SimpleModule-box self.old.desk)) }
         requires so_far { IsSoFar stock SimpleModule-box lines.now self.old }
+        requires line { length self.old.replies.items < length lines.now }
         ensures so_far { GoesOn stock SimpleModule-box lines.now self.old self.new }
-        ensures turn { IsTurn stock (editing_at SimpleModule-box self.new.desk) result }
+        // Less is left to be done: the run has one box more, or its line has its reply.
+        ensures went { IsWent SimpleModule-box lines.now self.old self.new result }
     {
         match self.desk.supply(held) {
-            Ok(()) => Turn::GoOn,
-            Err(_) => self.out_of_memory(lines),
+            Ok(()) => Next::GoOn,
+            Err(fault) => match fault.reason {
+                SupplyReason::NoMemory(error) => self.out_of_memory(lines, error),
+                SupplyReason::NotWanted => unreachable!(),
+            },
         }
     }
 
     /// Memory ran out on the next line.
-    fn out_of_memory(&mut self, lines: &[Text]) -> Turn
+    fn out_of_memory(&mut self, lines: &[Text], error: NoMemory) -> Next
         requires so_far { IsSoFar stock SimpleModule-box lines.now self.old }
+        requires line { length self.old.replies.items < length lines.now }
         ensures so_far { GoesOn stock SimpleModule-box lines.now self.old self.new }
-        ensures turn { IsTurn stock (editing_at SimpleModule-box self.new.desk) result }
+        ensures went { IsWent SimpleModule-box lines.now self.old self.new result }
     {
-        if self.replies.len() < lines.len() {
-            return self.keep(lines, Reply::NoMemory);
-        }
-        Turn::Stop
+        self.keep(lines, Reply::NoMemory(error))
     }
 
-    /// The replies, where each line has one.
-    fn replies(self, lines: &[Text]) -> Result<Vec<Reply>, BeginFault>
+    /// The replies, where each line has one; or the want of memory that left a line without one.
+    fn replies(self, lines: &[Text], error: Option<NoMemory>) -> Result<Vec<Reply>, BeginFault>
         requires so_far { IsSoFar stock SimpleModule-box lines.now self }
+        requires all { error ≡ None → length lines.now ≤ length self.replies.items }
         ensures replies { let model = (editing_at SimpleModule-box self.desk).model in
             IfOk result (λ replies. AreReplies stock model lines.now replies.items) }
-        ensures refused { IfErr result (λ fault. fault ≡ BeginFault.NoMemory) }
+        ensures refused { IfErr result (λ fault. fault ≡ BeginFault.NoMemory no_memory) }
     {
+        let _lines = lines;
         let Answering {
             desk,
             replies,
             holds: _,
         } = self;
         drop(desk);
-        if replies.len() < lines.len() {
-            return Err(BeginFault::NoMemory);
+        match error {
+            None => Ok(replies),
+            Some(error) => Err(BeginFault::NoMemory(error)),
         }
-        Ok(replies)
     }
 }
 
@@ -230,7 +248,7 @@ fn push(replies: &mut Vec<Reply>, reply: Reply) -> Result<(), NoMemory>
 {
     match replies.push(reply) {
         Ok(()) => Ok(()),
-        Err(_) => Err(NoMemory),
+        Err(error) => Err(error.into()),
     }
 }
 
@@ -248,23 +266,24 @@ pub fn replies_to(
         × IsModelOf texts.now ini.now config.now model
         × AreReplies stock model lines.now replies.items) }
     ensures refused { IfErr result (λ fault. Refuses texts.now ini.now config.now fault) }
+    // Where the texts make a model, there are replies, unless memory runs out.
+    ensures complete { IfErr result (λ fault. IsRuledOut texts.now ini.now config.now fault) }
 {
     let session = Session::<Stock>::begin(alloc, texts, ini, config)?;
     let mut answering = Answering::of_session(alloc, session);
-    for _number in 0..u64::MAX {
+    'turns: loop {
         let next = match answering.turn(alloc, lines) {
             Turn::Need(made) => match Box::new(alloc, made) {
                 Ok(held) => {
                     let held: Box<dyn SimpleModule> = held;
                     answering.supply(lines, held)
                 }
-                Err(_) => answering.out_of_memory(lines),
+                Err(error) => answering.out_of_memory(lines, error.into()),
             },
-            other => other,
+            Turn::Over(next) => next,
         };
-        if let Turn::Stop = next {
-            return answering.replies(lines);
+        if let Next::Stop(error) = next {
+            return answering.replies(lines, error);
         }
     }
-    answering.replies(lines)
 }

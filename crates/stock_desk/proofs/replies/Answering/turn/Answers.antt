@@ -1,6 +1,7 @@
 use Rattle.std.proofs.Common.{◌≡◌, Some, ap, arith, length, slice_get, sym, ◌∙◌}
 use Rattle.std.proofs.lemmas.Option.{slice_get-get_or}
 use Rattle.stock_desk.proofs.Lists.{none_more, still_on}
+use Rattle.stock_desk.proofs.Turning.{replied}
 use Rattle.stock_desk.proofs.replies.Answering.turn.Goals as goal
 
 pub keep-requires-clause-so_far : goal.keep-requires-clause-so_far
@@ -24,3 +25,7 @@ returns-in-Need-clause-so_far g c = none_more c.args.lines.now c.args.self.now _
 
 pub returns-in-Declined-clause-so_far : goal.returns-in-Declined-clause-so_far
 returns-in-Declined-clause-so_far g c = none_more c.args.lines.now c.args.self.now _ c.step.ensures.kept c.step.ensures.replies c.requires.so_far
+
+pub returns-in-Replied-clause-turn : goal.returns-in-Replied-clause-turn
+returns-in-Replied-clause-turn g c =
+    replied c.args.lines.now c.args.self.now c.step.new.self c.keep.new.self c.keep.result c.step.ensures.replies c.step.ensures.kept.model c.keep.ensures.so_far c.keep.ensures.kept
