@@ -98,3 +98,7 @@ ini_of more =
 -- the network of Ticks of these names, with these lines of the ini text
 abbrev pub ticks : List (List ℕ) → List IniLine → Model
 ticks names more = record { types = tick ∷ network names ∷ []; ini = ini_of more; config = codes "General"; chain = codes "General" ∷ [] }
+
+-- one Tick that fires three times
+abbrev pub three_ticks : Model
+three_ticks = ticks (codes "t" ∷ []) (given (codes "count") (codes "3") (values.Whole (pos 3)) ∷ [])

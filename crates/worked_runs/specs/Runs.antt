@@ -6,7 +6,7 @@ use Rattle.model_answers.specs.declared.model.Model.{Model}
 use Rattle.stock_modules.specs.Stock.{stock}
 use Rattle.edit_session.specs.Files.{vectors_of_run}
 use Rattle.desk.specs.Turns.{run_answer}
-use Rattle.worked_runs.specs.Models.{ticks, given}
+use Rattle.worked_runs.specs.Models.{ticks, given, three_ticks}
 
 -- the answer of the run to this limit, and its vector file
 pub record Gives (m : Model) (limit : ℕ) (answer file : List ℕ) : Type 0 where
@@ -18,7 +18,7 @@ header = codes "version 3\nrun General-0\nattr configname General\nattr network 
 
 -- three ticks, a second apart
 abbrev pub ThreeTicks : Type 0
-ThreeTicks = Gives (ticks (codes "t" ∷ []) (given (codes "count") (codes "3") (values.Whole (pos 3)) ∷ [])) 100
+ThreeTicks = Gives three_ticks 100
     (codes "done no-more-events from start executed 3")
     (header ++ codes "config **.count 3\n\nvector 0 N.t fired:vector ETV\n0\t1\t1\t1\n0\t2\t2\t2\n0\t3\t3\t3\n")
 

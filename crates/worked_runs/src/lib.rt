@@ -3,6 +3,7 @@
 #![tactic(auto)]
 
 ghost use Rattle.worked_runs.specs.Runs.{ThreeTicks, NoTicks, TwoModules, TimeOverflow};
+ghost use Rattle.worked_runs.specs.Texts.{FirstExample};
 
 #[cfg(test)]
 mod tests;
@@ -25,4 +26,9 @@ pub fn two_modules()
 /// A tick that would come after the greatest time.
 pub fn time_overflow()
     ensures { TimeOverflow }
+{}
+
+/// Three ticks from the bytes of the two files on, to those of the vector file.
+pub fn first_example()
+    ensures { FirstExample }
 {}

@@ -1,16 +1,16 @@
 ghost use Rattle.std.specs.Prelude.{IfOk};
 ghost use Rattle.desk.specs.Turns.{IsSettled};
 
-use desk::buffer::Buffer;
 use desk::desk::{Desk, DeskTurn};
-use edit_session::begin::BeginFault;
 use edit_session::session::{FileFault, Session};
+use model_texts::begin::BeginFault;
 use module_api::catalogue::Catalogue;
 use module_api::simple_module::SimpleModule;
 use ned_syntax::texts::NedTexts;
+use result_files::buffer::Buffer;
 use result_files::writer::{Out, WriteFault};
 use sim_values::NoMemory;
-use std::alloc::Global;
+use std::alloc::{AllocError, Global};
 use std::test::Fail;
 use stock_modules::stock::Stock;
 
@@ -23,15 +23,13 @@ struct Shelf {
 }
 
 impl Out for Shelf {
-    ghost content = { λ shelf. shelf.taken.items };
-
-    ghost failures = { λ shelf. shelf.failures };
+    ghost taken = { λ shelf. record { bytes = shelf.taken.items; failures = shelf.failures } };
 
     fn write(&mut self, bytes: &[u8]) -> Result<usize, WriteFault> {
         let count = bytes.len().min(self.room);
         if count == 0 || self.taken.extend_from_slice(&bytes[..count]).is_err() {
             self.failures = self.failures.wrapping_add(1);
-            return Err(WriteFault);
+            return Err(AllocError.into());
         }
         self.room -= count;
         Ok(count)
