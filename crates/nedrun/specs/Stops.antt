@@ -1,8 +1,8 @@
 -- Why the program ends early.
 use Rattle.std.specs.Prelude.{◌≡◌}
 use Rattle.desk.specs.Answers.{refusal_text}
-use Rattle.edit_session.specs.declared.begin.BeginFault.{BeginFault}
-use Rattle.edit_session.specs.declared.begin.BeginFault.TheVariants as fault
+use Rattle.model_texts.specs.declared.begin.BeginFault.{BeginFault}
+use Rattle.model_texts.specs.declared.begin.BeginFault.TheVariants as fault
 use Rattle.nedrun.specs.declared.stops.Stop.{Stop}
 use Rattle.nedrun.specs.declared.stops.Stop.TheVariants as stop
 
@@ -14,5 +14,5 @@ IsNamed f _ = ⊥
 
 -- what ends the program where the texts make no model
 abbrev pub IsStopOf : BeginFault → Stop → Type 0
-IsStopOf fault.NoMemory s = s ≡ stop.NoMemory
+IsStopOf (fault.NoMemory _) s = s ≡ stop.NoMemory
 IsStopOf f s = IsNamed f s

@@ -6,13 +6,13 @@ mod output;
 mod stops;
 mod words;
 
-use explanations::sources::Sources;
 use sim_values::text::Text;
 use std::alloc::Global;
 use std::process::ExitCode;
 use std::rt::{Env, Files};
 use stock_desk::replies::replies_to;
 use stops::Stop;
+use text_explanations::sources::Sources;
 use words::Words;
 
 /// The command line of a run for at most so many events.

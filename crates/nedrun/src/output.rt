@@ -3,12 +3,12 @@
 use crate::stops::Stop;
 use crate::words::Words;
 use explanations::runs::fault_line;
-use explanations::sources::Sources;
 use explanations::warnings::warning_lines;
 use std::io::Write;
 use std::rt::Files;
 use std::{fs, io};
 use stock_desk::replies::Reply;
+use text_explanations::sources::Sources;
 
 /// The classes that the program has modules of.
 const CLASSES: [&[u8]; 1] = [b"Tick"];
@@ -95,6 +95,6 @@ pub fn tell<R: Files + Print + Eprint + AllocGlobal>(
             say(rt, b"written".as_slice())
         }
         Reply::Refused(answer) => say(rt, answer.as_bytes()),
-        Reply::NoMemory => say(rt, b"refused NoMemory".as_slice()),
+        Reply::Unwritten(_, _) | Reply::NoMemory(_) => say(rt, b"refused NoMemory".as_slice()),
     }
 }

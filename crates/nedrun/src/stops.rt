@@ -6,14 +6,14 @@ ghost use Rattle.nedrun.specs.declared.stops.Stop.TheVariants as stops;
 
 use clap::error::ErrorKind;
 use desk::answers::refusal_text;
-use edit_session::begin::BeginFault;
-use explanations::names::shown;
 use explanations::refusals::refusal_line;
-use explanations::sources::Sources;
+use model_texts::begin::BeginFault;
 use sim_values::NoMemory;
 use sim_values::text::Text;
 use std::alloc::{AllocError, AllocFailed, Global};
 use std::io;
+use text_explanations::names::shown;
+use text_explanations::sources::Sources;
 
 /// Why the program ends early.
 #[derive(Drop)]
@@ -34,7 +34,7 @@ impl Stop {
         ensures { IsStopOf fault result }
     {
         match fault {
-            BeginFault::NoMemory => Stop::NoMemory,
+            BeginFault::NoMemory(_) => Stop::NoMemory,
             _ => Stop::named(alloc, fault, line_for(alloc, fault, sources)),
         }
     }

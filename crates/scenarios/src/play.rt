@@ -4,7 +4,7 @@ ghost use Rattle.std.specs.Prelude.{◌≡◌, ◌++◌, ◌∷◌, [], OnOk};
 
 use crate::scenario::Scenario;
 use desk::answers::refusal_text;
-use edit_session::begin::BeginFault;
+use model_texts::begin::BeginFault;
 use sim_values::NoMemory;
 use sim_values::text::Text;
 use std::alloc::Global;
@@ -38,7 +38,7 @@ fn tell_reply(told: &mut Vec<u8>, reply: &Reply) -> Result<(), NoMemory> {
     match reply {
         Reply::Done(text, _) => say(told, text.as_bytes()),
         Reply::Refused(text) => say(told, text.as_bytes()),
-        Reply::NoMemory => say(told, b"refused NoMemory".as_slice()),
+        Reply::Unwritten(_, _) | Reply::NoMemory(_) => say(told, b"refused NoMemory".as_slice()),
     }
 }
 
