@@ -1,8 +1,9 @@
 //! Why the files make no model.
 
 use crate::configurations::{tell_no_chain, tell_no_config, tell_no_network};
-use model_texts::begin::{BeginFault, MAX_FILES, MAX_TEXT};
+use model_texts::begin::{BeginFault, MAX_FILES};
 use sim_values::NoMemory;
+use sim_values::text::MAX_LENGTH;
 use std::alloc::Global;
 use std::fmt::Write;
 use text_explanations::ini_lines::{line_at, tell_ini_line};
@@ -22,13 +23,13 @@ fn tell_large(told: &mut String, sources: &Sources<'_>) -> Result<(), NoMemory> 
     }
     let mut path = sources.ini_path;
     for (file, text) in sources.texts.as_slice().iter().enumerate() {
-        if text.as_bytes().len() > MAX_TEXT {
+        if text.as_bytes().len() > MAX_LENGTH {
             path = sources.path(file);
         }
     }
     write!(
         told,
-        "{path}: the file is longer than 1 MiB ({MAX_TEXT} bytes); part it into several, or leave out what isn't used"
+        "{path}: the file is longer than 1 MiB ({MAX_LENGTH} bytes); part it into several, or leave out what isn't used"
     )?;
     Ok(())
 }

@@ -5,7 +5,8 @@ use Rattle.ini_config.specs.declared.error.EditError.{EditError}
 use Rattle.ini_config.specs.declared.error.EditError.TheVariants as errors
 use Rattle.ini_config.specs.declared.lines.IniLine.{IniLine}
 use Rattle.ini_entries.specs.Texts.{Bytes}
-use Rattle.ini_config.specs.Meaning.{FirstBad, IsIniText, max_length}
+use Rattle.sim_values.specs.Limits.{max_length}
+use Rattle.ini_config.specs.Meaning.{FirstBad, IsIniText}
 
 -- ---- the changed lines
 

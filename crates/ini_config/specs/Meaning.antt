@@ -1,6 +1,7 @@
 -- What an ini text means.
-use Rattle.std.specs.Prelude.{◌≡◌, ℕ, suc, ◌+◌, ◌-◌, ◌<◌, ◌≤◌, ◌^◌, Bool, true, false, ◌&&◌, not, List, [], ◌∷◌, ◌++◌, length, take, drop, Option, Some, None, Result, Ok, Err, ◌==◌, ◌⊎◌, position, codes, nat_lt, slice_index}
+use Rattle.std.specs.Prelude.{◌≡◌, ℕ, suc, ◌+◌, ◌-◌, ◌<◌, ◌≤◌, Bool, true, false, ◌&&◌, not, List, [], ◌∷◌, ◌++◌, length, take, drop, Option, Some, None, Result, Ok, Err, ◌==◌, ◌⊎◌, position, codes, nat_lt, slice_index}
 use Rattle.std.specs.Str.{bytes_eq, is_utf8}
+use Rattle.sim_values.specs.Limits.{max_length}
 use Rattle.ini_config.specs.declared.lines.Entry.{Entry}
 use Rattle.ini_entries.specs.declared.entry.EntryMeaning.{EntryMeaning}
 use Rattle.ini_entries.specs.declared.entry.EntryMeaning.TheVariants as meaning
@@ -14,10 +15,6 @@ use Rattle.ini_entries.specs.Names.{is_config_name}
 use Rattle.ini_config.specs.Sections.{general, section_behind}
 use Rattle.ini_entries.specs.Texts.{Bytes, is_blank, after_blanks, before_blanks}
 use Rattle.ini_config.specs.Texts.{lines_of_ini, value_text, holds_variable}
-
--- the longest text that is read: 1 MiB
-abbrev pub max_length : ℕ
-max_length = 2 ^ 20
 
 -- ---- entries
 

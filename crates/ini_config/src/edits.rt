@@ -1,13 +1,14 @@
 //! Edits of an ini text. Each gives a new text, and leaves the old one as it was.
 
 ghost use Rattle.std.specs.Prelude.{◌≡◌, ◌+◌, ◌<◌, ◌≤◌, ◌∷◌, ◌++◌, [], IfOk, IfErr, OnOk, MatchOption, List, length, take, drop, nat_le};
-ghost use Rattle.ini_config.specs.Meaning.{IsIniText, max_length};
+ghost use Rattle.sim_values.specs.Limits.{max_length};
+ghost use Rattle.ini_config.specs.Meaning.{IsIniText};
 ghost use Rattle.ini_config.specs.Edits.{AnswersEdit, HasLines, IsEdited, Refused, RefusesBytes, bytes_of, edit_with, edit_without, holds_feed, insertion, is_line, is_place, removal, replacement, texts_of, with_between};
 ghost use Rattle.ini_config.specs.declared.lines.IniLine.{IniLine};
 
 use crate::error::{EditError, IniError};
 use crate::lines::{IniLine, IniText};
-use crate::parse::MAX_LENGTH;
+use sim_values::text::MAX_LENGTH;
 use std::alloc::{AllocError, Global};
 
 /// The first lines, at most so many.

@@ -5,7 +5,8 @@ ghost use Rattle.std.specs.List.{list_all};
 ghost use Rattle.std.specs.Str.{is_utf8};
 ghost use Rattle.ini_config.specs.Texts.{lines_of_ini};
 ghost use Rattle.ini_entries.specs.Meaning.{Tells, is_key, is_key_byte};
-ghost use Rattle.ini_config.specs.Meaning.{IsIniText, IsIniLine, IsLine, IsEntry, IsNamed, IsParted, IsSection, Settles, Answers, Explains, begins_entry, ends_with, in_brackets, is_first_of_entry, is_extends, is_value, may_stand, max_length, SettlesLine};
+ghost use Rattle.sim_values.specs.Limits.{max_length};
+ghost use Rattle.ini_config.specs.Meaning.{IsIniText, IsIniLine, IsLine, IsEntry, IsNamed, IsParted, IsSection, Settles, Answers, Explains, begins_entry, ends_with, in_brackets, is_first_of_entry, is_extends, is_value, may_stand, SettlesLine};
 ghost use Rattle.ini_config.specs.Sections.{section_behind};
 ghost use Rattle.ini_config.specs.declared.lines.IniLine.{IniLine};
 ghost use Rattle.ini_config.specs.declared.lines.LineMeaning.{LineMeaning};
@@ -18,13 +19,10 @@ use ini_entries::entry::EntryMeaning;
 use ini_entries::keys::is_key;
 use ini_entries::meaning::entry_meaning;
 use ini_entries::names::is_config_name;
-use sim_values::text::Text;
+use sim_values::text::{MAX_LENGTH, Text};
 use sqlite_items::Items;
 use std::alloc::{AllocError, Global};
 use std::str::from_utf8;
-
-/// The longest text that is read: 1 MiB.
-pub const MAX_LENGTH: usize = 1 << 20;
 
 fn is_text(bytes: &[u8]) -> bool
     ensures { result ≡ is_utf8 bytes.now }

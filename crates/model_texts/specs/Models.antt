@@ -7,7 +7,7 @@ use Rattle.ini_config.specs.Meaning.{IsIniText, FirstBad}
 use Rattle.ini_config.specs.Sections.{IsChain, is_section}
 use Rattle.model_answers.specs.declared.model.Model.{Model}
 use Rattle.model_answers.specs.Models.{network_of}
-use Rattle.ned_tokens.specs.Meaning.{max_length}
+use Rattle.sim_values.specs.Limits.{max_length}
 use Rattle.ned_tokens.specs.Viable.{IsFirstBadLine}
 use Rattle.ned_syntax.specs.declared.ast.NedFile.{NedFile}
 use Rattle.ned_syntax.specs.declared.ast.TypeDeclaration.{TypeDeclaration}

@@ -18,12 +18,9 @@ use ned_syntax::texts::NedTexts;
 use ned_types::table::{TypeFault, TypeTable};
 use ned_values::error::NedError;
 use sim_values::NoMemory;
-use sim_values::text::Text;
+use sim_values::text::{MAX_LENGTH, Text};
 use sqlite_items::Items;
 use std::alloc::{AllocError, Global};
-
-/// The longest text that is read, in bytes: 1 MiB.
-pub const MAX_TEXT: usize = 1 << 20;
 
 /// How many NED files a model has at most.
 pub const MAX_FILES: usize = 256;
@@ -71,7 +68,7 @@ impl From<AllocError> for BeginFault {
 fn is_large(bytes: &[u8]) -> bool
     ensures { result ≡ is_large bytes.now }
 {
-    bytes.len() > MAX_TEXT
+    bytes.len() > MAX_LENGTH
 }
 
 /// Whether one of the texts is longer than what is read.

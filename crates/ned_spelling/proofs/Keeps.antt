@@ -4,6 +4,7 @@ use Rattle.std.specs.Prelude.{unwrap_or}
 use Rattle.sim_values.specs.declared.value.Value.{Value}
 use Rattle.sim_values.specs.declared.value.Value.TheVariants as values
 use Rattle.sim_values.specs.declared.value.Dimension.{Dimension}
+use Rattle.ned_tokens.specs.Digits.{below_limit}
 use Rattle.ned_tokens.specs.declared.token.Keyword.TheVariants as k
 use Rattle.ned_tokens.specs.declared.token.Mark.TheVariants as m
 use Rattle.ned_tokens.specs.declared.token.Token.{Token}
@@ -30,7 +31,7 @@ use Rattle.ned_syntax.specs.declared.statistics.Except.TheVariants as except_is
 use Rattle.ned_syntax.specs.declared.statistics.Said.{Said}
 use Rattle.ned_syntax.specs.declared.parameters.Valued.{Valued}
 use Rattle.ned_syntax.specs.declared.parameters.Tail.{Tail}
-use Rattle.ned_syntax.specs.Grammar.{word, mark, name, name_of, whole_of, whole_value, quantity_value, literal_of, number_of, negated, plain_literal, number, negative_literal, literal, expression, default_value, value_rule, in_parens, turn_of, bracketed, index, body, unit_effect, said_by_word, said, effect_of, property, modes, loose_text, no_value, source_value, record_value, source_tail, record_tail, source_word, record_word, source_part, record_part, part_or_other, other_part, record_or_other, any_part, part, next_part, nothing_said, over, over_all, statistic_body, optional_body, statistic_line, indexed_statistic, unnamed_statistic, named_or_not, line_or_ignored, statistic_tail, statistic_word, statistic, plain_name, line_of, plain_line, property_text, property_line, valued, tail, value_in, unit_in, parameter_word, volatile, any_declaration, is_measured_word, declaration, assignment, assigned_or_said, any_line, section_line, heading, section, simple, submodule, listed, submodules, network, type_rule, file}
+use Rattle.ned_syntax.specs.Grammar.{word, mark, name, name_of, whole_value, quantity_value, literal_of, number_of, negated, plain_literal, number, negative_literal, literal, expression, default_value, value_rule, in_parens, turn_of, bracketed, index, body, unit_effect, said_by_word, said, effect_of, property, modes, loose_text, no_value, source_value, record_value, source_tail, record_tail, source_word, record_word, source_part, record_part, part_or_other, other_part, record_or_other, any_part, part, next_part, nothing_said, over, over_all, statistic_body, optional_body, statistic_line, indexed_statistic, unnamed_statistic, named_or_not, line_or_ignored, statistic_tail, statistic_word, statistic, plain_name, line_of, plain_line, property_text, property_line, valued, tail, value_in, unit_in, parameter_word, volatile, any_declaration, is_measured_word, declaration, assignment, assigned_or_said, any_line, section_line, heading, section, simple, submodule, listed, submodules, network, type_rule, file}
 use Rattle.ned_spelling.proofs.Spellable.{Each, IfThere, IsSmall, CanBeValue, CanBeExpression, CanBeGiven, CanBeUnit, CanBeDeclaration, CanBeAssignment, CanBeLine, CanBeSubmodule, CanBeType, CanBeFile}
 
 -- what sound tokens spell by the rule is so
@@ -123,7 +124,7 @@ keeps_name = one name_of IsName go
 -- ---- values
 
 -- a number that is read is within the limit
-small_is : (n k : ℕ) → whole_of n ≡ Some k → IsSmall k
+small_is : (n k : ℕ) → below_limit n ≡ Some k → IsSmall k
 small_is n k e = go (ltb n (2 ^ 63)) refl e
   where
     go : (t : Bool) → ltb n (2 ^ 63) ≡ t → cond t (Some n) None ≡ Some k → IsSmall k
@@ -155,11 +156,11 @@ unfolding plain_literal
 keeps_plain = one literal_of CanBeValue go
   where
     go : (t : Token) (v : Value) → IsSound t → literal_of t ≡ Some v → CanBeValue v
-    go (token.Number n) v h e = whole_can (whole_of n) v (small_is n) e
+    go (token.Number n) v h e = whole_can (below_limit n) v (small_is n) e
     go (token.Word k.True) v h e = let same : values.Truth true ≡ v = cc in subst CanBeValue same tt
     go (token.Word k.False) v h e = let same : values.Truth false ≡ v = cc in subst CanBeValue same tt
     go (token.Literal text) v h e = let same : values.Text text ≡ v = cc in subst CanBeValue same (h refl)
-    go (token.Quantity d n) v h e = quantity_can d (whole_of n) v (small_is n) e
+    go (token.Quantity d n) v h e = quantity_can d (below_limit n) v (small_is n) e
     go _ v h e = absurd cc
 
 -- a number with a sign

@@ -9,7 +9,7 @@ use Rattle.ned_tokens.specs.declared.token.Mark.TheVariants as m
 use Rattle.ned_tokens.specs.declared.token.Token.{Token}
 use Rattle.ned_tokens.specs.declared.token.Token.TheVariants as token
 use Rattle.ned_tokens.specs.Lines.{tokens_of}
-use Rattle.ned_tokens.specs.Meaning.{max_length}
+use Rattle.sim_values.specs.Limits.{max_length}
 use Rattle.ned_spelling.specs.Tokens.{unit_text, spell}
 use Rattle.ned_values.specs.declared.ast.Expression.{Expression}
 use Rattle.ned_values.specs.declared.ast.Expression.TheVariants as expressions

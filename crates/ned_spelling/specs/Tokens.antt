@@ -3,6 +3,7 @@ use Rattle.std.specs.Prelude.{◌≡◌, ℕ, ◌^◌, Bool, true, false, ◌||�
 use Rattle.std.specs.Str.{is_utf8}
 use Rattle.sim_values.specs.declared.value.Dimension.{Dimension}
 use Rattle.sim_values.specs.declared.value.Dimension.TheVariants as dimension
+use Rattle.ned_tokens.specs.Digits.{limit}
 use Rattle.ned_tokens.specs.declared.runs.Class.{Class}
 use Rattle.ned_tokens.specs.declared.runs.Class.TheVariants as class
 use Rattle.ned_tokens.specs.declared.token.Keyword.{Keyword}
@@ -194,8 +195,8 @@ abbrev pub HasSpelling : Token → Type 0
 HasSpelling (token.Word w) = Unit {0}
 HasSpelling (token.Mark w) = Unit {0}
 HasSpelling (token.Name text) = IsName text
-HasSpelling (token.Number n) = nat_lt n (2 ^ 63) ≡ true
-HasSpelling (token.Quantity d n) = nat_lt n (2 ^ 63) ≡ true
+HasSpelling (token.Number n) = nat_lt n limit ≡ true
+HasSpelling (token.Quantity d n) = nat_lt n limit ≡ true
 HasSpelling (token.Literal text) = is_utf8 text ≡ true
 HasSpelling _ = ⊥
 

@@ -48,7 +48,7 @@ use Rattle.ned_syntax.specs.declared.parameters.Valued.{Valued}
 use Rattle.ned_syntax.specs.declared.parameters.Tail.{Tail}
 -- single tokens, literals, expressions and names of modes are those of `ned_values`
 unfoldable pub use Rattle.ned_values.specs.Grammar.{word, mark, name, plain_literal, number, negative_literal, literal, expression}
-pub use Rattle.ned_values.specs.Grammar.{Bytes, same_word, same_mark, is_word, is_mark, name_of, whole_of, whole_value, quantity_value, literal_of, number_of, negated, mode_named}
+pub use Rattle.ned_values.specs.Grammar.{Bytes, same_word, same_mark, is_word, is_mark, name_of, whole_value, quantity_value, literal_of, number_of, negated, mode_named}
 
 -- ---- a mark behind a value
 

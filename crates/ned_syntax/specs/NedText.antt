@@ -1,6 +1,7 @@
 -- What NED texts mean, and why they are refused.
 use Rattle.std.specs.Prelude.{◌≡◌, ◌↔◌, ℕ, suc, ◌≤◌, List, length, Option, Some, None, Result, Ok, Err}
-use Rattle.ned_tokens.specs.Meaning.{Means, MayBlame, max_length}
+use Rattle.sim_values.specs.Limits.{max_length}
+use Rattle.ned_tokens.specs.Meaning.{Means, MayBlame}
 use Rattle.ned_tokens.specs.Rule.{all_read}
 use Rattle.ned_tokens.specs.declared.token.Token.{Token}
 use Rattle.ned_tokens.specs.Viable.{IsFirstBadLine}

@@ -1,7 +1,7 @@
 //! Reading NED texts.
 
 ghost use Rattle.std.specs.Prelude.{◌≡◌, ◌<◌, length, IfOk, IfErr, Err};
-ghost use Rattle.ned_tokens.specs.Meaning.{max_length};
+ghost use Rattle.sim_values.specs.Limits.{max_length};
 ghost use Rattle.ned_syntax.specs.NedText.{IsNedFile, ExplainsFile, NamesFirstOfFile, tokens_left};
 ghost use Rattle.ned_values.specs.ExpressionText.{Answers};
 ghost use Rattle.ned_syntax.specs.declared.ast.NedFile.{NedFile};
@@ -12,8 +12,8 @@ use ned_tokens::lines::{blamed_line, tokenize};
 use ned_tokens::refusal::Refusal;
 use ned_tokens::token::Token;
 use ned_values::error::NedError;
-use ned_values::parse::MAX_LENGTH;
 pub use ned_values::parse::parse_expression;
+use sim_values::text::MAX_LENGTH;
 use std::alloc::{AllocError, Global};
 
 /// The declarations of a NED text (OMNeT++ Simulation Manual, "The NED Language").

@@ -22,6 +22,10 @@ value_from base n (d ∷ ds) = value_from base (n * base + digit_of d) ds
 abbrev pub value_of : Class → Bytes → ℕ
 value_of c ds = value_from (base_of c) 0 ds
 
--- numbers and amounts go up to 2^63 - 1
+-- numbers and amounts are below this
+abbrev pub limit : ℕ
+limit = 2 ^ 63
+
+-- the number, if it is below the limit
 abbrev pub below_limit : ℕ → Option ℕ
-below_limit n = if nat_lt n (2 ^ 63) then Some n else None
+below_limit n = if nat_lt n limit then Some n else None

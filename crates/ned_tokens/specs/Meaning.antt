@@ -1,12 +1,9 @@
 -- What a text means by a rule, and which line may be named where it means nothing.
-use Rattle.std.specs.Prelude.{◌≡◌, ℕ, ◌≤◌, ◌^◌, ◌++◌, length, ◌⊎◌}
+use Rattle.std.specs.Prelude.{◌≡◌, ℕ, ◌≤◌, ◌++◌, length, ◌⊎◌}
+use Rattle.sim_values.specs.Limits.{max_length}
 use Rattle.ned_tokens.specs.Runs.{Bytes}
 use Rattle.ned_tokens.specs.Rule.{Rule}
 use Rattle.ned_tokens.specs.Lines.{tokens_of, last_line, through_line}
-
--- the longest text that is read
-abbrev pub max_length : ℕ
-max_length = 2 ^ 20
 
 -- THE MEANING of a text by a rule: it is small enough, and its tokens spell this value.
 pub record Means {X : Type 0} (r : Rule X) (bytes : Bytes) (x : X) : Type 0 where

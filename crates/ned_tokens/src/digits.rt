@@ -6,7 +6,7 @@ ghost use Rattle.ned_tokens.specs.Digits as values;
 use crate::runs::Class;
 
 /// Numbers and amounts are below this.
-pub(crate) const LIMIT: u64 = 1 << 63;
+pub const LIMIT: u64 = 1 << 63;
 
 fn base_of(class: Class) -> u64
     ensures { result ≡ values.base_of class }

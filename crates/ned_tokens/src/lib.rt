@@ -16,4 +16,5 @@ pub mod token;
 mod units;
 pub mod words;
 
+pub use digits::LIMIT;
 pub use units::unit_of;

@@ -15,7 +15,7 @@ use Rattle.ned_syntax.specs.declared.ast.TypeKind.TheVariants.{Simple, Network}
 use Rattle.ned_types.specs.declared.table.TypeFault.{TypeFault}
 use Rattle.ned_types.specs.declared.table.TypeFault.TheVariants.{DuplicateType, UnknownType, KindClash}
 use Rattle.ned_types.specs.Types as t
-use Rattle.ned_types.specs.WellFormed.{IsAmong, StandsBefore, IsParameter, IsSound, IsSimpleType, IsWellFormed}
+use Rattle.ned_types.specs.WellFormed.{IsAmong, StandsBefore, IsParameter, IsSoundSection, IsSimpleType, IsWellFormed}
 
 -- ---- tests
 
@@ -221,7 +221,7 @@ fixed_told l ls h k is = λ fix give e.
 fixed_made : (l : SectionLine) (ls : List SectionLine) → ((k : SectionLine) → IsAmong k ls → IsFixedOnce l k) → (t.is_fixed (t.value_in l) && t.is_given (t.name_in l) ls) ≡ false
 fixed_made l ls h = and_made (t.is_fixed (t.value_in l)) _ (λ fix. any_made (λ x. t.gives (t.name_in l) x) ls (λ k is. and_made (is_some (t.value_in k)) _ (λ give. apart_names (t.name_in k) (t.name_in l) (λ e. h k is fix give (sym e)))))
 
-sound_told : (lines : List SectionLine) → t.section_clashes lines ≡ false → IsSound lines
+sound_told : (lines : List SectionLine) → t.section_clashes lines ≡ false → IsSoundSection lines
 sound_told lines h =
     let first = or_parts (t.redeclares lines) (t.gives_undeclared lines || t.gives_again lines) h in
     let rest = or_parts (t.gives_undeclared lines) (t.gives_again lines) first.1 in
@@ -231,7 +231,7 @@ sound_told lines h =
       fixed = λ l k is. pairs_told {X = SectionLine} IsFixedOnce (λ x ls. t.is_fixed (t.value_in x) && t.is_given (t.name_in x) ls) t.gives_again (λ x ls. refl) fixed_told lines rest.1 l k is;
     }
 
-sound_made : (lines : List SectionLine) → IsSound lines → t.section_clashes lines ≡ false
+sound_made : (lines : List SectionLine) → IsSoundSection lines → t.section_clashes lines ≡ false
 sound_made lines s =
     or_false (t.redeclares lines) _
     (pairs_made {X = SectionLine} (λ l. Unit {0}) AreOthers (λ l ls. t.is_declaration l && t.is_declared (t.name_in l) ls) t.redeclares refl (λ l ls. refl) (λ l ls q h. once_made l ls h) lines (λ l is. tt) (λ l k is d e p q. s.names d e (subst (λ (x : SectionLine). StandsBefore x (line.Declaration e) lines) p (subst (λ (x : SectionLine). StandsBefore l x lines) q is))))

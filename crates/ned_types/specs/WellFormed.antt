@@ -24,7 +24,7 @@ abbrev pub IsParameter : List ℕ → List SectionLine → Type 0
 IsParameter name lines = (d : Declaration) × IsAmong (line.Declaration d) lines × (d.name ≡ name)
 
 -- THE RULES of a parameter section:
-pub record IsSound (lines : List SectionLine) : Type 0 where
+pub record IsSoundSection (lines : List SectionLine) : Type 0 where
   -- no two parameters have one name;
   pub names : (d e : Declaration) → StandsBefore (line.Declaration d) (line.Declaration e) lines → d.name ≢ e.name
   -- a value is given to a parameter that is declared;
@@ -43,7 +43,7 @@ pub record IsWellFormed (types : List TypeDeclaration) : Type 0 where
   -- none has the name of a built-in channel;
   pub own : (t : TypeDeclaration) → IsAmong t types → is_built_in t.name ≡ false
   -- the parameter section of each is sound;
-  pub parameters : (t : TypeDeclaration) → IsAmong t types → IsSound t.lines
+  pub parameters : (t : TypeDeclaration) → IsAmong t types → IsSoundSection t.lines
   -- no two submodules of a type have one name;
   pub submodules : (t : TypeDeclaration) → IsAmong t types → (s r : Submodule) → StandsBefore s r t.submodules → s.name ≢ r.name
   -- and the type of each is a simple type among these.

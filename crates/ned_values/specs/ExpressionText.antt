@@ -1,6 +1,7 @@
 -- What a text that is an expression means, and why it is refused.
 use Rattle.std.specs.Prelude.{◌≡◌, ℕ, suc, ◌≤◌, List, length, Result, Ok, Err}
-use Rattle.ned_tokens.specs.Meaning.{Means, MayBlame, max_length}
+use Rattle.sim_values.specs.Limits.{max_length}
+use Rattle.ned_tokens.specs.Meaning.{Means, MayBlame}
 use Rattle.ned_tokens.specs.Viable.{IsFirstBadLine}
 use Rattle.ned_values.specs.declared.ast.Expression.{Expression}
 use Rattle.ned_values.specs.declared.error.NedError.{NedError}

@@ -1,7 +1,7 @@
 -- The grammar of what NED texts and ini texts share, over tokens (OMNeT++ Simulation Manual, "NED Language Grammar").
 -- `a ▷ b` is a and then b, with the value of b.
 use denote.Enum.Bare.{sameb}
-use Rattle.std.specs.Prelude.{ℕ, ◌^◌, pos, neg_ℤ, Bool, true, false, List, Option, Some, None, nat_lt, if◌then◌else◌, codes}
+use Rattle.std.specs.Prelude.{ℕ, pos, neg_ℤ, Bool, true, false, List, Option, Some, None, if◌then◌else◌, codes}
 use Rattle.std.specs.Str.{bytes_eq}
 use Rattle.sim_values.specs.declared.value.Value.{Value}
 use Rattle.sim_values.specs.declared.value.Value.TheVariants as values
@@ -14,6 +14,7 @@ use Rattle.ned_tokens.specs.declared.token.Mark.{Mark}
 use Rattle.ned_tokens.specs.declared.token.Mark.TheVariants as m
 use Rattle.ned_tokens.specs.declared.token.Token.{Token}
 use Rattle.ned_tokens.specs.declared.token.Token.TheVariants as token
+use Rattle.ned_tokens.specs.Digits.{below_limit}
 use Rattle.ned_tokens.specs.Rule.{Rule, token as one_token, ◌▷◌, made, either}
 use Rattle.ned_values.specs.declared.ast.Expression.{Expression}
 use Rattle.ned_values.specs.declared.ast.Expression.TheVariants as expressions
@@ -57,10 +58,6 @@ name = one_token name_of
 
 -- ---- values
 
--- a number is at most 2^63 - 1
-abbrev pub whole_of : ℕ → Option ℕ
-whole_of n = if nat_lt n (2 ^ 63) then Some n else None
-
 abbrev pub whole_value : Option ℕ → Option Value
 whole_value None = None
 whole_value (Some n) = Some (values.Whole (pos n))
@@ -71,15 +68,15 @@ quantity_value d (Some n) = Some (values.Quantity d (pos n))
 
 -- a literal without a sign: a number, a truth value, a text or quantities in a row
 abbrev pub literal_of : Token → Option Value
-literal_of (token.Number n) = whole_value (whole_of n)
+literal_of (token.Number n) = whole_value (below_limit n)
 literal_of (token.Word k.True) = Some (values.Truth true)
 literal_of (token.Word k.False) = Some (values.Truth false)
 literal_of (token.Literal text) = Some (values.Text text)
-literal_of (token.Quantity d n) = quantity_value d (whole_of n)
+literal_of (token.Quantity d n) = quantity_value d (below_limit n)
 literal_of _ = None
 
 abbrev pub number_of : Token → Option ℕ
-number_of (token.Number n) = whole_of n
+number_of (token.Number n) = below_limit n
 number_of _ = None
 
 unfoldable pub plain_literal : Rule Value

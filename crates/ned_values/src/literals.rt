@@ -1,17 +1,17 @@
 //! Literals, and expressions.
 
-ghost use Rattle.std.specs.Prelude.{◌≡◌, ◌<◌, ◌^◌, IfOk};
+ghost use Rattle.std.specs.Prelude.{◌≡◌, ◌<◌, IfOk};
+ghost use Rattle.ned_tokens.specs.Digits.{limit};
 ghost use Rattle.ned_tokens.specs.Rule.{Gives, Reads, begins, all_read};
 ghost use Rattle.ned_values.specs.Grammar as grammar;
 
 use crate::ast::Expression;
 use crate::leaves::{begins_mark, mark};
+use ned_tokens::LIMIT;
 use ned_tokens::refusal::Refusal;
 use ned_tokens::token::{Keyword, Mark, Token};
 use sim_values::value::Value;
 use std::alloc::Global;
-
-const LIMIT: u64 = 1 << 63;
 
 /// A literal of one token.
 /// `plain_literal = number | "true" | "false" | text | quantity`.
@@ -37,7 +37,7 @@ fn plain_literal(alloc: Global, tokens: &[Token]) -> Result<(Value, &[Token]), R
 #[tactic(auto, unfolding(crate::specs::Grammar::number))]
 fn number(tokens: &[Token]) -> Result<(u64, &[Token]), Refusal>
     ensures read { Reads grammar.number tokens.now result }
-    ensures small { IfOk result (λ x. x.0 < 2 ^ 63) }
+    ensures small { IfOk result (λ x. x.0 < limit) }
 {
     match tokens {
         [Token::Number(number), rest @ ..] if *number < LIMIT => Ok((*number, rest)),
@@ -46,7 +46,7 @@ fn number(tokens: &[Token]) -> Result<(u64, &[Token]), Refusal>
 }
 
 fn negated(number: u64) -> Value
-    requires { number < 2 ^ 63 }
+    requires { number < limit }
     ensures { result ≡ grammar.negated number }
 {
     Value::Whole(-(number as i64))

@@ -1,7 +1,7 @@
 //! Reading a text that is an expression.
 
 ghost use Rattle.std.specs.Prelude.{◌≡◌, ◌<◌, length, IfOk, IfErr, Err};
-ghost use Rattle.ned_tokens.specs.Meaning.{max_length};
+ghost use Rattle.sim_values.specs.Limits.{max_length};
 ghost use Rattle.ned_values.specs.ExpressionText.{IsExpressionText, Answers, ExplainsExpression, NamesFirstOfExpression};
 ghost use Rattle.ned_values.specs.declared.ast.Expression.{Expression};
 
@@ -10,10 +10,8 @@ use crate::error::NedError;
 use crate::literals::whole_expression;
 use ned_tokens::lines::{blamed_line, tokenize};
 use ned_tokens::refusal::Refusal;
+use sim_values::text::MAX_LENGTH;
 use std::alloc::Global;
-
-/// The longest text that is read: 1 MiB.
-pub const MAX_LENGTH: usize = 1 << 20;
 
 /// The expression that a text is.
 pub fn parse_expression(alloc: Global, bytes: &[u8]) -> Result<Expression, NedError>

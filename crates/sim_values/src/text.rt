@@ -6,6 +6,9 @@ ghost use Rattle.std.specs.Str.{bytes_eq};
 use std::alloc::{AllocError, Global};
 use std::marker::Model;
 
+/// The longest text of a model that is read, in bytes: 1 MiB.
+pub const MAX_LENGTH: usize = 1 << 20;
+
 /// A text or a byte string, which contracts see as the list of its bytes.
 #[derive(Debug, Drop)]
 pub struct Text {

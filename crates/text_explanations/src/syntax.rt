@@ -81,9 +81,11 @@ fn tell_wanted(told: &mut String, wanted: &[(&str, &str)]) -> Result<(), NoMemor
         return Ok(());
     }
     told.push_str("wanted is one of")?;
+    let mut part = " ";
     for it in wanted {
-        told.push_str(" ")?;
+        told.push_str(part)?;
         tell_one(told, *it)?;
+        part = ", ";
     }
     Ok(())
 }

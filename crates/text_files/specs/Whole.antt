@@ -1,7 +1,8 @@
 -- What is read of a text.
 use Rattle.std.specs.Prelude.{◌≡◌, ◌⊎◌, ℕ, ◌≤◌, ◌<◌, List, ◌++◌, length}
-use Rattle.ned_tokens.specs.Meaning.{max_length}
-use Rattle.text_files.specs.Given.{most, one_more}
+use Rattle.sim_values.specs.Limits.{max_length}
+use Rattle.sim_values.specs.Counts.{next_count}
+use Rattle.text_files.specs.Given.{most}
 use Rattle.text_files.specs.declared.reading.ReadFault.{ReadFault}
 use Rattle.text_files.specs.declared.reading.ReadFault.TheVariants as faults
 
@@ -9,7 +10,7 @@ use Rattle.text_files.specs.declared.reading.ReadFault.TheVariants as faults
 -- said then, once, that it was at its end, or there are as many bytes as are read at most.
 pub record IsWhole (given : List ℕ) (ends : ℕ) (given' : List ℕ) (ends' : ℕ) (text : List ℕ) : Type 0 where
   pub gave : given' ≡ given ++ text
-  pub to_the_end : ((length text ≤ max_length) × (ends' ≡ one_more ends)) ⊎ ((length text ≡ most) × (ends' ≡ ends))
+  pub to_the_end : ((length text ≤ max_length) × (ends' ≡ next_count ends)) ⊎ ((length text ≡ most) × (ends' ≡ ends))
 
 -- The source gave so many bytes more, which stand behind the text now. Where it gave none it was at its end.
 pub record IsMore (given : List ℕ) (ends : ℕ) (text : List ℕ) (given' : List ℕ) (ends' : ℕ) (text' : List ℕ) (n : ℕ) : Type 0 where
@@ -18,10 +19,10 @@ pub record IsMore (given : List ℕ) (ends : ℕ) (text : List ℕ) (given' : Li
   pub kept : text' ≡ text ++ bytes
   pub count : length bytes ≡ n
   pub within : length text' ≤ most
-  pub ended : n ≡ 0 → length text < most → ends' ≡ one_more ends
+  pub ended : n ≡ 0 → length text < most → ends' ≡ next_count ends
   pub goes_on : 0 < n → ends' ≡ ends
 
 -- why a text isn't read: the source failed, once; or memory ran out, and the source did not fail
 abbrev pub Explains : ℕ → ℕ → ReadFault → Type 0
-Explains failures failures' (faults.Failed error) = failures' ≡ one_more failures
+Explains failures failures' (faults.Failed error) = failures' ≡ next_count failures
 Explains failures failures' (faults.NoMemory _) = failures' ≡ failures

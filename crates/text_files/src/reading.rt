@@ -6,12 +6,13 @@ ghost use Rattle.text_files.specs.Whole.{Explains, IsMore, IsWhole};
 
 use crate::source::Source;
 use sim_values::NoMemory;
+use sim_values::text::MAX_LENGTH;
 use std::alloc::Global;
 use std::io;
 
 /// How many bytes are read at most: 1 MiB, which is the longest text, and one. So a text that is too
 /// long is still seen to be that.
-pub const MOST: usize = (1 << 20) + 1;
+pub const MOST: usize = MAX_LENGTH + 1;
 
 /// How many bytes are asked for at a time.
 const CHUNK: usize = 4096;

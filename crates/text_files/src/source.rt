@@ -1,7 +1,7 @@
 //! What gives bytes.
 
 ghost use Rattle.std.specs.Prelude.{◌≡◌, ℕ, ◌≤◌, List, ◌++◌, IfOk, OnOk, OnErr, length, take};
-ghost use Rattle.text_files.specs.Given.{one_more, ends_after};
+ghost use Rattle.sim_values.specs.Counts.{next_count, count_behind};
 
 use std::io;
 
@@ -22,8 +22,8 @@ pub trait Source {
     fn read(&mut self, buffer: &mut [u8]) -> io::Result<usize>
         ensures within { IfOk result (λ n. n ≤ length buffer.new) }
         ensures given { IfOk result (λ n. given self.new ≡ given self.old ++ take n buffer.new) }
-        ensures ended { IfOk result (λ n. ends self.new ≡ ends_after n buffer.old (ends self.old)) }
+        ensures ended { IfOk result (λ n. ends self.new ≡ count_behind n buffer.old (ends self.old)) }
         ensures healthy { OnOk result (failures self.new ≡ failures self.old) }
         ensures unchanged { OnErr result ((given self.new ≡ given self.old) × (ends self.new ≡ ends self.old)) }
-        ensures failed { OnErr result (failures self.new ≡ one_more (failures self.old)) };
+        ensures failed { OnErr result (failures self.new ≡ next_count (failures self.old)) };
 }
