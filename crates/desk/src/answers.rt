@@ -25,6 +25,7 @@ fn fault_name(fault: &Fault) -> &'static [u8]
         Fault::NoGate => b"NoGate",
         Fault::TooManyActions => b"TooManyActions",
         Fault::NotInFinish => b"NotInFinish",
+        Fault::BadName => b"BadName",
         Fault::TimeOverflow => b"TimeOverflow",
         Fault::AlreadyScheduled => b"AlreadyScheduled",
         Fault::ModuleFailed(_) => b"ModuleFailed",

@@ -3,7 +3,8 @@ use Rattle.std.proofs.Common.{◌≡◌, ℕ, List, [], ◌∷◌, refl, sym, ap
 use Rattle.std.specs.List.{list_any}
 use Rattle.sim_time.specs.Time.{time_sum}
 use Rattle.module_api.specs.declared.reply.Action.{Action}
-use Rattle.module_api.specs.declared.reply.Action.TheVariants.{Emit, ScheduleAfter, Fail}
+use Rattle.module_api.specs.Names.{is_scalar_name}
+use Rattle.module_api.specs.declared.reply.Action.TheVariants.{Emit, RecordScalar, ScheduleAfter, Fail}
 use Rattle.module_api.specs.declared.reply.Read.{Read}
 use Rattle.module_api.specs.declared.reply.Reply.{Reply}
 use Rattle.module_api.specs.declared.reply.Schedule.{Schedule}
@@ -54,6 +55,7 @@ scheduled_apart ms id s w (Some time) = either_apart ms (list_any (λ p. is_time
 
 perform_apart : (ms : List Instance) (id : ℕ) (action : Action) (w : World) → perform id action (with_modules ms w) ≡ flow_with ms (perform id action w)
 perform_apart ms id (Emit signal value) w = refl
+perform_apart ms id (RecordScalar name value) w = either_apart ms (is_scalar_name name) _ _ _ _ refl refl
 perform_apart ms id (ScheduleAfter s) w = scheduled_apart ms id s w (time_sum w.clock s.delay)
 perform_apart ms id (Fail text) w = refl
 

@@ -15,10 +15,11 @@ use model_answers::answering::{answer, is_beyond, parameters_of};
 use model_answers::model::Model as NetworkModel;
 use model_answers::record::{Record, index_of, path_of, submodule_path};
 use module_api::call::{Call, Prompt};
+use module_api::names::is_scalar_name;
 use module_api::reply::{Action, Read, Reply, Schedule};
 use run_semantics::outcome::{Fault, Turn, fault_of};
 use run_semantics::pending::{Happening, Pending};
-use run_semantics::traces::Emission;
+use run_semantics::traces::{Emission, Scalar};
 use sim_time::SimTime;
 use sim_values::NoMemory;
 use sim_values::text::Text;
@@ -42,6 +43,7 @@ pub struct Core {
     next: u128,
     ended: bool,
     emissions: Items<Emission>,
+    scalars: Items<Scalar>,
     questions: Items<Asked>,
 }
 
@@ -63,6 +65,7 @@ impl Model for Core {
       next = k.next;
       ended = k.ended;
       emissions = k.emissions;
+      scalars = k.scalars;
       questions = k.questions;
     } };
 
@@ -86,6 +89,7 @@ impl Core {
             next: 0,
             ended: false,
             emissions: Items::new(alloc),
+            scalars: Items::new(alloc),
             questions: Items::new(alloc),
         }
     }
@@ -122,6 +126,18 @@ impl Core {
         ensures { result.now ≡ self.now.emissions }
     {
         self.emissions.as_slice()
+    }
+
+    pub fn scalars(&self) -> &[Scalar]
+        ensures { result.now ≡ self.now.scalars }
+    {
+        self.scalars.as_slice()
+    }
+
+    pub fn finished(&self) -> &[u32]
+        ensures { result.now ≡ self.now.finished }
+    {
+        self.finished.as_slice()
     }
 
     pub fn is_ended(&self) -> bool
@@ -217,6 +233,19 @@ impl Core {
         Ok(Turn::GoOn)
     }
 
+    /// Notes a scalar, where it has a name.
+    fn record(&mut self, alloc: Global, id: u32, name: &Text, value: i64) -> Result<Turn, NoMemory>
+        ensures { IfOk result (λ turn. flow_of turn self.new
+            ≡ perform id (Action.RecordScalar name.now value) self.old) }
+    {
+        if !is_scalar_name(name.as_bytes()) {
+            return self.broken(alloc, id, Fault::BadName);
+        }
+        let name = name.copy(alloc)?;
+        self.scalars.push(Scalar { id, name, value })?;
+        Ok(Turn::GoOn)
+    }
+
     /// One action of the module of that id.
     fn perform(&mut self, alloc: Global, id: u32, action: &Action) -> Result<Turn, NoMemory>
         requires { self.old.next + 1 < 2 ^ 128 }
@@ -224,6 +253,7 @@ impl Core {
     {
         match action {
             Action::Emit(signal, value) => self.emit(alloc, id, signal, *value),
+            Action::RecordScalar(name, value) => self.record(alloc, id, name, *value),
             Action::ScheduleAfter(schedule) => self.schedule(alloc, id, schedule),
             Action::Fail(text) => {
                 let text = text.copy(alloc)?;
@@ -598,7 +628,7 @@ fn is_last_action(action: &Action) -> bool
     ensures { result ≡ is_last_action action.now }
 {
     match action {
-        Action::Emit(_, _) | Action::Fail(_) => true,
+        Action::Emit(_, _) | Action::RecordScalar(_, _) | Action::Fail(_) => true,
         Action::ScheduleAfter(_) => false,
     }
 }

@@ -23,7 +23,7 @@ use module_api::simple_module::SimpleModule;
 use module_tree::Tree;
 use run_semantics::outcome::{Fault, Outcome, Turn};
 use run_semantics::pending::{Happening, Pending};
-use run_semantics::traces::Emission;
+use run_semantics::traces::{Emission, Scalar};
 use sim_values::NoMemory;
 use sim_values::text::Text;
 use std::alloc::{AllocFailed, Global};
@@ -80,6 +80,20 @@ impl<C: Catalogue> Kernel<C> {
         ensures { result.now ≡ (world_in SimpleModule-box self.now).emissions }
     {
         self.core.emissions()
+    }
+
+    /// The scalars that modules recorded.
+    pub fn scalars(&self) -> &[Scalar]
+        ensures { result.now ≡ (world_in SimpleModule-box self.now).scalars }
+    {
+        self.core.scalars()
+    }
+
+    /// The ids of the modules that were finished.
+    pub fn finished(&self) -> &[u32]
+        ensures { result.now ≡ (world_in SimpleModule-box self.now).finished }
+    {
+        self.core.finished()
     }
 
     // ---- setup, up to the boxes

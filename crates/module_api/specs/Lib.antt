@@ -1,5 +1,6 @@
 pub mod Behaviour
 pub mod Laws
 pub mod Meaning
+pub mod Names
 pub mod Prompts
 pub mod Values

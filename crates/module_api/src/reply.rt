@@ -29,6 +29,8 @@ pub struct Schedule {
 pub enum Action {
     /// Emits a value of the signal of that name.
     Emit(Text, i64),
+    /// Records a scalar of that name, which has to be one (`names::is_scalar_name`).
+    RecordScalar(Text, i64),
     /// Sets a timer.
     ScheduleAfter(Schedule),
     /// Ends the run with the fault ModuleFailed and this text.

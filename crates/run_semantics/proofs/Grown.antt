@@ -25,7 +25,7 @@ use Rattle.run_semantics.proofs.Orderly.{IsOrderly, Follows, same_ids, on_same, 
 
 -- nothing happened
 grown_same : (w : World) → HasGrown w w
-grown_same w = record { clock = omega arith; count = omega arith; next = omega arith; records = on_same w.records; emissions = on_same w.emissions; questions = on_same w.questions }
+grown_same w = record { clock = omega arith; count = omega arith; next = omega arith; records = on_same w.records; emissions = on_same w.emissions; scalars = on_same w.scalars; questions = on_same w.questions }
 
 -- one growth and then another
 grown_on : (u v w : World) → HasGrown u v → HasGrown v w → HasGrown u w
@@ -35,6 +35,7 @@ grown_on u v w f g = record {
   next = omega (arith, f.next, g.next);
   records = on_more u.records v.records w.records f.records g.records;
   emissions = on_more u.emissions v.emissions w.emissions f.emissions g.emissions;
+  scalars = on_more u.scalars v.scalars w.scalars f.scalars g.scalars;
   questions = on_more u.questions v.questions w.questions f.questions g.questions;
 }
 
@@ -43,7 +44,7 @@ grown_next : (b : Behaviour) (m : Model) (n : ℕ) → HasGrown (world_at (after
 grown_next b m n =
     let f = after_follows b m n in
     let l = after_later b m n in
-    record { clock = f.clock; count = f.count; next = f.next; records = (l.more, l.records); emissions = f.emissions; questions = (l.rest, l.joined) }
+    record { clock = f.clock; count = f.count; next = f.next; records = (l.more, l.records); emissions = f.emissions; scalars = f.scalars; questions = (l.rest, l.joined) }
 
 -- a run of more events has grown
 pub grown_after : (b : Behaviour) (m : Model) (n k : ℕ) → n ≤ k → HasGrown (world_at (after b m n)) (world_at (after b m k))

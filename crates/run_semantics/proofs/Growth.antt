@@ -6,7 +6,8 @@ use Rattle.module_api.specs.Behaviour.{Behaviour, Replied}
 use Rattle.module_api.specs.declared.call.Prompt.{Prompt}
 use Rattle.module_api.specs.declared.call.Prompt.TheVariants as prompt
 use Rattle.module_api.specs.declared.reply.Action.{Action}
-use Rattle.module_api.specs.declared.reply.Action.TheVariants.{Emit, ScheduleAfter, Fail}
+use Rattle.module_api.specs.Names.{is_scalar_name}
+use Rattle.module_api.specs.declared.reply.Action.TheVariants.{Emit, RecordScalar, ScheduleAfter, Fail}
 use Rattle.module_api.specs.declared.reply.Read.{Read}
 use Rattle.module_api.specs.declared.reply.Read.TheVariants as read
 use Rattle.module_api.specs.declared.reply.Schedule.{Schedule}
@@ -172,6 +173,7 @@ scheduled_grows id s w (Some time) f = either_grows w (list_any (λ p. is_timer 
 -- an action asks nothing
 perform_grows : (id : ℕ) (action : Action) (w : World) → Fits w → IsGrown w (in_flow (perform id action w))
 perform_grows id (Emit signal value) w f = grown_beside w _ f refl refl refl refl
+perform_grows id (RecordScalar name value) w f = either_grows w (is_scalar_name name) _ _ (grown_beside w _ f refl refl refl refl) (grown_same w f)
 perform_grows id (ScheduleAfter s) w f = scheduled_grows id s w (time_sum w.clock s.delay) f
 perform_grows id (Fail text) w f = grown_same w f
 

@@ -7,7 +7,8 @@ use Rattle.module_api.specs.Behaviour.{Behaviour, Replied}
 use Rattle.module_api.specs.declared.call.Prompt.{Prompt}
 use Rattle.module_api.specs.declared.call.Prompt.TheVariants as prompt
 use Rattle.module_api.specs.declared.reply.Action.{Action}
-use Rattle.module_api.specs.declared.reply.Action.TheVariants.{Emit, ScheduleAfter, Fail}
+use Rattle.module_api.specs.Names.{is_scalar_name}
+use Rattle.module_api.specs.declared.reply.Action.TheVariants.{Emit, RecordScalar, ScheduleAfter, Fail}
 use Rattle.module_api.specs.declared.reply.Read.{Read}
 use Rattle.module_api.specs.declared.reply.Reply.{Reply}
 use Rattle.module_api.specs.declared.reply.Schedule.{Schedule}
@@ -18,6 +19,7 @@ use Rattle.model_answers.specs.declared.answer.Question.TheVariants.{Root, Build
 use Rattle.model_answers.specs.declared.model.Model.{Model}
 use Rattle.model_answers.specs.Answering.{answer_of}
 use Rattle.run_semantics.specs.declared.outcome.Fault.{Fault}
+use Rattle.run_semantics.specs.declared.outcome.Fault.TheVariants as fault
 use Rattle.run_semantics.specs.declared.outcome.Outcome.{Outcome}
 use Rattle.run_semantics.specs.declared.outcome.Outcome.TheVariants.{Ended, TimeLimit}
 use Rattle.run_semantics.specs.declared.pending.Happening.TheVariants.{Timer}
@@ -26,7 +28,7 @@ use Rattle.run_semantics.specs.declared.traces.Emission.{Emission}
 use Rattle.run_semantics.specs.declared.traces.Instance.{Instance}
 use Rattle.run_semantics.specs.World.{World, empty, asked}
 use Rattle.run_semantics.specs.Order.{inserted}
-use Rattle.run_semantics.specs.Perform.{Flow, On, Stopped, Broken, ◌>>=◌, is_timer, scheduled, perform, perform_all, ask_all, question_of, acted, read_fault, unless_fault, answered}
+use Rattle.run_semantics.specs.Perform.{Flow, On, Stopped, Broken, ◌>>=◌, broken, with_scalar, is_timer, scheduled, perform, perform_all, ask_all, question_of, acted, read_fault, unless_fault, answered}
 use Rattle.run_semantics.specs.Event.{call_of, place_in, with_state, called, call_at, call_module, begun, event, message_of}
 use Rattle.run_semantics.specs.Run.{rooted, built, unless_many, root_asked, inside_asked, prepared, Part, parts_of, place, place_all, place_parts, ready, standing, most_stages, initialize, one_stage, stages_from, initialize_all, with_started, part_of, Stage, Running, Over, world_at, settled, is_after_limit, picked, next_stage, after}
 use Rattle.run_semantics.specs.Laws.{Each, AreInOrder, AreInTurn, HaveOwnNumbers, IsAmong, ids_of, GoesOn}
@@ -56,6 +58,7 @@ pub record Leads (old new : World) : Type 0 where
   pub started : new.started ≡ old.started
   pub live : new.live ≡ old.live
   pub emissions : GoesOn old.emissions new.emissions
+  pub scalars : GoesOn old.scalars new.scalars
   pub present : AreOf old.count old.clock emissions.0
   pub orderly : IsOrderly new
 
@@ -78,7 +81,7 @@ on_more xs ys zs f g = (f.0 ++ g.0, sym (append_assoc xs f.0 g.0) ∙ (ap (λ us
 
 -- nothing happened
 leads_same : (w : World) → IsOrderly w → Leads w w
-leads_same w f = record { clock = refl; count = refl; present = tt; next = omega arith; records = refl; same = refl; started = refl; live = refl; emissions = on_same w.emissions; orderly = f }
+leads_same w f = record { clock = refl; count = refl; present = tt; next = omega arith; records = refl; same = refl; started = refl; live = refl; emissions = on_same w.emissions; scalars = on_same w.scalars; orderly = f }
 
 -- one part and then another
 leads_on : {u v w : World} → Leads u v → Leads v w → Leads u w
@@ -91,6 +94,7 @@ leads_on {u} {v} {w} f g = record {
   started = g.started ∙ f.started;
   live = g.live ∙ f.live;
   emissions = on_more u.emissions v.emissions w.emissions f.emissions g.emissions;
+  scalars = on_more u.scalars v.scalars w.scalars f.scalars g.scalars;
   present = each_append (λ (e : Emission). (e.event ≡ u.count) × (e.time ≡ u.clock)) f.emissions.0 g.emissions.0 f.present (rw (← f.count, ← f.clock) g.present);
   orderly = g.orderly;
 }
@@ -143,6 +147,7 @@ leads_inserted e w f number time stands =
       started = refl;
       live = refl;
       emissions = on_same w.emissions;
+      scalars = on_same w.scalars;
       orderly = record {
         order = ordered_inserted e w.pending ne f.order;
         own = own_inserted e w.pending ne f.own;
@@ -171,8 +176,25 @@ perform_leads id (Emit signal value) w f h = record {
   started = refl;
   live = refl;
   emissions = (_, refl);
+  scalars = on_same w.scalars;
   orderly = record { order = f.order; own = f.own; below = f.below; due = f.due; modules = f.modules };
 }
+perform_leads id (RecordScalar name value) w f h =
+    either_leads w (is_scalar_name name) (On (with_scalar id name value w)) (broken id fault.BadName w)
+    (record {
+      clock = refl;
+      count = refl;
+      present = tt;
+      next = omega arith;
+      records = refl;
+      same = refl;
+      started = refl;
+      live = refl;
+      emissions = on_same w.emissions;
+      scalars = (_, refl);
+      orderly = record { order = f.order; own = f.own; below = f.below; due = f.due; modules = f.modules };
+    })
+    (leads_same w f)
 perform_leads id (ScheduleAfter s) w f h = scheduled_leads id s w (time_sum w.clock s.delay) refl f h
 perform_leads id (Fail text) w f h = leads_same w f
 
@@ -189,9 +211,9 @@ acted_leads id actions w f h = either_leads w (nat_lt 1000 (length actions)) _ _
 
 -- ---- replies and calls
 
--- what changes neither clock, modules, events nor emissions
-leads_beside : (u v : World) → IsOrderly u → v.clock ≡ u.clock → v.next ≡ u.next → v.pending ≡ u.pending → v.records ≡ u.records → standing v.modules ≡ standing u.modules → v.started ≡ u.started → v.live ≡ u.live → v.emissions ≡ u.emissions → v.count ≡ u.count → Leads u v
-leads_beside u v f clock next pending records same started live emissions count = record {
+-- what changes neither clock, modules, events, emissions nor scalars
+leads_beside : (u v : World) → IsOrderly u → v.clock ≡ u.clock → v.next ≡ u.next → v.pending ≡ u.pending → v.records ≡ u.records → standing v.modules ≡ standing u.modules → v.started ≡ u.started → v.live ≡ u.live → v.emissions ≡ u.emissions → v.scalars ≡ u.scalars → v.count ≡ u.count → Leads u v
+leads_beside u v f clock next pending records same started live emissions scalars count = record {
   clock = clock;
   count = count;
   present = tt;
@@ -201,6 +223,7 @@ leads_beside u v f clock next pending records same started live emissions count 
   started = started;
   live = live;
   emissions = ([], append-nil u.emissions ∙ sym emissions);
+  scalars = ([], append-nil u.scalars ∙ sym scalars);
   orderly = record {
     order = subst AreInOrder (sym pending) f.order;
     own = subst HaveOwnNumbers (sym pending) f.own;
@@ -214,7 +237,7 @@ leads_beside u v f clock next pending records same started live emissions count 
 ask_all_leads : (id : ℕ) (reads : List Read) (w : World) → IsOrderly w → Leads w (ask_all id reads w)
 ask_all_leads id [] w f = leads_same w f
 ask_all_leads id (r ∷ rs) w f =
-    let g : Leads w (asked (question_of id r) w) = leads_beside w _ f refl refl refl refl refl refl refl refl refl in
+    let g : Leads w (asked (question_of id r) w) = leads_beside w _ f refl refl refl refl refl refl refl refl refl refl in
     leads_on g (ask_all_leads id rs (asked (question_of id r) w) g.orderly)
 
 -- a fault changes nothing
@@ -241,7 +264,7 @@ called_leads b m id p w place None e f h = leads_same w f
 called_leads b m id p w place (Some i) e f h =
     let r : Replied = (b.naming i.kind).reply i.state (call_of m id p w) in
     let v : World = with_state place i r.state w in
-    let g : Leads w v = leads_beside w v f refl refl refl refl (standing_set w.modules place i r.state e) refl refl refl refl in
+    let g : Leads w v = leads_beside w v f refl refl refl refl (standing_set w.modules place i r.state e) refl refl refl refl refl in
     leads_on g (answered_leads m id r.reply v g.orderly (stands_on id w v g h))
 
 -- a module that has a place stands
@@ -356,12 +379,13 @@ pub record Follows (old new : World) : Type 0 where
   pub started : new.started ≡ old.started
   pub live : new.live ≡ old.live
   pub emissions : GoesOn old.emissions new.emissions
+  pub scalars : GoesOn old.scalars new.scalars
   pub present : AreOf new.count new.clock emissions.0
   pub orderly : IsOrderly new
 
 -- no event was executed
 follows_same : (w : World) → IsOrderly w → Follows w w
-follows_same w f = record { present = tt; clock = omega arith; count = omega arith; next = omega arith; records = refl; same = refl; started = refl; live = refl; emissions = on_same w.emissions; orderly = f }
+follows_same w f = record { present = tt; clock = omega arith; count = omega arith; next = omega arith; records = refl; same = refl; started = refl; live = refl; emissions = on_same w.emissions; scalars = on_same w.scalars; orderly = f }
 
 -- the first event is taken out, and none that is left is before it
 orderly_begun : (p : Pending) (rest : List Pending) (w : World) → w.pending ≡ p ∷ rest → IsOrderly w → IsOrderly (begun p rest w)
@@ -394,6 +418,7 @@ event_follows b m p rest w e f =
       started = g.started;
       live = g.live;
       emissions = g.emissions;
+      scalars = g.scalars;
       present = rw (g.count, g.clock) g.present;
       orderly = g.orderly;
     })

@@ -1,5 +1,5 @@
 -- Submodules are created one after the other.
-use Rattle.std.proofs.Common.{◌≡◌, ℕ, suc, ◌+◌, List, [], ◌∷◌, ◌++◌, length, map, refl, sym, ap, ◌∙◌, arith, append_assoc, length-append}
+use Rattle.std.proofs.Common.{◌≡◌, ℕ, suc, List, [], ◌∷◌, ◌++◌, length, map, ap, ◌∙◌, arith, append_assoc, length-append}
 use Rattle.model_answers.specs.declared.answer.Built.{Built}
 use Rattle.model_answers.specs.declared.record.Record.{Record}
 use Rattle.run_semantics.specs.World.{World}

@@ -7,7 +7,8 @@ use Rattle.module_api.specs.Behaviour.{Behaviour, Replied}
 use Rattle.module_api.specs.declared.call.Prompt.{Prompt}
 use Rattle.module_api.specs.declared.call.Prompt.TheVariants as prompt
 use Rattle.module_api.specs.declared.reply.Action.{Action}
-use Rattle.module_api.specs.declared.reply.Action.TheVariants.{Emit, ScheduleAfter, Fail}
+use Rattle.module_api.specs.Names.{is_scalar_name}
+use Rattle.module_api.specs.declared.reply.Action.TheVariants.{Emit, RecordScalar, ScheduleAfter, Fail}
 use Rattle.module_api.specs.declared.reply.Read.{Read}
 use Rattle.module_api.specs.declared.reply.Reply.{Reply}
 use Rattle.module_api.specs.declared.reply.Schedule.{Schedule}
@@ -17,9 +18,9 @@ use Rattle.run_semantics.specs.declared.outcome.Turn.{Turn}
 use Rattle.run_semantics.specs.declared.outcome.Turn.TheVariants.{GoOn, Stop, Break}
 use Rattle.run_semantics.specs.declared.traces.Instance.{Instance}
 use Rattle.run_semantics.specs.World.{World, asked}
-use Rattle.run_semantics.specs.Perform.{Flow, flow_of, On, Stopped, Broken, ◌>>=◌, is_timer, scheduled_at, scheduled, perform, perform_all, ask_all, question_of, acted, read_fault, unless_fault, answered}
-use Rattle.run_semantics.specs.Event.{call_of, place_in, with_state, replied, called, call_at, call_module}
-use Rattle.run_semantics.specs.Ending.{is_last_action, perform_last, perform_last_all, acted_last, answered_last, replied_last, called_last, call_last_at}
+use Rattle.run_semantics.specs.Perform.{Flow, flow_of, On, Stopped, Broken, ◌>>=◌, is_timer, scheduled, perform, perform_all, ask_all, question_of, acted, read_fault, unless_fault, answered}
+use Rattle.run_semantics.specs.Event.{call_of, place_in, with_state, called, call_at, call_module}
+use Rattle.run_semantics.specs.Ending.{is_last_action, perform_last, perform_last_all, acted_last, answered_last, called_last, call_last_at}
 
 -- the world of a flow
 abbrev pub in_flow : Flow → World
@@ -65,6 +66,7 @@ scheduled_keeps id s w (Some time) =
 
 pub perform_keeps : (id : ℕ) (action : Action) (w : World) → Keeps 1 w (in_flow (perform id action w))
 perform_keeps id (Emit signal value) w = record { count = refl; next = omega arith }
+perform_keeps id (RecordScalar name value) w = either_keeps 1 (is_scalar_name name) _ _ w (record { count = refl; next = omega arith }) (λ e. keeps_same 1 w)
 perform_keeps id (ScheduleAfter s) w = scheduled_keeps id s w (time_sum w.clock s.delay)
 perform_keeps id (Fail text) w = keeps_same 1 w
 

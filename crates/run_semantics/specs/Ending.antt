@@ -2,7 +2,7 @@
 use Rattle.std.specs.Prelude.{ℕ, nat_lt, Bool, true, false, List, [], ◌∷◌, ◌++◌, Option, Some, None, length, slice_get, if◌then◌else◌}
 use Rattle.module_api.specs.declared.call.Prompt.TheVariants as prompt
 use Rattle.module_api.specs.declared.reply.Action.{Action}
-use Rattle.module_api.specs.declared.reply.Action.TheVariants.{Emit, ScheduleAfter, Fail}
+use Rattle.module_api.specs.declared.reply.Action.TheVariants.{Emit, RecordScalar, ScheduleAfter, Fail}
 use Rattle.module_api.specs.declared.reply.Reply.{Reply}
 use Rattle.module_api.specs.Behaviour.{Behaviour, Replied}
 use Rattle.model_answers.specs.declared.model.Model.{Model}
@@ -18,6 +18,7 @@ use Rattle.run_semantics.specs.Run.{Part, standing, Ran, is_fault}
 -- whether an action is for a reply to the end
 abbrev pub is_last_action : Action → Bool
 is_last_action (Emit signal value) = true
+is_last_action (RecordScalar name value) = true
 is_last_action (ScheduleAfter s) = false
 is_last_action (Fail text) = true
 

@@ -50,13 +50,14 @@ abbrev pub GoesOn : {X : Type 0} → List X → List X → Type 0
 GoesOn {X} xs ys = (more : List X) × (xs ++ more ≡ ys)
 
 -- Nothing that happened is undone: from the first world to the second the clock, the count of events and the next
--- insertion number do not fall, and of records, emissions and questions all stay as they are, in their places.
+-- insertion number do not fall, and of records, emissions, scalars and questions all stay as they are, in their places.
 pub record HasGrown (old new : World) : Type 0 where
   pub clock : old.clock ≤ new.clock
   pub count : old.count ≤ new.count
   pub next : old.next ≤ new.next
   pub records : GoesOn old.records new.records
   pub emissions : GoesOn old.emissions new.emissions
+  pub scalars : GoesOn old.scalars new.scalars
   pub questions : GoesOn old.questions new.questions
 
 -- so many more events from a stage on

@@ -1,5 +1,5 @@
 -- The order of events to come.
-use Rattle.std.specs.Prelude.{ℕ, ℤ, nat_lt, int_lt, ◌==◌, Bool, true, false, List, [], ◌∷◌, if◌then◌else◌}
+use Rattle.std.specs.Prelude.{nat_lt, int_lt, ◌==◌, Bool, true, false, List, [], ◌∷◌, if◌then◌else◌}
 use Rattle.run_semantics.specs.declared.pending.Pending.{Pending}
 
 -- by time, then priority, then insertion number (OMNeT++ Simulation Manual, "Message Scheduling and Priority")

@@ -1,13 +1,14 @@
 -- What a reply leads to.
-use Rattle.std.specs.Prelude.{ℕ, ℤ, ◌+◌, nat_lt, ◌==◌, ◌&&◌, Bool, true, false, List, [], ◌∷◌, ◌++◌, Option, Some, None, if◌then◌else◌, length}
+use Rattle.std.specs.Prelude.{ℕ, ℤ, ◌+◌, nat_lt, ◌==◌, ◌&&◌, Bool, List, [], ◌∷◌, ◌++◌, Option, Some, None, if◌then◌else◌, length}
 use Rattle.std.specs.List.{list_any}
 use Rattle.sim_time.specs.Time.{time_sum}
 use Rattle.module_api.specs.declared.reply.Action.{Action}
-use Rattle.module_api.specs.declared.reply.Action.TheVariants.{Emit, ScheduleAfter, Fail}
+use Rattle.module_api.specs.declared.reply.Action.TheVariants.{Emit, RecordScalar, ScheduleAfter, Fail}
 use Rattle.module_api.specs.declared.reply.Read.{Read}
 use Rattle.module_api.specs.declared.reply.Read.TheVariants as read
 use Rattle.module_api.specs.declared.reply.Reply.{Reply}
 use Rattle.module_api.specs.declared.reply.Schedule.{Schedule}
+use Rattle.module_api.specs.Names.{is_scalar_name}
 use Rattle.model_answers.specs.declared.answer.Answer.{Answer}
 use Rattle.model_answers.specs.declared.answer.Answer.TheVariants as answer
 use Rattle.model_answers.specs.declared.answer.ModelFault.{ModelFault}
@@ -79,10 +80,15 @@ abbrev pub scheduled : ℕ → Schedule → World → Option ℕ → Flow
 scheduled id s w None = broken id fault.TimeOverflow w
 scheduled id s w (Some time) = scheduled_at id s w time
 
+-- a scalar more
+abbrev pub with_scalar : ℕ → List ℕ → ℤ → World → World
+with_scalar id name value w = record w { scalars = w.scalars ++ record { id = id; name = name; value = value } ∷ [] }
+
 -- ONE ACTION of the module of that id
 abbrev pub perform : ℕ → Action → World → Flow
 perform id (Emit signal value) w =
     On (record w { emissions = w.emissions ++ record { id = id; signal = signal; event = w.count; time = w.clock; value = value } ∷ [] })
+perform id (RecordScalar name value) w = if is_scalar_name name then On (with_scalar id name value w) else broken id fault.BadName w
 perform id (ScheduleAfter s) w = scheduled id s w (time_sum w.clock s.delay)
 perform id (Fail text) w = broken id (fault.ModuleFailed text) w
 

@@ -6,11 +6,12 @@ use Rattle.model_answers.specs.declared.record.Record.{Record}
 use Rattle.run_semantics.specs.declared.pending.Pending.{Pending}
 use Rattle.run_semantics.specs.declared.traces.Emission.{Emission}
 use Rattle.run_semantics.specs.declared.traces.Instance.{Instance}
+use Rattle.run_semantics.specs.declared.traces.Scalar.{Scalar}
 
 -- A world: the clock; how many events were executed; the records of the modules that were created, and the ids of those
 -- that live; the simple modules with their states, by rising id; the ids of the modules that were started, and of those
 -- that were finished; the events to come, in order, and the number of the next one that is inserted; whether the end was
--- asked for; what was emitted; what was asked of the model, each question with its event.
+-- asked for; what was emitted; the scalars that modules recorded; what was asked of the model, each question with its event.
 pub record World : Type 0 where
   pub clock : ℕ
   pub count : ℕ
@@ -23,6 +24,7 @@ pub record World : Type 0 where
   pub next : ℕ
   pub ended : Bool
   pub emissions : List Emission
+  pub scalars : List Scalar
   pub questions : List Asked
 
 -- nothing stands, and nothing happened
@@ -39,6 +41,7 @@ empty = record {
   next = 0;
   ended = false;
   emissions = [];
+  scalars = [];
   questions = [];
 }
 

@@ -81,7 +81,7 @@ pub fn one_event_more()
 {}
 
 /// Nothing that happened is undone: with more events the clock, the count of events and the next
-/// insertion number do not fall, and records, emissions and questions stay, each in its place.
+/// insertion number do not fall, and records, emissions, scalars and questions stay, each in its place.
 pub fn runs_grow()
     ensures { (b : Behaviour) (m : Model) (n k : ℕ) → n ≤ k
         → HasGrown (world_at (after b m n)) (world_at (after b m k)) }

@@ -29,6 +29,8 @@ pub enum Fault {
     TooManyActions,
     /// A reply to the end of the run has an action that is not for it.
     NotInFinish,
+    /// The name of a scalar is none (`module_api::names::is_scalar_name`).
+    BadName,
     /// A time is above the greatest time.
     TimeOverflow,
     /// The timer is pending already.
@@ -88,6 +90,7 @@ impl Fault {
             Fault::NoGate => Fault::NoGate,
             Fault::TooManyActions => Fault::TooManyActions,
             Fault::NotInFinish => Fault::NotInFinish,
+            Fault::BadName => Fault::BadName,
             Fault::TimeOverflow => Fault::TimeOverflow,
             Fault::AlreadyScheduled => Fault::AlreadyScheduled,
             Fault::ModuleFailed(text) => Fault::ModuleFailed(text.copy(alloc)?),

@@ -15,6 +15,15 @@ pub struct Emission {
     pub value: i64,
 }
 
+/// A scalar that a module recorded.
+#[derive(Debug, Drop)]
+pub struct Scalar {
+    /// The module that recorded it.
+    pub id: u32,
+    pub name: Text,
+    pub value: i64,
+}
+
 /// A simple module that was started: its kind, and its state as bytes.
 #[derive(Debug, Drop)]
 pub struct Instance {
