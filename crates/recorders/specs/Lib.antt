@@ -1,4 +1,6 @@
 pub mod Modes
 pub mod Hearing
+pub mod Statistics
 pub mod Selection
 pub mod Vectors
+pub mod Scalars

@@ -1,7 +1,6 @@
 -- What the per-object options let be recorded.
 -- OMNeT++ Simulation Manual, "Configuring Result Collection", "Selecting Recording Modes".
-use Rattle.std.specs.Prelude.{ℕ, Bool, true, false, not, ◌&&◌, ◌||◌, List, [], ◌∷◌, ◌++◌, Option, Some, None, codes}
-use Rattle.std.specs.List.{list_any}
+use Rattle.std.specs.Prelude.{ℕ, Bool, true, false, ◌&&◌, List, [], ◌∷◌, ◌++◌, fold, Option, Some, codes, if◌then◌else◌}
 use Rattle.ini_config.specs.declared.lines.Entry.{Entry}
 use Rattle.ini_entries.specs.declared.entry.ModeItem.{ModeItem}
 use Rattle.ini_entries.specs.declared.entry.ModeItem.TheVariants as item
@@ -9,76 +8,86 @@ use Rattle.ini_entries.specs.declared.entry.ObjectOption.{ObjectOption}
 use Rattle.ini_entries.specs.declared.entry.ObjectOption.TheVariants as object
 use Rattle.ini_config.specs.Entries.{object_for}
 use Rattle.model_answers.specs.Records.{path_under}
+use Rattle.ned_spelling.specs.Declarations.{mode_name}
 use Rattle.ned_values.specs.declared.ast.Mode.{Mode}
 use Rattle.ned_values.specs.declared.ast.Mode.TheVariants as mode
 use Rattle.ned_syntax.specs.declared.ast.RecordedMode.{RecordedMode}
 use Rattle.ned_syntax.specs.declared.ast.Statistic.{Statistic}
-use Rattle.recorders.specs.Modes.{same_mode, is_recorded}
+use Rattle.recorders.specs.Modes.{is_among, with_mode, with_modes, without_mode, declared_modes, default_modes, in_order}
 
 -- something is recorded, unless its option says that it isn't
 abbrev pub is_on : Option ObjectOption → Bool
 is_on (Some (object.Recording on)) = on
 is_on _ = true
 
--- a statistic names the mode, with a `?` or without
-abbrev pub is_declared : Mode → List RecordedMode → Bool
-is_declared m modes = list_any (λ (named : RecordedMode). same_mode named.mode m) modes
-
--- whether the mode is selected behind an item, where before it it was or wasn't
-abbrev pub after_item : Mode → List RecordedMode → Bool → ModeItem → Bool
-after_item m modes on item.Default = on || is_recorded m modes
-after_item m modes on item.All = on || is_declared m modes
-after_item m modes on (item.Only named) = on || same_mode named m
-after_item m modes on (item.Plus named) = on || same_mode named m
-after_item m modes on (item.Minus named) = on && not (same_mode named m)
+-- the modes that are chosen behind an item, where these were before it
+abbrev pub after_item : List RecordedMode → List Mode → ModeItem → List Mode
+after_item modes chosen item.Default = with_modes chosen (default_modes modes)
+after_item modes chosen item.All = with_modes chosen (declared_modes modes)
+after_item modes chosen (item.Only mode) = with_mode chosen mode
+after_item modes chosen (item.Plus mode) = with_mode chosen mode
+after_item modes chosen (item.Minus mode) = without_mode chosen mode
 
 -- the same behind all items
-abbrev pub after_items : Mode → List RecordedMode → Bool → List ModeItem → Bool
-after_items m modes on [] = on
-after_items m modes on (i ∷ is) = after_items m modes (after_item m modes on i) is
+abbrev pub after_items : List RecordedMode → List Mode → List ModeItem → List Mode
+after_items modes chosen items = fold (after_item modes) chosen items
 
 -- an item has a sign
 abbrev pub is_signed : ModeItem → Bool
-is_signed (item.Plus named) = true
-is_signed (item.Minus named) = true
+is_signed (item.Plus mode) = true
+is_signed (item.Minus mode) = true
 is_signed _ = false
 
 abbrev pub begins_signed : List ModeItem → Bool
 begins_signed [] = false
 begins_signed (i ∷ is) = is_signed i
 
--- whether a list of items selects the mode: the list begins with the modes that the statistic names without a `?`, where
--- its first item has a sign, and with none otherwise
-abbrev pub is_selected_by : Mode → List RecordedMode → List ModeItem → Bool
-is_selected_by m modes items = after_items m modes (begins_signed items && is_recorded m modes) items
+-- the modes with which a list of items begins: those that the statistic names without a `?`, where the first item has a
+-- sign, and none otherwise
+abbrev pub first_modes : List RecordedMode → List ModeItem → List Mode
+first_modes modes items = if begins_signed items then default_modes modes else []
 
--- whether a statistic with these modes is recorded in the mode, by the option `result-recording-modes`
-abbrev pub is_selected : Mode → List RecordedMode → Option ObjectOption → Bool
-is_selected m modes (Some (object.Modes items)) = is_selected_by m modes items
-is_selected m modes _ = is_recorded m modes
+-- THE MODES that the option `result-recording-modes` chooses for a statistic with these modes; without the option those that
+-- it names without a `?`
+abbrev pub chosen_modes : List RecordedMode → Option ObjectOption → List Mode
+chosen_modes modes (Some (object.Modes items)) = after_items modes (first_modes modes items) items
+chosen_modes modes _ = default_modes modes
+
+-- the modes in which a statistic with these modes is recorded by that option, in their order
+abbrev pub recorded_modes : List RecordedMode → Option ObjectOption → List Mode
+recorded_modes modes option = in_order modes (chosen_modes modes option)
 
 -- what an option says of a part of the module of that path
 abbrev pub option_of : List Entry → List ℕ → List ℕ → List ℕ → Option ObjectOption
 option_of entries path name option = object_for (path_under (path_under path name) option) entries
 
--- the name of the vector of a statistic
-abbrev pub vector_name : List ℕ → List ℕ
-vector_name name = name ++ codes ":vector"
+-- the name of what is recorded of a statistic in a mode: `statistic:mode`
+abbrev pub result_name : List ℕ → Mode → List ℕ
+result_name name mode = name ++ (codes ":" ++ mode_name mode)
 
 -- whether the option says that anything is recorded of a statistic of that name
 abbrev pub records_statistic : List Entry → List ℕ → List ℕ → Bool
 records_statistic entries path name = is_on (option_of entries path name (codes "statistic-recording"))
 
--- whether the option lets a statistic be recorded as a vector
-abbrev pub has_vector_mode : List Entry → List ℕ → Statistic → Bool
-has_vector_mode entries path s = is_selected mode.Vector s.modes (option_of entries path s.name (codes "result-recording-modes"))
+-- the modes in which a statistic of the module of that path is recorded, in their order
+abbrev pub modes_of : List Entry → List ℕ → Statistic → List Mode
+modes_of entries path s = recorded_modes s.modes (option_of entries path s.name (codes "result-recording-modes"))
 
--- whether the option says that the vector of a statistic of that name is recorded
-abbrev pub records_vector_of : List Entry → List ℕ → List ℕ → Bool
-records_vector_of entries path name = is_on (option_of entries path (vector_name name) (codes "vector-recording"))
+-- THE MODES in which the options let a statistic of the module of that path be recorded, in their order
+unfoldable pub selected_modes : List Entry → List ℕ → Statistic → List Mode
+selected_modes entries path s = if records_statistic entries path s.name then modes_of entries path s else []
 
--- WHETHER THE VECTOR of a statistic of the module of that path is recorded: the statistic is, in the mode `vector`, and
--- the vector is
+-- whether the option lets a vector of that name be recorded
+abbrev pub records_vector_named : List Entry → List ℕ → List ℕ → Bool
+records_vector_named entries path name = is_on (option_of entries path name (codes "vector-recording"))
+
+-- whether the option lets a scalar of that name be recorded
+abbrev pub records_scalar_named : List Entry → List ℕ → List ℕ → Bool
+records_scalar_named entries path name = is_on (option_of entries path name (codes "scalar-recording"))
+
+-- WHETHER THE VECTOR of a statistic of the module of that path is recorded: the mode `vector` is among those that are
+-- selected, and the vector is
 abbrev pub records_vector : List Entry → List ℕ → Statistic → Bool
 records_vector entries path s =
-    records_statistic entries path s.name && (has_vector_mode entries path s && records_vector_of entries path s.name)
+    is_among mode.Vector (selected_modes entries path s)
+    && records_vector_named entries path (result_name s.name mode.Vector)

@@ -3,6 +3,9 @@
 
 pub mod hearing;
 pub mod modes;
+pub mod scalar_line;
+pub mod scalars;
 pub mod selection;
+pub mod statistics;
 pub mod vector_line;
 pub mod vectors;

@@ -1,17 +1,22 @@
 //! What the per-object options let be recorded.
 
-ghost use Rattle.std.specs.Prelude.{◌≡◌, IfOk};
+ghost use Rattle.std.specs.Prelude.{◌≡◌, IfOk, OnOk};
 ghost use Rattle.std.specs.Option.{option_copied};
 ghost use Rattle.model_answers.specs.Models.{entries_in};
-ghost use Rattle.recorders.specs.Selection.{after_item, begins_signed, has_vector_mode, is_declared, is_on, is_selected, is_selected_by, is_signed, option_of, records_statistic, records_vector, records_vector_of, vector_name};
+ghost use Rattle.ned_spelling.specs.Declarations.{mode_name};
+ghost use Rattle.recorders.specs.Selection.{after_item, after_items, begins_signed, chosen_modes, first_modes, is_on, is_signed, modes_of, option_of, recorded_modes, records_scalar_named, records_statistic, records_vector, records_vector_named, result_name, selected_modes};
 
-use crate::modes::is_recorded;
+use crate::modes::{
+    add_mode, add_modes, declared_modes, default_modes, in_order, is_among, without_mode,
+};
 use ini_config::entries::object_for;
 use ini_entries::entry::{ModeItem, ObjectOption};
 use model_answers::model::Model;
 use model_answers::record::path_under;
 use ned_syntax::ast::{Mode, RecordedMode, Statistic};
 use sim_values::NoMemory;
+use sim_values::text::Text;
+use sqlite_items::Items;
 use std::alloc::{AllocError, Global};
 
 /// Whether something is recorded: it is, unless its option says that it isn't.
@@ -24,23 +29,24 @@ fn is_on(option: Option<&ObjectOption>) -> bool
     }
 }
 
-/// Whether a statistic names the mode, with a `?` or without.
-fn is_declared(mode: Mode, modes: &[RecordedMode]) -> bool
-    ensures { result ≡ is_declared mode modes.now }
-{
-    modes.iter().any(|named| named.mode == mode)
-}
-
-/// Whether the mode is selected behind an item, where before it it was or wasn't.
-fn after_item(mode: Mode, modes: &[RecordedMode], on: bool, item: ModeItem) -> bool
-    ensures { result ≡ after_item mode modes.now on item }
+/// The modes that are chosen behind an item, where these were before it.
+fn after_item(
+    alloc: Global,
+    modes: &[RecordedMode],
+    chosen: &mut Items<Mode>,
+    item: ModeItem,
+) -> Result<(), AllocError>
+    ensures { OnOk result (chosen.new ≡ after_item modes.now chosen.old item) }
 {
     match item {
-        ModeItem::Default => on || is_recorded(mode, modes),
-        ModeItem::All => on || is_declared(mode, modes),
-        ModeItem::Only(named) => on || named == mode,
-        ModeItem::Plus(named) => on || named == mode,
-        ModeItem::Minus(named) => on && named != mode,
+        ModeItem::Default => add_modes(chosen, default_modes(alloc, modes)?.as_slice()),
+        ModeItem::All => add_modes(chosen, declared_modes(alloc, modes)?.as_slice()),
+        ModeItem::Only(mode) => add_mode(chosen, mode),
+        ModeItem::Plus(mode) => add_mode(chosen, mode),
+        ModeItem::Minus(mode) => {
+            *chosen = without_mode(alloc, chosen.as_slice(), mode)?;
+            Ok(())
+        }
     }
 }
 
@@ -61,25 +67,64 @@ fn begins_signed(items: &[ModeItem]) -> bool
     }
 }
 
-/// Whether a list of items selects the mode.
-fn is_selected_by(mode: Mode, modes: &[RecordedMode], items: &[ModeItem]) -> bool
-    ensures { result ≡ is_selected_by mode modes.now items.now }
+/// The modes with which a list of items begins.
+fn first_modes(
+    alloc: Global,
+    modes: &[RecordedMode],
+    items: &[ModeItem],
+) -> Result<Items<Mode>, AllocError>
+    ensures { IfOk result (λ chosen. chosen ≡ first_modes modes.now items.now) }
 {
-    let mut on = begins_signed(items) && is_recorded(mode, modes);
-    for item in items {
-        on = after_item(mode, modes, on, *item);
+    if begins_signed(items) {
+        default_modes(alloc, modes)
+    } else {
+        Ok(Items::new(alloc))
     }
-    on
 }
 
-/// Whether a statistic with these modes is recorded in the mode, by the option `result-recording-modes`.
-fn is_selected(mode: Mode, modes: &[RecordedMode], option: Option<&ObjectOption>) -> bool
-    ensures { result ≡ is_selected mode modes.now (option_copied option.entry) }
+/// Chooses modes by a list of items.
+fn choose_modes(
+    alloc: Global,
+    modes: &[RecordedMode],
+    chosen: &mut Items<Mode>,
+    items: &[ModeItem],
+) -> Result<(), AllocError>
+    ensures { OnOk result (chosen.new ≡ after_items modes.now chosen.old items.now) }
+{
+    for item in items {
+        after_item(alloc, modes, chosen, *item)?;
+    }
+    Ok(())
+}
+
+/// The modes that the option `result-recording-modes` chooses for a statistic with these modes.
+fn chosen_modes(
+    alloc: Global,
+    modes: &[RecordedMode],
+    option: Option<&ObjectOption>,
+) -> Result<Items<Mode>, AllocError>
+    ensures { IfOk result (λ chosen. chosen ≡ chosen_modes modes.now (option_copied option.entry)) }
 {
     match option {
-        Some(ObjectOption::Modes(items)) => is_selected_by(mode, modes, items.as_slice()),
-        _ => is_recorded(mode, modes),
+        Some(ObjectOption::Modes(items)) => {
+            let mut chosen = first_modes(alloc, modes, items.as_slice())?;
+            choose_modes(alloc, modes, &mut chosen, items.as_slice())?;
+            Ok(chosen)
+        }
+        _ => default_modes(alloc, modes),
     }
+}
+
+/// The modes in which a statistic with these modes is recorded by that option, in their order.
+fn recorded_modes(
+    alloc: Global,
+    modes: &[RecordedMode],
+    option: Option<&ObjectOption>,
+) -> Result<Items<Mode>, AllocError>
+    ensures { IfOk result (λ found. found ≡ recorded_modes modes.now (option_copied option.entry)) }
+{
+    let chosen = chosen_modes(alloc, modes, option)?;
+    in_order(alloc, modes, chosen.as_slice())
 }
 
 /// What an option says of a part of the module of that path.
@@ -97,13 +142,28 @@ fn option_of<'a>(
     Ok(object_for(model.ini.lines(), model.chain.as_slice(), whole.as_bytes()))
 }
 
-/// The name of the vector of a statistic.
-fn vector_name(alloc: Global, name: &[u8]) -> Result<Vec<u8>, AllocError>
-    ensures { IfOk result (λ found. found.items ≡ vector_name name.now) }
+/// The name of a mode.
+fn mode_name(mode: Mode) -> &'static [u8]
+    ensures { result.now ≡ mode_name mode }
+{
+    match mode {
+        Mode::Count => b"count",
+        Mode::Sum => b"sum",
+        Mode::Min => b"min",
+        Mode::Max => b"max",
+        Mode::Last => b"last",
+        Mode::Vector => b"vector",
+    }
+}
+
+/// The name of what is recorded of a statistic in a mode: `statistic:mode`.
+pub fn result_name(alloc: Global, name: &[u8], mode: Mode) -> Result<Text, AllocError>
+    ensures { IfOk result (λ found. found ≡ result_name name.now mode) }
 {
     let mut found = Vec::from_slice(alloc, name)?;
-    found.extend_from_slice(b":vector")?;
-    Ok(found)
+    found.extend_from_slice(b":")?;
+    found.extend_from_slice(mode_name(mode))?;
+    Ok(Text::from_vec(found))
 }
 
 /// Whether the option says that anything is recorded of a statistic of that name.
@@ -119,36 +179,69 @@ fn records_statistic(
     Ok(is_on(said))
 }
 
-/// Whether the option lets a statistic be recorded as a vector.
-fn has_vector_mode(
+/// The modes in which a statistic of the module of that path is recorded, in their order.
+fn modes_of(
     alloc: Global,
     model: &Model,
     path: &[u8],
     statistic: &Statistic,
-) -> Result<bool, NoMemory>
-    ensures { IfOk result (λ on. on ≡ has_vector_mode (entries_in model.now) path.now statistic.now) }
+) -> Result<Items<Mode>, NoMemory>
+    ensures { IfOk result (λ found. found ≡ modes_of (entries_in model.now) path.now statistic.now) }
 {
     let name = statistic.name.as_bytes();
     let said = option_of(alloc, model, path, name, b"result-recording-modes")?;
-    Ok(is_selected(Mode::Vector, statistic.modes.as_slice(), said))
+    let found = recorded_modes(alloc, statistic.modes.as_slice(), said)?;
+    Ok(found)
 }
 
-/// Whether the option says that the vector of a statistic of that name is recorded.
-fn records_vector_of(
+#[tactic(auto, unfolding(crate::specs::Selection::selected_modes))]
+/// The modes in which the options let a statistic of the module of that path be recorded, in their
+/// order: first those that the statistic names, as it names them, then the others, as the option
+/// adds them.
+/// See OMNeT++ Simulation Manual, "Selecting Recording Modes".
+pub fn selected_modes(
+    alloc: Global,
+    model: &Model,
+    path: &[u8],
+    statistic: &Statistic,
+) -> Result<Items<Mode>, NoMemory>
+    ensures { IfOk result (λ found. found ≡ selected_modes (entries_in model.now) path.now statistic.now) }
+{
+    if records_statistic(alloc, model, path, statistic.name.as_bytes())? {
+        modes_of(alloc, model, path, statistic)
+    } else {
+        Ok(Items::new(alloc))
+    }
+}
+
+/// Whether the option lets a vector of that name be recorded.
+fn records_vector_named(
     alloc: Global,
     model: &Model,
     path: &[u8],
     name: &[u8],
 ) -> Result<bool, NoMemory>
-    ensures { IfOk result (λ on. on ≡ records_vector_of (entries_in model.now) path.now name.now) }
+    ensures { IfOk result (λ on. on ≡ records_vector_named (entries_in model.now) path.now name.now) }
 {
-    let vector = vector_name(alloc, name)?;
-    let said = option_of(alloc, model, path, vector.as_slice(), b"vector-recording")?;
+    let said = option_of(alloc, model, path, name, b"vector-recording")?;
     Ok(is_on(said))
 }
 
-/// Whether the vector of a statistic of the module of that path is recorded: the statistic is, in the mode `vector`, and the
-/// vector is.
+/// Whether the option lets a scalar of that name be recorded.
+pub fn records_scalar_named(
+    alloc: Global,
+    model: &Model,
+    path: &[u8],
+    name: &[u8],
+) -> Result<bool, NoMemory>
+    ensures { IfOk result (λ on. on ≡ records_scalar_named (entries_in model.now) path.now name.now) }
+{
+    let said = option_of(alloc, model, path, name, b"scalar-recording")?;
+    Ok(is_on(said))
+}
+
+/// Whether the vector of a statistic of the module of that path is recorded: the mode `vector` is
+/// among those that are selected, and the vector is.
 /// See OMNeT++ Simulation Manual, "Configuring Result Collection".
 pub fn records_vector(
     alloc: Global,
@@ -158,12 +251,10 @@ pub fn records_vector(
 ) -> Result<bool, NoMemory>
     ensures { IfOk result (λ on. on ≡ records_vector (entries_in model.now) path.now statistic.now) }
 {
-    let name = statistic.name.as_bytes();
-    if !records_statistic(alloc, model, path, name)? {
+    let modes = selected_modes(alloc, model, path, statistic)?;
+    if !is_among(Mode::Vector, modes.as_slice()) {
         return Ok(false);
     }
-    if !has_vector_mode(alloc, model, path, statistic)? {
-        return Ok(false);
-    }
-    records_vector_of(alloc, model, path, name)
+    let vector = result_name(alloc, statistic.name.as_bytes(), Mode::Vector)?;
+    records_vector_named(alloc, model, path, vector.as_bytes())
 }

@@ -16,7 +16,7 @@ use sqlite_items::Items;
 use std::alloc::{AllocError, Global};
 
 /// The vector of a statistic of the module of that id.
-fn vector_of(
+pub fn vector_of(
     alloc: Global,
     records: &[Record],
     id: u32,

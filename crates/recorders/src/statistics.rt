@@ -1,0 +1,109 @@
+//! What the statistics of a module make of the values that they hear.
+
+ghost use Rattle.std.specs.Prelude.{◌≡◌, IfOk};
+ghost use Rattle.std.specs.Option.{option_map};
+ghost use Rattle.recorders.specs.Statistics.{values_heard, count_of, sum_of, min_of, max_of, last_of, value_in};
+
+use crate::hearing::hears;
+use crate::vector_line::VectorLine;
+use model_answers::record::Record;
+use ned_syntax::ast::Mode;
+use run_semantics::traces::Emission;
+use std::alloc::{AllocError, Global};
+
+/// The values of the emissions that a statistic hears, in their order.
+pub fn values_heard(
+    alloc: Global,
+    records: &[Record],
+    emissions: &[Emission],
+    vector: &VectorLine,
+) -> Result<Vec<i64>, AllocError>
+    ensures { IfOk result (λ values. values.items ≡ values_heard records.now emissions.now vector.now) }
+{
+    let mut values = Vec::new(alloc);
+    for emission in emissions {
+        if hears(records, vector, emission) {
+            values.push(emission.value)?;
+        }
+    }
+    Ok(values)
+}
+
+/// How many values there are.
+fn count_of(values: &[i64]) -> i128
+    ensures { result ≡ count_of values.now }
+{
+    values.len() as i128
+}
+
+/// The sum of the values. It fits, as there are fewer than 2^64 of 64 bits each.
+fn sum_of(values: &[i64]) -> i128
+    ensures { result ≡ sum_of values.now }
+{
+    let mut sum = 0;
+    for value in values {
+        sum += i128::from(*value);
+    }
+    sum
+}
+
+/// The least value, none where there is none.
+fn min_of(values: &[i64]) -> Option<i64>
+    ensures { result ≡ min_of values.now }
+{
+    let [first, rest @ ..] = values else {
+        return None;
+    };
+    let mut least = *first;
+    for value in rest {
+        least = least.min(*value);
+    }
+    Some(least)
+}
+
+/// The greatest value, none where there is none.
+fn max_of(values: &[i64]) -> Option<i64>
+    ensures { result ≡ max_of values.now }
+{
+    let [first, rest @ ..] = values else {
+        return None;
+    };
+    let mut greatest = *first;
+    for value in rest {
+        greatest = greatest.max(*value);
+    }
+    Some(greatest)
+}
+
+/// The last value, none where there is none.
+fn last_of(values: &[i64]) -> Option<i64>
+    ensures { result ≡ last_of values.now }
+{
+    values.last().copied()
+}
+
+/// The same in more bits.
+fn widened(value: Option<i64>) -> Option<i128>
+    ensures { result ≡ value }
+{
+    match value {
+        Some(value) => Some(i128::from(value)),
+        None => None,
+    }
+}
+
+/// The scalar that a mode makes of these values, none for a vector. Of no values the count and the sum are 0, and
+/// there is no least, no greatest and no last.
+/// See OMNeT++ Simulation Manual, "Result Recording Modes".
+pub fn value_in(mode: Mode, values: &[i64]) -> Option<i128>
+    ensures { result ≡ value_in mode values.now }
+{
+    match mode {
+        Mode::Count => Some(count_of(values)),
+        Mode::Sum => Some(sum_of(values)),
+        Mode::Min => widened(min_of(values)),
+        Mode::Max => widened(max_of(values)),
+        Mode::Last => widened(last_of(values)),
+        Mode::Vector => None,
+    }
+}
