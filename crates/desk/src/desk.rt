@@ -2,7 +2,7 @@
 
 ghost use Rattle.std.specs.Prelude.{◌≡◌, ◌↔◌, ◌+◌, Some, None, IsSome, OnOk, OnErr, IfOk, IfErr, option_map, option_copied};
 ghost use Rattle.edit_session.specs.Editing.{Completed, IsFor, IsUnknown, WaitsFor, wanted_of};
-ghost use Rattle.edit_session.specs.Files.{FileWritten};
+ghost use Rattle.edit_session.specs.Files.{scalars_of_run, vectors_of_run, FileWritten};
 ghost use Rattle.edit_session.specs.Sessions.{editing_of, IsSound};
 ghost use Rattle.edit_session.specs.declared.running.Phase.{Phase};
 ghost use Rattle.edit_session.specs.declared.session.SupplyReason.{SupplyReason};
@@ -156,12 +156,22 @@ impl<C: Catalogue> Desk<C> {
         self.session.decline()
     }
 
+    /// Writes the scalar file of the last run.
+    pub fn scalars<O: Out>(&self, out: &mut O) -> Result<(), FileFault>
+        requires sound { IsSettled C.behaviour SimpleModule-box self.now }
+        ensures written { let editing = editing_at SimpleModule-box self.now in
+            let text = scalars_of_run C.behaviour editing.model in
+            FileWritten text editing.done (O.taken out.old) (O.taken out.new) result }
+    {
+        self.session.scalars(out)
+    }
+
     /// Writes the vector file of the last run.
     pub fn vectors<O: Out>(&self, out: &mut O) -> Result<(), FileFault>
         requires sound { IsSettled C.behaviour SimpleModule-box self.now }
         ensures written { let editing = editing_at SimpleModule-box self.now in
-            FileWritten C.behaviour editing.model editing.done
-            (O.taken out.old) (O.taken out.new) result }
+            let text = vectors_of_run C.behaviour editing.model in
+            FileWritten text editing.done (O.taken out.old) (O.taken out.new) result }
     {
         self.session.vectors(out)
     }

@@ -10,8 +10,8 @@ use Rattle.run_semantics.specs.World.{World, HasRoom}
 use Rattle.run_semantics.specs.Perform.{Flow, On, Stopped, Broken}
 use Rattle.run_semantics.specs.Run.{Part, parts_of, prepared, ready, place_all, start, Over, Ran, run_to}
 use Rattle.run_semantics.specs.Ending.{ending}
-use Rattle.result_files.specs.declared.vector_file.VectorFile.{VectorFile}
-use Rattle.result_files.specs.VectorText.{vector_file_of}
+use Rattle.result_files.specs.declared.files.ResultFiles.{ResultFiles}
+use Rattle.result_files.specs.Files.{files_of}
 use Rattle.kernel.specs.declared.request.Request.{Request}
 use Rattle.kernel.specs.Seats.{Seat, AreOfKinds, request_for, missing_of}
 use Rattle.edit_session.specs.declared.running.Phase.{Phase}
@@ -24,21 +24,25 @@ use Rattle.edit_session.specs.declared.session.Progress.{Progress}
 use Rattle.edit_session.specs.declared.session.Progress.TheVariants as progress
 use Rattle.edit_session.specs.declared.session.Report.{Report}
 
--- a run that is done: its limit, its outcome, and what its vector file says before the first value
+-- a run that is done: its limit, its outcome, and what is known of its result files before they are written
 pub record Completed : Type 0 where
   pub limit : ℕ
   pub outcome : Outcome
-  pub file : VectorFile
+  pub files : ResultFiles
 
 -- A FRESH RUN of the model, stopped after at most so many events, with its ending
 abbrev pub fresh_run : Behaviour → Model → ℕ → Ran
 fresh_run b m limit = ending b m (run_to b m limit)
 
+-- what is known of the result files of a run of the model that left this world
+abbrev pub files_in : Model → World → ResultFiles
+files_in m w = files_of m w.records w.finished w.scalars w.emissions
+
 -- what is kept of it
 abbrev pub completed : Behaviour → Model → ℕ → Completed
 completed b m limit =
     let ran = fresh_run b m limit in
-    record { limit = limit; outcome = ran.outcome; file = vector_file_of m ran.world.records ran.world.emissions }
+    record { limit = limit; outcome = ran.outcome; files = files_in m ran.world }
 
 -- what callers see of a session: the model; the last run, where it is done; where a run stands that isn't, and how many
 -- boxes it holds
@@ -116,7 +120,7 @@ pub record IsStopped (b : Behaviour) (m : Model) (limit : ℕ) (ran : Ran) : Typ
 abbrev pub IsLeft : Behaviour → Model → World → Option Completed → Type 0
 IsLeft b m w None = Unit {0}
 IsLeft b m w (Some done) =
-    whole_run b m done.limit w done.outcome × (done.file ≡ vector_file_of m w.records w.emissions)
+    whole_run b m done.limit w done.outcome × (done.files ≡ files_in m w)
 
 -- while a run waits, none is done
 abbrev pub IsUndone : Phase → Option Completed → Type 0

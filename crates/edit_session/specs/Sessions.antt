@@ -7,7 +7,7 @@ use Rattle.edit_session.specs.declared.session.Done.{Done}
 use Rattle.edit_session.specs.declared.session.Session.{Session}
 
 abbrev pub completed_of : Done → Completed
-completed_of d = record { limit = d.limit; outcome = d.outcome; file = d.file }
+completed_of d = record { limit = d.limit; outcome = d.outcome; files = d.files }
 
 module _ {C X : Type 0} {Y : X → Type 0} where
   -- what callers see of it

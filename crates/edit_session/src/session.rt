@@ -3,9 +3,10 @@
 ghost use Rattle.std.specs.Prelude.{◌≡◌, ◌↔◌, ◌+◌, Some, None, IsSome, OnOk, OnErr, IfOk, IfErr, option_map, option_copied};
 ghost use Rattle.sim_values.specs.Memory.{no_memory};
 ghost use Rattle.model_answers.specs.declared.model.Model.{Model};
+ghost use Rattle.result_files.specs.ScalarText.{scalar_text};
 ghost use Rattle.result_files.specs.VectorText.{vector_text};
 ghost use Rattle.model_texts.specs.Models.{IsModelOf, IsRuledOut, Refuses};
-ghost use Rattle.edit_session.specs.Files.{FileWritten, TextWritten};
+ghost use Rattle.edit_session.specs.Files.{scalars_of_run, vectors_of_run, FileWritten, TextWritten};
 ghost use Rattle.edit_session.specs.Editing.{Completed, fresh_editing, wanted_of, IfDone, IfWant, IsFor, IsFreshRun, IsIdle, IsUnknown, WaitsFor};
 ghost use Rattle.kernel.specs.declared.request.Request.{Request};
 ghost use Rattle.edit_session.specs.Sessions.{editing_of, IsSound, KeepsModel};
@@ -20,7 +21,7 @@ use module_api::catalogue::Catalogue;
 use module_api::simple_module::SimpleModule;
 use module_tree::Tree;
 use ned_syntax::texts::NedTexts;
-use result_files::vector_file::{VectorFile, prepare, write_vectors};
+use result_files::files::{ResultFiles, prepare, write_scalars, write_vectors};
 use result_files::writer::Out;
 use run_semantics::outcome::Outcome;
 use run_semantics::traces::Emission;
@@ -33,8 +34,8 @@ use thiserror::Error;
 pub struct Done {
     pub limit: u64,
     pub outcome: Outcome,
-    /// What its vector file says before the first value.
-    pub file: VectorFile,
+    /// What is known of its result files before they are written.
+    pub files: ResultFiles,
 }
 
 /// What a run that is done tells.
@@ -71,7 +72,7 @@ pub enum SupplyReason {
     NoMemory(NoMemory),
 }
 
-/// Why the vector file isn't written.
+/// Why a result file isn't written.
 #[derive(Clone, Copy, Debug, PartialEq, Eq, Error)]
 pub enum FileFault {
     /// No run is done.
@@ -163,16 +164,18 @@ impl<C: Catalogue> Session<C> {
             }
             Advance::Ends(outcome) => {
                 let report = report_of(self.alloc, &outcome, self.runner.kernel.count())?;
-                let file = prepare(
+                let files = prepare(
                     self.alloc,
                     &self.model,
                     self.runner.kernel.records(),
+                    self.runner.kernel.finished(),
+                    self.runner.kernel.scalars(),
                     self.runner.kernel.emissions(),
                 )?;
                 self.done = Some(Done {
                     limit,
                     outcome,
-                    file,
+                    files,
                 });
                 Ok(Progress::Done(report))
             }
@@ -241,18 +244,31 @@ impl<C: Catalogue> Session<C> {
         }
     }
 
+    /// Writes the scalar file of the last run, which takes no memory.
+    pub fn scalars<O: Out>(&self, out: &mut O) -> Result<(), FileFault>
+        requires sound { IsSound C.behaviour SimpleModule-box self.now }
+        ensures written { let editing = editing_of SimpleModule-box self.now in
+            let text = scalars_of_run C.behaviour editing.model in
+            FileWritten text editing.done (O.taken out.old) (O.taken out.new) result }
+    {
+        match &self.done {
+            None => Err(FileFault::NotDone),
+            Some(done) => write_done_scalars(out, &done.files),
+        }
+    }
+
     /// Writes the vector file of the last run, which takes no memory.
     pub fn vectors<O: Out>(&self, out: &mut O) -> Result<(), FileFault>
         requires sound { IsSound C.behaviour SimpleModule-box self.now }
         ensures written { let editing = editing_of SimpleModule-box self.now in
-            FileWritten C.behaviour editing.model editing.done
-            (O.taken out.old) (O.taken out.new) result }
+            let text = vectors_of_run C.behaviour editing.model in
+            FileWritten text editing.done (O.taken out.old) (O.taken out.new) result }
     {
         match &self.done {
             None => Err(FileFault::NotDone),
-            Some(done) => write_done(
+            Some(done) => write_done_vectors(
                 out,
-                &done.file,
+                &done.files,
                 self.runner.kernel.records(),
                 self.runner.kernel.emissions(),
             ),
@@ -283,17 +299,28 @@ fn no_room_for(failed: AllocFailed<Box<dyn SimpleModule>>) -> SupplyFault
     }
 }
 
+/// Writes the scalar file of a run that is done.
+fn write_done_scalars<O: Out>(out: &mut O, files: &ResultFiles) -> Result<(), FileFault>
+    ensures { let text = scalar_text files.now.header files.now.scalars in
+        TextWritten (O.taken out.old) (O.taken out.new) text result }
+{
+    match write_scalars(out, files) {
+        Ok(()) => Ok(()),
+        Err(device) => Err(FileFault::Device(device.written)),
+    }
+}
+
 /// Writes the vector file of a run that is done.
-fn write_done<O: Out>(
+fn write_done_vectors<O: Out>(
     out: &mut O,
-    file: &VectorFile,
+    files: &ResultFiles,
     records: &[Record],
     emissions: &[Emission],
 ) -> Result<(), FileFault>
-    ensures { let text = vector_text file.now.header file.now.vectors records.now emissions.now in
+    ensures { let text = vector_text files.now.header files.now.vectors records.now emissions.now in
         TextWritten (O.taken out.old) (O.taken out.new) text result }
 {
-    match write_vectors(out, file, records, emissions) {
+    match write_vectors(out, files, records, emissions) {
         Ok(()) => Ok(()),
         Err(device) => Err(FileFault::Device(device.written)),
     }

@@ -1,10 +1,18 @@
--- The lines of the first of some vectors or values, and those of the others.
+-- The lines of the first of some scalars, vectors or values, and those of the others.
 use Rattle.std.proofs.Common.{◌≡◌, ℕ, ◌+◌, ◌<◌, List, ◌++◌, length, drop, get_or, sym, ap, ◌∙◌}
 use Rattle.std.proofs.lemmas.List.{drop_more}
 use Rattle.model_answers.specs.declared.record.Record.{Record}
+use Rattle.recorders.specs.declared.scalar_line.ScalarLine.{ScalarLine}
 use Rattle.recorders.specs.declared.vector_line.VectorLine.{VectorLine}
+use Rattle.result_files.specs.ScalarText.{scalar_line, scalar_lines}
 use Rattle.result_files.specs.VectorText.{vector_line, vector_lines, heard_line, heard_lines, data_lines}
 use Rattle.run_semantics.specs.declared.traces.Emission.{Emission}
+
+pub scalar_lines_more : (ss : List ScalarLine) (i : ℕ) (s : ScalarLine) → i < length ss → s ≡ get_or ss i s →
+    scalar_lines (drop i ss) ≡ scalar_line s ++ scalar_lines (drop (i + 1) ss)
+scalar_lines_more ss i s lt is =
+    ap scalar_lines (drop_more ss i s lt)
+    ∙ ap (λ (x : ScalarLine). scalar_line x ++ scalar_lines (drop (i + 1) ss)) (sym is)
 
 pub vector_lines_more : (number : ℕ) (vs : List VectorLine) (v : VectorLine) → number < length vs → v ≡ get_or vs number v →
     vector_lines number (drop number vs) ≡ vector_line number v ++ vector_lines (number + 1) (drop (number + 1) vs)

@@ -1,11 +1,11 @@
 -- Parts of texts, and how long they are.
-use Rattle.std.proofs.Common.{◌≡◌, ◌≢◌, ℕ, zero, suc, ◌+◌, ◌-◌, ◌/◌, ◌%◌, ◌^◌, ◌≤◌, ◌<◌, List, [], ◌∷◌, ◌++◌, Bool, not, true, false, length, take, drop, get_or, refl, sym, ap, ◌∙◌, arith, append_assoc, length-append}
+use Rattle.std.proofs.Common.{◌≡◌, ◌≢◌, ℕ, zero, suc, ◌+◌, ◌-◌, ◌/◌, ◌%◌, ◌^◌, ◌≤◌, ◌<◌, List, [], ◌∷◌, ◌++◌, Bool, true, false, length, take, drop, refl, sym, ap, ◌∙◌, arith, append_assoc, length-append}
 use Rattle.std.specs.Prelude.{decimal, ◌==◌, if◌then◌else◌}
 use Rattle.std.proofs.Math.Seq.{take-add}
-use Rattle.std.proofs.lemmas.Bool.{ne_eqb, eq-eqb}
+use Rattle.std.proofs.lemmas.Bool.{ne_eqb}
 use Rattle.std.proofs.lemmas.Fmt.{length-decimal-le}
 use Rattle.std.proofs.lemmas.List.{take_rest}
-use Rattle.result_files.specs.Taken.{failures_after}
+use Rattle.sim_values.specs.Counts.{count_behind}
 use Rattle.sim_time.specs.Text.{low_digits, before_digits, without_last_zeros, part_text, text_of_time}
 
 -- a part more was taken
@@ -46,5 +46,5 @@ length_text_of_time time lt =
     (length-decimal-le 20 (time / 1000000000000) (omega arith) small fits) (length_part 12 (time % 1000000000000))
 
 -- a write that takes some bytes is no failure
-pub failures_after_some : (n : ℕ) (bytes : List ℕ) (failures : ℕ) → 0 < n → failures_after n bytes failures ≡ failures
-failures_after_some n bytes failures pos = let ne : n ≢ 0 = omega arith in rw (ne_eqb n 0 ne) refl
+pub count_behind_some : (n : ℕ) (bytes : List ℕ) (failures : ℕ) → 0 < n → count_behind n bytes failures ≡ failures
+count_behind_some n bytes failures pos = let ne : n ≢ 0 = omega arith in rw (ne_eqb n 0 ne) refl

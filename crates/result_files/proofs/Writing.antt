@@ -4,8 +4,9 @@ use Rattle.std.proofs.Math.Seq.{take-append-add}
 use Rattle.std.proofs.lemmas.List.{take-append-le, append-nil}
 use Rattle.result_files.specs.declared.progress.Progress.{Progress}
 use Rattle.result_files.specs.declared.progress.Progress.TheVariants.{Whole, Short}
-use Rattle.result_files.specs.Taken.{Taken, one_more}
-use Rattle.result_files.specs.Written.{IsPiece, Adds, IsWritten, written_in}
+use Rattle.sim_values.specs.Counts.{next_count}
+use Rattle.result_files.specs.Taken.{Taken}
+use Rattle.result_files.specs.Written.{IsPiece, Adds, IsWritten, answer_of, written_in}
 
 piece_then : (p q r : Progress) (t u v : Taken) (a b : List ℕ) → IsPiece p t q u a → IsPiece q u r v b → IsPiece p t r v (a ++ b)
 piece_then (Whole n) (Whole m) (Whole k) t u v a b x y =
@@ -15,7 +16,7 @@ piece_then (Whole n) (Whole m) (Short k) t u v a b x y = (
   omega (arith, y.1, length-append a b),
   omega (arith, x.0, y.2),
   y.3 ∙ ap (λ (xs : List ℕ). xs ++ take y.0 b) x.1 ∙ append_assoc t.bytes a (take y.0 b) ∙ ap (λ (xs : List ℕ). t.bytes ++ xs) (sym (take-append-add a b y.0)),
-  y.4 ∙ ap one_more x.2,
+  y.4 ∙ ap next_count x.2,
 )
 piece_then (Whole n) (Short m) (Short k) t u v a b x y =
     let le : x.0 ≤ length a = omega (arith, x.1) in
@@ -55,7 +56,12 @@ pub adds_more : {p q r : Progress} {t u v : Taken} {piece rest left : List ℕ} 
 adds_more {p} {q} {r} {t} {u} {v} same x y = subst (λ (text : List ℕ). Adds p t r v text) (sym same) (adds_then x y)
 
 -- a text that was not written to its end
-pub written_short : (t u : Taken) (text : List ℕ) (n : ℕ) → Adds (Whole 0) t (Short n) u text → IsWritten t u text (Err (record { written = n }))
+written_short : (t u : Taken) (text : List ℕ) (n : ℕ) → Adds (Whole 0) t (Short n) u text → IsWritten t u text (Err (record { written = n }))
 written_short t u text n x =
     let same : x.adds.0 ≡ n = omega (arith, x.adds.2) in
     (omega (arith, x.adds.1), x.adds.3 ∙ ap (λ (k : ℕ). t.bytes ++ take k text) same, x.adds.4)
+
+-- what a call answers that has written a text
+pub written : (p : Progress) (t u : Taken) (text : List ℕ) → Adds (Whole 0) t p u text → IsWritten t u text (answer_of p)
+written (Whole n) t u text x = (x.adds.1, x.adds.2)
+written (Short n) t u text x = written_short t u text n x

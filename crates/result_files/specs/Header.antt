@@ -1,19 +1,12 @@
 -- The header of a result file.
-use Rattle.std.specs.Prelude.{ℕ, ◌==◌, nat_le, Bool, not, ◌&&◌, ◌||◌, List, [], ◌∷◌, ◌++◌, codes, unwrap_or, if◌then◌else◌}
+use Rattle.std.specs.Prelude.{ℕ, List, [], ◌∷◌, ◌++◌, codes, unwrap_or, if◌then◌else◌}
 use Rattle.std.specs.List.{list_all, flat_map}
 use Rattle.ini_config.specs.declared.lines.Entry.{Entry}
 use Rattle.ini_config.specs.Entries.{last_name, network_entry}
 use Rattle.ini_config.specs.Meaning.{is_extends}
 use Rattle.model_answers.specs.declared.model.Model.{Model}
 use Rattle.model_answers.specs.Models.{entries_in}
-
--- whether a byte is `"` or `\`
-abbrev pub is_quoting : ℕ → Bool
-is_quoting c = c == 34 || c == 92
-
--- whether a byte is a visible ASCII character, and neither `"` nor `\`
-abbrev pub is_plain : ℕ → Bool
-is_plain c = (nat_le 33 c && nat_le c 126) && not (is_quoting c)
+use Rattle.module_api.specs.Names.{is_plain, is_quoting}
 
 abbrev pub escaped : ℕ → List ℕ
 escaped c = if is_quoting c then 92 ∷ c ∷ [] else c ∷ []

@@ -2,19 +2,12 @@
 use Rattle.std.specs.Prelude.{ℕ, ◌+◌, List, [], ◌∷◌, ◌++◌, codes, if◌then◌else◌}
 use Rattle.std.specs.Fmt.{decimal, signed_decimal}
 use Rattle.std.specs.List.{flat_map}
-use Rattle.model_answers.specs.declared.model.Model.{Model}
 use Rattle.model_answers.specs.declared.record.Record.{Record}
 use Rattle.recorders.specs.declared.vector_line.VectorLine.{VectorLine}
 use Rattle.recorders.specs.Hearing.{hears}
-use Rattle.recorders.specs.Vectors.{vectors_of}
-use Rattle.result_files.specs.declared.vector_file.VectorFile.{VectorFile}
-use Rattle.result_files.specs.Header.{header_of}
+use Rattle.result_files.specs.Fields.{field}
 use Rattle.run_semantics.specs.declared.traces.Emission.{Emission}
 use Rattle.sim_time.specs.Text.{text_of_time}
-
--- a text, and the byte that ends it
-abbrev pub field : List ℕ → ℕ → List ℕ
-field text end = text ++ end ∷ []
 
 -- the line that declares a vector of that number: its module's path, and the statistic that records it
 abbrev pub vector_line : ℕ → VectorLine → List ℕ
@@ -48,11 +41,3 @@ data_lines records vectors emissions = flat_map (λ e. heard_lines records e 0 v
 abbrev pub vector_text : List ℕ → List VectorLine → List Record → List Emission → List ℕ
 vector_text header vectors records emissions =
     header ++ (vector_lines 0 vectors ++ data_lines records vectors emissions)
-
--- what is known of a run's vector file before its first value is written
-abbrev pub vector_file_of : Model → List Record → List Emission → VectorFile
-vector_file_of m records emissions = record { header = header_of m; vectors = vectors_of m records emissions }
-
--- THE VECTOR FILE of a run of that model, with the modules of these records and these emissions
-abbrev pub vector_text_of : Model → List Record → List Emission → List ℕ
-vector_text_of m records emissions = vector_text (header_of m) (vectors_of m records emissions) records emissions

@@ -3,7 +3,8 @@ use Rattle.std.specs.Prelude.{◌≡◌, ℕ, ◌+◌, ◌<◌, List, ◌++◌, 
 use Rattle.result_files.specs.declared.writer.Device.{Device}
 use Rattle.result_files.specs.declared.progress.Progress.{Progress}
 use Rattle.result_files.specs.declared.progress.Progress.TheVariants.{Whole, Short}
-use Rattle.result_files.specs.Taken.{Taken, one_more}
+use Rattle.sim_values.specs.Counts.{next_count}
+use Rattle.result_files.specs.Taken.{Taken}
 
 -- What a call that writes a text may answer, by what the device had taken before it and has taken after it: all of the text
 -- was written, and the device did not fail; or the device failed once, and took as many of the text's first bytes as the
@@ -11,7 +12,12 @@ use Rattle.result_files.specs.Taken.{Taken, one_more}
 abbrev pub IsWritten : Taken → Taken → List ℕ → Result Unit Device → Type 0
 IsWritten before after text (Ok _) = (after.bytes ≡ before.bytes ++ text) × (after.failures ≡ before.failures)
 IsWritten before after text (Err device) =
-    (device.written < length text) × (after.bytes ≡ before.bytes ++ take device.written text) × (after.failures ≡ one_more before.failures)
+    (device.written < length text) × (after.bytes ≡ before.bytes ++ take device.written text) × (after.failures ≡ next_count before.failures)
+
+-- what a call answers that has written a text so far
+abbrev pub answer_of : Progress → Result Unit Device
+answer_of (Whole n) = Ok tt
+answer_of (Short n) = Err (record { written = n })
 
 abbrev pub written_in : Progress → ℕ
 written_in (Whole n) = n
@@ -23,7 +29,7 @@ abbrev pub IsPiece : Progress → Taken → Progress → Taken → List ℕ → 
 IsPiece (Whole n) before (Whole m) after piece =
     (m ≡ n + length piece) × (after.bytes ≡ before.bytes ++ piece) × (after.failures ≡ before.failures)
 IsPiece (Whole n) before (Short m) after piece =
-    (k : ℕ) × (k < length piece) × (m ≡ n + k) × (after.bytes ≡ before.bytes ++ take k piece) × (after.failures ≡ one_more before.failures)
+    (k : ℕ) × (k < length piece) × (m ≡ n + k) × (after.bytes ≡ before.bytes ++ take k piece) × (after.failures ≡ next_count before.failures)
 IsPiece (Short n) before (Whole m) after piece = ⊥
 IsPiece (Short n) before (Short m) after piece = (m ≡ n) × (after.bytes ≡ before.bytes) × (after.failures ≡ before.failures)
 

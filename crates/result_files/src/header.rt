@@ -1,9 +1,9 @@
 //! The header of a result file.
 
 ghost use Rattle.std.specs.Prelude.{◌≡◌, ◌++◌, IfOk, OnOk};
-ghost use Rattle.std.specs.List.{flat_map, list_all};
+ghost use Rattle.std.specs.List.{flat_map};
 ghost use Rattle.ini_config.specs.Sections.{entries_along, entries_under};
-ghost use Rattle.result_files.specs.Header.{is_quoting, is_plain, escaped, value_text, item_line, run_lines, attribute_lines, config_line, config_lines, header_text, network_name, header_of};
+ghost use Rattle.result_files.specs.Header.{escaped, value_text, item_line, run_lines, attribute_lines, config_line, config_lines, header_text, network_name, header_of};
 
 use ini_config::entries::network_entry;
 use ini_config::lines::{Entry, IniLine};
@@ -11,22 +11,9 @@ use ini_config::scan::{entry_in, section_behind};
 use ini_config::speaks::last_name;
 use ini_entries::entry::EntryMeaning;
 use model_answers::model::Model;
+use module_api::names::{is_all_plain, is_quoting};
 use sim_values::text::Text;
 use std::alloc::{AllocError, Global};
-
-/// Whether a byte is `"` or `\`.
-fn is_quoting(byte: u8) -> bool
-    ensures { result ≡ is_quoting byte }
-{
-    byte == b'"' || byte == b'\\'
-}
-
-/// Whether a byte is a visible ASCII character, and neither `"` nor `\`.
-fn is_plain(byte: u8) -> bool
-    ensures { result ≡ is_plain byte }
-{
-    (b'!' <= byte && byte <= b'~') && !is_quoting(byte)
-}
 
 /// Adds a byte of a value between quotes.
 fn push_escaped(header: &mut Vec<u8>, byte: u8) -> Result<(), AllocError>
@@ -47,13 +34,6 @@ fn push_all_escaped(header: &mut Vec<u8>, value: &[u8]) -> Result<(), AllocError
         push_escaped(header, *byte)?;
     }
     Ok(())
-}
-
-/// Whether all bytes of a value are plain.
-fn is_all_plain(value: &[u8]) -> bool
-    ensures { result ≡ list_all is_plain value.now }
-{
-    value.iter().all(|byte| is_plain(*byte))
 }
 
 /// Adds a value: as it is where all its bytes are plain, else between quotes.

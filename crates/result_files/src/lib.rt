@@ -1,9 +1,9 @@
-//! The bytes of a result file.
+//! The bytes of result files.
 #![tactic(auto)]
 
 pub mod buffer;
+pub mod files;
 pub mod header;
 mod lines;
 mod progress;
-pub mod vector_file;
 pub mod writer;

@@ -1,15 +1,41 @@
-//! The lines of the vector file.
+//! The lines of result files.
 
 ghost use Rattle.std.specs.Prelude.{◌≡◌, ◌+◌, ◌*◌, ◌^◌, ◌≤◌, ◌<◌, length};
 ghost use Rattle.result_files.specs.Written.{Adds, written_in};
+ghost use Rattle.result_files.specs.ScalarText.{scalar_line, scalar_lines};
 ghost use Rattle.result_files.specs.VectorText.{vector_line, vector_lines, data_line, heard_line, heard_lines, data_lines};
 
-use crate::progress::{Progress, put, put_field, put_number, put_signed, put_time};
+use crate::progress::{Progress, put, put_field, put_number, put_signed, put_time, put_wide};
 use crate::writer::Out;
 use model_answers::record::Record;
 use recorders::hearing::hears;
+use recorders::scalar_line::ScalarLine;
 use recorders::vector_line::VectorLine;
 use run_semantics::traces::Emission;
+
+/// Writes the line of a scalar.
+fn put_scalar_line<O: Out>(out: &mut O, progress: Progress, scalar: &ScalarLine) -> Progress
+    requires { written_in progress < 2 ^ 125 }
+    ensures adds { Adds progress (O.taken out.old) result (O.taken out.new) (scalar_line scalar.now) }
+    ensures short { written_in result ≤ written_in progress + 2 ^ 65 }
+{
+    let progress = put(out, progress, b"scalar ");
+    let progress = put_field(out, progress, scalar.path.as_bytes(), b' ');
+    let progress = put_field(out, progress, scalar.name.as_bytes(), b' ');
+    put_wide(out, progress, scalar.value, b'\n')
+}
+
+/// Writes the lines of scalars, in their order.
+pub fn put_scalar_lines<O: Out>(out: &mut O, progress: Progress, scalars: &[ScalarLine]) -> Progress
+    requires { written_in progress < 2 ^ 65 }
+    ensures { Adds progress (O.taken out.old) result (O.taken out.new) (scalar_lines scalars.now) }
+{
+    let mut progress = progress;
+    for scalar in scalars {
+        progress = put_scalar_line(out, progress, scalar);
+    }
+    progress
+}
 
 /// Writes the line that declares a vector of that number.
 fn put_vector_line<O: Out>(

@@ -4,7 +4,7 @@ ghost use Rattle.std.specs.Prelude.{◌≡◌, ◌+◌, ◌^◌, ◌≤◌, ◌<
 ghost use Rattle.std.specs.Fmt.{decimal, signed_decimal};
 ghost use Rattle.sim_time.specs.Text.{text_of_time};
 ghost use Rattle.result_files.specs.Written.{Adds, written_in};
-ghost use Rattle.result_files.specs.VectorText.{field};
+ghost use Rattle.result_files.specs.Fields.{field};
 
 use crate::writer::Out;
 use itoa::Buffer;
@@ -68,6 +68,16 @@ pub fn put_number<O: Out>(out: &mut O, progress: Progress, number: u64, end: u8)
 
 /// Writes a number that may be negative and the byte that ends it.
 pub fn put_signed<O: Out>(out: &mut O, progress: Progress, number: i64, end: u8) -> Progress
+    requires { written_in progress < 2 ^ 126 }
+    ensures adds { Adds progress (O.taken out.old) result (O.taken out.new) (field (signed_decimal number) end) }
+    ensures short { written_in result ≤ written_in progress + 64 }
+{
+    let mut buffer = Buffer::new();
+    put_field(out, progress, buffer.format(number).as_bytes(), end)
+}
+
+/// Writes a number of up to 128 bits that may be negative and the byte that ends it.
+pub fn put_wide<O: Out>(out: &mut O, progress: Progress, number: i128, end: u8) -> Progress
     requires { written_in progress < 2 ^ 126 }
     ensures adds { Adds progress (O.taken out.old) result (O.taken out.new) (field (signed_decimal number) end) }
     ensures short { written_in result ≤ written_in progress + 64 }

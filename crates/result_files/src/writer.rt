@@ -1,7 +1,8 @@
 //! What result files are written to.
 
 ghost use Rattle.std.specs.Prelude.{◌≡◌, ◌≤◌, ◌++◌, IfOk, OnErr, length, take};
-ghost use Rattle.result_files.specs.Taken.{Taken, one_more, failures_after};
+ghost use Rattle.sim_values.specs.Counts.{next_count, count_behind};
+ghost use Rattle.result_files.specs.Taken.{Taken};
 
 use std::alloc::AllocError;
 use std::io;
@@ -36,9 +37,9 @@ pub trait Out {
         ensures within { IfOk result (λ n. n ≤ length bytes.now) }
         ensures bytes { IfOk result (λ n. (taken self.new).bytes ≡ (taken self.old).bytes ++ take n bytes.now) }
         ensures counted { IfOk result (λ n. (taken self.new).failures
-            ≡ failures_after n bytes.now (taken self.old).failures) }
+            ≡ count_behind n bytes.now (taken self.old).failures) }
         ensures unchanged { OnErr result ((taken self.new).bytes ≡ (taken self.old).bytes) }
-        ensures failed { OnErr result ((taken self.new).failures ≡ one_more (taken self.old).failures) };
+        ensures failed { OnErr result ((taken self.new).failures ≡ next_count (taken self.old).failures) };
 }
 
 /// The device failed or took nothing, after so many bytes of the text.

@@ -2,9 +2,10 @@
 
 use ini_config::lines::{Entry, IniLine, LineMeaning};
 use ini_entries::entry::EntryMeaning;
+use recorders::scalar_line::ScalarLine;
 use recorders::vector_line::VectorLine;
+use result_files::files::{ResultFiles, write_scalars, write_vectors};
 use result_files::header::header_text;
-use result_files::vector_file::{VectorFile, write_vectors};
 use result_files::writer::{Device, Out, WriteFault};
 use run_semantics::traces::Emission;
 use sim_time::SimTime;
@@ -51,20 +52,34 @@ fn option_line(alloc: Global, key: &str, value: &str) -> Result<IniLine, AllocEr
     Ok(IniLine { text, meaning })
 }
 
-const TEXT: &str = "version 3\n\nvector 0 N.t fired:vector ETV\n0\t2\t0.0005\t-7\n";
+/// The files, with a number of 65 bits in the first.
+const TEXTS: [&str; 2] = [
+    "version 3\n\nscalar N.t fired:sum -18446744073709551616\n",
+    "version 3\n\nvector 0 N.t fired:vector ETV\n0\t2\t0.0005\t-7\n",
+];
 
-/// What the file says before its first value, which is that of a module with the id 1.
-fn file_of_one(alloc: Global) -> Result<VectorFile, AllocError> {
-    let line = VectorLine {
+/// What is known of the files, whose one value is that of a module with the id 1.
+fn files_of_one(alloc: Global) -> Result<ResultFiles, AllocError> {
+    let scalar = ScalarLine {
+        path: Text::from_str(alloc, "N.t")?,
+        name: Text::from_str(alloc, "fired:sum")?,
+        value: -18446744073709551616,
+    };
+    let vector = VectorLine {
         id: 1,
         path: Text::from_str(alloc, "N.t")?,
         statistic: Text::from_str(alloc, "fired")?,
         source: Text::from_str(alloc, "tick")?,
     };
+    let mut scalars = Items::new(alloc);
+    scalars.push(scalar)?;
     let mut vectors = Items::new(alloc);
-    vectors.push(line)?;
-    let header = Text::from_str(alloc, "version 3\n\n")?;
-    Ok(VectorFile { header, vectors })
+    vectors.push(vector)?;
+    Ok(ResultFiles {
+        header: Text::from_str(alloc, "version 3\n\n")?,
+        scalars,
+        vectors,
+    })
 }
 
 /// A value of the module with the id 1.
@@ -79,45 +94,69 @@ fn emission(alloc: Global, time: SimTime) -> Result<Emission, AllocError> {
 }
 
 /// Whether a device has taken what of the text it has room for.
-fn has_taken(taken: &[u8], room: usize) -> bool {
-    taken.len() == room.min(TEXT.len()) && TEXT.as_bytes().starts_with(taken)
+fn has_taken(text: &str, taken: &[u8], room: usize) -> bool {
+    taken.len() == room.min(text.len()) && text.as_bytes().starts_with(taken)
 }
 
-/// Writes the file to a device with room for so many bytes, which takes at most so many in a call. Answers what the write
-/// answers, and whether the device has then taken what it has room for.
-fn try_device(
-    alloc: Global,
-    file: &VectorFile,
-    emissions: &[Emission],
-    room: usize,
-    step: usize,
-) -> (Result<(), Device>, bool) {
-    let mut shelf = Shelf {
+/// A device with room for so many bytes, which takes at most so many in a call.
+fn shelf_of(alloc: Global, room: usize, step: usize) -> Shelf {
+    Shelf {
         taken: Vec::new(alloc),
         room,
         step,
         failures: 0,
-    };
-    let answer = write_vectors(&mut shelf, file, &[], emissions);
-    (answer, has_taken(shelf.taken.as_slice(), room))
+    }
 }
 
-/// Writes the file to devices.
+/// Writes both files, each to a device with room for so many bytes, which takes at most so many in a call. Answers what the writes
+/// answer, and whether the devices have then taken what they have room for.
+fn try_device(
+    alloc: Global,
+    files: &ResultFiles,
+    emissions: &[Emission],
+    room: usize,
+    step: usize,
+) -> ([Result<(), Device>; 2], bool) {
+    let mut first = shelf_of(alloc, room, step);
+    let mut second = shelf_of(alloc, room, step);
+    let answers = [
+        write_scalars(&mut first, files),
+        write_vectors(&mut second, files, &[], emissions),
+    ];
+    let taken = has_taken(TEXTS[0], first.taken.as_slice(), room)
+        && has_taken(TEXTS[1], second.taken.as_slice(), room);
+    (answers, taken)
+}
+
+/// Writes the files to devices.
 fn try_devices<R: Abort>(
     rt: &R,
     alloc: Global,
-    file: &VectorFile,
+    files: &ResultFiles,
     emissions: &[Emission],
 ) -> Result<(), Fail> {
     for (room, step, want) in [
-        (10, 100, Err(Device { written: 10 })),
-        (0, 1, Err(Device { written: 0 })),
-        (54, 7, Err(Device { written: 54 })),
-        (55, 7, Ok(())),
-        (usize::MAX, 1, Ok(())),
+        (
+            10,
+            100,
+            [Err(Device { written: 10 }), Err(Device { written: 10 })],
+        ),
+        (
+            0,
+            1,
+            [Err(Device { written: 0 }), Err(Device { written: 0 })],
+        ),
+        (
+            53,
+            7,
+            [Err(Device { written: 53 }), Err(Device { written: 53 })],
+        ),
+        (54, 7, [Ok(()), Err(Device { written: 54 })]),
+        (55, 7, [Ok(()), Ok(())]),
+        (usize::MAX, 1, [Ok(()), Ok(())]),
     ] {
-        let (answer, has_taken) = try_device(alloc, file, emissions, room, step);
-        assert_eq!(rt; answer, want, "{room} {step}");
+        let (answers, has_taken) = try_device(alloc, files, emissions, room, step);
+        assert_eq!(rt; answers, want, "{room} {step}");
         assert!(rt; has_taken, "{room} {step}");
     }
     Ok(())
@@ -127,9 +166,9 @@ fn try_devices<R: Abort>(
 fn devices(rt: HostRuntime) -> Result<(), Fail> {
     let alloc = rt.alloc();
     let time = SimTime::from_ps(500_000_000).ok_or("in range")?;
-    let file = file_of_one(alloc)?;
+    let files = files_of_one(alloc)?;
     let emission = emission(alloc, time)?;
-    try_devices(&rt, alloc, &file, std::slice::from_ref(&emission))
+    try_devices(&rt, alloc, &files, std::slice::from_ref(&emission))
 }
 
 /// The lines of a configuration of that name.

@@ -1,7 +1,9 @@
-//! Tests of `stock_modules` and `result_files`, apart from the crates that they test.
+//! Tests of `stock_modules`, `result_files`, and scalars that modules record, apart from the crates that they test.
 #![tactic(auto)]
 
 #[cfg(test)]
 mod files;
 #[cfg(test)]
 mod modules;
+#[cfg(test)]
+mod scalars;

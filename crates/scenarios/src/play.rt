@@ -8,9 +8,11 @@ use model_texts::begin::BeginFault;
 use sim_values::NoMemory;
 use sim_values::text::Text;
 use std::alloc::Global;
-use stock_desk::replies::{Reply, replies_to};
+use stock_desk::replies::{Files, Reply, replies_to};
 
-/// The line of a scenario that asks for the vector file of the last run.
+/// The lines of a scenario that ask for a file of the last run.
+const SCALARS: &str = "scalars";
+
 const VECTORS: &str = "vectors";
 
 /// Writes a line, and its end.
@@ -26,7 +28,7 @@ fn say(told: &mut Vec<u8>, line: &[u8]) -> Result<(), NoMemory>
 fn commands(alloc: Global, asked: &str) -> Result<Vec<Text>, NoMemory> {
     let mut lines = Vec::new(alloc);
     for line in asked.lines() {
-        if line != VECTORS {
+        if line != SCALARS && line != VECTORS {
             lines.push(Text::from_str(alloc, line)?)?;
         }
     }
@@ -42,11 +44,20 @@ fn tell_reply(told: &mut Vec<u8>, reply: &Reply) -> Result<(), NoMemory> {
     }
 }
 
-/// Writes the vector file of a run that is done, or that there is none.
-fn tell_file(told: &mut Vec<u8>, last: Option<&Reply>) -> Result<(), NoMemory> {
+/// The file of a run that is done that the line asks for.
+fn file_asked<'a>(line: &str, files: &'a Files) -> &'a [u8] {
+    if line == SCALARS {
+        files.scalars.as_bytes()
+    } else {
+        files.vectors.as_bytes()
+    }
+}
+
+/// Writes the file of the last run that the line asks for, or that there is none.
+fn tell_file(told: &mut Vec<u8>, line: &str, last: Option<&Reply>) -> Result<(), NoMemory> {
     match last {
-        Some(Reply::Done(_, file)) => {
-            told.extend_from_slice(file.as_bytes())?;
+        Some(Reply::Done(_, files)) => {
+            told.extend_from_slice(file_asked(line, files))?;
             Ok(())
         }
         _ => say(told, b"no file".as_slice()),
@@ -59,8 +70,8 @@ fn tell(alloc: Global, asked: &str, replies: &[Reply]) -> Result<Vec<u8>, NoMemo
     let mut last = None;
     let mut left = replies;
     for line in asked.lines() {
-        if line == VECTORS {
-            tell_file(&mut told, last)?;
+        if line == SCALARS || line == VECTORS {
+            tell_file(&mut told, line, last)?;
         } else if let [reply, rest @ ..] = left {
             tell_reply(&mut told, reply)?;
             last = Some(reply);

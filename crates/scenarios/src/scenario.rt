@@ -17,7 +17,7 @@ pub struct Scenario<'a> {
     pub ini: &'a str,
     /// The name of the configuration, `General` where none is named.
     pub config: &'a str,
-    /// What the desk is asked, a line for each. `vectors` asks for the vector file.
+    /// What the desk is asked, a line for each. `scalars` and `vectors` ask for the files of the last run.
     pub asked: &'a str,
 }
 

@@ -2,24 +2,35 @@
 use Rattle.std.specs.Prelude.{◌≡◌, ◌<◌, ℕ, List, [], ◌∷◌, Option, Some, None, codes, length, take}
 use Rattle.module_api.specs.Behaviour.{Behaviour}
 use Rattle.model_answers.specs.declared.model.Model.{Model}
-use Rattle.edit_session.specs.Files.{vectors_of_run}
+use Rattle.edit_session.specs.Files.{scalars_of_run, vectors_of_run}
 use Rattle.result_files.specs.Taken.{Taken}
 use Rattle.desk.specs.Commands.{command_of}
 use Rattle.desk.specs.Turns.{run_answer}
 use Rattle.desk.specs.declared.commands.Command.{Command}
 use Rattle.desk.specs.declared.commands.Command.TheVariants as command
+use Rattle.stock_desk.specs.declared.replies.Cut.{Cut}
+use Rattle.stock_desk.specs.declared.replies.Cut.TheVariants as cut
 use Rattle.stock_desk.specs.declared.replies.Reply.{Reply}
 use Rattle.stock_desk.specs.declared.replies.Reply.TheVariants as reply
 
--- what a line leads to: a text, and the vector file of a run that is done
+-- the two files of a run
+pub record Files : Type 0 where
+  pub scalars : List ℕ
+  pub vectors : List ℕ
+
+-- what a line leads to: a text, and the files of a run that is done
 pub record Said : Type 0 where
   pub text : List ℕ
-  pub file : Option (List ℕ)
+  pub files : Option Files
+
+-- the files of a fresh run of the model to that limit
+abbrev pub files_of_run : Behaviour → Model → ℕ → Files
+files_of_run b m limit = record { scalars = scalars_of_run b m limit; vectors = vectors_of_run b m limit }
 
 abbrev pub said_to_command : Behaviour → Model → Command → Said
-said_to_command b m (command.Run limit) = record { text = run_answer b m limit; file = Some (vectors_of_run b m limit) }
-said_to_command b m command.Unknown = record { text = codes "refused Command"; file = None }
-said_to_command b m command.TooLarge = record { text = codes "refused TooLarge"; file = None }
+said_to_command b m (command.Run limit) = record { text = run_answer b m limit; files = Some (files_of_run b m limit) }
+said_to_command b m command.Unknown = record { text = codes "refused Command"; files = None }
+said_to_command b m command.TooLarge = record { text = codes "refused TooLarge"; files = None }
 
 -- WHAT THE PLAIN MACHINE SAYS to a line
 abbrev pub said_to : Behaviour → Model → List ℕ → Said
@@ -31,17 +42,22 @@ pub record IsCut (whole : List ℕ) (file : Taken) : Type 0 where
   pub short : length file.bytes < length whole
   pub front : file.bytes ≡ take (length file.bytes) whole
 
--- the file of what the plain machine says is cut
-abbrev pub CutsFile : Option (List ℕ) → Taken → Type 0
-CutsFile None file = ⊥
-CutsFile (Some whole) file = IsCut whole file
+-- the scalar file is cut; or it is whole, and the vector file is cut
+abbrev pub AreCut : Files → Cut → Type 0
+AreCut whole (cut.Scalars scalars) = IsCut whole.scalars scalars
+AreCut whole (cut.Vectors scalars vectors) = (scalars.bytes ≡ whole.scalars) × IsCut whole.vectors vectors
 
--- A reply is what the plain machine says, or its text and the first bytes of its file, as a write of it failed, or memory
--- ran out.
+-- of the files of what the plain machine says one is cut
+abbrev pub CutsFiles : Option Files → Cut → Type 0
+CutsFiles None cut = ⊥
+CutsFiles (Some whole) cut = AreCut whole cut
+
+-- A reply is what the plain machine says, or its text and the first bytes of its files, as a write failed, or memory ran out.
 abbrev pub IsSaid : Said → Reply → Type 0
-IsSaid said (reply.Done text file) = record { text = text; file = Some file.bytes } ≡ said
-IsSaid said (reply.Refused text) = record { text = text; file = None } ≡ said
-IsSaid said (reply.Unwritten text file) = (text ≡ said.text) × CutsFile said.file file
+IsSaid said (reply.Done text files) =
+    record { text = text; files = Some (record { scalars = files.scalars.bytes; vectors = files.vectors.bytes }) } ≡ said
+IsSaid said (reply.Refused text) = record { text = text; files = None } ≡ said
+IsSaid said (reply.Unwritten text cut) = (text ≡ said.text) × CutsFiles said.files cut
 IsSaid said (reply.NoMemory _) = Unit {0}
 
 -- a reply to a command

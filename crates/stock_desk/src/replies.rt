@@ -29,15 +29,31 @@ use std::marker::PhantomData;
 use stock_modules::modules::StockModule;
 use stock_modules::stock::Stock;
 
+/// The files of a run.
+#[derive(Drop)]
+pub struct Files {
+    pub scalars: Buffer,
+    pub vectors: Buffer,
+}
+
+/// What there is of the files of a run that have no room in memory.
+#[derive(Drop)]
+pub enum Cut {
+    /// The first bytes of the scalar file.
+    Scalars(Buffer),
+    /// The scalar file, and the first bytes of the vector file.
+    Vectors(Buffer, Buffer),
+}
+
 /// What a command line leads to.
 #[derive(Drop)]
 pub enum Reply {
-    /// A run is done: its answer, and its vector file.
-    Done(Text, Buffer),
+    /// A run is done: its answer, and its files.
+    Done(Text, Files),
     /// The line is refused: the answer that says so.
     Refused(Text),
-    /// A run is done whose vector file has no room in memory: its answer, and the first bytes of the file.
-    Unwritten(Text, Buffer),
+    /// A run is done whose files have no room in memory: its answer, and what there is of them.
+    Unwritten(Text, Cut),
     /// Memory ran out.
     NoMemory(NoMemory),
 }
@@ -95,7 +111,7 @@ impl Answering {
         }
     }
 
-    /// The reply of a run that is done: this text, and its vector file.
+    /// The reply of a run that is done: this text, and its files, the scalar file first.
     fn reply_of_run(&self, alloc: Global, limit: u64, text: Text) -> Reply
         requires sound { IsSettled stock SimpleModule-box self.now.desk }
         requires ran { HasRun stock (editing_at SimpleModule-box self.now.desk) limit text }
@@ -103,10 +119,14 @@ impl Answering {
             RepliesTo stock model (commands.Run limit) result }
     {
         let _limit = limit;
-        let mut file = Buffer::new(alloc);
-        match self.desk.vectors(&mut file) {
-            Ok(()) => Reply::Done(text, file),
-            Err(_) => Reply::Unwritten(text, file),
+        let mut scalars = Buffer::new(alloc);
+        if self.desk.scalars(&mut scalars).is_err() {
+            return Reply::Unwritten(text, Cut::Scalars(scalars));
+        }
+        let mut vectors = Buffer::new(alloc);
+        match self.desk.vectors(&mut vectors) {
+            Ok(()) => Reply::Done(text, Files { scalars, vectors }),
+            Err(_) => Reply::Unwritten(text, Cut::Vectors(scalars, vectors)),
         }
     }
 

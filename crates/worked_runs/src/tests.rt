@@ -36,13 +36,16 @@ impl Out for Shelf {
     }
 }
 
-/// What a desk answers to two devices, one before its first run and one after it.
+/// What a desk says of its files, and what a device took of each.
 #[derive(Drop)]
 struct Answers {
-    before: Result<(), FileFault>,
+    /// Before its first run.
+    before: [Result<(), FileFault>; 2],
     is_done: bool,
-    after: Result<(), FileFault>,
-    taken: Vec<u8>,
+    /// Of the scalar file, after a run.
+    scalars: (Result<(), FileFault>, Vec<u8>),
+    /// Of the vector file, after a run.
+    vectors: (Result<(), FileFault>, Vec<u8>),
 }
 
 /// A network without modules.
@@ -61,19 +64,37 @@ fn desk_of<C: Catalogue>(alloc: Global, texts: &NedTexts) -> Result<Desk<C>, Beg
     Ok(Desk::of_session(alloc, session))
 }
 
-/// Writes the vector file to a device with room for so many bytes. Answers what the desk says, and what the device took.
-fn written<C: Catalogue>(
+/// A device with room for so many bytes.
+fn shelf_of(alloc: Global, room: usize) -> Shelf {
+    Shelf {
+        taken: Vec::new(alloc),
+        room,
+        failures: 0,
+    }
+}
+
+/// Writes the scalar file to a device with room for so many bytes. Answers what the desk says, and what the device took.
+fn scalars_of<C: Catalogue>(
     alloc: Global,
     desk: &Desk<C>,
     room: usize,
 ) -> (Result<(), FileFault>, Vec<u8>)
     requires { IsSettled C.behaviour (λ b. ⟦<dyn SimpleModule as SimpleModule>⟧ b.vtable) desk.now }
 {
-    let mut shelf = Shelf {
-        taken: Vec::new(alloc),
-        room,
-        failures: 0,
-    };
+    let mut shelf = shelf_of(alloc, room);
+    let answer = desk.scalars(&mut shelf);
+    (answer, shelf.taken)
+}
+
+/// The same of the vector file.
+fn vectors_of<C: Catalogue>(
+    alloc: Global,
+    desk: &Desk<C>,
+    room: usize,
+) -> (Result<(), FileFault>, Vec<u8>)
+    requires { IsSettled C.behaviour (λ b. ⟦<dyn SimpleModule as SimpleModule>⟧ b.vtable) desk.now }
+{
+    let mut shelf = shelf_of(alloc, room);
     let answer = desk.vectors(&mut shelf);
     (answer, shelf.taken)
 }
@@ -89,16 +110,20 @@ fn is_done<C: Catalogue>(desk: &mut Desk<C>) -> bool
 /// What a desk at the network of these texts answers to devices.
 fn answers_of<C: Catalogue>(alloc: Global, texts: &NedTexts) -> Result<Answers, BeginFault> {
     let mut desk = desk_of::<C>(alloc, texts)?;
-    let before = desk.vectors(&mut Buffer::new(alloc));
+    let before = [
+        desk.scalars(&mut Buffer::new(alloc)),
+        desk.vectors(&mut Buffer::new(alloc)),
+    ];
     let is_done = is_done(&mut desk);
-    let (after, taken) = written(alloc, &desk, 10);
+    let scalars = scalars_of(alloc, &desk, 11);
+    let vectors = vectors_of(alloc, &desk, 10);
     // The process ends with the test, and to drop a desk would be the dearest part of the proof.
     std::mem::forget(desk);
     Ok(Answers {
         before,
         is_done,
-        after,
-        taken,
+        scalars,
+        vectors,
     })
 }
 
@@ -111,9 +136,11 @@ fn answers_of_stock(alloc: Global) -> Result<Answers, Fail> {
 #[test]
 fn files_of_runs(rt: HostRuntime) -> Result<(), Fail> {
     let answers = answers_of_stock(rt.alloc())?;
-    assert!(rt; answers.before == Err(FileFault::NotDone));
+    assert!(rt; answers.before == [Err(FileFault::NotDone), Err(FileFault::NotDone)]);
     assert!(rt; answers.is_done, "the run is not done");
-    assert!(rt; answers.after == Err(FileFault::Device(10)));
-    assert_eq!(rt; answers.taken.as_slice(), b"version 3\n".as_slice());
+    assert!(rt; answers.scalars.0 == Err(FileFault::Device(11)));
+    assert_eq!(rt; answers.scalars.1.as_slice(), b"version 3\nr".as_slice());
+    assert!(rt; answers.vectors.0 == Err(FileFault::Device(10)));
+    assert_eq!(rt; answers.vectors.1.as_slice(), b"version 3\n".as_slice());
     Ok(())
 }

@@ -86,6 +86,7 @@ pub fn text_of(alloc: Global, reply: &Reply) -> Result<String, AllocError> {
 fn add_action(text: &mut String, action: &Action) -> Result<(), AllocError> {
     match action {
         Action::Emit(signal, value) => write!(text, " {}={value}", written(signal)),
+        Action::RecordScalar(name, value) => write!(text, " {}:={value}", written(name)),
         Action::ScheduleAfter(set) => {
             let (timer, delay, priority) = (set.timer, set.delay.ps(), set.priority);
             write!(text, " timer{timer}+{delay}/{priority}")

@@ -1,0 +1,58 @@
+-- Modules that record scalars, as examples. A Clerk records one as it begins, emits the greatest value twice, and records another
+-- scalar at the end of the run. The name that a Scribe records has a blank in it, which is none of a scalar.
+use Rattle.std.specs.Prelude.{ℕ, pos, neg_ℤ, Bool, true, false, ◌||◌, List, [], ◌∷◌, IsTrue, codes, refl, if◌then◌else◌}
+use Rattle.std.specs.Str.{bytes_eq}
+use Rattle.module_api.specs.declared.call.Prompt.{Prompt}
+use Rattle.module_api.specs.declared.call.Prompt.TheVariants as prompt
+use Rattle.module_api.specs.declared.reply.Action.{Action}
+use Rattle.module_api.specs.declared.reply.Action.TheVariants.{Emit, RecordScalar}
+use Rattle.module_api.specs.Behaviour.{Naming, Behaviour}
+use Rattle.module_api.specs.Laws.{law_of_reads, KeepsStates, IsLawful}
+use Rattle.module_api.specs.Meaning.{Module}
+use Rattle.stock_modules.specs.Replies.{done}
+
+abbrev pub clerk_actions : Prompt → List Action
+clerk_actions (prompt.Initialize stage) =
+    RecordScalar (codes "opened") (neg_ℤ (pos 3)) ∷ Emit (codes "noted") (pos 9223372036854775807) ∷ Emit (codes "noted") (pos 9223372036854775807) ∷ []
+clerk_actions (prompt.Message message) = []
+clerk_actions prompt.Finish = RecordScalar (codes "x") (pos 7) ∷ []
+
+abbrev pub scribe_actions : Prompt → List Action
+scribe_actions (prompt.Initialize stage) = RecordScalar (codes "a b") (pos 1) ∷ []
+scribe_actions (prompt.Message message) = []
+scribe_actions prompt.Finish = []
+
+-- one stage, no state, and these actions for what it is called for
+abbrev pub acting : (Prompt → List Action) → Naming
+acting actions = record {
+  stages = 1;
+  is_state = λ state. bytes_eq state [];
+  initial = [];
+  reply = λ state call. done (actions call.prompt) state;
+}
+
+abbrev pub kind_of : Bool → List ℕ
+kind_of true = codes "Clerk"
+kind_of false = codes "Scribe"
+
+abbrev pub actions_of : Bool → Prompt → List Action
+actions_of true = clerk_actions
+actions_of false = scribe_actions
+
+-- a Clerk, or a Scribe
+abbrev pub office_module : Bool → Module
+office_module is_clerk = record { kind = kind_of is_clerk; naming = acting (actions_of is_clerk); state = [] }
+
+-- the catalogue that knows these two, and its laws
+unfoldable pub office : Behaviour
+office = record {
+  known = λ kind. bytes_eq kind (codes "Clerk") || bytes_eq kind (codes "Scribe");
+  naming = λ kind. acting (actions_of (bytes_eq kind (codes "Clerk")));
+}
+
+pub office_lawful : IsLawful office
+unfolding office
+office_lawful = record {
+  reads = λ kind state call ps gs h. refl;
+  states = λ kind known. record { starts = refl; goes_on = λ state call h. h };
+}
