@@ -19,7 +19,7 @@ pub fn read_text<R: Files + AllocGlobal>(rt: &R, path: &str) -> Result<Vec<u8>, 
     match SystemFiles::new(rt).text_of(rt.alloc(), path) {
         Ok(text) => Ok(text),
         Err(ReadFault::Failed(error)) => Err(unread(rt, path, error)),
-        Err(ReadFault::NoMemory(_)) => Err(Stop::NoMemory),
+        Err(ReadFault::NoMemory(error)) => Err(Stop::NoMemory(error)),
     }
 }
 
@@ -28,6 +28,6 @@ pub fn read_texts<R: Files + AllocGlobal>(rt: &R, paths: &[String]) -> Result<Ne
     match folder::read_texts(rt.alloc(), &SystemFiles::new(rt), paths) {
         Ok(texts) => Ok(texts),
         Err(FolderFault::Failed(number, error)) => Err(unread(rt, paths[number].as_str(), error)),
-        Err(FolderFault::NoMemory(_)) => Err(Stop::NoMemory),
+        Err(FolderFault::NoMemory(error)) => Err(Stop::NoMemory(error)),
     }
 }

@@ -1,24 +1,58 @@
-//! Runs a network of modules from its files, and writes the vector file of the run.
+//! Runs a network of modules from its files, and writes the result files of the run.
 #![tactic(auto)]
 
+ghost use Rattle.std.specs.Prelude.{IfOk, string_bytes};
+ghost use Rattle.model_answers.specs.declared.model.Model.{Model};
+ghost use Rattle.model_texts.specs.Models.{IsModelOf};
+ghost use Rattle.stock_modules.specs.Stock.{stock};
+ghost use Rattle.stock_desk.specs.SingleRuns.{told, EndsAs};
+
+mod devices;
 mod files;
 mod output;
 mod stops;
 mod words;
 
-use sim_values::text::Text;
+use devices::FileOut;
+use model_texts::begin::BeginFault;
+use ned_syntax::texts::NedTexts;
+use output::Teller;
+use result_files::writer::Out;
 use std::alloc::Global;
 use std::process::ExitCode;
 use std::rt::{Env, Files};
-use stock_desk::replies::replies_to;
+use stock_desk::single_run::{Audience, Ended, run_once};
 use stops::Stop;
 use text_explanations::sources::Sources;
 use words::Words;
 
-/// The command line of a run for at most so many events.
-fn run_line(alloc: Global, limit: u64) -> Result<Text, Stop> {
-    let line = format!(in alloc; "run {limit}")?;
-    Ok(Text::from_str(alloc, line.as_str())?)
+/// Runs the texts as the words say: the configuration, for at most so many events.
+fn run_words<A: Audience, O: Out>(
+    alloc: Global,
+    words: &Words,
+    texts: &NedTexts,
+    ini: &[u8],
+    audience: &mut A,
+    scalars: &mut O,
+    vectors: &mut O,
+) -> Result<Ended, BeginFault>
+    // The limit and the configuration of the words are those of the run.
+    ensures { IfOk result (λ ended. (model : Model)
+        × IsModelOf texts.now ini.now (string_bytes words.now.config) model
+        × EndsAs stock model words.now.limit
+        (told (A.heard audience.old) (O.taken scalars.old) (O.taken vectors.old))
+        (told (A.heard audience.new) (O.taken scalars.new) (O.taken vectors.new)) ended) }
+{
+    run_once(
+        alloc,
+        texts,
+        ini,
+        words.config.as_bytes(),
+        words.limit,
+        audience,
+        scalars,
+        vectors,
+    )
 }
 
 /// Runs the files to the limit, and tells what becomes of it.
@@ -28,18 +62,20 @@ fn run<R: Files + Print + Eprint + AllocGlobal>(
     sources: &Sources<'_>,
 ) -> Result<(), Stop> {
     let alloc = rt.alloc();
-    let line = run_line(alloc, words.limit)?;
-    let lines = std::slice::from_ref(&line);
-    let config = words.config.as_bytes();
-    match replies_to(alloc, sources.texts, sources.ini, config, lines) {
+    let mut teller = Teller::new(rt, sources);
+    let mut scalars = FileOut::new(rt, output::file_path(alloc, words, "sca")?)?;
+    let mut vectors = FileOut::new(rt, output::file_path(alloc, words, "vec")?)?;
+    match run_words(
+        alloc,
+        words,
+        sources.texts,
+        sources.ini,
+        &mut teller,
+        &mut scalars,
+        &mut vectors,
+    ) {
+        Ok(ended) => output::end(rt, sources, ended, teller, &mut scalars, &mut vectors),
         Err(fault) => Err(Stop::refused(alloc, fault, sources)),
-        Ok(replies) => {
-            output::warn(rt, sources)?;
-            for reply in &replies {
-                output::tell(rt, words, sources, reply)?;
-            }
-            Ok(())
-        }
     }
 }
 

@@ -1,6 +1,7 @@
 //! Why the program ends early.
 
 ghost use Rattle.std.specs.Prelude.{◌≡◌};
+ghost use Rattle.sim_values.specs.Memory.{no_memory};
 ghost use Rattle.nedrun.specs.Stops.{IsNamed, IsStopOf};
 ghost use Rattle.nedrun.specs.declared.stops.Stop.TheVariants as stops;
 
@@ -25,7 +26,7 @@ pub enum Stop {
     /// A file, a folder or a stream failed: which, and what failed.
     Failed(String, io::Error),
     /// Memory ran out.
-    NoMemory,
+    NoMemory(NoMemory),
 }
 
 impl Stop {
@@ -34,7 +35,7 @@ impl Stop {
         ensures { IsStopOf fault result }
     {
         match fault {
-            BeginFault::NoMemory(_) => Stop::NoMemory,
+            BeginFault::NoMemory(error) => Stop::NoMemory(error),
             _ => Stop::named(alloc, fault, line_for(alloc, fault, sources)),
         }
     }
@@ -45,7 +46,7 @@ impl Stop {
     {
         match refusal_text(alloc, fault) {
             Ok(text) => Stop::Refused(text, line),
-            Err(_) => Stop::NoMemory,
+            Err(error) => error.into(),
         }
     }
 
@@ -53,7 +54,7 @@ impl Stop {
     pub fn failed(alloc: Global, what: &str, name: &str, error: io::Error) -> Stop {
         match format!(in alloc; "{name}: {what}") {
             Ok(line) => Stop::Failed(line, error),
-            Err(_) => Stop::NoMemory,
+            Err(error) => error.into(),
         }
     }
 
@@ -64,7 +65,7 @@ impl Stop {
             Stop::Words(error) => (error.print(rt), words_status(error)),
             Stop::Refused(text, line) => (say_refused(rt, text, line.as_str()), 2),
             Stop::Failed(line, error) => (eprintln!(rt; "nedrun: {error}\n{line}"), 1),
-            Stop::NoMemory => (eprintln!(rt; "nedrun: NoMemory"), 1),
+            Stop::NoMemory(_) => (eprintln!(rt; "nedrun: NoMemory"), 1),
         };
         if told.is_ok() { status } else { 1 }
     }
@@ -101,25 +102,25 @@ impl From<clap::Error> for Stop {
 }
 
 impl From<NoMemory> for Stop {
-    ghost from_gives = { λ _ stop. stop ≡ stops.NoMemory };
+    ghost from_gives = { λ error stop. stop ≡ stops.NoMemory error };
 
-    fn from(_e: NoMemory) -> Stop {
-        Stop::NoMemory
+    fn from(error: NoMemory) -> Stop {
+        Stop::NoMemory(error)
     }
 }
 
 impl From<AllocError> for Stop {
-    ghost from_gives = { λ _ stop. stop ≡ stops.NoMemory };
+    ghost from_gives = { λ error stop. stop ≡ stops.NoMemory no_memory };
 
-    fn from(_e: AllocError) -> Stop {
-        Stop::NoMemory
+    fn from(error: AllocError) -> Stop {
+        Stop::NoMemory(error.into())
     }
 }
 
 impl<T: Drop> From<AllocFailed<T>> for Stop {
-    ghost from_gives = { λ _ stop. stop ≡ stops.NoMemory };
+    ghost from_gives = { λ _ stop. stop ≡ stops.NoMemory no_memory };
 
-    fn from(_e: AllocFailed<T>) -> Stop {
-        Stop::NoMemory
+    fn from(failed: AllocFailed<T>) -> Stop {
+        Stop::NoMemory(failed.into())
     }
 }

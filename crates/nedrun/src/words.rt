@@ -24,7 +24,7 @@ pub struct Words {
     pub config: String,
     /// The run ends after so many events.
     pub limit: u64,
-    /// Where the result file is written.
+    /// Where the result files are written.
     pub directory: String,
     /// The path of the ini file.
     pub ini: String,
@@ -60,7 +60,7 @@ fn directory_word<'a>(alloc: Global) -> Arg<'a> {
         .long("output")
         .value_name("DIR")
         .default_value(".")
-        .help("Where the result file is written")
+        .help("Where the result files are written")
 }
 
 /// `INI`.
@@ -97,7 +97,7 @@ fn with_files<'a>(alloc: Global, command: Command<'a>) -> Result<Command<'a>, Al
 /// The words that the program takes.
 fn command<'a>(alloc: Global) -> Result<Command<'a>, AllocError> {
     let command = Command::new(alloc, "nedrun");
-    let command = command.about("Runs a network of modules and writes its vector file");
+    let command = command.about("Runs a network of modules and writes its result files");
     let command = command.version(VERSION).after_help(MORE);
     let command = with_options(alloc, command)?;
     with_files(alloc, command)

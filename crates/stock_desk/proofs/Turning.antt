@@ -3,7 +3,7 @@ use Rattle.std.proofs.Common.{◌≡◌, ℕ, suc, zero, ◌+◌, ◌-◌, ◌*�
 use Rattle.module_api.specs.Behaviour.{Behaviour}
 use Rattle.model_answers.specs.declared.model.Model.{Model}
 use Rattle.run_semantics.specs.Perform.{Flow, On, Stopped, Broken}
-use Rattle.run_semantics.specs.Run.{Part, parts_of, prepared}
+use Rattle.run_semantics.specs.Run.{parts_of, prepared}
 use Rattle.kernel.specs.declared.request.Request.{Request}
 use Rattle.kernel.specs.Kernels.{Members}
 use Rattle.kernel.specs.Seats.{request_for}
@@ -12,7 +12,7 @@ use Rattle.edit_session.specs.declared.running.Phase.{Phase}
 use Rattle.edit_session.specs.declared.running.Phase.TheVariants.{Idle, Waiting, Declined}
 use Rattle.edit_session.specs.declared.session.NotWanted.{NotWanted}
 use Rattle.desk.specs.Turns.{editing_at}
-use Rattle.stock_desk.specs.Steps.{GivesUp, IsMet, IsStep, Waits}
+use Rattle.stock_desk.specs.Steps.{GivesUp, IsMet, IsStep}
 use Rattle.stock_desk.specs.Answerings.{GoesOn, IsKept, IsWent, boxes_after, boxes_of, left_of, turns_left, turns_of}
 use Rattle.stock_desk.specs.declared.replies.Answering.{Answering}
 use Rattle.stock_desk.specs.declared.replies.Next.{Next}

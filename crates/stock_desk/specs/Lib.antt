@@ -1,3 +1,4 @@
 pub mod Answerings
 pub mod Machine
+pub mod SingleRuns
 pub mod Steps

@@ -2,3 +2,4 @@
 #![tactic(auto)]
 
 pub mod replies;
+pub mod single_run;

@@ -1,4 +1,3 @@
-use Rattle.std.specs.Prelude.{◌≡◌}
 use Rattle.stock_modules.specs.Stock.{stock}
 use Rattle.model_texts.specs.Models.{IsModelOf}
 use Rattle.desk.specs.Turns.{editing_at}

@@ -1,5 +1,5 @@
 use Rattle.std.proofs.Common.{refl}
-use Rattle.stock_desk.proofs.Lists.{none_more, one_more}
+use Rattle.stock_desk.proofs.Lists.{one_more}
 use Rattle.stock_desk.proofs.replies.Answering.keep.Goals as goal
 
 pub returns-in-Ok-clause-so_far : goal.returns-in-Ok-clause-so_far

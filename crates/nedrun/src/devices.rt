@@ -1,0 +1,119 @@
+//! The files that a run is written to.
+
+ghost use Rattle.std.specs.Prelude.{◌≡◌, [], OnOk};
+ghost use Rattle.sim_values.specs.Counts.{next_count};
+ghost use Rattle.nedrun.specs.Devices.{unwritten};
+
+use crate::stops::Stop;
+use result_files::writer::{Out, WriteFault};
+use std::fs::File;
+use std::io;
+use std::io::{BufWriter, ErrorKind, Write};
+use std::rt::Files;
+use text_files::noted::Noted;
+
+/// A file of the system that is made at the first write.
+#[derive(Drop)]
+struct LateFile<'a, R: Files> {
+    rt: &'a R,
+    path: String,
+    file: Option<R::File>,
+}
+
+impl<R: Files> Write for LateFile<'_, R> {
+    fn write(&mut self, buf: &[u8]) -> io::Result<usize> {
+        if self.file.is_none() {
+            self.file = Some(File::create(self.rt, self.path.as_str())?);
+        }
+        match &mut self.file {
+            Some(file) => file.write(buf),
+            None => Ok(0),
+        }
+    }
+
+    fn flush(&mut self) -> io::Result<()> {
+        Ok(())
+    }
+}
+
+/// A file as a device. Bytes are gathered before they are written, in room that is there before the run.
+#[derive(Drop)]
+pub struct FileOut<'a, R: Files> {
+    rt: &'a R,
+    path: String,
+    writer: BufWriter<LateFile<'a, R>>,
+    content: Noted,
+    failures: u64,
+    /// What failed last.
+    fault: Option<io::Error>,
+}
+
+impl<'a, R: Files + AllocGlobal> FileOut<'a, R> {
+    /// The file of that path. It is not made yet.
+    pub fn new(rt: &'a R, path: String) -> Result<FileOut<'a, R>, Stop> {
+        let file = LateFile {
+            rt,
+            path: String::from_str(rt.alloc(), path.as_str())?,
+            file: None,
+        };
+        match BufWriter::new(rt.alloc(), file) {
+            Ok(writer) => Ok(FileOut {
+                rt,
+                path,
+                writer,
+                content: Noted::new(),
+                failures: 0,
+                fault: None,
+            }),
+            Err(error) => Err(unwritable(rt, path.as_str(), error)),
+        }
+    }
+
+    /// Writes what is gathered still. Where that succeeds, all that it took is written.
+    pub fn finish(&mut self) -> Result<(), Stop>
+        ensures { OnOk result (unwritten self.new ≡ []) }
+    {
+        match self.writer.flush() {
+            Ok(()) => Ok(()),
+            Err(error) => Err(unwritable(self.rt, self.path.as_str(), error)),
+        }
+    }
+
+    /// What ends the program where the last write failed.
+    pub fn stop(&self) -> Stop {
+        let fault = self.fault.unwrap_or(io::Error::from(ErrorKind::WriteZero));
+        unwritable(self.rt, self.path.as_str(), fault)
+    }
+}
+
+/// What ends the program where the file of that path can't be written.
+fn unwritable<R: AllocGlobal>(rt: &R, path: &str, error: io::Error) -> Stop {
+    Stop::failed(rt.alloc(), "this file can't be written", path, error)
+}
+
+impl<R: Files> FileOut<'_, R> {
+    /// Keeps why a write failed.
+    fn failed(&mut self, error: io::Error) -> WriteFault
+        ensures content { self.new.content.bytes ≡ self.old.content.bytes }
+        ensures failures { self.new.failures ≡ next_count self.old.failures }
+    {
+        self.failures = self.failures.wrapping_add(1);
+        self.fault = Some(error);
+        error.into()
+    }
+}
+
+impl<R: Files> Out for FileOut<'_, R> {
+    ghost taken = { λ out. record { bytes = out.content.bytes; failures = out.failures } };
+
+    fn write(&mut self, bytes: &[u8]) -> Result<usize, WriteFault> {
+        match self.writer.write(bytes) {
+            Ok(count) if count > 0 || bytes.is_empty() => {
+                self.content.note(&bytes[..count]);
+                Ok(count)
+            }
+            Ok(_) => Err(self.failed(io::Error::from(ErrorKind::WriteZero))),
+            Err(error) => Err(self.failed(error)),
+        }
+    }
+}
