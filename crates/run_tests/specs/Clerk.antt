@@ -1,6 +1,7 @@
--- Modules that record scalars, as examples. A Clerk records one as it begins, emits the greatest value twice, and records another
--- scalar at the end of the run. The name that a Scribe records has a blank in it, which is none of a scalar.
-use Rattle.std.specs.Prelude.{ℕ, pos, neg_ℤ, Bool, true, false, ◌||◌, List, [], ◌∷◌, IsTrue, codes, refl, if◌then◌else◌}
+-- Modules that record scalars, as examples. A Clerk records one as it begins, emits the greatest value twice and sets a timer; it records a
+-- second scalar for a message, and a third at the end of the run. So its scalars say how often each of its methods was called. The name
+-- that a Scribe records has a blank in it, which is none of a scalar.
+use Rattle.std.specs.Prelude.{ℕ, ℤ, pos, neg_ℤ, Bool, true, false, ◌||◌, List, [], ◌∷◌, IsTrue, codes, refl, if◌then◌else◌}
 use Rattle.std.specs.Str.{bytes_eq}
 use Rattle.module_api.specs.declared.call.Prompt.{Prompt}
 use Rattle.module_api.specs.declared.call.Prompt.TheVariants as prompt
@@ -9,18 +10,24 @@ use Rattle.module_api.specs.declared.reply.Action.TheVariants.{Emit, RecordScala
 use Rattle.module_api.specs.Behaviour.{Naming, Behaviour}
 use Rattle.module_api.specs.Laws.{law_of_reads, KeepsStates, IsLawful}
 use Rattle.module_api.specs.Meaning.{Module}
-use Rattle.stock_modules.specs.Replies.{done}
+use Rattle.stock_modules.specs.Replies.{done, timer_set}
 
 abbrev pub clerk_actions : Prompt → List Action
 clerk_actions (prompt.Initialize stage) =
-    RecordScalar (codes "opened") (neg_ℤ (pos 3)) ∷ Emit (codes "noted") (pos 9223372036854775807) ∷ Emit (codes "noted") (pos 9223372036854775807) ∷ []
-clerk_actions (prompt.Message message) = []
+    RecordScalar (codes "opened") (neg_ℤ (pos 3)) ∷ Emit (codes "noted") (pos 9223372036854775807) ∷ Emit (codes "noted") (pos 9223372036854775807)
+    ∷ timer_set 0 (pos 0) ∷ []
+clerk_actions (prompt.Message message) = RecordScalar (codes "heard") (pos 1) ∷ []
 clerk_actions prompt.Finish = RecordScalar (codes "x") (pos 7) ∷ []
 
 abbrev pub scribe_actions : Prompt → List Action
 scribe_actions (prompt.Initialize stage) = RecordScalar (codes "a b") (pos 1) ∷ []
 scribe_actions (prompt.Message message) = []
 scribe_actions prompt.Finish = []
+
+-- what a Clerk does that records one scalar, and a Scribe
+abbrev pub only : Bool → List ℕ → ℤ → List Action
+only true name value = RecordScalar name value ∷ []
+only false name value = []
 
 -- one stage, no state, and these actions for what it is called for
 abbrev pub acting : (Prompt → List Action) → Naming

@@ -137,13 +137,13 @@ fn scalars_by_module(rt: HostRuntime) -> Result<(), Fail> {
     let alloc = rt.alloc();
     let told = outcome_of(alloc, "Clerk", "Clerk")?;
     let a =
-        "scalar N.a opened -3\nscalar N.a x 7\nscalar N.a noted:count 2\nscalar N.a noted:sum 18446744073709551614\n";
+        "scalar N.a opened -3\nscalar N.a heard 1\nscalar N.a x 7\nscalar N.a noted:count 2\nscalar N.a noted:sum 18446744073709551614\n";
     let b =
-        "scalar N.b opened -3\nscalar N.b x 7\nscalar N.b noted:count 2\nscalar N.b noted:sum 18446744073709551614\n";
+        "scalar N.b opened -3\nscalar N.b heard 1\nscalar N.b x 7\nscalar N.b noted:count 2\nscalar N.b noted:sum 18446744073709551614\n";
     let wanted = format!(in alloc; "{HEADER}{a}{b}")?;
     assert_eq!(rt;
         told.answer.as_bytes(),
-        b"done no-more-events from start executed 0".as_slice()
+        b"done no-more-events from start executed 2".as_slice()
     );
     assert_eq!(rt; told.scalars.as_bytes(), wanted.as_bytes());
     Ok(())

@@ -1,21 +1,23 @@
 //! Modules that record scalars, as examples.
 
 ghost use Rattle.std.specs.Prelude.{◌≡◌, [], ◌∷◌, ◌++◌, IfOk, IfSome, OnOk};
-ghost use Rattle.module_api.specs.Meaning.{Answered, IsFresh};
-ghost use Rattle.run_tests.specs.Clerk.{actions_of, office, office_module};
+ghost use Rattle.module_api.specs.Meaning.{IsFresh};
+ghost use Rattle.module_api.specs.declared.call.Prompt.{Prompt};
+ghost use Rattle.run_tests.specs.Clerk.{actions_of, office, office_module, only};
 
-use module_api::call::{Call, Prompt};
+use module_api::call::Call;
 use module_api::catalogue::Catalogue;
 use module_api::reply::{Action, Reply};
 use module_api::simple_module::SimpleModule;
+use sim_time::SimTime;
 use sim_values::NoMemory;
 use sim_values::text::Text;
 use sqlite_items::Items;
 use std::alloc::Global;
-use stock_modules::replies::{emit, nothing};
+use stock_modules::replies::{emit, nothing, set_timer};
 
-/// A Clerk records a scalar as it begins, emits the greatest value twice, and records another scalar at the end. A Scribe
-/// records a name that is none.
+/// A Clerk records a scalar as it begins, emits the greatest value twice and sets a timer; it records a second scalar for a
+/// message, and a third at the end. A Scribe records a name that is none.
 #[derive(Debug, Drop)]
 pub struct Clerk {
     is_clerk: bool,
@@ -59,38 +61,27 @@ impl Clerk {
             record(&mut reply.actions, alloc, "opened", -3)?;
             emit(&mut reply.actions, alloc, "noted", i64::MAX)?;
             emit(&mut reply.actions, alloc, "noted", i64::MAX)?;
+            set_timer(&mut reply.actions, SimTime::zero(), 0)?;
         } else {
             record(&mut reply.actions, alloc, "a b", 1)?;
         }
         Ok(reply)
     }
 
-    /// What it does at the end of a run.
-    fn end(&self, alloc: Global) -> Result<Reply, NoMemory>
+    /// The one scalar that a Clerk records, where a Scribe does nothing.
+    fn one(&self, alloc: Global, name: &str, value: i64) -> Result<Reply, NoMemory>
         ensures { IfOk result (λ reply. reply
-            ≡ record { reads = []; actions = actions_of self.now.is_clerk Prompt.Finish }) }
+            ≡ record { reads = []; actions = only self.now.is_clerk name.now value }) }
     {
         let mut reply = nothing(alloc);
         if self.is_clerk {
-            record(&mut reply.actions, alloc, "x", 7)?;
+            record(&mut reply.actions, alloc, name, value)?;
         }
         Ok(reply)
     }
-
-    /// What it does for a call.
-    fn answer(&mut self, alloc: Global, call: &Call) -> Result<Reply, NoMemory>
-        ensures answered { Answered (office_module self.old.is_clerk) call.now result
-            (office_module self.new.is_clerk) }
-        ensures same { self.new ≡ self.old }
-    {
-        match &call.prompt {
-            Prompt::Initialize(_) => self.begin(alloc),
-            Prompt::Message(_) => Ok(nothing(alloc)),
-            Prompt::Finish => self.end(alloc),
-        }
-    }
 }
 
+// Each method answers without a look at what the call is for: so a call of the wrong one is seen.
 impl SimpleModule for Clerk {
     ghost meaning = { λ c. office_module c.is_clerk };
 
@@ -102,16 +93,16 @@ impl SimpleModule for Clerk {
         1
     }
 
-    fn initialize(&mut self, alloc: Global, call: &Call) -> Result<Reply, NoMemory> {
-        self.answer(alloc, call)
+    fn initialize(&mut self, alloc: Global, _call: &Call) -> Result<Reply, NoMemory> {
+        self.begin(alloc)
     }
 
-    fn handle_message(&mut self, alloc: Global, call: &Call) -> Result<Reply, NoMemory> {
-        self.answer(alloc, call)
+    fn handle_message(&mut self, alloc: Global, _call: &Call) -> Result<Reply, NoMemory> {
+        self.one(alloc, "heard", 1)
     }
 
-    fn finish(&mut self, alloc: Global, call: &Call) -> Result<Reply, NoMemory> {
-        self.answer(alloc, call)
+    fn finish(&mut self, alloc: Global, _call: &Call) -> Result<Reply, NoMemory> {
+        self.one(alloc, "x", 7)
     }
 }
 
