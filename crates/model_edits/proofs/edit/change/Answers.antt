@@ -1,0 +1,21 @@
+use Rattle.std.proofs.Common.{refl}
+use Rattle.model_edits.proofs.Ruling.{comes_inserted, comes_removed, comes_replaced, comes_selected}
+use Rattle.model_edits.proofs.edit.change.Goals as goal
+
+pub returns-in-InsertIni : goal.returns-in-InsertIni
+returns-in-InsertIni c =
+    rw (c.in-InsertIni.is, ← c.as_bytes.ensures)
+    (comes_inserted c.args.model.now c.in-InsertIni.line c.as_bytes.result.now _ refl c.with_inserted-made.result c.with_inserted-made.ensures.accepted c.with_inserted-made.ensures.complete c.with_inserted-made.ensures.refused _ _ c.take_made.ensures)
+
+pub returns-in-ReplaceIni : goal.returns-in-ReplaceIni
+returns-in-ReplaceIni c =
+    rw (c.in-ReplaceIni.is, ← c.as_bytes-in-ReplaceIni.ensures)
+    (comes_replaced c.args.model.now c.in-ReplaceIni.line c.as_bytes-in-ReplaceIni.result.now _ refl c.with_replaced-made.result c.with_replaced-made.ensures.accepted c.with_replaced-made.ensures.complete c.with_replaced-made.ensures.refused _ _ c.take_made-in-ReplaceIni.ensures)
+
+pub returns-in-RemoveIni : goal.returns-in-RemoveIni
+returns-in-RemoveIni c =
+    rw c.in-RemoveIni.is
+    (comes_removed c.args.model.now c.in-RemoveIni.line _ refl c.with_removed-made.result c.with_removed-made.ensures.accepted c.with_removed-made.ensures.complete c.with_removed-made.ensures.refused _ _ c.take_made-in-RemoveIni.ensures)
+
+pub returns-in-SelectConfig : goal.returns-in-SelectConfig
+returns-in-SelectConfig c = rw c.in-SelectConfig.is (comes_selected c.args.model.now c.in-SelectConfig.name _ _ c.select.ensures)

@@ -1,0 +1,192 @@
+//! Edits of a model.
+
+ghost use Rattle.std.specs.Prelude.{◌≡◌, true, IfOk, IfErr, OnOk, OnErr, is_some};
+ghost use Rattle.std.specs.Option.{option_and_then, option_copied};
+ghost use Rattle.ini_config.specs.Sections.{IsChain, is_section};
+ghost use Rattle.model_answers.specs.Models.{as_network};
+ghost use Rattle.model_edits.specs.Edited.{IsEditOf, IsOnlyEditOf, IsRuledOut, Refuses, RefusesLines};
+ghost use Rattle.model_edits.specs.Steps.{has_network, told_as, Comes, RefusesChain, Takes, TakesMade};
+
+use ini_config::entries::network_entry;
+use ini_config::error::{ChainError, EditError};
+use ini_config::lines::IniText;
+use ini_config::speaks::last_name;
+use model_answers::model::Model;
+use ned_syntax::ast::{TypeDeclaration, TypeKind};
+use sim_values::NoMemory;
+use sim_values::text::Text;
+use sqlite_items::Items;
+use std::alloc::Global;
+
+/// An edit of a model.
+#[derive(Debug, Drop)]
+pub enum Edit {
+    /// A line of this text is put before the line of this number of the ini text, counted from 1. The number behind
+    /// that of the last line adds one at the end.
+    InsertIni(usize, Text),
+    /// A line of this text stands instead of the line of this number.
+    ReplaceIni(usize, Text),
+    /// The line of this number is taken out.
+    RemoveIni(usize),
+    /// The configuration of this name is selected.
+    SelectConfig(Text),
+}
+
+/// Why an edit is refused. Of several reasons the first in this order is told, and want of memory in any place.
+#[derive(Clone, Copy, Debug, PartialEq, Eq)]
+pub enum Refusal {
+    /// The changed ini text is longer than 1 MiB.
+    TooLarge,
+    /// There is no line of that number.
+    NoSuchLine,
+    /// The number, from 1, of the first line of the changed ini text that means nothing.
+    IniSyntax(usize),
+    /// The selected configuration isn't in the ini text.
+    NoSuchConfig,
+    /// The selected configuration extends one that isn't in the ini text, several, or in the end itself.
+    ChainFault,
+    /// The option `network` names no network.
+    NoSuchNetwork,
+    /// Memory ran out.
+    NoMemory(NoMemory),
+}
+
+/// The refusal of changed lines.
+fn told_as(error: EditError) -> Refusal
+    ensures { result ≡ told_as error }
+{
+    match error {
+        EditError::TooLarge => Refusal::TooLarge,
+        EditError::NoSuchLine => Refusal::NoSuchLine,
+        EditError::IniSyntax(line) => Refusal::IniSyntax(line),
+        EditError::NoMemory(error) => Refusal::NoMemory(error),
+    }
+}
+
+/// The chain of a configuration.
+fn chain_of(alloc: Global, lines: &IniText, config: &[u8]) -> Result<Items<Text>, Refusal>
+    ensures accepted { IfOk result (λ chain. IsChain lines.now config.now chain
+        × (is_section config.now lines.now ≡ true)) }
+    ensures refused { IfErr result (λ r. RefusesChain lines.now config.now r) }
+{
+    match lines.chain(alloc, config) {
+        Ok(chain) => Ok(chain),
+        Err(ChainError::NoSuchConfig) => Err(Refusal::NoSuchConfig),
+        Err(ChainError::ChainFault) => Err(Refusal::ChainFault),
+        Err(ChainError::NoMemory(error)) => Err(Refusal::NoMemory(error)),
+    }
+}
+
+/// Whether a type is a network.
+fn is_network(declared: Option<&TypeDeclaration>) -> bool
+    ensures { result ≡ is_some (option_and_then as_network (option_copied declared.entry)) }
+{
+    match declared {
+        Some(found) => match found.kind {
+            TypeKind::Network => true,
+            TypeKind::Simple => false,
+        },
+        None => false,
+    }
+}
+
+/// Whether the option `network` names a network of the model, in these lines along this chain.
+fn has_network(model: &Model, lines: &IniText, chain: &[Text]) -> bool
+    ensures { result ≡ has_network model.now lines.now chain.now }
+{
+    match network_entry(lines.lines(), chain) {
+        Some(name) => is_network(model.types.find(last_name(name))),
+        None => false,
+    }
+}
+
+/// The chain of a configuration in these lines, where there is a network to run.
+fn chain_with(
+    alloc: Global,
+    model: &Model,
+    lines: &IniText,
+    config: &[u8],
+) -> Result<Items<Text>, Refusal>
+    ensures accepted { IfOk result (λ chain. IsChain lines.now config.now chain
+        × (is_section config.now lines.now ≡ true)
+        × (has_network model.now lines.now chain ≡ true)) }
+    ensures refused { IfErr result (λ r. RefusesLines model.now lines.now config.now r) }
+{
+    let chain = chain_of(alloc, lines, config)?;
+    if has_network(model, lines, chain.as_slice()) {
+        Ok(chain)
+    } else {
+        Err(Refusal::NoSuchNetwork)
+    }
+}
+
+/// Gives the model these lines, with the chain that its configuration has in them.
+fn take_lines(alloc: Global, model: &mut Model, lines: IniText) -> Result<(), Refusal>
+    ensures { Takes model.old lines model.old.config model.new result }
+{
+    let chain = chain_with(alloc, model, &lines, model.config.as_bytes())?;
+    model.ini = lines;
+    model.chain = chain;
+    Ok(())
+}
+
+/// Gives the model the lines that were made, or tells why there are none.
+fn take_made(
+    alloc: Global,
+    model: &mut Model,
+    made: Result<IniText, EditError>,
+) -> Result<(), Refusal>
+    ensures { TakesMade model.old made model.new result }
+{
+    match made {
+        Ok(lines) => take_lines(alloc, model, lines),
+        Err(error) => Err(told_as(error)),
+    }
+}
+
+/// Selects the configuration of that name.
+fn select(alloc: Global, model: &mut Model, name: Text) -> Result<(), Refusal>
+    ensures { Takes model.old model.old.ini name model.new result }
+{
+    let chain = chain_with(alloc, model, &model.ini, name.as_bytes())?;
+    model.config = name;
+    model.chain = chain;
+    Ok(())
+}
+
+/// Changes the model as the edit says, or tells why not.
+fn change(alloc: Global, model: &mut Model, edit: Edit) -> Result<(), Refusal>
+    ensures { Comes model.old edit model.new result }
+{
+    match edit {
+        Edit::InsertIni(line, text) => {
+            let made = model.ini.with_inserted(alloc, line, text.as_bytes());
+            take_made(alloc, model, made)
+        }
+        Edit::ReplaceIni(line, text) => {
+            let made = model.ini.with_replaced(alloc, line, text.as_bytes());
+            take_made(alloc, model, made)
+        }
+        Edit::RemoveIni(line) => {
+            let made = model.ini.with_removed(alloc, line);
+            take_made(alloc, model, made)
+        }
+        Edit::SelectConfig(name) => select(alloc, model, name),
+    }
+}
+
+/// Changes the model as the edit says, or tells why not, and then the model is what it was.
+pub fn apply(alloc: Global, model: &mut Model, edit: Edit) -> Result<(), Refusal>
+    // What is made is the model that the edit makes,
+    ensures accepted { OnOk result (IsEditOf model.old edit model.new) }
+    // and the edit makes no other.
+    ensures only { OnOk result (IsOnlyEditOf model.old edit model.new) }
+    // A refusal has its reason, in its order;
+    ensures refused { IfErr result (λ r. Refuses model.old edit r) }
+    // none comes where the edit makes a model, unless memory runs out;
+    ensures complete { IfErr result (λ r. IsRuledOut model.old edit r) }
+    // and it changes nothing.
+    ensures unchanged { OnErr result (model.new ≡ model.old) }
+{
+    change(alloc, model, edit)
+}

@@ -1,0 +1,4 @@
+//! The model that an edit makes of a model.
+#![tactic(auto)]
+
+pub mod edit;
