@@ -1,0 +1,89 @@
+-- What command lines ask for.
+use Rattle.std.specs.Prelude.{ℕ, ◌+◌, ◌==◌, Bool, ◌&&◌, not, List, Option, Some, None, option_map, codes, length, nat_lt, position, take, drop, if◌then◌else◌}
+use Rattle.std.specs.List.{list_any, starts_with}
+use Rattle.std.specs.Option.{option_and_then}
+use Rattle.std.specs.Str.{is_utf8}
+use Rattle.model_edits.specs.declared.edit.Edit.{Edit}
+use Rattle.model_edits.specs.declared.edit.Edit.TheVariants as edit
+use Rattle.command_lines.specs.declared.commands.Command.{Command}
+use Rattle.command_lines.specs.declared.commands.Command.TheVariants as command
+use Rattle.command_lines.specs.Numbers.{number_of}
+
+-- ---- words: each is parted from the next by one space
+
+abbrev pub is_space : ℕ → Bool
+is_space b = b == 32
+
+-- what stands behind these bytes, where the line begins with them
+abbrev pub behind : List ℕ → List ℕ → Option (List ℕ)
+behind first line = if starts_with (λ a b. a == b) line first then Some (drop (length first) line) else None
+
+-- the number of the first word, with all that stands behind the space that ends it
+abbrev pub numbered_at : List ℕ → Option ℕ → Option (ℕ × List ℕ)
+numbered_at bytes None = None
+numbered_at bytes (Some at) = option_map (λ n. (n, drop (at + 1) bytes)) (number_of (take at bytes))
+
+abbrev pub numbered : List ℕ → Option (ℕ × List ℕ)
+numbered bytes = numbered_at bytes (position is_space bytes)
+
+-- one word, which is UTF-8
+abbrev pub is_word : List ℕ → Bool
+is_word bytes = is_utf8 bytes && not (list_any is_space bytes)
+
+abbrev pub word_of : List ℕ → Option (List ℕ)
+word_of bytes = if is_word bytes then Some bytes else None
+
+-- ---- edits
+
+-- `insert L TEXT`, behind `ini `: TEXT is all the rest, its bytes as they are
+abbrev pub insertion_of : List ℕ → Option Edit
+insertion_of rest = option_map (λ p. edit.InsertIni p.0 p.1) (option_and_then numbered (behind (codes "insert ") rest))
+
+-- `replace L TEXT`
+abbrev pub replacement_of : List ℕ → Option Edit
+replacement_of rest = option_map (λ p. edit.ReplaceIni p.0 p.1) (option_and_then numbered (behind (codes "replace ") rest))
+
+-- `remove L`
+abbrev pub removal_of : List ℕ → Option Edit
+removal_of rest = option_map edit.RemoveIni (option_and_then number_of (behind (codes "remove ") rest))
+
+abbrev pub or_else : Option Edit → Option Edit → Option Edit
+or_else (Some e) other = Some e
+or_else None other = other
+
+-- `ini ..`
+abbrev pub ini_edit_of : List ℕ → Option Edit
+ini_edit_of rest = or_else (insertion_of rest) (or_else (replacement_of rest) (removal_of rest))
+
+-- `config NAME`
+abbrev pub selection_of : List ℕ → Option Edit
+selection_of line = option_map edit.SelectConfig (option_and_then word_of (behind (codes "config ") line))
+
+-- the edit that a line asks for
+abbrev pub edit_of : List ℕ → Option Edit
+edit_of line = or_else (option_and_then ini_edit_of (behind (codes "ini ") line)) (selection_of line)
+
+-- ---- commands
+
+-- the limit in `run N`
+abbrev pub limit_of : List ℕ → Option ℕ
+limit_of line = option_and_then number_of (behind (codes "run ") line)
+
+abbrev pub edit_or_unknown : Option Edit → Command
+edit_or_unknown (Some e) = command.Edit e
+edit_or_unknown None = command.Unknown
+
+abbrev pub run_or_other : List ℕ → Option ℕ → Command
+run_or_other line (Some limit) = command.Run limit
+run_or_other line None = edit_or_unknown (edit_of line)
+
+-- THE COMMAND that a line asks for
+abbrev pub command_of : List ℕ → Command
+command_of line = if nat_lt 65536 (length line) then command.TooLarge else run_or_other line (limit_of line)
+
+-- it is an edit
+abbrev pub IsEdit : Command → Type 0
+IsEdit (command.Edit e) = Unit {0}
+IsEdit (command.Run limit) = ⊥
+IsEdit command.Unknown = ⊥
+IsEdit command.TooLarge = ⊥

@@ -1,0 +1,198 @@
+//! What command lines ask for.
+
+ghost use Rattle.std.specs.Prelude.{◌≡◌, ◌<◌, length, position, IfOk, IfSome, IsSome, OnErr, option_map};
+ghost use Rattle.std.specs.List.{list_any};
+ghost use Rattle.std.specs.Str.{is_utf8};
+ghost use Rattle.std.specs.Option.{option_copied};
+ghost use Rattle.command_lines.specs.Commands.{behind, command_of, edit_of, ini_edit_of, insertion_of, is_space};
+ghost use Rattle.command_lines.specs.Commands.{is_word, limit_of, numbered, removal_of, replacement_of, selection_of, word_of, IsEdit};
+
+use crate::numbers::number_of;
+use model_edits::edit::Edit;
+use sim_values::NoMemory;
+use sim_values::text::Text;
+use std::alloc::{AllocError, Global};
+use std::str::from_utf8;
+
+/// The longest command line, in bytes.
+pub const MAX_LINE: usize = 65_536;
+
+/// What a line asks for.
+#[derive(Debug, Drop)]
+pub enum Command {
+    /// `run N`: run for at most N events.
+    Run(u64),
+    /// `ini insert L TEXT`, `ini replace L TEXT`, `ini remove L`, `config NAME`: an edit of the model.
+    Edit(Edit),
+    /// The line is no command.
+    Unknown,
+    /// The line is longer than 65,536 bytes.
+    TooLarge,
+}
+
+// ---- words: each is parted from the next by one space
+
+/// What stands behind these bytes, where the line begins with them.
+fn behind<'a>(first: &[u8], line: &'a [u8]) -> Option<&'a [u8]>
+    ensures { option_copied result ≡ behind first.now line.now }
+{
+    if !line.starts_with(first) {
+        return None;
+    }
+    Some(&line[first.len()..])
+}
+
+/// The place of the first space.
+fn first_space(bytes: &[u8]) -> Option<usize>
+    ensures value { result ≡ position is_space bytes.now }
+    ensures within { IfSome result (λ at. at < length bytes.now) }
+{
+    bytes.iter().position(|b| *b == b' ')
+}
+
+/// The number of the first word, with all that stands behind the space that ends it.
+fn numbered(bytes: &[u8]) -> Option<(u64, &[u8])>
+    ensures { option_map (λ p. (p.0, p.1.now)) result ≡ numbered bytes.now }
+{
+    let Some(at) = first_space(bytes) else {
+        return None;
+    };
+    let Some(number) = number_of(&bytes[..at]) else {
+        return None;
+    };
+    Some((number, &bytes[at + 1..]))
+}
+
+/// Whether the bytes are UTF-8.
+fn is_text(bytes: &[u8]) -> bool
+    ensures { result ≡ is_utf8 bytes.now }
+{
+    from_utf8(bytes).is_ok()
+}
+
+/// Whether a space is among the bytes.
+fn has_space(bytes: &[u8]) -> bool
+    ensures { result ≡ list_any is_space bytes.now }
+{
+    bytes.contains(&b' ')
+}
+
+/// Whether it is one word, which is UTF-8.
+fn is_word(bytes: &[u8]) -> bool
+    ensures { result ≡ is_word bytes.now }
+{
+    is_text(bytes) && !has_space(bytes)
+}
+
+/// The word that the bytes are.
+fn word_of(bytes: &[u8]) -> Option<&[u8]>
+    ensures { option_copied result ≡ word_of bytes.now }
+{
+    if is_word(bytes) { Some(bytes) } else { None }
+}
+
+// ---- edits
+
+/// The edit of `insert L TEXT`, behind `ini `.
+fn insertion_of(alloc: Global, rest: &[u8]) -> Result<Option<Edit>, AllocError>
+    ensures found { IfOk result (λ found. found ≡ insertion_of rest.now) }
+    ensures memory { OnErr result (IsSome (insertion_of rest.now)) }
+{
+    let Some(words) = behind(b"insert ", rest) else {
+        return Ok(None);
+    };
+    let Some((number, text)) = numbered(words) else {
+        return Ok(None);
+    };
+    Ok(Some(Edit::InsertIni(number as usize, Text::from_bytes(alloc, text)?)))
+}
+
+/// The edit of `replace L TEXT`, behind `ini `.
+fn replacement_of(alloc: Global, rest: &[u8]) -> Result<Option<Edit>, AllocError>
+    ensures found { IfOk result (λ found. found ≡ replacement_of rest.now) }
+    ensures memory { OnErr result (IsSome (replacement_of rest.now)) }
+{
+    let Some(words) = behind(b"replace ", rest) else {
+        return Ok(None);
+    };
+    let Some((number, text)) = numbered(words) else {
+        return Ok(None);
+    };
+    Ok(Some(Edit::ReplaceIni(number as usize, Text::from_bytes(alloc, text)?)))
+}
+
+/// The edit of `remove L`, behind `ini `.
+fn removal_of(rest: &[u8]) -> Option<Edit>
+    ensures { result ≡ removal_of rest.now }
+{
+    let word = behind(b"remove ", rest)?;
+    let number = number_of(word)?;
+    Some(Edit::RemoveIni(number as usize))
+}
+
+/// The edit of `ini ..`, by what stands behind `ini `.
+fn ini_edit_of(alloc: Global, rest: &[u8]) -> Result<Option<Edit>, AllocError>
+    ensures found { IfOk result (λ found. found ≡ ini_edit_of rest.now) }
+    ensures memory { OnErr result (IsSome (ini_edit_of rest.now)) }
+{
+    if let Some(insertion) = insertion_of(alloc, rest)? {
+        return Ok(Some(insertion));
+    }
+    if let Some(replacement) = replacement_of(alloc, rest)? {
+        return Ok(Some(replacement));
+    }
+    Ok(removal_of(rest))
+}
+
+/// The edit of `config NAME`.
+fn selection_of(alloc: Global, line: &[u8]) -> Result<Option<Edit>, AllocError>
+    ensures found { IfOk result (λ found. found ≡ selection_of line.now) }
+    ensures memory { OnErr result (IsSome (selection_of line.now)) }
+{
+    let Some(rest) = behind(b"config ", line) else {
+        return Ok(None);
+    };
+    let Some(name) = word_of(rest) else {
+        return Ok(None);
+    };
+    Ok(Some(Edit::SelectConfig(Text::from_bytes(alloc, name)?)))
+}
+
+/// The edit that a line asks for.
+fn edit_of(alloc: Global, line: &[u8]) -> Result<Option<Edit>, AllocError>
+    ensures found { IfOk result (λ found. found ≡ edit_of line.now) }
+    ensures memory { OnErr result (IsSome (edit_of line.now)) }
+{
+    if let Some(rest) = behind(b"ini ", line) {
+        if let Some(edit) = ini_edit_of(alloc, rest)? {
+            return Ok(Some(edit));
+        }
+    }
+    selection_of(alloc, line)
+}
+
+// ---- commands
+
+/// The limit of events in `run N`.
+fn limit_of(line: &[u8]) -> Option<u64>
+    ensures { result ≡ limit_of line.now }
+{
+    number_of(behind(b"run ", line)?)
+}
+
+/// The command that a line asks for. `NoMemory` comes of an edit alone, where memory ran out for the copy of its TEXT or NAME.
+pub fn command_of(alloc: Global, line: &[u8]) -> Result<Command, NoMemory>
+    ensures command { IfOk result (λ command. command ≡ command_of line.now) }
+    ensures memory { OnErr result (IsEdit (command_of line.now)) }
+{
+    if line.len() > MAX_LINE {
+        return Ok(Command::TooLarge);
+    }
+    if let Some(limit) = limit_of(line) {
+        return Ok(Command::Run(limit));
+    }
+    match edit_of(alloc, line)? {
+        Some(edit) => Ok(Command::Edit(edit)),
+        None => Ok(Command::Unknown),
+    }
+}
