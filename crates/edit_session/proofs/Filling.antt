@@ -1,7 +1,7 @@
 -- A run that gets its boxes, one after the other.
-use Rattle.std.proofs.Common.{◌≡◌, ◌⊎◌, ℕ, zero, suc, ◌+◌, ◌≤◌, ◌<◌, Bool, true, false, List, [], ◌∷◌, ◌++◌, drop, Option, Some, None, option_map, refl, sym, ap, ◌∙◌, subst, inl, inr, arith, slice_get, length, map, if◌then◌else◌}
+use Rattle.std.proofs.Common.{◌≡◌, ℕ, zero, suc, Bool, true, false, List, [], ◌∷◌, ◌++◌, drop, Option, Some, None, option_map, refl, sym, ap, ◌∙◌, subst, arith, slice_get, length, map}
 use Rattle.module_api.specs.Behaviour.{Behaviour}
-use Rattle.module_api.specs.Meaning.{Module, IsOfKind, IsFresh}
+use Rattle.module_api.specs.Meaning.{Module, IsFresh}
 use Rattle.model_answers.specs.declared.answer.Answer.{Answer}
 use Rattle.model_answers.specs.declared.answer.Answer.TheVariants as answer
 use Rattle.model_answers.specs.declared.answer.Built.{Built}
@@ -16,14 +16,14 @@ use Rattle.run_semantics.specs.declared.outcome.Outcome.TheVariants as outcomes
 use Rattle.run_semantics.specs.declared.traces.Instance.{Instance}
 use Rattle.run_semantics.specs.World.{World, empty, asked}
 use Rattle.run_semantics.specs.Perform.{Flow, On, Stopped, Broken, ◌>>=◌}
-use Rattle.run_semantics.specs.Run.{Part, parts_from, parts_of, rooted, built, unless_many, root_asked, inside_asked, prepared, place_parts, ready, placed, place, place_all, initialize_all, start, Stage, Running, Over, settled, is_fault, after, run_to, Ran}
+use Rattle.run_semantics.specs.Run.{Part, parts_from, parts_of, rooted, built, unless_many, root_asked, inside_asked, prepared, place_parts, ready, placed, place, place_all, initialize_all, start, Running, Over, settled, is_fault}
 use Rattle.run_semantics.specs.Ending.{ending}
 use Rattle.run_semantics.proofs.Ends.{run_over}
 use Rattle.kernel.specs.declared.request.Request.{Request}
 use Rattle.kernel.specs.Seats.{Seat, AreOfKinds, instance_of, request_for, missing_part, missing_of}
 use Rattle.edit_session.specs.declared.running.Phase.{Phase}
 use Rattle.edit_session.specs.declared.running.Phase.TheVariants.{Idle, Waiting, Declined}
-use Rattle.edit_session.specs.Editing.{Completed, IsKept, IsLeft, IsFor, IsUnknown, waited_for, wanted_after, wanted_by, kept_boxes, IsFilled, IsDeclined, whole_run}
+use Rattle.edit_session.specs.Editing.{Completed, IsKept, IsLeft, IsFor, IsUnknown, waited_for, wanted_after, wanted_by, IsFilled, IsDeclined, whole_run}
 
 -- ---- setup goes on, or ends in a fault
 

@@ -1,5 +1,5 @@
 -- What a session keeps.
-use Rattle.std.specs.Prelude.{◌≡◌, ◌⊎◌, ◌<◌, ◌^◌, ℕ, Bool, false, List, Option, Some, None, option_map, length, drop, slice_get}
+use Rattle.std.specs.Prelude.{◌≡◌, ◌⊎◌, ◌<◌, ◌^◌, ℕ, false, List, Option, Some, None, option_map, length, drop, slice_get}
 use Rattle.module_api.specs.Behaviour.{Behaviour}
 use Rattle.module_api.specs.Meaning.{Module, IsFresh}
 use Rattle.model_answers.specs.declared.model.Model.{Model}
@@ -10,6 +10,8 @@ use Rattle.run_semantics.specs.World.{World, HasRoom}
 use Rattle.run_semantics.specs.Perform.{Flow, On, Stopped, Broken}
 use Rattle.run_semantics.specs.Run.{Part, parts_of, prepared, ready, place_all, start, Over, Ran, run_to}
 use Rattle.run_semantics.specs.Ending.{ending}
+use Rattle.model_edits.specs.declared.edit.Edit.{Edit}
+use Rattle.model_edits.specs.Edited.{IsEditOf, IsOnlyEditOf}
 use Rattle.result_files.specs.declared.files.ResultFiles.{ResultFiles}
 use Rattle.result_files.specs.Files.{files_of}
 use Rattle.kernel.specs.declared.request.Request.{Request}
@@ -20,6 +22,7 @@ use Rattle.edit_session.specs.declared.running.Advance.{Advance}
 use Rattle.edit_session.specs.declared.running.Advance.TheVariants as advance
 use Rattle.edit_session.specs.declared.running.Standing.{Standing}
 use Rattle.edit_session.specs.declared.running.Standing.TheVariants as standing
+use Rattle.edit_session.specs.declared.session.Edited.{Edited}
 use Rattle.edit_session.specs.declared.session.Progress.{Progress}
 use Rattle.edit_session.specs.declared.session.Progress.TheVariants as progress
 use Rattle.edit_session.specs.declared.session.Report.{Report}
@@ -180,6 +183,14 @@ pub record WaitsFor (before : Editing) (request : Request) (after : Editing) : T
   pub undeclined : IsUndeclined before.phase
   pub wanted : wanted_by before.model (kept_boxes before.phase before.held) ≡ Some request
   pub waits : after ≡ record { model = before.model; done = None; phase = Waiting; held = kept_boxes before.phase before.held }
+
+-- WHAT AN ACCEPTED EDIT LEAVES: the model that the edit makes, and it makes no other. No run waits and none is done; boxes stay
+-- until the next run. Nothing of the last run is kept, so the next one begins with setup.
+pub record IsAccepted (before : Editing) (e : Edit) (edited : Edited) (after : Editing) : Type 0 where
+  pub model : IsEditOf before.model e after.model
+  pub only : IsOnlyEditOf before.model e after.model
+  pub left : after ≡ record { model = after.model; done = None; phase = Idle; held = before.held }
+  pub valid_to : edited.valid_to ≡ None
 
 -- no run waits, and none is done
 pub record IsIdle (e : Editing) : Type 0 where

@@ -1,5 +1,5 @@
 -- A session, by what its boxes mean.
-use Rattle.std.specs.Prelude.{◌≡◌, List, Option, option_map, length}
+use Rattle.std.specs.Prelude.{◌≡◌, option_map, length}
 use Rattle.module_api.specs.Behaviour.{Behaviour}
 use Rattle.kernel.specs.Kernels.{Members, seats_in, world_in}
 use Rattle.edit_session.specs.Editing.{Completed, Editing, IsKept}

@@ -1,4 +1,4 @@
-//! A session: one model, and its runs.
+//! A session: one model, its edits and its runs.
 #![tactic(auto)]
 
 pub mod running;

@@ -6,8 +6,9 @@ ghost use Rattle.model_answers.specs.declared.model.Model.{Model};
 ghost use Rattle.result_files.specs.ScalarText.{scalar_text};
 ghost use Rattle.result_files.specs.VectorText.{vector_text};
 ghost use Rattle.model_texts.specs.Models.{IsModelOf, IsRuledOut, Refuses};
+ghost use Rattle.model_edits.specs.Edited.{IsRuledOut as IsEditRuledOut, Refuses as RefusesEdit};
 ghost use Rattle.edit_session.specs.Files.{scalars_of_run, vectors_of_run, FileWritten, TextWritten};
-ghost use Rattle.edit_session.specs.Editing.{Completed, fresh_editing, wanted_of, IfDone, IfWant, IsFor, IsFreshRun, IsIdle, IsUnknown, WaitsFor};
+ghost use Rattle.edit_session.specs.Editing.{Completed, fresh_editing, wanted_of, IfDone, IfWant, IsAccepted, IsFor, IsFreshRun, IsIdle, IsUnknown, WaitsFor};
 ghost use Rattle.kernel.specs.declared.request.Request.{Request};
 ghost use Rattle.edit_session.specs.Sessions.{editing_of, IsSound, KeepsModel};
 
@@ -16,6 +17,7 @@ use kernel::kernel::Kernel;
 use kernel::request::Request;
 use model_answers::model::Model;
 use model_answers::record::Record;
+use model_edits::edit::{Edit, Refusal, apply};
 use model_texts::begin::{BeginFault, model_of};
 use module_api::catalogue::Catalogue;
 use module_api::simple_module::SimpleModule;
@@ -56,6 +58,13 @@ pub enum Progress {
     Done(Report),
 }
 
+/// What an accepted edit tells.
+#[derive(Clone, Copy, Debug, PartialEq, Eq)]
+pub struct Edited {
+    /// The greatest event up to which the last run stays that of the model as edited. None: the next run begins with setup.
+    pub valid_to: Option<u64>,
+}
+
 /// No box is waited for.
 #[derive(Clone, Copy, Debug, PartialEq, Eq, Error)]
 #[error("NotWanted")]
@@ -90,7 +99,7 @@ pub struct SupplyFault {
     pub reason: SupplyReason,
 }
 
-/// One model, and its runs.
+/// One model, its edits and its runs.
 #[derive(Drop)]
 pub struct Session<C: Catalogue> {
     alloc: Global,
@@ -134,6 +143,46 @@ impl<C: Catalogue> Session<C> {
         }
     }
 
+    /// Changes the model as the edit says, or tells why not. An accepted edit gives up a run that waits, and no run is done
+    /// until the next one.
+    pub fn edit(&mut self, edit: Edit) -> Result<Edited, Refusal>
+        requires sound { IsSound C.behaviour SimpleModule-box self.old }
+        ensures sound { IsSound C.behaviour SimpleModule-box self.new }
+
+        // The session's model is then the one that the edit makes.
+        ensures accepted { let before = editing_of SimpleModule-box self.old in
+            let after = editing_of SimpleModule-box self.new in
+            IfOk result (λ edited. IsAccepted before edit edited after) }
+
+        // A refusal has its reason, in its order; none comes where the edit makes a model, unless memory runs out.
+        ensures refused { let before = editing_of SimpleModule-box self.old in
+            IfErr result (λ r. RefusesEdit before.model edit r) }
+        ensures complete { let before = editing_of SimpleModule-box self.old in
+            IfErr result (λ r. IsEditRuledOut before.model edit r) }
+
+        // A REFUSED EDIT CHANGES NOTHING.
+        ensures unchanged { OnErr result (self.new ≡ self.old) }
+    {
+        apply(self.alloc, &mut self.model, edit)?;
+        self.give_up();
+        Ok(Edited { valid_to: None })
+    }
+
+    /// Gives up a run that waits, and what is kept of the last one that is done.
+    fn give_up(&mut self)
+        ensures { self.new ≡ record self.old { phase = Phase.Idle; done = None } }
+    {
+        self.phase = Phase::Idle;
+        self.done = None;
+    }
+
+    /// The name of the configuration that is selected.
+    pub fn config(&self) -> &[u8]
+        ensures { result.now ≡ (editing_of SimpleModule-box self.now).model.config }
+    {
+        self.model.config.as_bytes()
+    }
+
     /// Runs the model for at most so many events, from setup, or goes on with the run that waits; or
     /// answers which module needs a box first, of those without one the one of the least id.
     pub fn run(&mut self, limit: u64) -> Result<Progress, NoMemory>
@@ -155,8 +204,7 @@ impl<C: Catalogue> Session<C> {
         ensures memory { OnErr result (IsIdle (editing_of SimpleModule-box self.new)) }
     {
         let phase = self.phase;
-        self.phase = Phase::Idle;
-        self.done = None;
+        self.give_up();
         match self.runner.carry_on(self.alloc, &self.model, phase, limit)? {
             Advance::Waits(request) => {
                 self.phase = Phase::Waiting;

@@ -1,5 +1,4 @@
 use Rattle.std.proofs.Common.{arith, rules, suc}
-use Rattle.kernel.specs.Kernels.{world_in}
 use Rattle.run_semantics.proofs.Ends.{count_going, count_over, run_over, next_after}
 use Rattle.edit_session.proofs.running.Runner.go_on.Goals as goal
 

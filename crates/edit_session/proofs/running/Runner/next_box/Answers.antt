@@ -1,4 +1,4 @@
-use Rattle.std.proofs.Common.{sym, ◌∙◌}
+use Rattle.std.proofs.Common.{sym}
 use Rattle.edit_session.proofs.Filling.{filled_ready}
 use Rattle.edit_session.proofs.running.Runner.next_box.Goals as goal
 
