@@ -1,6 +1,8 @@
 -- The texts of answers.
 use Rattle.std.specs.Prelude.{ℕ, List, [], ◌++◌, Option, Some, None, codes}
 use Rattle.std.specs.Fmt.{decimal}
+use Rattle.model_edits.specs.declared.edit.Refusal.{Refusal}
+use Rattle.model_edits.specs.declared.edit.Refusal.TheVariants as edit
 use Rattle.model_texts.specs.declared.begin.BeginFault.{BeginFault}
 use Rattle.model_texts.specs.declared.begin.BeginFault.TheVariants as refusal
 use Rattle.run_semantics.specs.declared.outcome.Fault.{Fault}
@@ -70,3 +72,23 @@ refusal_place _ = []
 -- THE TEXT of a refusal
 abbrev pub refusal_text : BeginFault → List ℕ
 refusal_text f = refusal_name f ++ refusal_place f
+
+-- ---- edits
+
+-- THE ANSWER of an edit that is made: up to which event the last run stays valid
+abbrev pub valid_text : Option ℕ → List ℕ
+valid_text None = codes "none"
+valid_text (Some event) = decimal event
+
+abbrev pub edited_text : Option ℕ → List ℕ
+edited_text valid_to = codes "edited valid " ++ valid_text valid_to
+
+-- THE ANSWER of an edit that is refused: its name, and the line where it is known. Want of memory has no text: it is handed on.
+abbrev pub edit_refusal_text : Refusal → Option (List ℕ)
+edit_refusal_text edit.TooLarge = Some (codes "refused TooLarge")
+edit_refusal_text edit.NoSuchLine = Some (codes "refused NoSuchLine")
+edit_refusal_text (edit.IniSyntax line) = Some (codes "refused IniSyntax line " ++ decimal line)
+edit_refusal_text edit.NoSuchConfig = Some (codes "refused NoSuchConfig")
+edit_refusal_text edit.ChainFault = Some (codes "refused ChainFault")
+edit_refusal_text edit.NoSuchNetwork = Some (codes "refused NoSuchNetwork")
+edit_refusal_text (edit.NoMemory _) = None

@@ -1,15 +1,18 @@
 -- What the desk answers, and what it keeps.
-use Rattle.std.specs.Prelude.{◌≡◌, ℕ, List, Option, Some, None, codes}
+use Rattle.std.specs.Prelude.{◌≡◌, ◌⊎◌, ℕ, List, Some, None, codes}
 use Rattle.module_api.specs.Behaviour.{Behaviour}
 use Rattle.model_answers.specs.declared.model.Model.{Model}
-use Rattle.kernel.specs.declared.request.Request.{Request}
+use Rattle.model_edits.specs.declared.edit.Edit.{Edit}
+use Rattle.model_edits.specs.declared.edit.Refusal.{Refusal}
+use Rattle.model_edits.specs.Edited.{IsEditOf, IsOnlyEditOf, Refuses}
+use Rattle.command_lines.specs.Commands.{command_of}
+use Rattle.command_lines.specs.declared.commands.Command.{Command}
+use Rattle.command_lines.specs.declared.commands.Command.TheVariants as command
 use Rattle.kernel.specs.Kernels.{Members}
-use Rattle.edit_session.specs.Editing.{Editing, completed, fresh_run}
+use Rattle.edit_session.specs.Editing.{Editing, completed, fresh_run, WaitsFor}
+use Rattle.edit_session.specs.declared.running.Phase.TheVariants.{Idle}
 use Rattle.edit_session.specs.Sessions.{editing_of, IsSound, KeepsModel}
-use Rattle.desk.specs.Answers.{done_text}
-use Rattle.desk.specs.Commands.{command_of}
-use Rattle.desk.specs.declared.commands.Command.{Command}
-use Rattle.desk.specs.declared.commands.Command.TheVariants as command
+use Rattle.desk.specs.Answers.{done_text, edit_refusal_text, edited_text}
 use Rattle.desk.specs.declared.desk.Desk.{Desk}
 use Rattle.desk.specs.declared.desk.DeskTurn.{DeskTurn}
 use Rattle.desk.specs.declared.desk.DeskTurn.TheVariants as turn
@@ -31,9 +34,7 @@ module _ {C X : Type 0} {Y : X → Type 0} where
   abbrev pub StaysSettled : Behaviour → Members X Y → Desk C X Y → Desk C X Y → Type 0
   StaysSettled b members before after = KeepsModel b members before.session after.session
 
-abbrev pub IfText : DeskTurn → Type 0 → Type 0
-IfText (turn.Text text) P = P
-IfText (turn.Want request) P = Unit {0}
+-- ---- runs
 
 -- THE ANSWER TO `run N`: that of a fresh run of the model
 abbrev pub run_answer : Behaviour → Model → ℕ → List ℕ
@@ -41,39 +42,64 @@ run_answer b m limit =
     let ran = fresh_run b m limit in
     done_text ran.outcome None ran.world.count
 
--- a run's text is that of a fresh run, or it waits for a box
-abbrev pub AnswersRun : Behaviour → Model → ℕ → DeskTurn → Type 0
-AnswersRun b m limit (turn.Text text) = text ≡ run_answer b m limit
-AnswersRun b m limit (turn.Want request) = Unit {0}
+-- A run to that limit is done, and the text is its answer.
+pub record HasRun (b : Behaviour) (e : Editing) (limit : ℕ) (text : List ℕ) : Type 0 where
+  pub answer : text ≡ run_answer b e.model limit
+  pub done : e.done ≡ Some (completed b e.model limit)
 
--- The answer to a command
-abbrev pub AnswersCommand : Behaviour → Model → Command → DeskTurn → Type 0
-AnswersCommand b m (command.Run limit) answer = AnswersRun b m limit answer
-AnswersCommand b m command.Unknown answer = answer ≡ turn.Text (codes "refused Command")
-AnswersCommand b m command.TooLarge answer = answer ≡ turn.Text (codes "refused TooLarge")
+-- WHAT A RUN COMES TO: it is done, and its answer is that of a fresh run; or it waits for a box
+abbrev pub IsRunTurn : Behaviour → Editing → ℕ → DeskTurn → Editing → Type 0
+IsRunTurn b before limit (turn.Text text) after = HasRun b after limit text
+IsRunTurn b before limit (turn.Want request) after = WaitsFor before request after
 
-abbrev pub AnswersLine : Behaviour → Model → List ℕ → DeskTurn → Type 0
-AnswersLine b m line answer = AnswersCommand b m (command_of line) answer
+-- ---- edits
 
--- what a run leaves whose answer is a text: it is done
-abbrev pub LeavesRun : Behaviour → Editing → ℕ → DeskTurn → Editing → Type 0
-LeavesRun b e limit answer later = IfText answer (later.done ≡ Some (completed b e.model limit))
+-- The edit is made: the model is the one that it makes, and it makes no other.
+pub record IsMade (m : Model) (e : Edit) (text : List ℕ) (new : Model) : Type 0 where
+  pub text_is : text ≡ edited_text None
+  pub edited : IsEditOf m e new
+  pub only : IsOnlyEditOf m e new
 
--- What a command leaves: a run that is done, or all as it was
-abbrev pub LeavesCommand : Behaviour → Editing → Command → DeskTurn → Editing → Type 0
-LeavesCommand b e (command.Run limit) answer later = LeavesRun b e limit answer later
-LeavesCommand b e command.Unknown answer later = later ≡ e
-LeavesCommand b e command.TooLarge answer later = later ≡ e
+-- The edit makes no model, for a reason that the text names, and none comes before it.
+pub record IsRefused (m : Model) (e : Edit) (text : List ℕ) : Type 0 where
+  pub why : Refusal
+  pub text_is : Some text ≡ edit_refusal_text why
+  pub due : Refuses m e why
+  pub none : (new : Model) → IsEditOf m e new → ⊥
 
-abbrev pub LeavesLine : Behaviour → Editing → List ℕ → DeskTurn → Editing → Type 0
-LeavesLine b e line answer later = LeavesCommand b e (command_of line) answer later
+-- WHAT AN EDIT OF A MODEL COMES TO: the answer, and the model behind it
+abbrev pub LeadsTo : Model → Edit → List ℕ → Model → Type 0
+LeadsTo m e text new = IsMade m e text new ⊎ (IsRefused m e text × (new ≡ m))
+
+-- The edit is made, and no run waits or is done; or it is refused, and nothing changed.
+abbrev pub AnswersEdit : Editing → Edit → List ℕ → Editing → Type 0
+AnswersEdit before e text after =
+    (IsMade before.model e text after.model × (after ≡ record { model = after.model; done = None; phase = Idle; held = before.held }))
+    ⊎ (IsRefused before.model e text × (after ≡ before))
+
+-- ---- lines
+
+-- the answer is a text, of which this holds
+abbrev pub IsTextOf : DeskTurn → (List ℕ → Type 0) → Type 0
+IsTextOf (turn.Text text) P = P text
+IsTextOf (turn.Want request) P = ⊥
+
+-- WHAT A COMMAND IS ANSWERED, and what it leaves
+abbrev pub AnswersCommand : Behaviour → Editing → Command → DeskTurn → Editing → Type 0
+AnswersCommand b before (command.Run limit) answer after = IsRunTurn b before limit answer after × (after.model ≡ before.model)
+AnswersCommand b before (command.Edit e) answer after = IsTextOf answer (λ text. AnswersEdit before e text after)
+AnswersCommand b before command.Unknown answer after = (answer ≡ turn.Text (codes "refused Command")) × (after ≡ before)
+AnswersCommand b before command.TooLarge answer after = (answer ≡ turn.Text (codes "refused TooLarge")) × (after ≡ before)
+
+abbrev pub AnswersLine : Behaviour → Editing → List ℕ → DeskTurn → Editing → Type 0
+AnswersLine b before line answer after = AnswersCommand b before (command_of line) answer after
+
+-- WHAT WANT OF MEMORY LEAVES behind a command: of a run the model, and of all else everything as it was
+abbrev pub Forgoes : Command → Editing → Editing → Type 0
+Forgoes (command.Run limit) before after = after.model ≡ before.model
+Forgoes _ before after = after ≡ before
 
 -- the limit of the last run, behind a command
 abbrev pub limit_after : Command → ℕ → ℕ
 limit_after (command.Run limit) before = limit
-limit_after command.Unknown before = before
-limit_after command.TooLarge before = before
-
-abbrev pub IfWanting : DeskTurn → (Request → Type 0) → Type 0
-IfWanting (turn.Text text) P = Unit {0}
-IfWanting (turn.Want request) P = P request
+limit_after _ before = before

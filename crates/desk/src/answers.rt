@@ -1,13 +1,16 @@
 //! The texts of answers.
 
-ghost use Rattle.std.specs.Prelude.{◌≡◌, ◌++◌, IfOk, OnOk};
+ghost use Rattle.std.specs.Prelude.{◌≡◌, ◌++◌, Some, IfOk, OnOk, codes};
 ghost use Rattle.std.specs.Fmt.{decimal};
-ghost use Rattle.desk.specs.Answers.{done_text, fault_detail, fault_name, outcome_text, refusal_name, refusal_place, refusal_text, start_text};
+ghost use Rattle.desk.specs.Answers.{done_text, edit_refusal_text, edited_text, valid_text};
+ghost use Rattle.desk.specs.Answers.{fault_detail, fault_name, outcome_text, refusal_name, refusal_place, refusal_text, start_text};
 
 use edit_session::session::Report;
 use itoa::Buffer as Digits;
+use model_edits::edit::Refusal;
 use model_texts::begin::BeginFault;
 use run_semantics::outcome::{Fault, Outcome};
+use sim_values::NoMemory;
 use sim_values::text::Text;
 use std::alloc::{AllocError, Global};
 
@@ -149,4 +152,59 @@ pub fn refusal_text(alloc: Global, fault: BeginFault) -> Result<Text, AllocError
     push(&mut text, refusal_name(fault))?;
     push_place(&mut text, fault)?;
     Ok(Text::from_vec(text))
+}
+
+/// Adds up to which event a run stays valid.
+fn push_valid(text: &mut Vec<u8>, valid_to: Option<u64>) -> Result<(), AllocError>
+    ensures { OnOk result (text.new.items ≡ text.old.items ++ valid_text valid_to) }
+{
+    match valid_to {
+        None => push(text, b"none"),
+        Some(event) => push_number(text, event),
+    }
+}
+
+/// The answer of an edit that is made.
+pub fn edited_text(alloc: Global, valid_to: Option<u64>) -> Result<Text, AllocError>
+    ensures { IfOk result (λ text. text ≡ edited_text valid_to) }
+{
+    let mut text = Vec::new(alloc);
+    push(&mut text, b"edited valid ")?;
+    push_valid(&mut text, valid_to)?;
+    Ok(Text::from_vec(text))
+}
+
+/// The answer `refused NAME`.
+pub fn refused_as(alloc: Global, name: &[u8]) -> Result<Text, AllocError>
+    ensures { IfOk result (λ text. text ≡ codes "refused " ++ name.now) }
+{
+    let mut text = Vec::new(alloc);
+    push(&mut text, b"refused ")?;
+    push(&mut text, name)?;
+    Ok(Text::from_vec(text))
+}
+
+/// The answer where a line of the changed ini text means nothing.
+fn bad_line(alloc: Global, line: usize) -> Result<Text, AllocError>
+    ensures { IfOk result (λ text. Some text ≡ edit_refusal_text (Refusal.IniSyntax line)) }
+{
+    let mut text = Vec::new(alloc);
+    push(&mut text, b"refused IniSyntax line ")?;
+    push_number(&mut text, line as u64)?;
+    Ok(Text::from_vec(text))
+}
+
+/// The answer of an edit that is refused. Want of memory is handed on.
+pub fn edit_refusal_text(alloc: Global, refusal: Refusal) -> Result<Text, NoMemory>
+    ensures { IfOk result (λ text. Some text ≡ edit_refusal_text refusal) }
+{
+    match refusal {
+        Refusal::TooLarge => Ok(refused_as(alloc, b"TooLarge")?),
+        Refusal::NoSuchLine => Ok(refused_as(alloc, b"NoSuchLine")?),
+        Refusal::IniSyntax(line) => Ok(bad_line(alloc, line)?),
+        Refusal::NoSuchConfig => Ok(refused_as(alloc, b"NoSuchConfig")?),
+        Refusal::ChainFault => Ok(refused_as(alloc, b"ChainFault")?),
+        Refusal::NoSuchNetwork => Ok(refused_as(alloc, b"NoSuchNetwork")?),
+        Refusal::NoMemory(error) => Err(error),
+    }
 }

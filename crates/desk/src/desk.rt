@@ -1,18 +1,19 @@
 //! The desk.
 
-ghost use Rattle.std.specs.Prelude.{◌≡◌, ◌↔◌, ◌+◌, Some, None, IsSome, OnOk, OnErr, IfOk, IfErr, option_map, option_copied};
-ghost use Rattle.edit_session.specs.Editing.{Completed, IsFor, IsUnknown, WaitsFor, wanted_of};
+ghost use Rattle.std.specs.Prelude.{◌≡◌, ◌↔◌, ◌+◌, None, IsSome, OnOk, OnErr, IfOk, IfErr, option_map, option_copied};
+ghost use Rattle.edit_session.specs.Editing.{Completed, IsFor, IsUnknown, wanted_of};
 ghost use Rattle.edit_session.specs.Files.{scalars_of_run, vectors_of_run, FileWritten};
 ghost use Rattle.edit_session.specs.Sessions.{editing_of, IsSound};
 ghost use Rattle.edit_session.specs.declared.running.Phase.{Phase};
 ghost use Rattle.edit_session.specs.declared.session.SupplyReason.{SupplyReason};
-ghost use Rattle.desk.specs.Commands.{command_of};
-ghost use Rattle.desk.specs.Turns.{editing_at, limit_at, limit_after, AnswersLine, AnswersRun, IfWanting, IsSettled, LeavesLine, LeavesRun, StaysSettled};
+ghost use Rattle.command_lines.specs.Commands.{command_of};
+ghost use Rattle.desk.specs.Turns.{editing_at, limit_at, limit_after, AnswersEdit, AnswersLine, Forgoes, IsRunTurn, IsSettled, StaysSettled};
 
-use crate::answers::done_text;
-use crate::commands::{Command, command_of};
+use crate::answers::{done_text, edit_refusal_text, edited_text, refused_as};
+use command_lines::commands::{Command, command_of};
 use edit_session::session::{FileFault, NotWanted, Progress, Session, SupplyFault};
 use kernel::request::Request;
+use model_edits::edit::Edit;
 use module_api::catalogue::Catalogue;
 use module_api::simple_module::SimpleModule;
 use result_files::writer::Out;
@@ -56,30 +57,41 @@ impl<C: Catalogue> Desk<C> {
         }
     }
 
-    /// Answers a command line. Where memory runs out the line has no answer.
+    /// Answers a command line. Where memory runs out the line has no answer: a run is given up, and anything else isn't done.
     pub fn line(&mut self, line: &[u8]) -> Result<DeskTurn, NoMemory>
         requires sound { IsSettled C.behaviour SimpleModule-box self.old }
-        ensures kept { StaysSettled C.behaviour SimpleModule-box self.old self.new }
-        ensures limit { limit_at self.new ≡ limit_after (command_of line.now) (limit_at self.old) }
+        ensures sound { IsSettled C.behaviour SimpleModule-box self.new }
         ensures answer { let before = editing_at SimpleModule-box self.old in
-            IfOk result (λ turn. AnswersLine C.behaviour before.model line.now turn) }
-        ensures done { let before = editing_at SimpleModule-box self.old in
             let after = editing_at SimpleModule-box self.new in
-            IfOk result (λ turn. LeavesLine C.behaviour before line.now turn after) }
-        ensures waits { let before = editing_at SimpleModule-box self.old in
+            IfOk result (λ turn. AnswersLine C.behaviour before line.now turn after) }
+        ensures limit { limit_at self.new ≡ limit_after (command_of line.now) (limit_at self.old) }
+        ensures memory { let before = editing_at SimpleModule-box self.old in
             let after = editing_at SimpleModule-box self.new in
-            IfOk result (λ turn. IfWanting turn (λ request. WaitsFor before request after)) }
+            OnErr result (Forgoes (command_of line.now) before after) }
     {
-        match command_of(line) {
+        match command_of(self.alloc, line)? {
             Command::Run(limit) => self.run(limit),
-            Command::Unknown => Ok(DeskTurn::Text(Text::from_bytes(
-                self.alloc,
-                b"refused Command",
-            )?)),
-            Command::TooLarge => Ok(DeskTurn::Text(Text::from_bytes(
-                self.alloc,
-                b"refused TooLarge",
-            )?)),
+            Command::Edit(edit) => Ok(DeskTurn::Text(self.edit(edit)?)),
+            Command::Unknown => Ok(DeskTurn::Text(refused_as(self.alloc, b"Command")?)),
+            Command::TooLarge => Ok(DeskTurn::Text(refused_as(self.alloc, b"TooLarge")?)),
+        }
+    }
+
+    /// Changes the model as the edit says, or answers why not. Where memory runs out the edit isn't made.
+    pub fn edit(&mut self, edit: Edit) -> Result<Text, NoMemory>
+        requires sound { IsSettled C.behaviour SimpleModule-box self.old }
+        ensures sound { IsSettled C.behaviour SimpleModule-box self.new }
+        ensures answer { let before = editing_at SimpleModule-box self.old in
+            let after = editing_at SimpleModule-box self.new in
+            IfOk result (λ text. AnswersEdit before edit text after) }
+        ensures limit { limit_at self.new ≡ limit_at self.old }
+        ensures memory { OnErr result (self.new ≡ self.old) }
+    {
+        // The answer is made before the edit: so where it has no room the edit isn't made.
+        let accepted = edited_text(self.alloc, None)?;
+        match self.session.edit(edit) {
+            Ok(_) => Ok(accepted),
+            Err(refusal) => edit_refusal_text(self.alloc, refusal),
         }
     }
 
@@ -88,14 +100,9 @@ impl<C: Catalogue> Desk<C> {
         requires sound { IsSettled C.behaviour SimpleModule-box self.old }
         ensures kept { StaysSettled C.behaviour SimpleModule-box self.old self.new }
         ensures limit { limit_at self.new ≡ limit }
-        ensures answer { let before = editing_at SimpleModule-box self.old in
-            IfOk result (λ turn. AnswersRun C.behaviour before.model limit turn) }
-        ensures done { let before = editing_at SimpleModule-box self.old in
+        ensures ran { let before = editing_at SimpleModule-box self.old in
             let after = editing_at SimpleModule-box self.new in
-            IfOk result (λ turn. LeavesRun C.behaviour before limit turn after) }
-        ensures waits { let before = editing_at SimpleModule-box self.old in
-            let after = editing_at SimpleModule-box self.new in
-            IfOk result (λ turn. IfWanting turn (λ request. WaitsFor before request after)) }
+            IfOk result (λ turn. IsRunTurn C.behaviour before limit turn after) }
     {
         self.limit = limit;
         match self.session.run(limit)? {
@@ -109,14 +116,9 @@ impl<C: Catalogue> Desk<C> {
         requires sound { IsSettled C.behaviour SimpleModule-box self.old }
         ensures kept { StaysSettled C.behaviour SimpleModule-box self.old self.new }
         ensures limit { limit_at self.new ≡ limit_at self.old }
-        ensures answer { let before = editing_at SimpleModule-box self.old in
-            IfOk result (λ turn. AnswersRun C.behaviour before.model (limit_at self.old) turn) }
-        ensures done { let before = editing_at SimpleModule-box self.old in
+        ensures ran { let before = editing_at SimpleModule-box self.old in
             let after = editing_at SimpleModule-box self.new in
-            IfOk result (λ turn. LeavesRun C.behaviour before (limit_at self.old) turn after) }
-        ensures waits { let before = editing_at SimpleModule-box self.old in
-            let after = editing_at SimpleModule-box self.new in
-            IfOk result (λ turn. IfWanting turn (λ request. WaitsFor before request after)) }
+            IfOk result (λ turn. IsRunTurn C.behaviour before (limit_at self.old) turn after) }
     {
         self.run(self.limit)
     }
@@ -174,6 +176,13 @@ impl<C: Catalogue> Desk<C> {
             FileWritten text editing.done (O.taken out.old) (O.taken out.new) result }
     {
         self.session.vectors(out)
+    }
+
+    /// The name of the configuration that is selected.
+    pub fn config(&self) -> &[u8]
+        ensures { result.now ≡ (editing_at SimpleModule-box self.now).model.config }
+    {
+        self.session.config()
     }
 
     /// How the last run ended, where one is done.

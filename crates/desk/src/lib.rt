@@ -2,5 +2,4 @@
 #![tactic(auto)]
 
 pub mod answers;
-pub mod commands;
 pub mod desk;

@@ -39,7 +39,7 @@ fn commands(alloc: Global, asked: &str) -> Result<Vec<Text>, NoMemory> {
 fn tell_reply(told: &mut Vec<u8>, reply: &Reply) -> Result<(), NoMemory> {
     match reply {
         Reply::Done(text, _) => say(told, text.as_bytes()),
-        Reply::Refused(text) => say(told, text.as_bytes()),
+        Reply::Answered(text) => say(told, text.as_bytes()),
         Reply::Unwritten(_, _) | Reply::NoMemory(_) => say(told, b"refused NoMemory".as_slice()),
     }
 }
@@ -64,6 +64,15 @@ fn tell_file(told: &mut Vec<u8>, line: &str, last: Option<&Reply>) -> Result<(),
     }
 }
 
+/// The last run, behind a reply: an edit that is made leaves none.
+fn last_behind<'a>(last: Option<&'a Reply>, reply: &'a Reply) -> Option<&'a Reply> {
+    match reply {
+        Reply::Answered(text) if text.as_bytes().starts_with(b"edited") => None,
+        Reply::Answered(_) => last,
+        _ => Some(reply),
+    }
+}
+
 /// What the lines lead to, with the replies to their commands.
 fn tell(alloc: Global, asked: &str, replies: &[Reply]) -> Result<Vec<u8>, NoMemory> {
     let mut told = Vec::new(alloc);
@@ -74,7 +83,7 @@ fn tell(alloc: Global, asked: &str, replies: &[Reply]) -> Result<Vec<u8>, NoMemo
             tell_file(&mut told, line, last)?;
         } else if let [reply, rest @ ..] = left {
             tell_reply(&mut told, reply)?;
-            last = Some(reply);
+            last = last_behind(last, reply);
             left = rest;
         }
     }

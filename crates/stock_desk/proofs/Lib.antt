@@ -1,3 +1,4 @@
+pub mod Boxes
 pub mod Lists
 pub mod Moving
 pub mod Turning

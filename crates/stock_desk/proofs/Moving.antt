@@ -20,8 +20,8 @@ moved b before mid after limit request (move.Need made) same waits provided = (
   subst (λ (e : Editing). left_in e ≤ left_in before) (sym provided.0) (waits_left before mid request waits),
 )
 moved b before mid after limit request (move.Over next.GoOn) same waits provided =
-    gives_up_left before after (ap (λ (e : Editing). e.model) provided ∙ same)
-    (record { undeclined = waits.undeclined; declined = ap (λ (e : Editing). e.phase) provided })
+    gives_up_left before after
+    (record { model = ap (λ (e : Editing). e.model) provided ∙ same; undeclined = waits.undeclined; declined = ap (λ (e : Editing). e.phase) provided })
 
 -- where nothing comes next, the run is done or memory ran out
 abbrev pub EndsIn : Behaviour → Editing → ℕ → Next → Type 0

@@ -1,13 +1,15 @@
--- The plain machine: it makes a fresh run for each line that asks for one, and remembers nothing.
-use Rattle.std.specs.Prelude.{◌≡◌, ◌<◌, ℕ, List, [], ◌∷◌, Option, Some, None, codes, length, take}
+-- The plain machine: it holds a model, and nothing else. It makes the edits that lines ask for, and a fresh run for each line that asks for
+-- one.
+use Rattle.std.specs.Prelude.{◌≡◌, ◌<◌, ℕ, List, [], ◌∷◌, codes, length, take}
 use Rattle.module_api.specs.Behaviour.{Behaviour}
 use Rattle.model_answers.specs.declared.model.Model.{Model}
 use Rattle.edit_session.specs.Files.{scalars_of_run, vectors_of_run}
 use Rattle.result_files.specs.Taken.{Taken}
-use Rattle.desk.specs.Commands.{command_of}
-use Rattle.desk.specs.Turns.{run_answer}
-use Rattle.desk.specs.declared.commands.Command.{Command}
-use Rattle.desk.specs.declared.commands.Command.TheVariants as command
+use Rattle.model_edits.specs.declared.edit.Edit.{Edit}
+use Rattle.command_lines.specs.Commands.{command_of}
+use Rattle.command_lines.specs.declared.commands.Command.{Command}
+use Rattle.command_lines.specs.declared.commands.Command.TheVariants as command
+use Rattle.desk.specs.Turns.{run_answer, LeadsTo}
 use Rattle.stock_desk.specs.declared.replies.Cut.{Cut}
 use Rattle.stock_desk.specs.declared.replies.Cut.TheVariants as cut
 use Rattle.stock_desk.specs.declared.replies.Reply.{Reply}
@@ -18,23 +20,9 @@ pub record Files : Type 0 where
   pub scalars : List ℕ
   pub vectors : List ℕ
 
--- what a line leads to: a text, and the files of a run that is done
-pub record Said : Type 0 where
-  pub text : List ℕ
-  pub files : Option Files
-
 -- the files of a fresh run of the model to that limit
 abbrev pub files_of_run : Behaviour → Model → ℕ → Files
 files_of_run b m limit = record { scalars = scalars_of_run b m limit; vectors = vectors_of_run b m limit }
-
-abbrev pub said_to_command : Behaviour → Model → Command → Said
-said_to_command b m (command.Run limit) = record { text = run_answer b m limit; files = Some (files_of_run b m limit) }
-said_to_command b m command.Unknown = record { text = codes "refused Command"; files = None }
-said_to_command b m command.TooLarge = record { text = codes "refused TooLarge"; files = None }
-
--- WHAT THE PLAIN MACHINE SAYS to a line
-abbrev pub said_to : Behaviour → Model → List ℕ → Said
-said_to b m line = said_to_command b m (command_of line)
 
 -- A write failed once, and what was written before are the first bytes of a file.
 pub record IsCut (whole : List ℕ) (file : Taken) : Type 0 where
@@ -47,30 +35,43 @@ abbrev pub AreCut : Files → Cut → Type 0
 AreCut whole (cut.Scalars scalars) = IsCut whole.scalars scalars
 AreCut whole (cut.Vectors scalars vectors) = (scalars.bytes ≡ whole.scalars) × IsCut whole.vectors vectors
 
--- of the files of what the plain machine says one is cut
-abbrev pub CutsFiles : Option Files → Cut → Type 0
-CutsFiles None cut = ⊥
-CutsFiles (Some whole) cut = AreCut whole cut
+-- THE REPLY TO A RUN: the answer and the files of a fresh run of the model; or the answer and the first bytes of the files, as a write
+-- failed, or memory ran out.
+abbrev pub RepliesToRun : Behaviour → Model → ℕ → Reply → Type 0
+RepliesToRun b m limit (reply.Done text files) =
+    (text ≡ run_answer b m limit) × (record { scalars = files.scalars.bytes; vectors = files.vectors.bytes } ≡ files_of_run b m limit)
+RepliesToRun b m limit (reply.Unwritten text cut) = (text ≡ run_answer b m limit) × AreCut (files_of_run b m limit) cut
+RepliesToRun b m limit (reply.NoMemory _) = Unit {0}
+RepliesToRun b m limit (reply.Answered text) = ⊥
 
--- A reply is what the plain machine says, or its text and the first bytes of its files, as a write failed, or memory ran out.
-abbrev pub IsSaid : Said → Reply → Type 0
-IsSaid said (reply.Done text files) =
-    record { text = text; files = Some (record { scalars = files.scalars.bytes; vectors = files.vectors.bytes }) } ≡ said
-IsSaid said (reply.Refused text) = record { text = text; files = None } ≡ said
-IsSaid said (reply.Unwritten text cut) = (text ≡ said.text) × CutsFiles said.files cut
-IsSaid said (reply.NoMemory _) = Unit {0}
+-- THE REPLY TO AN EDIT, and the model behind it: the edit is made, or refused; or memory ran out, and it isn't made.
+abbrev pub RepliesToEdit : Model → Edit → Reply → Model → Type 0
+RepliesToEdit m e (reply.Answered text) next = LeadsTo m e text next
+RepliesToEdit m e (reply.NoMemory _) next = next ≡ m
+RepliesToEdit m e (reply.Done text files) next = ⊥
+RepliesToEdit m e (reply.Unwritten text cut) next = ⊥
 
--- a reply to a command
-abbrev pub RepliesTo : Behaviour → Model → Command → Reply → Type 0
-RepliesTo b m asked r = IsSaid (said_to_command b m asked) r
+-- the reply to what is no command: this text, or memory ran out
+abbrev pub RepliesWith : List ℕ → Reply → Type 0
+RepliesWith said (reply.Answered text) = text ≡ said
+RepliesWith said (reply.NoMemory _) = Unit {0}
+RepliesWith said (reply.Done text files) = ⊥
+RepliesWith said (reply.Unwritten text cut) = ⊥
+
+-- WHAT THE PLAIN MACHINE REPLIES to a command, and the model that it holds behind it: only an edit that is made changes it
+abbrev pub RepliesTo : Behaviour → Model → Command → Reply → Model → Type 0
+RepliesTo b m (command.Run limit) r next = RepliesToRun b m limit r × (next ≡ m)
+RepliesTo b m (command.Edit e) r next = RepliesToEdit m e r next
+RepliesTo b m command.Unknown r next = RepliesWith (codes "refused Command") r × (next ≡ m)
+RepliesTo b m command.TooLarge r next = RepliesWith (codes "refused TooLarge") r × (next ≡ m)
 
 -- the same of a line
-abbrev pub IsReplyTo : Behaviour → Model → List ℕ → Reply → Type 0
-IsReplyTo b m line r = RepliesTo b m (command_of line) r
+abbrev pub IsReplyTo : Behaviour → Model → List ℕ → Reply → Model → Type 0
+IsReplyTo b m line r next = RepliesTo b m (command_of line) r next
 
--- as many replies as lines, each to its own
-abbrev pub AreReplies : Behaviour → Model → List (List ℕ) → List Reply → Type 0
-AreReplies b m [] [] = Unit {0}
-AreReplies b m [] (r ∷ rs) = ⊥
-AreReplies b m (line ∷ lines) [] = ⊥
-AreReplies b m (line ∷ lines) (r ∷ rs) = IsReplyTo b m line r × AreReplies b m lines rs
+-- AS MANY REPLIES AS LINES, each by the model that the edits of the lines before it made; behind the last line it is this one
+abbrev pub AreReplies : Behaviour → Model → List (List ℕ) → List Reply → Model → Type 0
+AreReplies b m [] [] last = last ≡ m
+AreReplies b m [] (r ∷ rs) last = ⊥
+AreReplies b m (line ∷ lines) [] last = ⊥
+AreReplies b m (line ∷ lines) (r ∷ rs) last = (next : Model) × IsReplyTo b m line r next × AreReplies b next lines rs last

@@ -9,9 +9,8 @@ use Rattle.stock_modules.specs.Modules.{module_of}
 use Rattle.edit_session.specs.Editing.{Editing, wanted_of, IsFor}
 use Rattle.edit_session.specs.declared.running.Phase.TheVariants.{Declined}
 use Rattle.edit_session.specs.Files.{scalars_of_run, vectors_of_run}
-use Rattle.desk.specs.Turns.{run_answer}
+use Rattle.desk.specs.Turns.{run_answer, HasRun}
 use Rattle.stock_desk.specs.Answerings.{boxes_of, left_of}
-use Rattle.stock_desk.specs.Steps.{HasRun}
 use Rattle.stock_desk.specs.declared.single_run.Ended.{Ended}
 use Rattle.stock_desk.specs.declared.single_run.Ended.TheVariants as ended
 use Rattle.stock_desk.specs.declared.single_run.File.{File}

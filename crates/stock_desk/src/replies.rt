@@ -1,23 +1,23 @@
 //! Command lines, answered with boxes of the stock modules.
 
-ghost use Rattle.std.specs.Prelude.{◌≡◌, ◌≤◌, ◌<◌, ℕ, List, [], ◌∷◌, ◌++◌, None, IsSome, OnOk, OnErr, IfOk, IfErr, length};
+ghost use Rattle.std.specs.Prelude.{◌≡◌, ◌≤◌, ◌<◌, ℕ, List, [], ◌∷◌, ◌++◌, None, IsSome, OnOk, OnErr, IfOk, IfErr, codes, length};
 ghost use Rattle.model_answers.specs.declared.model.Model.{Model};
 ghost use Rattle.stock_modules.specs.Stock.{stock};
 ghost use Rattle.sim_values.specs.Memory.{no_memory};
 ghost use Rattle.edit_session.specs.Editing.{wanted_of, IsFor};
 ghost use Rattle.model_texts.specs.Models.{IsModelOf, IsRuledOut, Refuses};
 ghost use Rattle.edit_session.specs.Sessions.{editing_of, IsSound};
-ghost use Rattle.desk.specs.Commands.{command_of};
-ghost use Rattle.desk.specs.Turns.{editing_at, IsSettled, StaysSettled};
-ghost use Rattle.desk.specs.declared.commands.Command.TheVariants as commands;
-ghost use Rattle.stock_desk.specs.Machine.{AreReplies, IsReplyTo, RepliesTo};
-ghost use Rattle.stock_desk.specs.Steps.{HasAnswer, HasRun, IsMet, IsNext, IsStep};
-ghost use Rattle.stock_desk.specs.Answerings.{GoesOn, IsKept, IsSoFar, IsTurn, IsWent};
+ghost use Rattle.desk.specs.Turns.{editing_at, HasRun, IsSettled, StaysSettled};
+ghost use Rattle.stock_desk.specs.Machine.{AreReplies, RepliesToEdit, RepliesToRun, RepliesWith};
+ghost use Rattle.stock_desk.specs.Steps.{IsMet, IsRunStep, IsStep};
+ghost use Rattle.stock_desk.specs.Answerings.{AreSoFar, IsKept, IsSteady, IsTurn, IsWent};
 
-use desk::commands::{Command, command_of};
+use command_lines::commands::{Command, command_of};
+use desk::answers::refused_as;
 use desk::desk::{Desk, DeskTurn};
 use edit_session::session::{Session, SupplyReason};
 use kernel::request::Request;
+use model_edits::edit::Edit;
 use model_texts::begin::BeginFault;
 use module_api::simple_module::SimpleModule;
 use ned_syntax::texts::NedTexts;
@@ -50,8 +50,8 @@ pub enum Cut {
 pub enum Reply {
     /// A run is done: its answer, and its files.
     Done(Text, Files),
-    /// The line is refused: the answer that says so.
-    Refused(Text),
+    /// The line is no run: its answer, which says that the edit is made, or why the line is refused.
+    Answered(Text),
     /// A run is done whose files have no room in memory: its answer, and what there is of them.
     Unwritten(Text, Cut),
     /// Memory ran out.
@@ -100,9 +100,10 @@ impl Answering {
     /// The desk of a session. No line has its reply yet.
     fn of_session(alloc: Global, session: Session<Stock>) -> Answering
         requires sound { IsSound stock SimpleModule-box session }
-        ensures so_far { (lines : List (List ℕ)) → IsSoFar stock SimpleModule-box lines result }
-        ensures editing { editing_at SimpleModule-box result.desk
-            ≡ editing_of SimpleModule-box session }
+        ensures steady { (lines : List (List ℕ)) → IsSteady stock SimpleModule-box lines result }
+        ensures none { (lines : List (List ℕ)) → (m : Model)
+            → m ≡ (editing_of SimpleModule-box session).model
+            → AreSoFar stock SimpleModule-box m lines result }
     {
         Answering {
             desk: Desk::of_session(alloc, session),
@@ -116,7 +117,7 @@ impl Answering {
         requires sound { IsSettled stock SimpleModule-box self.now.desk }
         requires ran { HasRun stock (editing_at SimpleModule-box self.now.desk) limit text }
         ensures { let model = (editing_at SimpleModule-box self.now.desk).model in
-            RepliesTo stock model (commands.Run limit) result }
+            RepliesToRun stock model limit result }
     {
         let _limit = limit;
         let mut scalars = Buffer::new(alloc);
@@ -127,20 +128,6 @@ impl Answering {
         match self.desk.vectors(&mut vectors) {
             Ok(()) => Reply::Done(text, Files { scalars, vectors }),
             Err(_) => Reply::Unwritten(text, Cut::Vectors(scalars, vectors)),
-        }
-    }
-
-    /// The reply to a line that the desk answers with this text.
-    fn reply_with(&self, alloc: Global, line: &[u8], text: Text) -> Reply
-        requires sound { IsSettled stock SimpleModule-box self.now.desk }
-        requires answer { let editing = editing_at SimpleModule-box self.now.desk in
-            HasAnswer stock editing (command_of line.now) text }
-        ensures { let model = (editing_at SimpleModule-box self.now.desk).model in
-            IsReplyTo stock model line.now result }
-    {
-        match command_of(line) {
-            Command::Run(limit) => self.reply_of_run(alloc, limit, text),
-            _ => Reply::Refused(text),
         }
     }
 
@@ -162,29 +149,60 @@ impl Answering {
         }
     }
 
-    /// What the desk makes of a line. Where the line's run waits already, it goes on.
-    fn step(&mut self, alloc: Global, line: &[u8]) -> Step
+    /// Begins the run to that limit, or goes on with it.
+    fn run(&mut self, alloc: Global, limit: u64) -> Step
         requires sound { IsSettled stock SimpleModule-box self.old.desk }
         ensures kept { StaysSettled stock SimpleModule-box self.old.desk self.new.desk }
         ensures replies { self.new.replies ≡ self.old.replies }
         ensures step { let before = editing_at SimpleModule-box self.old.desk in
+            IsRunStep stock before (editing_at SimpleModule-box self.new.desk) limit result }
+    {
+        match self.desk.run(limit) {
+            Ok(DeskTurn::Text(text)) => Step::Replied(self.reply_of_run(alloc, limit, text)),
+            Ok(DeskTurn::Want(request)) => self.need_of(&request),
+            Err(error) => Step::Replied(Reply::NoMemory(error)),
+        }
+    }
+
+    /// Changes the model as the edit says, or answers why not.
+    fn edit(&mut self, edit: Edit) -> Reply
+        requires sound { IsSettled stock SimpleModule-box self.old.desk }
+        ensures sound { IsSettled stock SimpleModule-box self.new.desk }
+        ensures replies { self.new.replies ≡ self.old.replies }
+        ensures reply { let before = editing_at SimpleModule-box self.old.desk in
+            let after = editing_at SimpleModule-box self.new.desk in
+            RepliesToEdit before.model edit result after.model }
+    {
+        match self.desk.edit(edit) {
+            Ok(text) => Reply::Answered(text),
+            Err(error) => Reply::NoMemory(error),
+        }
+    }
+
+    /// What the desk makes of a line. Where the line's run waits already, it goes on.
+    fn step(&mut self, alloc: Global, line: &[u8]) -> Step
+        requires sound { IsSettled stock SimpleModule-box self.old.desk }
+        ensures sound { IsSettled stock SimpleModule-box self.new.desk }
+        ensures replies { self.new.replies ≡ self.old.replies }
+        ensures step { let before = editing_at SimpleModule-box self.old.desk in
             IsStep stock before (editing_at SimpleModule-box self.new.desk) line.now result }
     {
-        match self.desk.line(line) {
-            Ok(DeskTurn::Text(text)) => Step::Replied(self.reply_with(alloc, line, text)),
-            Ok(DeskTurn::Want(request)) => self.need_of(&request),
+        match command_of(alloc, line) {
+            Ok(Command::Run(limit)) => self.run(alloc, limit),
+            Ok(Command::Edit(edit)) => Step::Replied(self.edit(edit)),
+            Ok(Command::Unknown) => Step::Replied(refused(alloc, b"Command")),
+            Ok(Command::TooLarge) => Step::Replied(refused(alloc, b"TooLarge")),
             Err(error) => Step::Replied(Reply::NoMemory(error)),
         }
     }
 
     /// Keeps the reply to the next line.
     fn keep(&mut self, lines: &[Text], reply: Reply) -> Next
-        requires so_far { IsSoFar stock SimpleModule-box lines.now self.old }
-        requires next { let editing = editing_at SimpleModule-box self.old.desk in
-            IsNext stock editing.model lines.now (length self.old.replies.items) reply }
-        ensures so_far { GoesOn stock SimpleModule-box lines.now self.old self.new }
+        requires steady { IsSteady stock SimpleModule-box lines.now self.old }
+        requires line { length self.old.replies.items < length lines.now }
+        ensures steady { IsSteady stock SimpleModule-box lines.now self.new }
         // One line more has its reply, or there was no room for it.
-        ensures kept { IsKept self.old self.new result }
+        ensures kept { IsKept stock SimpleModule-box lines.now reply self.old self.new result }
     {
         let _lines = lines;
         match push(&mut self.replies, reply) {
@@ -195,8 +213,8 @@ impl Answering {
 
     /// The turn of the next line.
     fn turn(&mut self, alloc: Global, lines: &[Text]) -> Turn
-        requires so_far { IsSoFar stock SimpleModule-box lines.now self.old }
-        ensures so_far { GoesOn stock SimpleModule-box lines.now self.old self.new }
+        requires steady { IsSteady stock SimpleModule-box lines.now self.old }
+        ensures steady { IsSteady stock SimpleModule-box lines.now self.new }
         ensures turn { IsTurn stock SimpleModule-box lines.now self.old self.new result }
     {
         let Some(line) = lines.get(self.replies.len()) else {
@@ -214,11 +232,11 @@ impl Answering {
         requires wanted { let editing = editing_at SimpleModule-box self.old.desk in
             IsFor stock (wanted_of editing) (meaning held) }
         requires waits { IsSome (wanted_of (editing_at SimpleModule-box self.old.desk)) }
-        requires so_far { IsSoFar stock SimpleModule-box lines.now self.old }
+        requires steady { IsSteady stock SimpleModule-box lines.now self.old }
         requires line { length self.old.replies.items < length lines.now }
-        ensures so_far { GoesOn stock SimpleModule-box lines.now self.old self.new }
+        ensures steady { IsSteady stock SimpleModule-box lines.now self.new }
         // Less is left to be done: the run has one box more, or its line has its reply.
-        ensures went { IsWent SimpleModule-box lines.now self.old self.new result }
+        ensures went { IsWent stock SimpleModule-box lines.now self.old self.new result }
     {
         match self.desk.supply(held) {
             Ok(()) => Next::GoOn,
@@ -231,20 +249,22 @@ impl Answering {
 
     /// Memory ran out on the next line.
     fn out_of_memory(&mut self, lines: &[Text], error: NoMemory) -> Next
-        requires so_far { IsSoFar stock SimpleModule-box lines.now self.old }
+        requires steady { IsSteady stock SimpleModule-box lines.now self.old }
         requires line { length self.old.replies.items < length lines.now }
-        ensures so_far { GoesOn stock SimpleModule-box lines.now self.old self.new }
-        ensures went { IsWent SimpleModule-box lines.now self.old self.new result }
+        ensures steady { IsSteady stock SimpleModule-box lines.now self.new }
+        ensures went { IsWent stock SimpleModule-box lines.now self.old self.new result }
     {
         self.keep(lines, Reply::NoMemory(error))
     }
 
     /// The replies, where each line has one; or the want of memory that left a line without one.
     fn replies(self, lines: &[Text], error: Option<NoMemory>) -> Result<Vec<Reply>, BeginFault>
-        requires so_far { IsSoFar stock SimpleModule-box lines.now self }
+        requires steady { IsSteady stock SimpleModule-box lines.now self }
         requires all { error ≡ None → length lines.now ≤ length self.replies.items }
-        ensures replies { let model = (editing_at SimpleModule-box self.desk).model in
-            IfOk result (λ replies. AreReplies stock model lines.now replies.items) }
+        ensures replies { let last = (editing_at SimpleModule-box self.desk).model in
+            IfOk result (λ replies. (error ≡ None)
+            × ((m : Model) → AreSoFar stock SimpleModule-box m lines.now self
+            → AreReplies stock m lines.now replies.items last)) }
         ensures refused { IfErr result (λ fault. fault ≡ BeginFault.NoMemory no_memory) }
     {
         let _lines = lines;
@@ -258,6 +278,16 @@ impl Answering {
             None => Ok(replies),
             Some(error) => Err(BeginFault::NoMemory(error)),
         }
+    }
+}
+
+/// The reply to a line that is refused, as what it asks for is none or too long.
+fn refused(alloc: Global, name: &[u8]) -> Reply
+    ensures { RepliesWith (codes "refused " ++ name.now) result }
+{
+    match refused_as(alloc, name) {
+        Ok(text) => Reply::Answered(text),
+        Err(error) => Reply::NoMemory(error.into()),
     }
 }
 
@@ -281,10 +311,10 @@ pub fn replies_to(
     config: &[u8],
     lines: &[Text],
 ) -> Result<Vec<Reply>, BeginFault>
-    // THE LAW OF COMMAND LISTS: whatever came before a line, its reply is that of a fresh run.
+    // THE LAW OF COMMAND LISTS: whatever lines came before, a run's reply is that of a fresh run of the model as their edits made it.
     ensures replies { IfOk result (λ replies. (model : Model)
         × IsModelOf texts.now ini.now config.now model
-        × AreReplies stock model lines.now replies.items) }
+        × (last : Model) × AreReplies stock model lines.now replies.items last) }
     ensures refused { IfErr result (λ fault. Refuses texts.now ini.now config.now fault) }
     // Where the texts make a model, there are replies, unless memory runs out.
     ensures complete { IfErr result (λ fault. IsRuledOut texts.now ini.now config.now fault) }

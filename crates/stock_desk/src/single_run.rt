@@ -8,8 +8,7 @@ ghost use Rattle.result_files.specs.Taken.{Taken};
 ghost use Rattle.stock_modules.specs.Stock.{stock};
 ghost use Rattle.edit_session.specs.Editing.{wanted_of, IsFor};
 ghost use Rattle.edit_session.specs.Sessions.{editing_of, IsSound};
-ghost use Rattle.desk.specs.Turns.{editing_at, IsSettled, StaysSettled};
-ghost use Rattle.stock_desk.specs.Steps.{HasRun};
+ghost use Rattle.desk.specs.Turns.{editing_at, HasRun, IsSettled, StaysSettled};
 ghost use Rattle.stock_desk.specs.SingleRuns.{told, EndsAs, IsClosed, IsLast, IsMove, IsNextMove, IsProvided, IsSilent};
 
 use desk::desk::{Desk, DeskTurn};

@@ -133,6 +133,86 @@ fn answers_of_stock(alloc: Global) -> Result<Answers, Fail> {
     Ok(answers_of::<Stock>(alloc, &texts)?)
 }
 
+/// Adds the answer to a line, and its end.
+fn tell<C: Catalogue>(desk: &mut Desk<C>, line: &[u8], told: &mut Vec<u8>) -> Result<(), NoMemory>
+    requires { IsSettled C.behaviour (λ b. ⟦<dyn SimpleModule as SimpleModule>⟧ b.vtable) desk.old }
+    ensures { IsSettled C.behaviour (λ b. ⟦<dyn SimpleModule as SimpleModule>⟧ b.vtable) desk.new }
+{
+    if let DeskTurn::Text(text) = desk.line(line)? {
+        told.extend_from_slice(text.as_bytes())?;
+        told.push(b'\n')?;
+    }
+    Ok(())
+}
+
+/// What the desk answers to an edit that is refused, to one that is made, and to what is no command; and whether a run is done
+/// behind the first and behind the second.
+fn tell_edits<C: Catalogue>(
+    desk: &mut Desk<C>,
+    told: &mut Vec<u8>,
+) -> Result<(bool, bool), NoMemory>
+    requires { IsSettled C.behaviour (λ b. ⟦<dyn SimpleModule as SimpleModule>⟧ b.vtable) desk.old }
+    ensures { IsSettled C.behaviour (λ b. ⟦<dyn SimpleModule as SimpleModule>⟧ b.vtable) desk.new }
+{
+    tell(desk, b"run 5".as_slice(), told)?;
+    tell(desk, b"ini remove 9".as_slice(), told)?;
+    let behind_refusal = desk.outcome().is_some();
+    tell(desk, b"ini insert 3 # nothing".as_slice(), told)?;
+    let behind_edit = desk.outcome().is_some();
+    tell(desk, b"jump".as_slice(), told)?;
+    Ok((behind_refusal, behind_edit))
+}
+
+/// Whether the last run is done anew where the desk goes on with it.
+fn goes_on<C: Catalogue>(desk: &mut Desk<C>) -> bool
+    requires { IsSettled C.behaviour (λ b. ⟦<dyn SimpleModule as SimpleModule>⟧ b.vtable) desk.old }
+    ensures { IsSettled C.behaviour (λ b. ⟦<dyn SimpleModule as SimpleModule>⟧ b.vtable) desk.new }
+{
+    matches!(desk.go_on(), Ok(DeskTurn::Text(_))) && desk.config() == b"General".as_slice()
+}
+
+/// What a desk says to lines.
+#[derive(Drop)]
+struct Lines {
+    told: Vec<u8>,
+    done: Option<(bool, bool)>,
+    goes_on: bool,
+}
+
+/// What a desk at the network of these texts says to lines.
+fn lines_of<C: Catalogue>(alloc: Global, texts: &NedTexts) -> Result<Lines, BeginFault> {
+    let mut desk = desk_of::<C>(alloc, texts)?;
+    let mut told = Vec::new(alloc);
+    let done = tell_edits(&mut desk, &mut told).ok();
+    let goes_on = goes_on(&mut desk);
+    std::mem::forget(desk);
+    Ok(Lines {
+        told,
+        done,
+        goes_on,
+    })
+}
+
+/// What a desk of the stock modules says to lines.
+fn lines_of_stock(alloc: Global) -> Result<Lines, Fail> {
+    let texts = empty_network(alloc)?;
+    Ok(lines_of::<Stock>(alloc, &texts)?)
+}
+
+#[test]
+fn edits_at_a_desk(rt: HostRuntime) -> Result<(), Fail> {
+    let lines = lines_of_stock(rt.alloc())?;
+    let wanted =
+        "done no-more-events from start executed 0\nrefused NoSuchLine\nedited valid none\nrefused Command\n";
+    assert_eq!(rt; lines.told.as_slice(), wanted.as_bytes());
+    assert!(rt;
+        lines.done == Some((true, false)),
+        "a run is done where none is, or the reverse"
+    );
+    assert!(rt; lines.goes_on, "the run isn't done anew");
+    Ok(())
+}
+
 #[test]
 fn files_of_runs(rt: HostRuntime) -> Result<(), Fail> {
     let answers = answers_of_stock(rt.alloc())?;

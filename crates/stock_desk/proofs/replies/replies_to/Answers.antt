@@ -1,24 +1,43 @@
+use Rattle.std.proofs.Common.{subst}
+use Rattle.model_texts.specs.Models.{IsModelOf}
 use Rattle.stock_modules.specs.Stock.{stock}
-use Rattle.stock_desk.specs.Answerings.{GoesOn}
-use Rattle.stock_desk.proofs.Lists.{still_on}
+use Rattle.stock_desk.specs.Answerings.{IsSteady, IsWent}
+use Rattle.stock_desk.proofs.Turning.{told, went_on}
 use Rattle.stock_desk.proofs.replies.replies_to.OwnLists.{own-1}
 use Rattle.stock_desk.proofs.replies.replies_to.Goals.{in-Need+in-Ok, in-Need+in-Err, in-Over}
 use Rattle.stock_desk.proofs.replies.replies_to.Goals as goal
 
+pub replies-requires-clause-steady : goal.replies-requires-clause-steady
+replies-requires-clause-steady c = elim c.match-turn.branch [
+  | in-Need+in-Ok w ↦ rw w.answering-is w.supply.ensures.steady
+  | in-Need+in-Err w ↦ rw w.answering-is w.out_of_memory.ensures.steady
+  | in-Over w ↦ rw w.answering-is c.turn.ensures.steady
+]
+
 pub turns-preserved : goal.turns-preserved
 turns-preserved c =
-    let goes_on : GoesOn stock (λ b. (own-1.entry b.vtable).1) c.args.lines.now c.turns.answering c.match-turn.answering = elim c.match-turn.branch [
-      | in-Need+in-Ok w ↦ rw w.answering-is (still_on c.turn.ensures.so_far w.supply.ensures.so_far)
-      | in-Need+in-Err w ↦ rw w.answering-is (still_on c.turn.ensures.so_far w.out_of_memory.ensures.so_far)
-      | in-Over w ↦ rw w.answering-is c.turn.ensures.so_far
+    let went : IsWent stock (λ b. (own-1.entry b.vtable).1) c.args.lines.now c.turns.answering c.match-turn.answering c.match-turn.next = elim c.match-turn.branch [
+      | in-Need+in-Ok w ↦ rw (w.answering-is, w.next-is) (went_on c.args.lines.now c.turns.answering c.turn.new.self w.supply.new.self w.in-Need.made w.supply.result w.in-Need.ensures.turn w.supply.ensures.went)
+      | in-Need+in-Err w ↦ rw (w.answering-is, w.next-is) (went_on c.args.lines.now c.turns.answering c.turn.new.self w.out_of_memory.new.self w.in-Need.made w.out_of_memory.result w.in-Need.ensures.turn w.out_of_memory.ensures.went)
+      | in-Over w ↦ rw (w.answering-is, w.next-is) w.in-Over.ensures.turn
     ] in
-    record { so_far = goes_on.so_far; model = rw goes_on.model c.turns.invariant.model }
+    let steady : IsSteady stock (λ b. (own-1.entry b.vtable).1) c.args.lines.now c.match-turn.answering = elim c.match-turn.branch [
+      | in-Need+in-Ok w ↦ rw w.answering-is w.supply.ensures.steady
+      | in-Need+in-Err w ↦ rw w.answering-is w.out_of_memory.ensures.steady
+      | in-Over w ↦ rw w.answering-is c.turn.ensures.steady
+    ] in
+    let goes_on = subst (IsWent stock (λ b. (own-1.entry b.vtable).1) c.args.lines.now c.turns.answering c.match-turn.answering) c.in_default.is went in
+    let so_far = c.turns.invariant.so_far in
+    record { steady = steady; so_far = (so_far.0, so_far.1, goes_on.0 so_far.0 so_far.2) }
 
-pub replies-requires-clause-so_far : goal.replies-requires-clause-so_far
-replies-requires-clause-so_far c =
-    let goes_on : GoesOn stock (λ b. (own-1.entry b.vtable).1) c.args.lines.now c.turns.answering c.match-turn.answering = elim c.match-turn.branch [
-      | in-Need+in-Ok w ↦ rw w.answering-is (still_on c.turn.ensures.so_far w.supply.ensures.so_far)
-      | in-Need+in-Err w ↦ rw w.answering-is (still_on c.turn.ensures.so_far w.out_of_memory.ensures.so_far)
-      | in-Over w ↦ rw w.answering-is c.turn.ensures.so_far
+pub returns-in-Stop-clause-replies : goal.returns-in-Stop-clause-replies
+returns-in-Stop-clause-replies c =
+    let went : IsWent stock (λ b. (own-1.entry b.vtable).1) c.args.lines.now c.turns.answering c.match-turn.answering c.match-turn.next = elim c.match-turn.branch [
+      | in-Need+in-Ok w ↦ rw (w.answering-is, w.next-is) (went_on c.args.lines.now c.turns.answering c.turn.new.self w.supply.new.self w.in-Need.made w.supply.result w.in-Need.ensures.turn w.supply.ensures.went)
+      | in-Need+in-Err w ↦ rw (w.answering-is, w.next-is) (went_on c.args.lines.now c.turns.answering c.turn.new.self w.out_of_memory.new.self w.in-Need.made w.out_of_memory.result w.in-Need.ensures.turn w.out_of_memory.ensures.went)
+      | in-Over w ↦ rw (w.answering-is, w.next-is) w.in-Over.ensures.turn
     ] in
-    goes_on.so_far
+    let stopped = subst (IsWent stock (λ b. (own-1.entry b.vtable).1) c.args.lines.now c.turns.answering c.match-turn.answering) c.in-Stop.is went in
+    let so_far = c.turns.invariant.so_far in
+    told stock (λ b. (own-1.entry b.vtable).1) (λ rs. rs.items) (λ m. IsModelOf c.args.texts.now c.args.ini.now c.args.config.now m)
+    c.args.lines.now c.turns.answering c.match-turn.answering c.in-Stop.error c.replies.result stopped c.replies.ensures.replies so_far.0 so_far.1 so_far.2

@@ -1,5 +1,5 @@
 use Rattle.stock_desk.proofs.Lists.{none_yet}
 use Rattle.stock_desk.proofs.replies.Answering.of_session.Goals as goal
 
-pub returns-clause-so_far : goal.returns-clause-so_far
-returns-clause-so_far g c = none_yet _ c.of_session.ensures.sound c.new.ensures.items
+pub returns-clause-steady : goal.returns-clause-steady
+returns-clause-steady g c = none_yet _ c.of_session.ensures.sound c.new.ensures.items

@@ -2,4 +2,4 @@ use Rattle.stock_desk.proofs.Lists.{all_replied}
 use Rattle.stock_desk.proofs.replies.Answering.replies.Goals as goal
 
 pub returns-in-None-clause-replies : goal.returns-in-None-clause-replies
-returns-in-None-clause-replies g c = all_replied c.args.lines.now c.args.self c.requires.so_far (c.requires.all c.in-None.is)
+returns-in-None-clause-replies g c = (c.in-None.is, all_replied c.args.lines.now c.args.self c.requires.steady (c.requires.all c.in-None.is))
