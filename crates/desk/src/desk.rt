@@ -57,7 +57,8 @@ impl<C: Catalogue> Desk<C> {
         }
     }
 
-    /// Answers a command line. Where memory runs out the line has no answer: a run is given up, and anything else isn't done.
+    /// Answers a command line. Where memory runs out the line has no answer: the model is what it was, and a line that asks for no
+    /// run changed nothing.
     pub fn line(&mut self, line: &[u8]) -> Result<DeskTurn, NoMemory>
         requires sound { IsSettled C.behaviour SimpleModule-box self.old }
         ensures sound { IsSettled C.behaviour SimpleModule-box self.new }
