@@ -18,7 +18,9 @@ pub struct NotedReader<R> {
 
 impl<R> NotedReader<R> {
     /// A reader that was not read yet.
-    pub fn new(reader: R) -> NotedReader<R> {
+    pub fn new(reader: R) -> NotedReader<R>
+        ensures { result.given.bytes ≡ [] }
+    {
         NotedReader {
             reader,
             given: Noted::new(),

@@ -1,0 +1,6 @@
+pub mod Answers
+pub mod Feeds
+pub mod Limits
+pub mod Lines
+pub mod Parts
+pub mod Waits
