@@ -2,7 +2,7 @@
 use Rattle.std.specs.Prelude.{ℕ, ◌+◌, ◌==◌, Bool, ◌&&◌, not, List, Option, Some, None, option_map, codes, length, nat_lt, position, take, drop, if◌then◌else◌}
 use Rattle.std.specs.List.{list_any, starts_with}
 use Rattle.std.specs.Option.{option_and_then}
-use Rattle.std.specs.Str.{is_utf8}
+use Rattle.std.specs.Str.{bytes_eq, is_utf8}
 use Rattle.model_edits.specs.declared.edit.Edit.{Edit}
 use Rattle.model_edits.specs.declared.edit.Edit.TheVariants as edit
 use Rattle.command_lines.specs.declared.commands.Command.{Command}
@@ -69,13 +69,17 @@ edit_of line = or_else (option_and_then ini_edit_of (behind (codes "ini ") line)
 abbrev pub limit_of : List ℕ → Option ℕ
 limit_of line = option_and_then number_of (behind (codes "run ") line)
 
-abbrev pub edit_or_unknown : Option Edit → Command
-edit_or_unknown (Some e) = command.Edit e
-edit_or_unknown None = command.Unknown
+-- what is neither a run nor an edit: `write`, or nothing
+abbrev pub plain_command : List ℕ → Command
+plain_command line = if bytes_eq line (codes "write") then command.Write else command.Unknown
+
+abbrev pub edit_or_plain : List ℕ → Option Edit → Command
+edit_or_plain line (Some e) = command.Edit e
+edit_or_plain line None = plain_command line
 
 abbrev pub run_or_other : List ℕ → Option ℕ → Command
 run_or_other line (Some limit) = command.Run limit
-run_or_other line None = edit_or_unknown (edit_of line)
+run_or_other line None = edit_or_plain line (edit_of line)
 
 -- THE COMMAND that a line asks for
 abbrev pub command_of : List ℕ → Command
@@ -85,5 +89,6 @@ command_of line = if nat_lt 65536 (length line) then command.TooLarge else run_o
 abbrev pub IsEdit : Command → Type 0
 IsEdit (command.Edit e) = Unit {0}
 IsEdit (command.Run limit) = ⊥
+IsEdit command.Write = ⊥
 IsEdit command.Unknown = ⊥
 IsEdit command.TooLarge = ⊥

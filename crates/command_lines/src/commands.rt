@@ -5,7 +5,7 @@ ghost use Rattle.std.specs.List.{list_any};
 ghost use Rattle.std.specs.Str.{is_utf8};
 ghost use Rattle.std.specs.Option.{option_copied};
 ghost use Rattle.command_lines.specs.Commands.{behind, command_of, edit_of, ini_edit_of, insertion_of, is_space};
-ghost use Rattle.command_lines.specs.Commands.{is_word, limit_of, numbered, removal_of, replacement_of, selection_of, word_of, IsEdit};
+ghost use Rattle.command_lines.specs.Commands.{is_word, limit_of, numbered, plain_command, removal_of, replacement_of, selection_of, word_of, IsEdit};
 
 use crate::numbers::number_of;
 use model_edits::edit::Edit;
@@ -24,6 +24,8 @@ pub enum Command {
     Run(u64),
     /// `ini insert L TEXT`, `ini replace L TEXT`, `ini remove L`, `config NAME`: an edit of the model.
     Edit(Edit),
+    /// `write`: write the files of the last run.
+    Write,
     /// The line is no command.
     Unknown,
     /// The line is longer than 65,536 bytes.
@@ -180,6 +182,17 @@ fn limit_of(line: &[u8]) -> Option<u64>
     number_of(behind(b"run ", line)?)
 }
 
+/// The command of a line that asks for neither a run nor an edit.
+fn plain_command(line: &[u8]) -> Command
+    ensures { result ≡ plain_command line.now }
+{
+    if line == b"write".as_slice() {
+        Command::Write
+    } else {
+        Command::Unknown
+    }
+}
+
 /// The command that a line asks for. `NoMemory` comes of an edit alone, where memory ran out for the copy of its TEXT or NAME.
 pub fn command_of(alloc: Global, line: &[u8]) -> Result<Command, NoMemory>
     ensures command { IfOk result (λ command. command ≡ command_of line.now) }
@@ -193,6 +206,6 @@ pub fn command_of(alloc: Global, line: &[u8]) -> Result<Command, NoMemory>
     }
     match edit_of(alloc, line)? {
         Some(edit) => Ok(Command::Edit(edit)),
-        None => Ok(Command::Unknown),
+        None => Ok(plain_command(line)),
     }
 }

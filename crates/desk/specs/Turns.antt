@@ -52,6 +52,10 @@ abbrev pub IsRunTurn : Behaviour → Editing → ℕ → DeskTurn → Editing �
 IsRunTurn b before limit (turn.Text text) after = HasRun b after limit text
 IsRunTurn b before limit (turn.Want request) after = WaitsFor before request after
 
+-- What want of memory leaves behind a run to that limit: no run is done, or this one is.
+abbrev pub MayBeDone : Behaviour → Editing → ℕ → Type 0
+MayBeDone b e limit = (e.done ≡ None) ⊎ (e.done ≡ Some (completed b e.model limit))
+
 -- ---- edits
 
 -- The edit is made: the model is the one that it makes, and it makes no other.
@@ -88,6 +92,7 @@ IsTextOf (turn.Want request) P = ⊥
 abbrev pub AnswersCommand : Behaviour → Editing → Command → DeskTurn → Editing → Type 0
 AnswersCommand b before (command.Run limit) answer after = IsRunTurn b before limit answer after × (after.model ≡ before.model)
 AnswersCommand b before (command.Edit e) answer after = IsTextOf answer (λ text. AnswersEdit before e text after)
+AnswersCommand b before command.Write answer after = (answer ≡ turn.Text (codes "refused Command")) × (after ≡ before)
 AnswersCommand b before command.Unknown answer after = (answer ≡ turn.Text (codes "refused Command")) × (after ≡ before)
 AnswersCommand b before command.TooLarge answer after = (answer ≡ turn.Text (codes "refused TooLarge")) × (after ≡ before)
 

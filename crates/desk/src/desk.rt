@@ -7,7 +7,7 @@ ghost use Rattle.edit_session.specs.Sessions.{editing_of, IsSound};
 ghost use Rattle.edit_session.specs.declared.running.Phase.{Phase};
 ghost use Rattle.edit_session.specs.declared.session.SupplyReason.{SupplyReason};
 ghost use Rattle.command_lines.specs.Commands.{command_of};
-ghost use Rattle.desk.specs.Turns.{editing_at, limit_at, limit_after, AnswersEdit, AnswersLine, Forgoes, IsRunTurn, IsSettled, StaysSettled};
+ghost use Rattle.desk.specs.Turns.{editing_at, limit_at, limit_after, AnswersEdit, AnswersLine, Forgoes, IsRunTurn, IsSettled, MayBeDone, StaysSettled};
 
 use crate::answers::{done_text, edit_refusal_text, edited_text, refused_as};
 use command_lines::commands::{Command, command_of};
@@ -73,7 +73,9 @@ impl<C: Catalogue> Desk<C> {
         match command_of(self.alloc, line)? {
             Command::Run(limit) => self.run(limit),
             Command::Edit(edit) => Ok(DeskTurn::Text(self.edit(edit)?)),
-            Command::Unknown => Ok(DeskTurn::Text(refused_as(self.alloc, b"Command")?)),
+            Command::Write | Command::Unknown => Ok(DeskTurn::Text(refused_as(
+                self.alloc, b"Command",
+            )?)),
             Command::TooLarge => Ok(DeskTurn::Text(refused_as(self.alloc, b"TooLarge")?)),
         }
     }
@@ -104,6 +106,8 @@ impl<C: Catalogue> Desk<C> {
         ensures ran { let before = editing_at SimpleModule-box self.old in
             let after = editing_at SimpleModule-box self.new in
             IfOk result (λ turn. IsRunTurn C.behaviour before limit turn after) }
+        ensures memory { let after = editing_at SimpleModule-box self.new in
+            OnErr result (MayBeDone C.behaviour after limit) }
     {
         self.limit = limit;
         match self.session.run(limit)? {
