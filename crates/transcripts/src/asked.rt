@@ -1,0 +1,12 @@
+//! What is asked.
+
+use sim_values::text::Text;
+
+/// What is asked.
+#[derive(Debug, Drop)]
+pub enum Asked {
+    /// A command line, without its end.
+    Line(Text),
+    /// A line that is too long to be kept.
+    TooLong,
+}
