@@ -1,6 +1,6 @@
 //! The files that a run is written to.
 
-ghost use Rattle.std.specs.Prelude.{◌≡◌, [], OnOk};
+ghost use Rattle.std.specs.Prelude.{◌≡◌, [], IfOk, OnOk};
 ghost use Rattle.sim_values.specs.Counts.{next_count};
 ghost use Rattle.nedrun.specs.Devices.{unwritten};
 
@@ -36,7 +36,7 @@ impl<R: Files> Write for LateFile<'_, R> {
     }
 }
 
-/// A file as a device. Bytes are gathered before they are written, in room that is there before the run.
+/// A file as a device. Bytes are gathered before they are written, in room that is there before the first of them.
 #[derive(Drop)]
 pub struct FileOut<'a, R: Files> {
     rt: &'a R,
@@ -50,7 +50,9 @@ pub struct FileOut<'a, R: Files> {
 
 impl<'a, R: Files + AllocGlobal> FileOut<'a, R> {
     /// The file of that path. It is not made yet.
-    pub fn new(rt: &'a R, path: String) -> Result<FileOut<'a, R>, Stop> {
+    pub fn new(rt: &'a R, path: String) -> Result<FileOut<'a, R>, Stop>
+        ensures { IfOk result (λ out. out.content.bytes ≡ []) }
+    {
         let file = LateFile {
             rt,
             path: String::from_str(rt.alloc(), path.as_str())?,
@@ -71,12 +73,20 @@ impl<'a, R: Files + AllocGlobal> FileOut<'a, R> {
 
     /// Writes what is gathered still. Where that succeeds, all that it took is written.
     pub fn finish(&mut self) -> Result<(), Stop>
-        ensures { OnOk result (unwritten self.new ≡ []) }
+        ensures written { OnOk result (unwritten self.new ≡ []) }
+        ensures content { self.new.content.bytes ≡ self.old.content.bytes }
     {
         match self.writer.flush() {
             Ok(()) => Ok(()),
             Err(error) => Err(unwritable(self.rt, self.path.as_str(), error)),
         }
+    }
+
+    /// What it took.
+    pub fn content(&self) -> &Noted
+        ensures { result.now ≡ self.now.content }
+    {
+        &self.content
     }
 
     /// What ends the program where the last write failed.

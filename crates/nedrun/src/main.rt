@@ -1,86 +1,74 @@
 //! Runs a network of modules from its files, and writes the result files of the run.
 #![tactic(auto)]
 
-ghost use Rattle.std.specs.Prelude.{IfOk, string_bytes};
+ghost use Rattle.std.specs.Prelude.{◌≡◌, [], IsSome, IfOk, string_bytes};
 ghost use Rattle.model_answers.specs.declared.model.Model.{Model};
 ghost use Rattle.model_texts.specs.Models.{IsModelOf};
 ghost use Rattle.stock_modules.specs.Stock.{stock};
-ghost use Rattle.stock_desk.specs.SingleRuns.{told, EndsAs};
+ghost use Rattle.stock_desk.specs.Served.{fresh_machine};
+ghost use Rattle.stock_desk.specs.Serving.{Ends, MayStop};
+ghost use Rattle.nedrun.specs.declared.user.Ask.TheVariants as ask;
+ghost use Rattle.nedrun.specs.Typing.{AsksInOrder};
 
 mod devices;
 mod files;
 mod output;
 mod stops;
+mod user;
 mod words;
 
-use devices::FileOut;
 use model_texts::begin::BeginFault;
-use ned_syntax::texts::NedTexts;
-use output::Teller;
-use result_files::writer::Out;
-use std::alloc::Global;
 use std::process::ExitCode;
 use std::rt::{Env, Files};
-use stock_desk::single_run::{Audience, Ended, run_once};
+use stock_desk::serving;
+use stock_desk::serving::serve;
 use stops::Stop;
 use text_explanations::sources::Sources;
+use user::User;
 use words::Words;
 
-/// Runs the texts as the words say: the configuration, for at most so many events.
-fn run_words<A: Audience, O: Out>(
-    alloc: Global,
-    words: &Words,
-    texts: &NedTexts,
-    ini: &[u8],
-    audience: &mut A,
-    scalars: &mut O,
-    vectors: &mut O,
-) -> Result<Ended, BeginFault>
-    // The limit and the configuration of the words are those of the run.
-    ensures { IfOk result (λ ended. (model : Model)
-        × IsModelOf texts.now ini.now (string_bytes words.now.config) model
-        × EndsAs stock model words.now.limit
-        (told (A.heard audience.old) (O.taken scalars.old) (O.taken vectors.old))
-        (told (A.heard audience.new) (O.taken scalars.new) (O.taken vectors.new)) ended) }
+/// Serves the user at a desk of the model that the files make, until the user asks nothing more or can't go on.
+fn serve_user<'a, R: Files + Input + Print + Eprint + AllocGlobal>(
+    rt: &'a R,
+    words: &'a Words,
+    sources: &'a Sources<'a>,
+) -> Result<(User<'a, R>, serving::Stop), BeginFault>
+    // What the user hears is what the plain machine says to what the user asks.
+    ensures served { IfOk result (λ r. (model : Model)
+        × IsModelOf sources.now.texts.now sources.now.ini.now (string_bytes words.now.config) model
+        × Ends stock (fresh_machine model) r.0.transcript.asked r.0.transcript.heard r.1) }
+    // What is asked: the run of the words, then to write its files, then the lines of standard input;
+    ensures asked { IfOk result (λ r. AsksInOrder words.now.limit r.0.ask r.0.transcript.asked
+        r.0.lines.source.given.bytes r.0.lines.buffer) }
+    // and nothing that it gave is left unasked, unless the user can't go on, or a device fails.
+    ensures stopped { IfOk result (λ r. MayStop ((r.0.ask ≡ ask.Line) × (r.0.lines.buffer.bytes ≡ []))
+        (IsSome r.0.stop) r.1) }
 {
-    run_once(
-        alloc,
-        texts,
-        ini,
+    let user = User::new(rt, words, sources);
+    serve(
+        rt.alloc(),
+        sources.texts,
+        sources.ini,
         words.config.as_bytes(),
-        words.limit,
-        audience,
-        scalars,
-        vectors,
+        user,
     )
 }
 
-/// Runs the files to the limit, and tells what becomes of it.
-fn run<R: Files + Print + Eprint + AllocGlobal>(
+/// Serves the user, and tells why it ended early where it did.
+fn session<R: Files + Input + Print + Eprint + AllocGlobal>(
     rt: &R,
     words: &Words,
     sources: &Sources<'_>,
 ) -> Result<(), Stop> {
-    let alloc = rt.alloc();
-    let mut teller = Teller::new(rt, sources);
-    let mut scalars = FileOut::new(rt, output::file_path(alloc, words, "sca")?)?;
-    let mut vectors = FileOut::new(rt, output::file_path(alloc, words, "vec")?)?;
-    match run_words(
-        alloc,
-        words,
-        sources.texts,
-        sources.ini,
-        &mut teller,
-        &mut scalars,
-        &mut vectors,
-    ) {
-        Ok(ended) => output::end(rt, sources, ended, teller, &mut scalars, &mut vectors),
-        Err(fault) => Err(Stop::refused(alloc, fault, sources)),
+    match serve_user(rt, words, sources) {
+        Ok((_, serving::Stop::End)) => Ok(()),
+        Ok((user, _)) => Err(user.into_stop()),
+        Err(fault) => Err(Stop::refused(rt.alloc(), fault, sources)),
     }
 }
 
 /// Does what the words ask for.
-fn work<R: Files + Env + Print + Eprint + AllocGlobal>(rt: &R) -> Result<(), Stop> {
+fn work<R: Files + Env + Input + Print + Eprint + AllocGlobal>(rt: &R) -> Result<(), Stop> {
     let words = Words::read(rt)?;
     let ini = files::read_text(rt, words.ini.as_str())?;
     let texts = files::read_texts(rt, words.texts.as_slice())?;
@@ -92,11 +80,11 @@ fn work<R: Files + Env + Print + Eprint + AllocGlobal>(rt: &R) -> Result<(), Sto
         texts: &texts,
         config: words.config.as_str(),
     };
-    run(rt, &words, &sources)
+    session(rt, &words, &sources)
 }
 
-/// Status 0; 1 where a file or a stream fails, or memory runs out before the run; 2 where the words
-/// or the texts are refused.
+/// Status 0 at the end of standard input; 1 where a file or a stream fails, where memory runs out for what the program says or
+/// reads, or where as many lines were read as are; 2 where the words or the texts are refused.
 fn main(rt: HostRuntime) -> ExitCode {
     match work(&rt) {
         Ok(()) => ExitCode::SUCCESS,

@@ -8,6 +8,7 @@ ghost use Rattle.nedrun.specs.declared.stops.Stop.TheVariants as stops;
 use clap::error::ErrorKind;
 use desk::answers::refusal_text;
 use explanations::refusals::refusal_line;
+use line_reading::line::MOST_LINES;
 use model_texts::begin::BeginFault;
 use sim_values::NoMemory;
 use sim_values::text::Text;
@@ -25,6 +26,8 @@ pub enum Stop {
     Refused(Text, String),
     /// A file, a folder or a stream failed: which, and what failed.
     Failed(String, io::Error),
+    /// As many command lines were read as are read at most.
+    Spent,
     /// Memory ran out.
     NoMemory(NoMemory),
 }
@@ -65,6 +68,12 @@ impl Stop {
             Stop::Words(error) => (error.print(rt), words_status(error)),
             Stop::Refused(text, line) => (say_refused(rt, text, line.as_str()), 2),
             Stop::Failed(line, error) => (eprintln!(rt; "nedrun: {error}\n{line}"), 1),
+            Stop::Spent => (
+                eprintln!(rt;
+                    "nedrun: the limit of {MOST_LINES} command lines is reached: start the program again"
+                ),
+                1,
+            ),
             Stop::NoMemory(_) => (eprintln!(rt; "nedrun: NoMemory"), 1),
         };
         if told.is_ok() { status } else { 1 }

@@ -1,19 +1,19 @@
 //! A scenario at a desk, with the stock modules.
 
-ghost use Rattle.std.specs.Prelude.{◌≡◌, ◌++◌, ◌∷◌, [], OnOk};
+ghost use Rattle.std.specs.Prelude.{◌≡◌, ℕ, ◌++◌, ◌∷◌, [], IfOk, IfSome, IsSome, OnOk, OnErr, length};
+ghost use Rattle.transcripts.specs.Heard as heards;
 
 use crate::scenario::Scenario;
 use desk::answers::refusal_text;
 use model_texts::begin::BeginFault;
+use result_files::buffer::Buffer;
 use sim_values::NoMemory;
 use sim_values::text::Text;
 use std::alloc::Global;
-use stock_desk::replies::{Files, Reply, replies_to};
-
-/// The lines of a scenario that ask for a file of the last run.
-const SCALARS: &str = "scalars";
-
-const VECTORS: &str = "vectors";
+use stock_desk::serving::{Client, Gone, Page, Pages, Stop, serve};
+use text_files::noted::Noted;
+use transcripts::asked::Asked;
+use transcripts::transcript::Transcript;
 
 /// Writes a line, and its end.
 fn say(told: &mut Vec<u8>, line: &[u8]) -> Result<(), NoMemory>
@@ -24,70 +24,204 @@ fn say(told: &mut Vec<u8>, line: &[u8]) -> Result<(), NoMemory>
     Ok(())
 }
 
-/// The command lines: all lines but those that ask for a file.
-fn commands(alloc: Global, asked: &str) -> Result<Vec<Text>, NoMemory> {
+/// The lines of a text.
+fn lines_of(alloc: Global, asked: &str) -> Result<Vec<Text>, NoMemory> {
     let mut lines = Vec::new(alloc);
     for line in asked.lines() {
-        if line != SCALARS && line != VECTORS {
-            lines.push(Text::from_str(alloc, line)?)?;
-        }
+        lines.push(Text::from_str(alloc, line)?)?;
     }
     Ok(lines)
 }
 
-/// Writes the text of a reply.
-fn tell_reply(told: &mut Vec<u8>, reply: &Reply) -> Result<(), NoMemory> {
-    match reply {
-        Reply::Done(text, _) => say(told, text.as_bytes()),
-        Reply::Answered(text) => say(told, text.as_bytes()),
-        Reply::Unwritten(_, _) | Reply::NoMemory(_) => say(told, b"refused NoMemory".as_slice()),
+/// The file of the last run that a line asks for.
+fn file_asked(line: &[u8]) -> Option<Page> {
+    match line {
+        b"scalars" => Some(Page::Scalars),
+        b"vectors" => Some(Page::Vectors),
+        _ => None,
     }
 }
 
-/// The file of a run that is done that the line asks for.
-fn file_asked<'a>(line: &str, files: &'a Files) -> &'a [u8] {
-    if line == SCALARS {
-        files.scalars.as_bytes()
-    } else {
-        files.vectors.as_bytes()
-    }
+/// Asks the lines of a scenario, and writes down what comes of each.
+#[derive(Drop)]
+struct Player<'a> {
+    alloc: Global,
+    lines: &'a [Text],
+    /// The file that the line asked for that was asked last. Its bytes are told, in place of the answer.
+    file: Option<Page>,
+    told: Vec<u8>,
+    transcript: Transcript,
+    /// Why the player can't go on.
+    error: Option<NoMemory>,
 }
 
-/// Writes the file of the last run that the line asks for, or that there is none.
-fn tell_file(told: &mut Vec<u8>, line: &str, last: Option<&Reply>) -> Result<(), NoMemory> {
-    match last {
-        Some(Reply::Done(_, files)) => {
-            told.extend_from_slice(file_asked(line, files))?;
-            Ok(())
-        }
-        _ => say(told, b"no file".as_slice()),
-    }
-}
-
-/// The last run, behind a reply: an edit that is made leaves none.
-fn last_behind<'a>(last: Option<&'a Reply>, reply: &'a Reply) -> Option<&'a Reply> {
-    match reply {
-        Reply::Answered(text) if text.as_bytes().starts_with(b"edited") => None,
-        Reply::Answered(_) => last,
-        _ => Some(reply),
-    }
-}
-
-/// What the lines lead to, with the replies to their commands.
-fn tell(alloc: Global, asked: &str, replies: &[Reply]) -> Result<Vec<u8>, NoMemory> {
-    let mut told = Vec::new(alloc);
-    let mut last = None;
-    let mut left = replies;
-    for line in asked.lines() {
-        if line == SCALARS || line == VECTORS {
-            tell_file(&mut told, line, last)?;
-        } else if let [reply, rest @ ..] = left {
-            tell_reply(&mut told, reply)?;
-            last = last_behind(last, reply);
-            left = rest;
+impl<'a> Player<'a> {
+    /// Who has asked nothing yet.
+    fn new(alloc: Global, lines: &'a [Text]) -> Player<'a>
+        ensures unasked { result.transcript.asked ≡ [] }
+        ensures unheard { result.transcript.heard ≡ [] }
+    {
+        Player {
+            alloc,
+            lines,
+            file: None,
+            told: Vec::new(alloc),
+            transcript: Transcript::new(),
+            error: None,
         }
     }
-    Ok(told)
+
+    /// Memory ran out.
+    fn gone(&mut self, error: NoMemory) -> Gone
+        ensures lines { self.new.lines ≡ self.old.lines }
+        ensures transcript { self.new.transcript ≡ self.old.transcript }
+        ensures stuck { IsSome self.new.error }
+    {
+        self.error = Some(error);
+        Gone
+    }
+
+    /// Asks that line.
+    fn ask(&mut self, line: &[u8]) -> Result<Option<Asked>, Gone>
+        ensures asked { IfOk result (λ next. IfSome next (λ a. self.new.transcript.asked ≡ self.old.transcript.asked ++ a ∷ [])) }
+        ensures some { IfOk result (λ next. IsSome next) }
+        ensures none { OnErr result (self.new.transcript.asked ≡ self.old.transcript.asked) }
+        ensures heard { self.new.transcript.heard ≡ self.old.transcript.heard }
+        ensures lines { self.new.lines ≡ self.old.lines }
+        ensures stuck { OnErr result (IsSome self.new.error) }
+    {
+        match Text::from_bytes(self.alloc, line) {
+            Ok(text) => {
+                self.transcript.asks_line(text.as_bytes());
+                Ok(Some(Asked::Line(text)))
+            }
+            Err(error) => Err(self.gone(error.into())),
+        }
+    }
+
+    /// Writes down an answer. Where a file was asked for, it is there in place of the answer, or there is none.
+    fn tell(&mut self, answer: &[u8]) -> Result<(), NoMemory>
+        ensures lines { self.new.lines ≡ self.old.lines }
+        ensures transcript { self.new.transcript ≡ self.old.transcript }
+    {
+        match self.file {
+            None => say(&mut self.told, answer),
+            Some(_) if answer == b"written".as_slice() => Ok(()),
+            Some(_) => say(&mut self.told, b"no file".as_slice()),
+        }
+    }
+
+    /// Writes down the file that was asked for.
+    fn tell_file(&mut self, pages: &Pages<Buffer>) -> Result<(), NoMemory>
+        ensures lines { self.new.lines ≡ self.old.lines }
+        ensures transcript { self.new.transcript ≡ self.old.transcript }
+    {
+        match self.file {
+            None => {}
+            Some(Page::Scalars) => self.told.extend_from_slice(pages.scalars.as_bytes())?,
+            Some(Page::Vectors) => self.told.extend_from_slice(pages.vectors.as_bytes())?,
+        }
+        Ok(())
+    }
+
+    /// What was written down, all of it.
+    fn into_told(self) -> Result<Vec<u8>, NoMemory> {
+        match self.error {
+            None => Ok(self.told),
+            Some(error) => Err(error),
+        }
+    }
+}
+
+impl Client<Buffer> for Player<'_> {
+    ghost asked = { λ player. player.transcript.asked };
+
+    ghost heard = { λ player. player.transcript.heard };
+
+    ghost left = { λ player. length player.lines.now };
+
+    ghost keeps = { λ _. Unit {0} };
+
+    ghost label = { λ _. 0 };
+
+    ghost is_over = { λ player. player.lines.now ≡ [] };
+
+    ghost is_gone = { λ player. IsSome player.error };
+
+    fn next(&mut self) -> Result<Option<Asked>, Gone> {
+        match self.lines {
+            [] => Ok(None),
+            [line, rest @ ..] => {
+                self.lines = rest;
+                self.file = file_asked(line.as_bytes());
+                if self.file.is_some() {
+                    self.ask(b"write".as_slice())
+                } else {
+                    self.ask(line.as_bytes())
+                }
+            }
+        }
+    }
+
+    fn hear(&mut self, answer: &[u8]) -> Result<(), Gone> {
+        match self.tell(answer) {
+            Ok(()) => {
+                self.transcript.hears(answer);
+                Ok(())
+            }
+            Err(error) => Err(self.gone(error)),
+        }
+    }
+
+    fn open(&mut self, _config: &[u8]) -> Result<Pages<Buffer>, Gone>
+        requires kept { Unit {0} }
+        ensures kept { Unit {0} }
+        ensures label { ◌≡◌ {A = ℕ} 0 0 }
+        ensures stuck { OnErr result (IsSome self.new.error) }
+        ensures scalars { IfOk result (λ pages. pages.scalars.bytes ≡ []) }
+        ensures vectors { IfOk result (λ pages. pages.vectors.bytes ≡ []) }
+        ensures heard { self.new.transcript.heard ≡ self.old.transcript.heard }
+        ensures asked { self.new.transcript.asked ≡ self.old.transcript.asked }
+        ensures left { length self.new.lines.now ≡ length self.old.lines.now }
+    {
+        Ok(Pages {
+            scalars: Buffer::new(self.alloc),
+            vectors: Buffer::new(self.alloc),
+        })
+    }
+
+    fn keep(&mut self, pages: Pages<Buffer>) -> Result<(), Gone>
+        requires kept { Unit {0} }
+        ensures kept { Unit {0} }
+        ensures label { ◌≡◌ {A = ℕ} 0 0 }
+        ensures stuck { OnErr result (IsSome self.new.error) }
+        ensures heard { OnOk result (self.new.transcript.heard ≡ self.old.transcript.heard
+            ++ heards.Files pages.scalars.bytes pages.vectors.bytes ∷ []) }
+        ensures gone { OnErr result (self.new.transcript.heard ≡ self.old.transcript.heard) }
+        ensures asked { self.new.transcript.asked ≡ self.old.transcript.asked }
+        ensures left { length self.new.lines.now ≡ length self.old.lines.now }
+    {
+        match self.tell_file(&pages) {
+            Ok(()) => {
+                let mut scalars = Noted::new();
+                scalars.note(pages.scalars.as_bytes());
+                let mut vectors = Noted::new();
+                vectors.note(pages.vectors.as_bytes());
+                self.transcript.hears_files(&scalars, &vectors);
+                Ok(())
+            }
+            Err(error) => Err(self.gone(error)),
+        }
+    }
+
+    fn lose(&mut self, _pages: Pages<Buffer>, _page: Page)
+        requires kept { Unit {0} }
+        ensures kept { Unit {0} }
+        ensures label { ◌≡◌ {A = ℕ} 0 0 }
+        ensures heard { self.new.transcript.heard ≡ self.old.transcript.heard }
+        ensures asked { self.new.transcript.asked ≡ self.old.transcript.asked }
+        ensures left { length self.new.lines.now ≡ length self.old.lines.now }
+    {}
 }
 
 /// Says why the texts make no model.
@@ -99,17 +233,28 @@ fn refused(alloc: Global, fault: BeginFault) -> Result<Vec<u8>, NoMemory> {
     Ok(told)
 }
 
+/// What a player wrote down who was served; where a file had no room, that is said at the end.
+fn told_by(player: Player<'_>, stop: Stop) -> Result<Vec<u8>, NoMemory> {
+    let mut told = player.into_told()?;
+    match stop {
+        Stop::End => {}
+        Stop::Gone | Stop::Device(_, _) => say(&mut told, b"no room".as_slice())?,
+    }
+    Ok(told)
+}
+
 /// Plays a scenario. Answers what its lines lead to.
 pub fn play(alloc: Global, scenario: &Scenario<'_>) -> Result<Vec<u8>, NoMemory> {
-    let lines = commands(alloc, scenario.asked)?;
-    match replies_to(
+    let lines = lines_of(alloc, scenario.asked)?;
+    let player = Player::new(alloc, lines.as_slice());
+    match serve(
         alloc,
         &scenario.texts,
         scenario.ini.as_bytes(),
         scenario.config.as_bytes(),
-        lines.as_slice(),
+        player,
     ) {
-        Ok(replies) => tell(alloc, scenario.asked, replies.as_slice()),
+        Ok((player, stop)) => told_by(player, stop),
         Err(fault) => refused(alloc, fault),
     }
 }

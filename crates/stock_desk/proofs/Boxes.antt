@@ -10,7 +10,7 @@ use Rattle.model_answers.specs.Answering.{answer_of}
 use Rattle.run_semantics.specs.World.{World, empty, asked}
 use Rattle.run_semantics.specs.Perform.{◌>>=◌}
 use Rattle.run_semantics.specs.Run.{Part, built, inside_asked, network_record, parts_from, record_under, rooted, unless_many, with_class}
-use Rattle.stock_desk.specs.Answerings.{boxes_after, boxes_of, most_boxes}
+use Rattle.stock_desk.specs.Boxes.{boxes_after, boxes_of, most_boxes}
 
 with_few : (id : ℕ) (class : Option (List ℕ)) (parts : List Part) (n : ℕ) → length parts ≤ n → length (with_class id class parts) ≤ suc n
 with_few id (Some kind) parts n few = omega (arith, few)

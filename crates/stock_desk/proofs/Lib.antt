@@ -1,4 +1,4 @@
 pub mod Boxes
-pub mod Lists
-pub mod Moving
+pub mod Hearing
+pub mod ServingTurns
 pub mod Turning

@@ -1,4 +1,3 @@
-pub mod Answerings
-pub mod Machine
-pub mod SingleRuns
-pub mod Steps
+pub mod Boxes
+pub mod Served
+pub mod Serving

@@ -1,5 +1,4 @@
-//! The desk with the stock modules: lists of command lines, and what they lead to.
+//! The desk with the stock modules, and who asks at it.
 #![tactic(auto)]
 
-pub mod replies;
-pub mod single_run;
+pub mod serving;

@@ -1,0 +1,195 @@
+-- One turn of a desk with a client after the other.
+use Rattle.std.proofs.Common.{◌≡◌, ℕ, ◌+◌, ◌*◌, ◌<◌, ◌≤◌, List, [], ◌∷◌, ◌++◌, Option, Some, None, IsSome, codes, arith, inl, inr, refl, sym, ap, ◌∙◌, subst}
+use Rattle.module_api.specs.Behaviour.{Behaviour}
+use Rattle.command_lines.specs.declared.commands.Command.{Command}
+use Rattle.command_lines.specs.declared.commands.Command.TheVariants as command
+use Rattle.edit_session.specs.Editing.{Completed, Editing, IsUndone, fresh_editing, waited_for, wanted_of}
+use Rattle.edit_session.specs.declared.running.Phase.{Phase}
+use Rattle.model_answers.specs.declared.model.Model.{Model}
+use Rattle.stock_modules.specs.declared.modules.StockModule.{StockModule}
+use Rattle.edit_session.specs.declared.running.Phase.TheVariants.{Idle, Waiting, Declined}
+use Rattle.stock_desk.specs.Boxes.{most_boxes}
+use Rattle.stock_desk.specs.Served.{Machine, AreHeard, Hears, command_asked, fresh_machine}
+use Rattle.stock_desk.specs.Serving.{Seen, ComesTo, Ends, EndsServing, HearsAnswer, HearsNext, IsAt, IsGoing, IsNextServing, IsRunIn, IsServed, IsServingTurn, NeedsBox, Stands, StandsBy, WaitsIn, left_in_run, left_seen}
+use Rattle.transcripts.specs.Heard.{Heard}
+use Rattle.transcripts.specs.declared.asked.Asked.{Asked}
+use Rattle.stock_desk.specs.declared.serving.Next.{Next}
+use Rattle.stock_desk.specs.declared.serving.Next.TheVariants as next
+use Rattle.stock_desk.specs.declared.serving.Stop.{Stop}
+use Rattle.stock_desk.specs.declared.serving.Stop.TheVariants as stop
+use Rattle.stock_desk.specs.declared.serving.Turn.{Turn}
+use Rattle.stock_desk.specs.declared.serving.Turn.TheVariants as turn
+use Rattle.stock_desk.proofs.Hearing.{heard_more, tells_memory}
+use Rattle.stock_desk.proofs.Turning.{few_left}
+
+-- ---- a run goes on
+
+still_going : (b : Behaviour) (s : Machine) (limit : ℕ) (before after : Seen) → WaitsIn before after limit → IsGoing b s limit before → Stands b s after
+still_going b s limit before after w g = subst (λ r. StandsBy r b s after) (sym w.running) (record {
+  before = g.before;
+  last = g.last;
+  all = w.asked ∙ g.all;
+  runs = g.runs;
+  machine = g.machine;
+  model = w.model ∙ g.model;
+  heard = subst (λ (h : List Heard). AreHeard b s g.before h g.machine) (sym w.heard) g.heard;
+})
+
+-- what is left of a run that goes on, with all that may be asked
+abbrev left_going : Seen → ℕ
+left_going v = v.may * (most_boxes + 4) + (left_in_run v.editing + 1)
+
+no_more_left : (n : ℕ) (before after : Seen) (limit : ℕ) → left_going before ≤ n → WaitsIn before after limit → left_in_run after.editing ≤ left_in_run before.editing
+    → left_seen after ≤ n
+no_more_left n before after limit fits w less = rw (w.running, w.may) (omega (arith, less, fits))
+
+less_left : (n : ℕ) (before after : Seen) (limit : ℕ) → left_going before ≤ n → WaitsIn before after limit → left_in_run after.editing < left_in_run before.editing
+    → left_seen after < n
+less_left n before after limit fits w less = rw (w.running, w.may) (omega (arith, less, fits))
+
+none_left : (n : ℕ) (before after : Seen) → left_going before ≤ n → after.running ≡ None → after.may ≡ before.may → left_seen after < n
+none_left n before after fits none may = rw (none, may) (omega (arith, fits))
+
+-- it is heard: all that was asked is
+run_served : (b : Behaviour) (s mid : Machine) (limit : ℕ) (before after : Seen) (g : IsGoing b s limit before) (front : List Heard) → after.asked ≡ before.asked
+    → after.heard ≡ before.heard ++ front → Hears b g.machine (command.Run limit) front mid → IsAt b after.editing mid → IsServed b s after
+run_served b s mid limit before after g front asked heard hears at = record {
+  machine = mid;
+  at = at;
+  heard = rw (asked, heard, g.all) (heard_more b s g.machine mid g.before before.heard front g.last g.heard (rw g.runs hears));
+}
+
+run_goes : (b : Behaviour) (limit : ℕ) (first before after : Seen) (t : Turn) → ((s : Machine) → Stands b s first → IsGoing b s limit before) → left_going before ≤ left_seen first
+    → IsRunIn b limit before after t → IsServingTurn b first after t
+run_goes b limit first before after (turn.Need made) on fits run = record {
+  goes_on = λ s stands. still_going b s limit before after run.0 (on s stands);
+  wanted = run.1;
+  waits = run.2;
+  going = rw run.0.running refl;
+  left = no_more_left (left_seen first) before after limit fits run.0 run.3;
+}
+run_goes b limit first before after (turn.Over next.GoOn) on fits (inl waits) = (
+  (λ s stands. still_going b s limit before after waits.0 (on s stands)),
+  less_left (left_seen first) before after limit fits waits.0 waits.1,
+)
+run_goes b limit first before after (turn.Over next.GoOn) on fits (inr run) = (
+  (λ s stands. let g = on s stands in let h = run.3 g.machine g.model in
+      subst (λ r. StandsBy r b s after) (sym run.2) (run_served b s h.1 limit before after g h.0 run.0 h.2 h.3 h.4)),
+  none_left (left_seen first) before after fits run.2 run.1,
+)
+run_goes b limit first before after (turn.Over (next.Stop stop.Gone)) on fits cut = λ s stands. let g = on s stands in
+    inr (record { before = g.before; last = g.last; all = cut.asked ∙ g.all; front = before.heard; more = cut.more; heard_is = cut.heard; left = g.machine; are = g.heard })
+run_goes b limit first before after (turn.Over (next.Stop stop.End)) on fits run = absurd run
+run_goes b limit first before after (turn.Over (next.Stop (stop.Device page written))) on fits run = absurd run
+
+-- a run that goes on
+pub run_turn : (b : Behaviour) (limit : ℕ) (before after : Seen) (t : Turn) → before.running ≡ Some limit → IsRunIn b limit before after t → IsServingTurn b before after t
+run_turn b limit before after t is run =
+    run_goes b limit before before after t (λ s stands. subst (λ r. StandsBy r b s before) is stands) (rw is (omega arith)) run
+
+-- ---- something is asked
+
+-- What is seen where this was asked last, and no run went on.
+pub record AsksNow (before mid : Seen) (a : Asked) : Type 0 where
+  pub idle : before.running ≡ None
+  pub asked : mid.asked ≡ before.asked ++ a ∷ []
+  pub heard : mid.heard ≡ before.heard
+  pub less : mid.may < before.may
+  pub editing : mid.editing ≡ before.editing
+
+served : (b : Behaviour) (s : Machine) (before : Seen) → before.running ≡ None → Stands b s before → IsServed b s before
+served b s before idle stands = subst (λ r. StandsBy r b s before) idle stands
+
+fewer_going : (n m x y : ℕ) → m < n → x ≤ most_boxes + 2 → m * (most_boxes + 4) + (x + 1) ≤ n * (most_boxes + 4) + y
+fewer_going n m x y less few = omega (arith, less, few)
+
+fewer_left : (n m y : ℕ) → m < n → m * (most_boxes + 4) + 0 < n * (most_boxes + 4) + y
+fewer_left n m y less = omega (arith, less)
+
+now_going : (b : Behaviour) (s : Machine) (a : Asked) (limit : ℕ) (before mid : Seen) → command_asked a ≡ command.Run limit → AsksNow before mid a → IsServed b s before → IsGoing b s limit mid
+now_going b s a limit before mid is asks v = record {
+  before = before.asked;
+  last = a;
+  all = asks.asked;
+  runs = is;
+  machine = v.machine;
+  model = ap (λ (e : Editing). e.model) asks.editing ∙ v.at.model;
+  heard = subst (λ (h : List Heard). AreHeard b s before.asked h v.machine) (sym asks.heard) v.heard;
+}
+
+now_heard : (b : Behaviour) (s : Machine) (a : Asked) (c : Command) (before mid after : Seen) (n : Next) → command_asked a ≡ c → AsksNow before mid a → HearsNext b c mid after n
+    → IsNextServing b before after n
+now_heard b s a c before mid after next.GoOn is asks hears = (
+  (λ t stands. let v = served b t before asks.idle stands in
+      let h = hears.3 v.machine (subst (λ e. IsAt b e v.machine) (sym asks.editing) v.at) in
+      subst (λ r. StandsBy r b t after) (sym hears.2) (record {
+        machine = h.1;
+        at = h.4;
+        heard = rw (hears.0, asks.asked, h.2, asks.heard) (heard_more b t v.machine h.1 before.asked before.heard h.0 a v.heard (rw is h.3));
+      })),
+  rw (hears.2, hears.1) (fewer_left before.may mid.may _ asks.less),
+)
+now_heard b s a c before mid after (next.Stop stop.Gone) is asks cut = λ t stands. let v = served b t before asks.idle stands in
+    inr (record { before = before.asked; last = a; all = cut.asked ∙ asks.asked; front = before.heard; more = cut.more; heard_is = cut.heard ∙ ap (λ (h : List Heard). h ++ cut.more) asks.heard; left = v.machine; are = v.heard })
+now_heard b s a c before mid after (next.Stop (stop.Device page written)) is asks cut = λ t stands. let v = served b t before asks.idle stands in
+    record { before = before.asked; last = a; all = cut.asked ∙ asks.asked; front = before.heard; more = cut.more; heard_is = cut.heard ∙ ap (λ (h : List Heard). h ++ cut.more) asks.heard; left = v.machine; are = v.heard }
+now_heard b s a c before mid after (next.Stop stop.End) is asks cut = absurd cut
+
+by_command : (b : Behaviour) (s : Machine) (a : Asked) (c : Command) (before mid after : Seen) (t : Turn) → command_asked a ≡ c → AsksNow before mid a → ComesTo b c mid after t
+    → IsServingTurn b before after t
+by_command b s a (command.Run limit) before mid after t is asks run =
+    run_goes b limit before mid after t (λ m stands. now_going b m a limit before mid is asks (served b m before asks.idle stands))
+    (fewer_going before.may mid.may (left_in_run mid.editing) _ asks.less (few_left mid.editing)) run
+by_command b s a (command.Edit e) before mid after (turn.Over n) is asks hears = now_heard b s a (command.Edit e) before mid after n is asks hears
+by_command b s a command.Write before mid after (turn.Over n) is asks hears = now_heard b s a command.Write before mid after n is asks hears
+by_command b s a command.Unknown before mid after (turn.Over n) is asks hears = now_heard b s a command.Unknown before mid after n is asks hears
+by_command b s a command.TooLarge before mid after (turn.Over n) is asks hears = now_heard b s a command.TooLarge before mid after n is asks hears
+by_command b s a (command.Edit e) before mid after (turn.Need made) is asks hears = absurd hears
+by_command b s a command.Write before mid after (turn.Need made) is asks hears = absurd hears
+by_command b s a command.Unknown before mid after (turn.Need made) is asks hears = absurd hears
+by_command b s a command.TooLarge before mid after (turn.Need made) is asks hears = absurd hears
+
+pub asked_turn : (b : Behaviour) (a : Asked) (before mid after : Seen) (t : Turn) → AsksNow before mid a → ComesTo b (command_asked a) mid after t → IsServingTurn b before after t
+asked_turn b a before mid after t asks comes = by_command b (record { model = before.editing.model; last = None }) a (command_asked a) before mid after t refl asks comes
+
+-- ---- memory runs out for a box
+
+some_limit : (o : Option ℕ) → IsSome o → (limit : ℕ) × (o ≡ Some limit)
+some_limit None is = absurd cc
+some_limit (Some limit) is = (limit, refl)
+
+undone : (phase : Phase) (m : Model) (held : ℕ) (done : Option Completed) → IsSome (waited_for phase m held) → IsUndone phase done → done ≡ None
+undone Idle m held d is none = absurd cc
+undone Waiting m held d is none = none
+undone Declined m held d is none = absurd cc
+
+pub memory_turn : (b : Behaviour) (before after : Seen) (n : Next) → IsSome before.running → IsSome (wanted_of before.editing) → IsUndone before.editing.phase before.editing.done
+    → after.editing ≡ before.editing → after.asked ≡ before.asked → after.may ≡ before.may → after.running ≡ None
+    → HearsAnswer (codes "refused NoMemory") before.heard after.heard n → IsNextServing b before after n
+memory_turn b before after n going waits none same asked may running heard =
+    let at = some_limit before.running going in
+    run_turn b at.0 before after (turn.Over n) at.1
+    (tells_memory b at.0 before after n asked may running (ap (λ (e : Editing). e.model) same)
+    (inl (ap (λ (e : Editing). e.done) same ∙ undone before.editing.phase before.editing.model before.editing.held before.editing.done waits none)) heard)
+
+-- a box is placed, or it isn't, and the turn goes on
+pub went_serving : (b : Behaviour) (before mid after : Seen) (made : StockModule) (n : Next) → NeedsBox b before mid made → IsNextServing b mid after n → IsNextServing b before after n
+went_serving b before mid after made next.GoOn needed went = ((λ s stands. went.0 s (needed.goes_on s stands)), omega (arith, went.1, needed.left))
+went_serving b before mid after made (next.Stop why) needed went = λ s stands. went s (needed.goes_on s stands)
+
+-- ---- the end
+
+pub ends_served : (b : Behaviour) (s : Machine) (v : Seen) (why : Stop) → EndsServing b s v why → Ends b s v.asked v.heard why
+ends_served b s v stop.End is = (is.machine, is.heard)
+ends_served b s v stop.Gone (inl is) = inl (is.machine, is.heard)
+ends_served b s v stop.Gone (inr is) = inr is
+ends_served b s v (stop.Device page written) is = is
+
+-- ---- the beginning
+
+pub served_first : (b : Behaviour) (m : Model) (v : Seen) → v.editing ≡ fresh_editing m → v.asked ≡ [] → v.heard ≡ [] → IsServed b (fresh_machine m) v
+served_first b m v fresh asked heard = record {
+  machine = fresh_machine m;
+  at = record { model = ap (λ (e : Editing). e.model) fresh; done = ap (λ (e : Editing). e.done) fresh };
+  heard = rw (asked, heard) (refl, refl);
+}

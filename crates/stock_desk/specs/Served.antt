@@ -1,0 +1,73 @@
+-- What a client asks of a desk, and what it hears: the plain machine.
+use Rattle.std.specs.Prelude.{◌≡◌, ◌⊎◌, ℕ, List, [], ◌∷◌, ◌++◌, Option, Some, None, codes}
+use Rattle.module_api.specs.Behaviour.{Behaviour}
+use Rattle.model_answers.specs.declared.model.Model.{Model}
+use Rattle.model_edits.specs.declared.edit.Edit.{Edit}
+use Rattle.command_lines.specs.Commands.{command_of}
+use Rattle.command_lines.specs.declared.commands.Command.{Command}
+use Rattle.command_lines.specs.declared.commands.Command.TheVariants as command
+use Rattle.edit_session.specs.Files.{scalars_of_run, vectors_of_run}
+use Rattle.desk.specs.Turns.{run_answer, IsMade, IsRefused}
+use Rattle.transcripts.specs.Heard.{Answer, Files, Heard}
+use Rattle.transcripts.specs.declared.asked.Asked.{Asked}
+use Rattle.transcripts.specs.declared.asked.Asked.TheVariants as asked
+
+-- THE PLAIN MACHINE holds a model, and the limit of the last run that is done, if there is one. It keeps nothing else of a run.
+pub record Machine : Type 0 where
+  pub model : Model
+  pub last : Option ℕ
+
+-- the command that is asked for; a line that is too long to be kept is too large
+abbrev pub command_asked : Asked → Command
+command_asked (asked.Line text) = command_of text
+command_asked asked.TooLong = command.TooLarge
+
+abbrev pub out_of_memory : Heard
+out_of_memory = Answer (codes "refused NoMemory")
+
+-- A RUN is answered as a fresh run of the model. Or memory ran out: the run may be done nevertheless.
+abbrev pub HearsRun : Behaviour → Machine → ℕ → List Heard → Machine → Type 0
+HearsRun b s limit heard s' =
+    ((heard ≡ Answer (run_answer b s.model limit) ∷ []) × (s' ≡ record { model = s.model; last = Some limit }))
+    ⊎ ((heard ≡ out_of_memory ∷ []) × (s'.model ≡ s.model) × ((s'.last ≡ None) ⊎ (s'.last ≡ Some limit)))
+
+-- AN EDIT is made, and then no run is done; or it is refused, or memory ran out, and then nothing changed.
+abbrev pub HearsEdit : Machine → Edit → List Heard → Machine → Type 0
+HearsEdit s e heard s' =
+    ((text : List ℕ) × (heard ≡ Answer text ∷ [])
+    × ((IsMade s.model e text s'.model × (s'.last ≡ None)) ⊎ (IsRefused s.model e text × (s' ≡ s))))
+    ⊎ ((heard ≡ out_of_memory ∷ []) × (s' ≡ s))
+
+-- THE FILES of the last run are those of a fresh run of the model to its limit. Where none is done there are none.
+abbrev pub HearsFiles : Behaviour → Model → Option ℕ → List Heard → Type 0
+HearsFiles b m None heard = heard ≡ Answer (codes "refused NotDone") ∷ []
+HearsFiles b m (Some limit) heard = heard ≡ Files (scalars_of_run b m limit) (vectors_of_run b m limit) ∷ Answer (codes "written") ∷ []
+
+-- WHAT IS HEARD OF A COMMAND, and what the machine holds behind it
+abbrev pub Hears : Behaviour → Machine → Command → List Heard → Machine → Type 0
+Hears b s (command.Run limit) heard s' = HearsRun b s limit heard s'
+Hears b s (command.Edit e) heard s' = HearsEdit s e heard s'
+Hears b s command.Write heard s' = HearsFiles b s.model s.last heard × (s' ≡ s)
+Hears b s command.Unknown heard s' = (heard ≡ Answer (codes "refused Command") ∷ []) × (s' ≡ s)
+Hears b s command.TooLarge heard s' = (heard ≡ Answer (codes "refused TooLarge") ∷ []) × (s' ≡ s)
+
+-- WHAT IS HEARD OF ALL that was asked, one after the other: each by the machine that all before it left
+abbrev pub AreHeard : Behaviour → Machine → List Asked → List Heard → Machine → Type 0
+AreHeard b s [] heard s' = (heard ≡ []) × (s' ≡ s)
+AreHeard b s (a ∷ more) heard s' = (front rest : List Heard) × (mid : Machine)
+    × (heard ≡ front ++ rest) × Hears b s (command_asked a) front mid × AreHeard b mid more rest s'
+
+-- a machine that has run nothing
+abbrev pub fresh_machine : Model → Machine
+fresh_machine m = record { model = m; last = None }
+
+-- Of the last that was asked not all is heard.
+pub record IsBroken (b : Behaviour) (s : Machine) (asks : List Asked) (heard : List Heard) : Type 0 where
+  pub before : List Asked
+  pub last : Asked
+  pub all : asks ≡ before ++ last ∷ []
+  pub front : List Heard
+  pub more : List Heard
+  pub heard_is : heard ≡ front ++ more
+  pub left : Machine
+  pub are : AreHeard b s before front left

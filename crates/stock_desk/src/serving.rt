@@ -1,0 +1,496 @@
+//! A client at a desk with boxes of the stock modules: it asks one thing after the other, and hears what comes of it.
+
+ghost use Rattle.std.specs.Prelude.{◌≡◌, ◌<◌, ℕ, List, [], ◌∷◌, ◌++◌, Some, None, IsSome, OnOk, OnErr, IfOk, IfErr, IfSome, codes};
+ghost use Rattle.model_answers.specs.declared.model.Model.{Model};
+ghost use Rattle.model_texts.specs.Models.{IsModelOf, IsRuledOut, Refuses};
+ghost use Rattle.stock_modules.specs.Stock.{stock};
+ghost use Rattle.edit_session.specs.Editing.{wanted_of, IsFor};
+ghost use Rattle.edit_session.specs.Sessions.{editing_of, IsSound};
+ghost use Rattle.desk.specs.Turns.{editing_at, IsSettled};
+ghost use Rattle.stock_desk.specs.Served.{fresh_machine};
+ghost use Rattle.command_lines.specs.declared.commands.Command.TheVariants as commands;
+ghost use Rattle.stock_desk.specs.Served.{command_asked};
+ghost use Rattle.stock_desk.specs.Serving.{seen_in, AreFilled, ComesTo, Ends, HearsAnswer, HearsNext, IsMetIn, IsNextServing, IsRunIn, IsServer, IsServingTurn, MayStop, MayStopAt, MayStopIn};
+ghost use Rattle.transcripts.specs.declared.asked.Asked.{Asked as AskedValue};
+ghost use Rattle.transcripts.specs.Heard.{Heard, Answer, Files};
+
+use command_lines::commands::{Command, command_of};
+use desk::desk::{Desk, DeskTurn};
+use edit_session::session::{FileFault, Session, SupplyReason};
+use kernel::request::Request;
+use model_edits::edit::Edit;
+use model_texts::begin::BeginFault;
+use module_api::simple_module::SimpleModule;
+use ned_syntax::texts::NedTexts;
+use result_files::writer::Out;
+use std::alloc::Global;
+use std::marker::PhantomData;
+use stock_modules::modules::StockModule;
+use stock_modules::stock::Stock;
+use transcripts::asked::Asked;
+
+/// A client can't ask or hear any more. It knows why.
+#[derive(Clone, Copy, Debug, PartialEq, Eq)]
+pub struct Gone;
+
+/// The devices of the files of a run.
+#[derive(Drop)]
+pub struct Pages<O> {
+    pub scalars: O,
+    pub vectors: O,
+}
+
+/// A file of a run.
+#[derive(Clone, Copy, Debug, PartialEq, Eq)]
+pub enum Page {
+    Scalars,
+    Vectors,
+}
+
+/// Who asks, hears what comes of it, and keeps the files of runs.
+pub trait Client<O: Out + Drop> {
+    /// What it has asked.
+    ghost asked: { Self → List AskedValue };
+
+    /// What it has heard.
+    ghost heard: { Self → List Heard };
+
+    /// How often it may still ask, at most.
+    ghost left: { Self → ℕ };
+
+    /// What it keeps true of itself.
+    ghost keeps: { Self → Type 0 };
+
+    /// A number that it never changes, so that it is known again.
+    ghost label: { Self → ℕ };
+
+    /// It has nothing more to ask.
+    ghost is_over: { Self → Type 0 };
+
+    /// It can't go on.
+    ghost is_gone: { Self → Type 0 };
+
+    /// What it asks next, or nothing more.
+    fn next(&mut self) -> Result<Option<Asked>, Gone>
+        requires kept { keeps self.old }
+        ensures kept { keeps self.new }
+        ensures label { label self.new ≡ label self.old }
+        ensures asked { IfOk result (λ next. IfSome next (λ a. asked self.new ≡ asked self.old ++ a ∷ [])) }
+        ensures less { IfOk result (λ next. IfSome next (λ _. left self.new < left self.old)) }
+        ensures none { IfOk result (λ next. next ≡ None → asked self.new ≡ asked self.old) }
+        ensures over { IfOk result (λ next. next ≡ None → is_over self.new) }
+        ensures stuck { OnErr result (is_gone self.new) }
+        ensures gone { OnErr result (asked self.new ≡ asked self.old) }
+        ensures heard { heard self.new ≡ heard self.old };
+
+    /// Hears an answer.
+    fn hear(&mut self, answer: &[u8]) -> Result<(), Gone>
+        requires kept { keeps self.old }
+        ensures kept { keeps self.new }
+        ensures label { label self.new ≡ label self.old }
+        ensures stuck { OnErr result (is_gone self.new) }
+        ensures heard { OnOk result (heard self.new ≡ heard self.old ++ Answer answer.now ∷ []) }
+        ensures gone { OnErr result (heard self.new ≡ heard self.old) }
+        ensures asked { asked self.new ≡ asked self.old }
+        ensures left { left self.new ≡ left self.old };
+
+    /// Devices for the files of a run of the configuration of that name, which took nothing yet.
+    fn open(&mut self, config: &[u8]) -> Result<Pages<O>, Gone>
+        requires kept { keeps self.old }
+        ensures kept { keeps self.new }
+        ensures label { label self.new ≡ label self.old }
+        ensures stuck { OnErr result (is_gone self.new) }
+        ensures scalars { IfOk result (λ pages. (O.taken pages.scalars).bytes ≡ []) }
+        ensures vectors { IfOk result (λ pages. (O.taken pages.vectors).bytes ≡ []) }
+        ensures heard { heard self.new ≡ heard self.old }
+        ensures asked { asked self.new ≡ asked self.old }
+        ensures left { left self.new ≡ left self.old };
+
+    /// Keeps the files, which are written whole.
+    fn keep(&mut self, pages: Pages<O>) -> Result<(), Gone>
+        requires kept { keeps self.old }
+        ensures kept { keeps self.new }
+        ensures label { label self.new ≡ label self.old }
+        ensures stuck { OnErr result (is_gone self.new) }
+        ensures heard { OnOk result (heard self.new ≡ heard self.old
+            ++ Files (O.taken pages.scalars).bytes (O.taken pages.vectors).bytes ∷ []) }
+        ensures gone { OnErr result (heard self.new ≡ heard self.old) }
+        ensures asked { asked self.new ≡ asked self.old }
+        ensures left { left self.new ≡ left self.old };
+
+    /// Hears that the device of this file failed.
+    fn lose(&mut self, pages: Pages<O>, page: Page)
+        requires kept { keeps self.old }
+        ensures kept { keeps self.new }
+        ensures label { label self.new ≡ label self.old }
+        ensures heard { heard self.new ≡ heard self.old }
+        ensures asked { asked self.new ≡ asked self.old }
+        ensures left { left self.new ≡ left self.old };
+}
+
+/// Why a client is served no more.
+#[derive(Clone, Copy, Debug, PartialEq, Eq)]
+pub enum Stop {
+    /// It asks nothing more.
+    End,
+    /// It can't ask or hear, or keep files.
+    Gone,
+    /// The device of this file failed, after so many bytes of the file's text.
+    Device(Page, u128),
+}
+
+/// What comes next.
+#[derive(Drop)]
+enum Next {
+    /// The next turn.
+    GoOn,
+    Stop(Stop),
+}
+
+/// What a turn came to.
+#[derive(Drop)]
+enum Turn {
+    /// A run waits for a box, and this goes into it.
+    Need(StockModule),
+    /// The turn is over, and this comes next.
+    Over(Next),
+}
+
+/// A desk with a client.
+#[derive(Drop)]
+struct Server<O, K> {
+    desk: Desk<Stock>,
+    client: K,
+    /// The limit of the run that is going on.
+    running: Option<u64>,
+    pages: PhantomData<O>,
+    /// What the desk holds, so that contracts can name what boxes say of themselves.
+    holds: PhantomData<Box<dyn SimpleModule>>,
+}
+
+impl<O: Out + Drop, K: Client<O> + Drop> Server<O, K> {
+    /// The client hears an answer to this command.
+    fn hear(&mut self, answer: &[u8]) -> Next
+        requires kept { K.keeps self.old.client }
+        ensures kept { K.keeps self.new.client }
+        ensures label { K.label self.new.client ≡ K.label self.old.client }
+        ensures stops { MayStopAt (K.is_over self.new.client) (K.is_gone self.new.client) result }
+        ensures desk { self.new.desk ≡ self.old.desk }
+        ensures running { self.new.running ≡ self.old.running }
+        ensures asked { K.asked self.new.client ≡ K.asked self.old.client }
+        ensures left { K.left self.new.client ≡ K.left self.old.client }
+        ensures heard { HearsAnswer answer.now (K.heard self.old.client) (K.heard self.new.client) result }
+    {
+        match self.client.hear(answer) {
+            Ok(()) => Next::GoOn,
+            Err(Gone) => Next::Stop(Stop::Gone),
+        }
+    }
+
+    /// What a run needs that waits for a box: a module of that kind, or to hear that there is none.
+    fn need_of(&mut self, request: &Request) -> Turn
+        requires waits { wanted_of (editing_at SimpleModule-box self.old.desk) ≡ Some request.now }
+        requires sound { IsServer stock SimpleModule-box self.old }
+        ensures sound { IsServer stock SimpleModule-box self.new }
+        ensures client { self.new.client ≡ self.old.client }
+        ensures running { self.new.running ≡ self.old.running }
+        ensures met { let before = editing_at SimpleModule-box self.old.desk in
+            IsMetIn stock before (editing_at SimpleModule-box self.new.desk) result }
+    {
+        match StockModule::of_kind(request.kind.as_bytes()) {
+            Some(made) => Turn::Need(made),
+            None => {
+                let _declined = self.desk.decline();
+                Turn::Over(Next::GoOn)
+            }
+        }
+    }
+
+    /// Begins the run to that limit, or goes on with it.
+    fn run(&mut self, limit: u64) -> Turn
+        requires sound { IsServer stock SimpleModule-box self.old }
+        requires kept { K.keeps self.old.client }
+        ensures kept { K.keeps self.new.client }
+        ensures label { K.label self.new.client ≡ K.label self.old.client }
+        ensures stops { MayStopIn (K.is_over self.new.client) (K.is_gone self.new.client) result }
+        ensures sound { IsServer stock SimpleModule-box self.new }
+        ensures ran { let before = seen_in SimpleModule-box K.asked K.heard K.left self.old in
+            let after = seen_in SimpleModule-box K.asked K.heard K.left self.new in
+            IsRunIn stock limit before after result }
+    {
+        match self.desk.run(limit) {
+            Ok(DeskTurn::Text(text)) => {
+                self.running = None;
+                Turn::Over(self.hear(text.as_bytes()))
+            }
+            Ok(DeskTurn::Want(request)) => {
+                self.running = Some(limit);
+                self.need_of(&request)
+            }
+            Err(_) => Turn::Over(self.out_of_memory()),
+        }
+    }
+
+    /// Memory ran out: no run goes on.
+    fn out_of_memory(&mut self) -> Next
+        requires kept { K.keeps self.old.client }
+        ensures kept { K.keeps self.new.client }
+        ensures label { K.label self.new.client ≡ K.label self.old.client }
+        ensures stops { MayStopAt (K.is_over self.new.client) (K.is_gone self.new.client) result }
+        ensures desk { self.new.desk ≡ self.old.desk }
+        ensures running { self.new.running ≡ None }
+        ensures asked { K.asked self.new.client ≡ K.asked self.old.client }
+        ensures left { K.left self.new.client ≡ K.left self.old.client }
+        ensures heard { HearsAnswer (codes "refused NoMemory") (K.heard self.old.client) (K.heard self.new.client) result }
+    {
+        self.running = None;
+        self.hear(b"refused NoMemory".as_slice())
+    }
+
+    /// Changes the model as the edit says, or tells why not.
+    fn edit(&mut self, edit: Edit) -> Next
+        requires sound { IsServer stock SimpleModule-box self.old }
+        requires idle { self.old.running ≡ None }
+        requires kept { K.keeps self.old.client }
+        ensures kept { K.keeps self.new.client }
+        ensures label { K.label self.new.client ≡ K.label self.old.client }
+        ensures stops { MayStopAt (K.is_over self.new.client) (K.is_gone self.new.client) result }
+        ensures sound { IsServer stock SimpleModule-box self.new }
+        ensures heard { let before = seen_in SimpleModule-box K.asked K.heard K.left self.old in
+            let after = seen_in SimpleModule-box K.asked K.heard K.left self.new in
+            HearsNext stock (commands.Edit edit) before after result }
+    {
+        match self.desk.edit(edit) {
+            Ok(text) => self.hear(text.as_bytes()),
+            Err(_) => self.out_of_memory(),
+        }
+    }
+
+    /// Writes the files of the last run, the scalar file first.
+    fn write(&mut self) -> Next
+        requires sound { IsServer stock SimpleModule-box self.old }
+        requires idle { self.old.running ≡ None }
+        requires kept { K.keeps self.old.client }
+        ensures kept { K.keeps self.new.client }
+        ensures label { K.label self.new.client ≡ K.label self.old.client }
+        ensures stops { MayStopAt (K.is_over self.new.client) (K.is_gone self.new.client) result }
+        ensures sound { IsServer stock SimpleModule-box self.new }
+        ensures heard { let before = seen_in SimpleModule-box K.asked K.heard K.left self.old in
+            let after = seen_in SimpleModule-box K.asked K.heard K.left self.new in
+            HearsNext stock commands.Write before after result }
+    {
+        if self.desk.outcome().is_none() {
+            return self.hear(b"refused NotDone".as_slice());
+        }
+        match self.client.open(self.desk.config()) {
+            Ok(pages) => self.fill(pages),
+            Err(Gone) => Next::Stop(Stop::Gone),
+        }
+    }
+
+    /// Writes the files of the last run to these devices, which the client then keeps.
+    fn fill(&mut self, pages: Pages<O>) -> Next
+        requires sound { IsServer stock SimpleModule-box self.old }
+        requires idle { self.old.running ≡ None }
+        requires done { IsSome (editing_at SimpleModule-box self.old.desk).done }
+        requires scalars { (O.taken pages.scalars).bytes ≡ [] }
+        requires vectors { (O.taken pages.vectors).bytes ≡ [] }
+        requires kept { K.keeps self.old.client }
+        ensures kept { K.keeps self.new.client }
+        ensures label { K.label self.new.client ≡ K.label self.old.client }
+        ensures stops { MayStopAt (K.is_over self.new.client) (K.is_gone self.new.client) result }
+        ensures sound { IsServer stock SimpleModule-box self.new }
+        ensures heard { let before = seen_in SimpleModule-box K.asked K.heard K.left self.old in
+            let after = seen_in SimpleModule-box K.asked K.heard K.left self.new in
+            HearsNext stock commands.Write before after result }
+    {
+        let mut pages = pages;
+        match self.write_both(&mut pages) {
+            Ok(()) => match self.client.keep(pages) {
+                Ok(()) => self.hear(b"written".as_slice()),
+                Err(Gone) => Next::Stop(Stop::Gone),
+            },
+            Err((page, written)) => {
+                self.client.lose(pages, page);
+                Next::Stop(Stop::Device(page, written))
+            }
+        }
+    }
+
+    /// Writes both files of the last run. Answers which device failed, and after how many bytes.
+    fn write_both(&self, pages: &mut Pages<O>) -> Result<(), (Page, u128)>
+        requires sound { IsServer stock SimpleModule-box self.now }
+        requires done { IsSome (editing_at SimpleModule-box self.now.desk).done }
+        requires scalars { (O.taken pages.old.scalars).bytes ≡ [] }
+        requires vectors { (O.taken pages.old.vectors).bytes ≡ [] }
+        ensures { let editing = editing_at SimpleModule-box self.now.desk in
+            OnOk result (AreFilled stock editing.model editing.done
+            (O.taken pages.new.scalars).bytes (O.taken pages.new.vectors).bytes) }
+    {
+        match self.desk.scalars(&mut pages.scalars) {
+            Ok(()) => match self.desk.vectors(&mut pages.vectors) {
+                Ok(()) => Ok(()),
+                Err(FileFault::Device(written)) => Err((Page::Vectors, written)),
+                Err(FileFault::NotDone) => unreachable!(),
+            },
+            Err(FileFault::Device(written)) => Err((Page::Scalars, written)),
+            Err(FileFault::NotDone) => unreachable!(),
+        }
+    }
+
+    /// Does what a command asks for.
+    fn command(&mut self, command: Command) -> Turn
+        requires sound { IsServer stock SimpleModule-box self.old }
+        requires idle { self.old.running ≡ None }
+        requires kept { K.keeps self.old.client }
+        ensures kept { K.keeps self.new.client }
+        ensures label { K.label self.new.client ≡ K.label self.old.client }
+        ensures stops { MayStopIn (K.is_over self.new.client) (K.is_gone self.new.client) result }
+        ensures sound { IsServer stock SimpleModule-box self.new }
+        ensures comes { let before = seen_in SimpleModule-box K.asked K.heard K.left self.old in
+            let after = seen_in SimpleModule-box K.asked K.heard K.left self.new in
+            ComesTo stock command before after result }
+    {
+        match command {
+            Command::Run(limit) => self.run(limit),
+            Command::Edit(edit) => Turn::Over(self.edit(edit)),
+            Command::Write => Turn::Over(self.write()),
+            Command::Unknown => Turn::Over(self.hear(b"refused Command".as_slice())),
+            Command::TooLarge => Turn::Over(self.hear(b"refused TooLarge".as_slice())),
+        }
+    }
+
+    /// Does what was asked.
+    fn answer(&mut self, alloc: Global, asked: Asked) -> Turn
+        requires sound { IsServer stock SimpleModule-box self.old }
+        requires idle { self.old.running ≡ None }
+        requires kept { K.keeps self.old.client }
+        ensures kept { K.keeps self.new.client }
+        ensures label { K.label self.new.client ≡ K.label self.old.client }
+        ensures stops { MayStopIn (K.is_over self.new.client) (K.is_gone self.new.client) result }
+        ensures sound { IsServer stock SimpleModule-box self.new }
+        ensures comes { let before = seen_in SimpleModule-box K.asked K.heard K.left self.old in
+            let after = seen_in SimpleModule-box K.asked K.heard K.left self.new in
+            ComesTo stock (command_asked asked) before after result }
+    {
+        match asked {
+            Asked::Line(text) => match command_of(alloc, text.as_bytes()) {
+                Ok(command) => self.command(command),
+                Err(_) => Turn::Over(self.out_of_memory()),
+            },
+            Asked::TooLong => self.command(Command::TooLarge),
+        }
+    }
+
+    /// Goes on with the run, or does what the client asks next.
+    fn turn(&mut self, alloc: Global) -> Turn
+        requires sound { IsServer stock SimpleModule-box self.old }
+        requires kept { K.keeps self.old.client }
+        ensures kept { K.keeps self.new.client }
+        ensures label { K.label self.new.client ≡ K.label self.old.client }
+        ensures stops { MayStopIn (K.is_over self.new.client) (K.is_gone self.new.client) result }
+        ensures sound { IsServer stock SimpleModule-box self.new }
+        ensures turn { let before = seen_in SimpleModule-box K.asked K.heard K.left self.old in
+            let after = seen_in SimpleModule-box K.asked K.heard K.left self.new in
+            IsServingTurn stock before after result }
+    {
+        if let Some(limit) = self.running {
+            return self.run(limit);
+        }
+        match self.client.next() {
+            Ok(Some(asked)) => self.answer(alloc, asked),
+            Ok(None) => Turn::Over(Next::Stop(Stop::End)),
+            Err(Gone) => Turn::Over(Next::Stop(Stop::Gone)),
+        }
+    }
+
+    /// Gives the run that waits its box.
+    fn supply(&mut self, held: Box<dyn SimpleModule>) -> Next
+        requires wanted { let editing = editing_at SimpleModule-box self.old.desk in
+            IsFor stock (wanted_of editing) (meaning held) }
+        requires waits { IsSome (wanted_of (editing_at SimpleModule-box self.old.desk)) }
+        requires going { IsSome self.old.running }
+        requires sound { IsServer stock SimpleModule-box self.old }
+        requires kept { K.keeps self.old.client }
+        ensures kept { K.keeps self.new.client }
+        ensures label { K.label self.new.client ≡ K.label self.old.client }
+        ensures stops { MayStopAt (K.is_over self.new.client) (K.is_gone self.new.client) result }
+        ensures sound { IsServer stock SimpleModule-box self.new }
+        ensures next { let before = seen_in SimpleModule-box K.asked K.heard K.left self.old in
+            let after = seen_in SimpleModule-box K.asked K.heard K.left self.new in
+            IsNextServing stock before after result }
+    {
+        match self.desk.supply(held) {
+            Ok(()) => Next::GoOn,
+            Err(fault) => match fault.reason {
+                SupplyReason::NoMemory(_) => self.out_of_memory(),
+                SupplyReason::NotWanted => unreachable!(),
+            },
+        }
+    }
+
+    /// The client, which is served no more.
+    fn into_client(self) -> K
+        ensures { result ≡ self.client }
+    {
+        let Server {
+            desk,
+            client,
+            running: _,
+            pages: _,
+            holds: _,
+        } = self;
+        drop(desk);
+        client
+    }
+}
+
+/// Serves a client at a desk of the model that these texts make with the configuration of that name, with boxes of the stock modules,
+/// until it asks nothing more, can't go on, or a device of a file fails. Answers the client, and why; or why the texts make no model.
+pub fn serve<O: Out + Drop, K: Client<O> + Drop>(
+    alloc: Global,
+    texts: &NedTexts,
+    ini: &[u8],
+    config: &[u8],
+    client: K,
+) -> Result<(K, Stop), BeginFault>
+    requires unasked { K.asked client ≡ [] }
+    requires unheard { K.heard client ≡ [] }
+    requires kept { K.keeps client }
+    // THE LAW OF A CLIENT: what it hears is what the plain machine says, whatever it asks.
+    ensures served { IfOk result (λ r. (model : Model)
+        × IsModelOf texts.now ini.now config.now model
+        × Ends stock (fresh_machine model) (K.asked r.0) (K.heard r.0) r.1) }
+    // The client is served until it has nothing more to ask or can't go on, or a device fails.
+    ensures stopped { IfOk result (λ r. MayStop (K.is_over r.0) (K.is_gone r.0) r.1) }
+    // The client keeps true of itself what it says.
+    ensures kept { IfOk result (λ r. K.keeps r.0) }
+    ensures label { IfOk result (λ r. K.label r.0 ≡ K.label client) }
+    ensures refused { IfErr result (λ fault. Refuses texts.now ini.now config.now fault) }
+    // Where the texts make a model the client is served, unless memory runs out.
+    ensures complete { IfErr result (λ fault. IsRuledOut texts.now ini.now config.now fault) }
+{
+    let session = Session::<Stock>::begin(alloc, texts, ini, config)?;
+    let mut server = Server {
+        desk: Desk::of_session(alloc, session),
+        client,
+        running: None,
+        pages: PhantomData,
+        holds: PhantomData,
+    };
+    'turns: loop {
+        let next = match server.turn(alloc) {
+            Turn::Need(made) => match Box::new(alloc, made) {
+                Ok(held) => {
+                    let held: Box<dyn SimpleModule> = held;
+                    server.supply(held)
+                }
+                Err(_) => server.out_of_memory(),
+            },
+            Turn::Over(next) => next,
+        };
+        if let Next::Stop(stop) = next {
+            return Ok((server.into_client(), stop));
+        }
+    }
+}
