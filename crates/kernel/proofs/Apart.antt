@@ -13,14 +13,13 @@ use Rattle.model_answers.specs.declared.answer.Answer.TheVariants as answer
 use Rattle.model_answers.specs.declared.answer.Built.{Built}
 use Rattle.model_answers.specs.declared.answer.Question.TheVariants.{Root, Build}
 use Rattle.model_answers.specs.declared.model.Model.{Model}
-use Rattle.model_answers.specs.declared.record.Record.{Record}
 use Rattle.model_answers.specs.Answering.{answer_of}
 use Rattle.run_semantics.specs.declared.outcome.Fault.{Fault}
 use Rattle.run_semantics.specs.declared.outcome.Turn.{Turn}
 use Rattle.run_semantics.specs.declared.outcome.Turn.TheVariants.{GoOn, Stop, Break}
 use Rattle.run_semantics.specs.declared.traces.Instance.{Instance}
 use Rattle.run_semantics.specs.World.{World, empty, asked}
-use Rattle.run_semantics.specs.Perform.{Flow, On, Stopped, Broken, ◌>>=◌, flow_of, is_timer, scheduled_at, scheduled, perform, perform_all, ask_all, question_of, acted, read_fault, unless_fault, answered}
+use Rattle.run_semantics.specs.Perform.{Flow, On, Stopped, Broken, ◌>>=◌, flow_of, is_timer, scheduled, perform, perform_all, ask_all, question_of, acted, read_fault, unless_fault, answered}
 use Rattle.run_semantics.specs.Run.{rooted, built, unless_many, root_asked, inside_asked, prepared}
 use Rattle.run_semantics.specs.Ending.{is_last_action, perform_last, perform_last_all, acted_last, answered_last}
 
@@ -111,6 +110,7 @@ root_apart (answer.Inside bs) = refl
 root_apart (answer.Value v) = refl
 root_apart (answer.Fault path f) = refl
 root_apart (answer.Beyond beyond) = refl
+root_apart (answer.Injection found) = refl
 root_apart answer.Absent = refl
 
 many_apart : (ms : List Instance) (parent : ℕ) (bs : List Built) (w : World) (one : Option Built) → unless_many parent bs (with_modules ms w) one ≡ flow_with ms (unless_many parent bs w one)
@@ -123,6 +123,7 @@ built_apart ms parent (answer.Root name) w = refl
 built_apart ms parent (answer.Value v) w = refl
 built_apart ms parent (answer.Fault path f) w = refl
 built_apart ms parent (answer.Beyond beyond) w = refl
+built_apart ms parent (answer.Injection found) w = refl
 built_apart ms parent answer.Absent w = refl
 
 -- setup places no module

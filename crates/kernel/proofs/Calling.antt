@@ -1,19 +1,19 @@
 -- A call of a box is a call of the definitions.
 use Rattle.std.proofs.Common.{◌≡◌, ℕ, zero, suc, ◌+◌, ◌<◌, ◌==◌, Bool, true, false, cond, List, [], ◌∷◌, Option, Some, None, IfSome, IfOk, Result, Ok, Err, refl, sym, ap, ◌∙◌, arith, subst, slice_get, slice_set, length, map}
-use Rattle.std.proofs.lemmas.List.{length-map, map-set}
+use Rattle.std.proofs.lemmas.List.{map-set}
 use Rattle.std.specs.List.{position_from}
 use Rattle.sim_values.specs.declared.NoMemory.{NoMemory}
 use Rattle.module_api.specs.declared.call.Call.{Call}
 use Rattle.module_api.specs.declared.call.Prompt.{Prompt}
 use Rattle.module_api.specs.declared.call.Prompt.TheVariants as prompt
 use Rattle.module_api.specs.declared.reply.Reply.{Reply}
-use Rattle.module_api.specs.Behaviour.{Behaviour, Replied}
-use Rattle.module_api.specs.Meaning.{Module, Answered, IsSameModule, IsOfKind}
+use Rattle.module_api.specs.Behaviour.{Behaviour}
+use Rattle.module_api.specs.Meaning.{Answered, IsSameModule, IsOfKind}
 use Rattle.model_answers.specs.declared.model.Model.{Model}
 use Rattle.run_semantics.specs.declared.outcome.Turn.{Turn}
 use Rattle.run_semantics.specs.declared.traces.Instance.{Instance}
 use Rattle.run_semantics.specs.World.{World}
-use Rattle.run_semantics.specs.Perform.{Flow, flow_of, answered}
+use Rattle.run_semantics.specs.Perform.{flow_of, answered}
 use Rattle.run_semantics.specs.Event.{call_of, place_in, with_state, called, call_at, call_module}
 use Rattle.run_semantics.specs.Run.{standing}
 use Rattle.run_semantics.specs.Ending.{answered_last, replied_last, called_last, call_last_at}

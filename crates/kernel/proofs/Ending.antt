@@ -1,16 +1,12 @@
 -- The end of a run, in code and in the definitions.
-use Rattle.std.proofs.Common.{◌≡◌, ℕ, zero, suc, ◌+◌, ◌<◌, ◌≤◌, List, [], ◌∷◌, drop, Option, Some, None, refl, sym, ap, ◌∙◌, arith, slice_get, length, map}
+use Rattle.std.proofs.Common.{◌≡◌, ℕ, suc, ◌+◌, ◌<◌, List, drop, Some, sym, ap, ◌∙◌, arith, slice_get, length}
 use Rattle.module_api.specs.Behaviour.{Behaviour}
 use Rattle.model_answers.specs.declared.model.Model.{Model}
-use Rattle.run_semantics.specs.declared.outcome.Outcome.{Outcome}
-use Rattle.run_semantics.specs.declared.outcome.Outcome.TheVariants as outcomes
-use Rattle.run_semantics.specs.declared.outcome.Turn.{Turn}
-use Rattle.run_semantics.specs.declared.outcome.Turn.TheVariants.{GoOn, Stop, Break}
 use Rattle.run_semantics.specs.World.{World}
-use Rattle.run_semantics.specs.Perform.{Flow, On, Stopped, Broken, ◌>>=◌, flow_of}
+use Rattle.run_semantics.specs.Perform.{Flow, ◌>>=◌}
 use Rattle.run_semantics.specs.Event.{place_in}
-use Rattle.run_semantics.specs.Run.{Part, standing}
-use Rattle.run_semantics.specs.Ending.{call_last_at, marked, finish, finish_all, with_finished}
+use Rattle.run_semantics.specs.Run.{Part}
+use Rattle.run_semantics.specs.Ending.{call_last_at, marked, finish, finish_all}
 use Rattle.kernel.proofs.Starting.{part_at}
 
 -- a module whose call went on is marked, by its id

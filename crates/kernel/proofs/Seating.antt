@@ -1,11 +1,9 @@
 -- Boxes and their kinds.
-use Rattle.std.proofs.Common.{◌≡◌, ℕ, suc, zero, ◌+◌, ◌<◌, ◌==◌, Bool, true, false, cond, List, [], ◌∷◌, ◌++◌, Option, Some, None, Result, Ok, Err, OnOk, OnErr, refl, sym, ap, ◌∙◌, arith, subst, slice_get, slice_set, length, map}
+use Rattle.std.proofs.Common.{◌≡◌, ℕ, suc, zero, ◌+◌, ◌<◌, Bool, cond, List, [], ◌∷◌, ◌++◌, Some, refl, sym, ap, ◌∙◌, arith, subst, slice_get, slice_set, length, map}
 use Rattle.std.specs.List.{position_from}
-use Rattle.std.proofs.lemmas.List.{length-map, map-set}
 use Rattle.module_api.specs.Behaviour.{Behaviour}
-use Rattle.module_api.specs.Meaning.{Module, Answered, IsSameModule, IsOfKind}
+use Rattle.module_api.specs.Meaning.{Module, IsSameModule, IsOfKind}
 use Rattle.run_semantics.specs.Run.{Part, part_of, standing}
-use Rattle.run_semantics.specs.declared.traces.Instance.{Instance}
 use Rattle.kernel.specs.Seats.{Seat, instance_of, AreOfKinds, AreKept}
 
 -- ---- one more box

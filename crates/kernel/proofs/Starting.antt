@@ -1,14 +1,13 @@
 -- The start of a run, in code and in the definitions.
-use Rattle.std.proofs.Common.{◌≡◌, ◌≢◌, ℕ, zero, suc, ◌+◌, ◌-◌, ◌<◌, ◌≤◌, nat_lt, max, Bool, true, false, List, [], ◌∷◌, drop, Option, Some, None, IfSome, refl, sym, ap, ◌∙◌, arith, subst, slice_get, length, map, if◌then◌else◌}
+use Rattle.std.proofs.Common.{◌≡◌, ℕ, zero, suc, ◌+◌, ◌-◌, ◌<◌, ◌≤◌, nat_lt, max, true, false, List, [], ◌∷◌, drop, Some, IfSome, refl, sym, ap, ◌∙◌, arith, slice_get, length, map}
 use Rattle.std.proofs.lemmas.Bool.Decides.{nat_tests}
-use Rattle.std.proofs.lemmas.List.{length-map}
 use Rattle.module_api.specs.Behaviour.{Behaviour}
 use Rattle.module_api.specs.declared.call.Prompt.TheVariants as prompt
 use Rattle.model_answers.specs.declared.model.Model.{Model}
 use Rattle.run_semantics.specs.declared.outcome.Turn.{Turn}
 use Rattle.run_semantics.specs.declared.outcome.Turn.TheVariants.{GoOn, Stop, Break}
 use Rattle.run_semantics.specs.World.{World}
-use Rattle.run_semantics.specs.Perform.{Flow, On, Stopped, Broken, ◌>>=◌, flow_of}
+use Rattle.run_semantics.specs.Perform.{Flow, On, ◌>>=◌, flow_of}
 use Rattle.run_semantics.specs.Event.{call_module}
 use Rattle.run_semantics.specs.Run.{Part, part_of, standing, most_stages, initialize, one_stage, stages_from}
 use Rattle.kernel.specs.Seats.{Seat, instance_of, AreOfKinds, most_of}

@@ -1,3 +1,3 @@
 pub mod Seats
 pub mod Kernels
-pub mod Picks
+pub mod Upcoming

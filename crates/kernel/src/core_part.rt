@@ -1,23 +1,28 @@
 //! A world but for the modules and their states.
 
-ghost use Rattle.std.specs.Prelude.{◌≡◌, ◌+◌, ◌^◌, ◌<◌, OnOk, IfOk, MatchOption, [], ◌∷◌, ◌++◌, length, drop, slice_get, ◌≤◌};
+ghost use Rattle.std.specs.Prelude.{◌≡◌, ◌+◌, ◌^◌, ◌<◌, OnOk, IfOk, Some, [], ◌∷◌, ◌++◌, length, slice_get, ◌≤◌};
 ghost use Rattle.model_answers.specs.Answering.{answer_of};
 ghost use Rattle.run_semantics.specs.World.{empty, asked};
 ghost use Rattle.run_semantics.specs.Perform.{flow_of, perform, perform_all, scheduled, scheduled_at, ask_all, question_of, fault_of_read, parameter_fault, read_fault, acted, answered, broken};
 ghost use Rattle.run_semantics.specs.Ending.{is_last_action, perform_last, perform_last_all, acted_last, answered_last, with_finished};
-ghost use Rattle.run_semantics.specs.Event.{begun, call_of};
-ghost use Rattle.kernel.specs.Picks.{first_is_after_limit};
+ghost use Rattle.run_semantics.specs.Event.{call_of};
+ghost use Rattle.kernel.specs.Upcoming.{first_is_after_limit, injection_asked, looked, with_injection_asked, upcoming_of, Begins};
+ghost use Rattle.run_semantics.specs.Upcoming.{Comes, first_due, first_of};
+ghost use Rattle.model_answers.specs.Injections.{turn_of};
+ghost use Rattle.model_answers.specs.declared.answer.Answer.TheVariants as answers;
+ghost use Rattle.model_answers.specs.declared.answer.Question.TheVariants.{BeyondLimit};
 ghost use Rattle.run_semantics.specs.Run.{rooted, built, unless_many, with_submodules, with_started, root_asked, inside_asked, prepared};
 
 use crate::event_list::EventList;
 use model_answers::answer::{Answer, Asked, Built, Question};
 use model_answers::answering::{answer, is_beyond, parameters_of};
+use model_answers::injection::{Due, Injection, Turn as InjectionTurn, injection_before};
 use model_answers::model::Model as NetworkModel;
 use model_answers::record::{Record, index_of, path_of, submodule_path};
 use module_api::call::{Call, Prompt};
 use module_api::names::is_scalar_name;
 use module_api::reply::{Action, Read, Reply, Schedule};
-use run_semantics::outcome::{Fault, Turn, fault_of};
+use run_semantics::outcome::{Fault, Outcome, Turn, fault_of};
 use run_semantics::pending::{Happening, Pending};
 use run_semantics::traces::{Emission, Scalar};
 use sim_time::SimTime;
@@ -29,6 +34,34 @@ use std::marker::Model;
 
 /// How many actions a reply has at most.
 const MAX_ACTIONS: usize = 1000;
+
+/// What comes next in a run.
+#[derive(Drop)]
+pub enum Next {
+    /// The first of the events to come, where there is one.
+    First,
+    /// This event, which an injection becomes.
+    Arrival(Pending),
+    /// Nothing.
+    Nothing,
+}
+
+/// What was asked to know what comes next, and which injection counts as delivered since. Nothing of it is noted in a world before an event begins.
+#[derive(Drop)]
+pub struct Look {
+    pub delivered: Option<InjectionTurn>,
+    pub asked: Items<Asked>,
+}
+
+impl Look {
+    /// Counts an injection as delivered, with all that go before it.
+    pub fn deliver(&mut self, injection: &Injection)
+        ensures delivered { self.new.delivered ≡ Some (turn_of injection.now) }
+        ensures asked { self.new.asked ≡ self.old.asked }
+    {
+        self.delivered = Some(injection.turn());
+    }
+}
 
 /// A world but for the modules, which contracts see as a world with none.
 #[derive(Drop)]
@@ -42,6 +75,7 @@ pub struct Core {
     pending: EventList,
     next: u128,
     ended: bool,
+    delivered: Option<InjectionTurn>,
     emissions: Items<Emission>,
     scalars: Items<Scalar>,
     questions: Items<Asked>,
@@ -64,6 +98,7 @@ impl Model for Core {
       pending = k.pending;
       next = k.next;
       ended = k.ended;
+      delivered = k.delivered;
       emissions = k.emissions;
       scalars = k.scalars;
       questions = k.questions;
@@ -88,6 +123,7 @@ impl Core {
             pending: EventList::new(alloc),
             next: 0,
             ended: false,
+            delivered: None,
             emissions: Items::new(alloc),
             scalars: Items::new(alloc),
             questions: Items::new(alloc),
@@ -441,8 +477,108 @@ impl Core {
 
     // ---- events
 
+    /// When the first event to come is due.
+    fn first_due(&self) -> Option<Due>
+        ensures { result ≡ first_due self.now.pending }
+    {
+        match self.pending.first() {
+            Some(event) => Some(Due {
+                time: event.time,
+                priority: event.priority,
+            }),
+            None => None,
+        }
+    }
+
+    /// Nothing was asked yet to know what comes next.
+    pub fn look(&self, alloc: Global) -> Look
+        ensures { result ≡ record { delivered = self.now.delivered; asked = [] } }
+    {
+        Look {
+            delivered: self.delivered,
+            asked: Items::new(alloc),
+        }
+    }
+
+    /// Asks for the injection that goes before the first event to come. The question is of the event behind.
+    pub fn ask_injection(
+        &self,
+        alloc: Global,
+        model: &NetworkModel,
+        look: &mut Look,
+    ) -> Result<Option<Injection>, NoMemory>
+        requires { self.now.count + 1 < 2 ^ 64 }
+        ensures found { let before = looked self.now look.old in
+            IfOk result (λ found. injection_asked model.now before ≡ answers.Injection found) }
+        ensures noted { let before = looked self.now look.old in
+            OnOk result (looked self.now look.new ≡ with_injection_asked before) }
+    {
+        let due = self.first_due();
+        let last = look.delivered;
+        look.asked.push(Asked {
+            event: self.count + 1,
+            question: Question::InjectionBefore(due, last),
+        })?;
+        match injection_before(model.injections.as_slice(), due, last) {
+            Some(injection) => Ok(Some(injection.copy(alloc)?)),
+            None => Ok(None),
+        }
+    }
+
+    /// An event begins that is due then: it is counted, and what was asked before is noted, with the question whether the time limit allows it.
+    fn begin_event(&mut self, look: Look, time: SimTime) -> Result<(), NoMemory>
+        requires { self.old.count + 1 < 2 ^ 64 }
+        ensures { let world = looked self.old look in
+            OnOk result (self.new ≡ asked (BeyondLimit time) (record world { clock = time; count = world.count + 1 })) }
+    {
+        let Look { delivered, asked } = look;
+        self.questions.append(asked)?;
+        self.delivered = delivered;
+        self.clock = time;
+        self.count += 1;
+        self.ask(Question::BeyondLimit(time.ps()))
+    }
+
+    /// Begins an event that is none of those to come, or tells that it is too late.
+    fn begin_arrival(
+        &mut self,
+        model: &NetworkModel,
+        look: Look,
+        event: Pending,
+    ) -> Result<Result<Pending, Outcome>, NoMemory>
+        requires { self.old.count + 1 < 2 ^ 64 }
+        ensures { let world = looked self.old look in
+            IfOk result (λ begins. Begins model.now (Comes world event world.pending) self.old begins self.new) }
+    {
+        if is_beyond(model, event.time.ps()) {
+            return Ok(Err(Outcome::TimeLimit));
+        }
+        self.begin_event(look, event.time)?;
+        Ok(Ok(event))
+    }
+
+    /// Begins the first of the events to come, or tells that it is too late, or that there is none.
+    fn begin_first(
+        &mut self,
+        model: &NetworkModel,
+        look: Look,
+    ) -> Result<Result<Pending, Outcome>, NoMemory>
+        requires { self.old.count + 1 < 2 ^ 64 }
+        ensures { let world = looked self.old look in
+            IfOk result (λ begins. Begins model.now (first_of world world.pending) self.old begins self.new) }
+    {
+        if self.is_after_limit(model) {
+            return Ok(Err(Outcome::TimeLimit));
+        }
+        let Some(event) = self.pending.take_first() else {
+            return Ok(Err(Outcome::NoMoreEvents));
+        };
+        self.begin_event(look, event.time)?;
+        Ok(Ok(event))
+    }
+
     /// Whether the first event to come is later than the option sim-time-limit allows.
-    pub fn is_after_limit(&self, model: &NetworkModel) -> bool
+    fn is_after_limit(&self, model: &NetworkModel) -> bool
         ensures { result ≡ first_is_after_limit model.now self.now.records self.now.pending }
     {
         match self.pending.first() {
@@ -451,22 +587,22 @@ impl Core {
         }
     }
 
-    /// Takes out the first event to come, which begins: its first question, whether the time limit
-    /// allows it, is noted.
-    pub fn begin(&mut self) -> Result<Option<Pending>, NoMemory>
+    /// Begins what comes next, or tells how the run ends instead.
+    pub fn begin(
+        &mut self,
+        model: &NetworkModel,
+        look: Look,
+        next: Next,
+    ) -> Result<Result<Pending, Outcome>, NoMemory>
         requires { self.old.count + 1 < 2 ^ 64 }
-        ensures { IfOk result (λ found. MatchOption found
-            ((self.old.pending ≡ []) × (self.new ≡ self.old))
-            (λ p. (self.old.pending ≡ p ∷ drop 1 self.old.pending)
-            × (self.new ≡ begun p (drop 1 self.old.pending) self.old))) }
+        ensures { let world = looked self.old look in
+            IfOk result (λ begins. Begins model.now (upcoming_of next world) self.old begins self.new) }
     {
-        let Some(event) = self.pending.take_first() else {
-            return Ok(None);
-        };
-        self.clock = event.time;
-        self.count += 1;
-        self.ask(Question::BeyondLimit(event.time.ps()))?;
-        Ok(Some(event))
+        match next {
+            Next::First => self.begin_first(model, look),
+            Next::Arrival(event) => self.begin_arrival(model, look, event),
+            Next::Nothing => Ok(Err(Outcome::NoMoreEvents)),
+        }
     }
 
     // ---- setup

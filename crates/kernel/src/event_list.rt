@@ -98,6 +98,7 @@ fn is_timer_number(timer: u32, what: &Happening) -> bool
 {
     match what {
         Happening::Timer(number, _) => *number == timer,
+        Happening::Arrival(_, _, _) => false,
     }
 }
 

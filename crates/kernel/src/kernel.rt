@@ -6,13 +6,16 @@ ghost use Rattle.module_api.specs.Meaning.{IsOfKind, Answered, IsSameModule};
 ghost use Rattle.run_semantics.specs.World.{empty, HasRoom};
 ghost use Rattle.run_semantics.specs.Perform.{flow_of, On};
 ghost use Rattle.run_semantics.specs.Event.{call_module, call_of, message_of, place_in};
+ghost use Rattle.run_semantics.specs.Upcoming.{arrival, id_at, target_of, upcoming};
+ghost use Rattle.kernel.specs.Upcoming.{looked, upcoming_of, LooksOn};
 ghost use Rattle.run_semantics.specs.Run.{Running, Part, stage_of, settled, prepared, ready, placed, standing, parts_from, most_stages, initialize, one_stage, stages_from, initialize_all, start, next_stage, stopped};
 ghost use Rattle.run_semantics.specs.Ending.{call_last_at, finish, finish_all, ending};
-ghost use Rattle.kernel.specs.Seats.{Seat, ServedAt, most_of, missing_of, missing_part};
+ghost use Rattle.kernel.specs.Seats.{Seat, ServedAt, instance_of, most_of, missing_of, missing_part};
 ghost use Rattle.kernel.specs.Kernels.{seat_of, seats_in, world_in, ran_in, HasKinds, IsCallable, KeepsBoxes};
 
-use crate::core_part::Core;
+use crate::core_part::{Core, Look, Next};
 use crate::request::Request;
+use model_answers::injection::Injection;
 use model_answers::model::Model;
 use model_answers::record::{Record, path_of};
 use module_api::call::{Call, Prompt};
@@ -28,6 +31,9 @@ use sim_values::NoMemory;
 use sim_values::text::Text;
 use std::alloc::{AllocFailed, Global};
 use std::marker::PhantomData;
+
+/// How many injections are looked at for one event at most: one more than a model has.
+const MOST_LOOKS: usize = 10_001;
 
 /// A module's box.
 #[derive(Drop)]
@@ -94,6 +100,13 @@ impl<C: Catalogue> Kernel<C> {
         ensures { result.now ≡ (world_in SimpleModule-box self.now).finished }
     {
         self.core.finished()
+    }
+
+    /// How many boxes it holds.
+    pub fn held(&self) -> usize
+        ensures { result ≡ length (seats_in SimpleModule-box self.now) }
+    {
+        self.boxes.len()
     }
 
     // ---- setup, up to the boxes
@@ -295,6 +308,49 @@ impl<C: Catalogue> Kernel<C> {
 
     // ---- events
 
+    /// The simple module that stands at a path.
+    fn target(&self, alloc: Global, path: &[u8]) -> Result<Option<u32>, NoMemory>
+        ensures { IfOk result (λ id. id ≡ target_of path.now (world_in SimpleModule-box self.now)) }
+    {
+        id_at(alloc, self.core.records(), self.boxes.as_slice(), path)
+    }
+
+    /// Looks at one injection more: an event comes of it, or it is discarded, or none goes before the first event to come.
+    fn look_on(
+        &self,
+        alloc: Global,
+        model: &Model,
+        look: &mut Look,
+    ) -> Result<Option<Next>, NoMemory>
+        requires count { (world_in SimpleModule-box self.now).count + 1 < 2 ^ 64 }
+        ensures { let world = world_in SimpleModule-box self.now in
+            IfOk result (λ next. LooksOn model.now (looked world look.old) next (looked world look.new)) }
+    {
+        let Some(injection) = self.core.ask_injection(alloc, model, look)? else {
+            return Ok(Some(Next::First));
+        };
+        look.deliver(&injection);
+        match self.target(alloc, injection.path.as_bytes())? {
+            Some(id) => Ok(Some(Next::Arrival(arrival(injection, id)))),
+            None => Ok(None),
+        }
+    }
+
+    /// What comes next, and what was asked to know it.
+    fn upcoming(&self, alloc: Global, model: &Model) -> Result<(Look, Next), NoMemory>
+        requires count { (world_in SimpleModule-box self.now).count + 1 < 2 ^ 64 }
+        ensures { let world = world_in SimpleModule-box self.now in
+            IfOk result (λ r. upcoming model.now world ≡ upcoming_of r.1 (looked world r.0)) }
+    {
+        let mut look = self.core.look(alloc);
+        for _ in 0..MOST_LOOKS {
+            if let Some(next) = self.look_on(alloc, model, &mut look)? {
+                return Ok((look, next));
+            }
+        }
+        Ok((look, Next::Nothing))
+    }
+
     /// The next event, or how the run ends.
     pub fn step(&mut self, alloc: Global, model: &Model) -> Result<Option<Outcome>, NoMemory>
         requires room { HasRoom (world_in SimpleModule-box self.old) }
@@ -308,15 +364,16 @@ impl<C: Catalogue> Kernel<C> {
         if self.core.is_ended() {
             return Ok(Some(Outcome::Ended));
         }
-        if self.core.is_after_limit(model) {
-            return Ok(Some(Outcome::TimeLimit));
+        let (look, next) = self.upcoming(alloc, model)?;
+        match self.core.begin(model, look, next)? {
+            Ok(event) => {
+                let id = event.id;
+                let prompt = Prompt::Message(message_of(alloc, event));
+                let turn = self.call_module(alloc, model, id, prompt)?;
+                Ok(self.settle(turn))
+            }
+            Err(outcome) => Ok(Some(outcome)),
         }
-        let Some(event) = self.core.begin()? else {
-            return Ok(Some(Outcome::NoMoreEvents));
-        };
-        let prompt = Prompt::Message(message_of(alloc, &event));
-        let turn = self.call_module(alloc, model, event.id, prompt)?;
-        Ok(self.settle(turn))
     }
 
     /// How the run ends that is stopped here.
@@ -542,17 +599,69 @@ fn most_stages(slots: &[Slot]) -> u8
     most
 }
 
-/// The message that arrives.
-fn message_of(alloc: Global, event: &Pending) -> Message
-    ensures { result ≡ message_of event.now }
+/// The id of the module whose box is one of these, and which stands at that path.
+fn id_at(
+    alloc: Global,
+    records: &[Record],
+    slots: &[Slot],
+    path: &[u8],
+) -> Result<Option<u32>, NoMemory>
+    ensures { IfOk result (λ id. id ≡ id_at records.now path.now (map instance_of (map (seat_of SimpleModule-box) slots.now))) }
 {
-    match &event.what {
+    for slot in slots {
+        if path_of(alloc, records, slot.id)?.is(path) {
+            return Ok(Some(slot.id));
+        }
+    }
+    Ok(None)
+}
+
+/// The event that an injection becomes, of the module of that id.
+fn arrival(injection: Injection, id: u32) -> Pending
+    ensures { result ≡ arrival injection id }
+{
+    let Injection {
+        number: _,
+        path: _,
+        due,
+        kind,
+        bits,
+        payload,
+    } = injection;
+    Pending {
+        time: due.time,
+        priority: due.priority,
+        number: 0,
+        id,
+        what: Happening::Arrival(kind, bits, payload),
+    }
+}
+
+/// The message that arrives.
+fn message_of(alloc: Global, event: Pending) -> Message
+    ensures { result ≡ message_of event }
+{
+    let Pending {
+        time: _,
+        priority,
+        number: _,
+        id: _,
+        what,
+    } = event;
+    match what {
         Happening::Timer(timer, kind) => Message {
-            kind: *kind,
-            priority: event.priority,
+            kind,
+            priority,
             bits: 0,
             payload: Text::empty(alloc),
-            origin: Origin::Timer(*timer),
+            origin: Origin::Timer(timer),
+        },
+        Happening::Arrival(kind, bits, payload) => Message {
+            kind,
+            priority,
+            bits,
+            payload,
+            origin: Origin::Outside,
         },
     }
 }

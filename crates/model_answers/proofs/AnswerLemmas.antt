@@ -80,6 +80,7 @@ about (question.Build id) = id
 about (question.Param id name) = id
 about (question.GateSize id name) = id
 about (question.BeyondLimit time) = 0
+about (question.InjectionBefore due last) = 0
 
 -- more modules change no answer about those that are there
 pub answer_more : (m : Model) (rs more : List Record) → AreNested 0 rs → (q : Question) → about q ≤ length rs → answer_of m (rs ++ more) q ≡ answer_of m rs q
@@ -92,6 +93,7 @@ answer_more m rs more h (question.Param id name) l =
     ∙ ap (λ t. param_answer m (path_of rs id) t name) (type_at_more m rs more id l)
 answer_more m rs more h (question.GateSize id name) l = refl
 answer_more m rs more h (question.BeyondLimit time) l = refl
+answer_more m rs more h (question.InjectionBefore due last) l = refl
 
 -- ---- the parameters that a call shows
 
@@ -117,6 +119,7 @@ shown_first name other (answer.Root t) rest found e h = h ∙ given_none found (
 shown_first name other (answer.Inside bs) rest found e h = h ∙ given_none found (answer.Inside bs) refl
 shown_first name other (answer.Fault path f) rest found e h = h ∙ given_none found (answer.Fault path f) refl
 shown_first name other (answer.Beyond beyond) rest found e h = h ∙ given_none found (answer.Beyond beyond) refl
+shown_first name other (answer.Injection next) rest found e h = h ∙ given_none found (answer.Injection next) refl
 shown_first name other answer.Absent rest found e h = h ∙ given_none found answer.Absent refl
 
 -- another name stands first
@@ -126,6 +129,7 @@ shown_later name other (answer.Root t) rest e = refl
 shown_later name other (answer.Inside bs) rest e = refl
 shown_later name other (answer.Fault path f) rest e = refl
 shown_later name other (answer.Beyond beyond) rest e = refl
+shown_later name other (answer.Injection next) rest e = refl
 shown_later name other answer.Absent rest e = refl
 
 -- by whether the first name is the one

@@ -20,6 +20,7 @@ use Rattle.model_answers.specs.declared.inside.PlacedFault.{PlacedFault}
 use Rattle.model_answers.specs.declared.model.Model.{Model}
 use Rattle.model_answers.specs.declared.record.Record.{Record}
 use Rattle.model_answers.specs.Inside.{built_all}
+use Rattle.model_answers.specs.Injections.{injection_before}
 use Rattle.model_answers.specs.Models.{entries_in, network_of, type_at, time_limit_of}
 use Rattle.model_answers.specs.Parameters.{parameter_value}
 use Rattle.model_answers.specs.Records.{path_of}
@@ -70,6 +71,7 @@ answer_of m records (question.Build id) = inside_answer m (path_of records id) (
 answer_of m records (question.Param id name) = param_answer m (path_of records id) (type_at m records id) name
 answer_of m records (question.GateSize id name) = answer.Absent
 answer_of m records (question.BeyondLimit time) = answer.Beyond (is_beyond (time_limit_of m) time)
+answer_of m records (question.InjectionBefore due last) = answer.Injection (injection_before due last m.injections)
 
 -- ---- the parameters of a module, as a call shows them
 

@@ -1,5 +1,6 @@
 pub mod Records
 pub mod Models
 pub mod Parameters
+pub mod Injections
 pub mod Inside
 pub mod Answering

@@ -1,5 +1,6 @@
 //! Questions to a model, and their answers.
 
+use crate::injection::{Due, Injection, Turn};
 use sim_values::text::Text;
 use sim_values::value::Value;
 use sqlite_items::Items;
@@ -17,6 +18,9 @@ pub enum Question {
     GateSize(u32, Text),
     /// Whether an event at that time, in picoseconds, is later than the option sim-time-limit allows.
     BeyondLimit(u64),
+    /// The injection that goes before an event that is due then, or that goes where no event is left;
+    /// of those behind this one, which was delivered last.
+    InjectionBefore(Option<Due>, Option<Turn>),
 }
 
 /// A question, with the number of the event in which it was asked.
@@ -59,6 +63,8 @@ pub enum Answer {
     Fault(Text, ModelFault),
     /// Whether the time is later than the limit.
     Beyond(bool),
+    /// The injection that goes next, or that the next event goes first.
+    Injection(Option<Injection>),
     /// There is no such thing.
     Absent,
 }

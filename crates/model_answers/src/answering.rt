@@ -2,11 +2,14 @@
 
 ghost use Rattle.std.specs.Prelude.{◌≡◌, ◌++◌, [], Some, IfOk, OnOk};
 ghost use Rattle.model_answers.specs.Answering.{answer_of, is_beyond, root_answer, inside_answer, inside_of, param_answer, parameters_of, with_line, with_lines};
+ghost use Rattle.model_answers.specs.Injections.{injection_before};
+ghost use Rattle.model_answers.specs.declared.answer.Answer.TheVariants as answer;
 ghost use Rattle.model_answers.specs.Models.{network_of, type_at, time_limit_of};
 ghost use Rattle.model_answers.specs.Records.{path_of};
 ghost use Rattle.std.specs.Option.{option_copied};
 
 use crate::answer::{Answer, Question};
+use crate::injection::{Due, Turn, injection_before};
 use crate::inside::built_all;
 use crate::model::Model;
 use crate::parameters::parameter_value;
@@ -34,6 +37,7 @@ pub fn answer(
         Question::Param(id, name) => param_answer(alloc, model, records, *id, name.as_bytes()),
         Question::GateSize(_, _) => Ok(Answer::Absent),
         Question::BeyondLimit(time) => Ok(Answer::Beyond(is_beyond(model, *time))),
+        Question::InjectionBefore(due, last) => injection_answer(alloc, model, *due, *last),
     }
 }
 
@@ -45,6 +49,22 @@ pub fn is_beyond(model: &Model, time: u64) -> bool
     match model.time_limit() {
         Some(limit) => limit < time,
         None => false,
+    }
+}
+
+/// The injection that goes before an event that is due then, behind the one that was delivered last.
+fn injection_answer(
+    alloc: Global,
+    model: &Model,
+    due: Option<Due>,
+    last: Option<Turn>,
+) -> Result<Answer, NoMemory>
+    ensures { IfOk result (λ found. found
+        ≡ answer.Injection (injection_before due last model.now.injections)) }
+{
+    match injection_before(model.injections.as_slice(), due, last) {
+        Some(injection) => Ok(Answer::Injection(Some(injection.copy(alloc)?))),
+        None => Ok(Answer::Injection(None)),
     }
 }
 

@@ -3,6 +3,7 @@
 
 pub mod answer;
 pub mod answering;
+pub mod injection;
 pub mod inside;
 pub mod model;
 pub mod parameters;

@@ -5,6 +5,7 @@ ghost use Rattle.std.specs.Option.{option_copied};
 ghost use Rattle.model_answers.specs.Models.{network_of, type_at, type_of_record, inner_type, as_network, type_by_last_name, time_limit_of};
 ghost use Rattle.model_answers.specs.Records.{record_at};
 
+use crate::injection::Injection;
 use crate::record::{Record, record_at};
 use ini_config::entries::{network_entry, time_limit_entry};
 use ini_config::lines::IniText;
@@ -15,7 +16,7 @@ use ned_types::table::TypeTable;
 use sim_values::text::Text;
 use sqlite_items::Items;
 
-/// What a run is made of: the declared types, the ini text, and the selected configuration.
+/// What a run is made of: the declared types, the ini text, the selected configuration, and the injections.
 #[derive(Debug, Drop)]
 pub struct Model {
     pub types: TypeTable,
@@ -23,6 +24,10 @@ pub struct Model {
     pub config: Text,
     /// The names of the sections that make the configuration, in the order in which their entries count.
     pub chain: Items<Text>,
+    /// The injections, by rising number.
+    pub injections: Items<Injection>,
+    /// The number of the last injection that was made, 0 where none was. Numbers are not used again.
+    pub last_injection: u32,
 }
 
 impl Model {

@@ -14,11 +14,12 @@ use Rattle.ini_config.specs.declared.lines.IniLine.{IniLine}
 use Rattle.ini_config.specs.Sections.{IsChain, is_section}
 use Rattle.ini_config.proofs.ChainLaws.{one_chain_law}
 use Rattle.ini_config.proofs.MeaningLaws.{bad_text, text_same}
+use Rattle.model_answers.specs.declared.injection.Injection.{Injection}
 use Rattle.model_answers.specs.declared.model.Model.{Model}
 use Rattle.model_answers.specs.Models.{network_of}
 use Rattle.model_texts.specs.declared.begin.BeginFault.{BeginFault}
 use Rattle.model_texts.specs.declared.begin.BeginFault.TheVariants as fault
-use Rattle.model_texts.specs.Models.{AreNedFiles, AreRead, AreApart, HasNoNetwork, IsModelOf, IsReadAs, Refuses, IsRuledOut, is_too_large}
+use Rattle.model_texts.specs.Models.{AreNedFiles, AreRead, AreApart, IsModelOf, IsReadAs, Refuses, IsRuledOut, is_too_large}
 
 -- ---- texts mean one thing
 
@@ -46,20 +47,22 @@ lines_same texts ini r s = text_same ini r.lines s.lines r.said s.said
 
 -- ---- they make one model
 
-model_same : (t u : List TypeDeclaration) (a b : List IniLine) (c d : List ℕ) (k l : List (List ℕ)) → t ≡ u → a ≡ b → c ≡ d → k ≡ l
-    → ◌≡◌ {A = Model} (record { types = t; ini = a; config = c; chain = k }) (record { types = u; ini = b; config = d; chain = l })
-model_same t u a b c d k l p q r s = cc
+model_same : (t u : List TypeDeclaration) (a b : List IniLine) (c d : List ℕ) (k l : List (List ℕ)) (is js : List Injection) (x y : ℕ) → t ≡ u → a ≡ b → c ≡ d → k ≡ l → is ≡ js → x ≡ y
+    → ◌≡◌ {A = Model} (record { types = t; ini = a; config = c; chain = k; injections = is; last_injection = x }) (record { types = u; ini = b; config = d; chain = l; injections = js; last_injection = y })
+model_same t u a b c d k l is js x y p q r s i n = cc
 
 pub one_model : (texts : List (List ℕ)) (ini config : List ℕ) (m n : Model) → IsReadAs texts ini config m → IsReadAs texts ini config n → m ≡ n
 one_model texts ini config m n p q =
     let files = files_same texts p.read.files q.read.files p.read.declared q.read.declared in
     let lines = lines_same texts ini p.read q.read in
     let chained : IsChain q.read.lines config m.chain = subst (λ (l : List IniLine). IsChain l config m.chain) lines p.chained in
-    model_same m.types n.types m.ini n.ini m.config n.config m.chain n.chain
+    model_same m.types n.types m.ini n.ini m.config n.config m.chain n.chain m.injections n.injections m.last_injection n.last_injection
     (p.types ∙ ap types_of files ∙ sym q.types)
     (p.lines ∙ lines ∙ sym q.lines)
     (p.selected ∙ sym q.selected)
     (one_chain_law q.read.lines config m.chain n.chain chained q.chained)
+    (p.outside ∙ sym q.outside)
+    (p.unused ∙ sym q.unused)
 
 -- ---- no refusal has a reason
 

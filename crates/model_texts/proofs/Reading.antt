@@ -1,12 +1,12 @@
 -- The files of a model, one after the other.
-use Rattle.std.proofs.Common.{◌≡◌, ℕ, zero, suc, ◌+◌, ◌<◌, Bool, true, false, ◌||◌, List, [], ◌∷◌, ◌++◌, Option, Some, None, is_some, IsSome, Bor, refl, sym, ap, ◌∙◌, subst, arith, length, take, slice_get}
+use Rattle.std.proofs.Common.{◌≡◌, ℕ, zero, suc, Bool, true, false, ◌||◌, List, [], ◌∷◌, ◌++◌, Option, Some, None, is_some, IsSome, Bor, refl, sym, ap, ◌∙◌, subst, take, slice_get}
 use Rattle.std.specs.List.{list_any}
 use Rattle.std.specs.Option.{option_copied}
 use Rattle.ned_syntax.specs.declared.ast.NedFile.{NedFile}
 use Rattle.ned_syntax.specs.NedText.{IsNedFile}
 use Rattle.model_texts.specs.declared.begin.BeginFault.{BeginFault}
 use Rattle.model_texts.specs.declared.begin.BeginFault.TheVariants as fault
-use Rattle.model_texts.specs.Models.{AreNedFiles, AreRead, IsBlamed, RefusesFile, RefusesFiles, RefusesConfig, Refuses, is_large}
+use Rattle.model_texts.specs.Models.{AreNedFiles, AreRead, RefusesFile, RefusesFiles, RefusesConfig, Refuses, is_large}
 
 large_here : (ts : List (List ℕ)) (t : List ℕ) (o : Bool) → o ≡ true → (o || list_any is_large ts) ≡ true
 large_here ts t true e = refl

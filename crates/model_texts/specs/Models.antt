@@ -1,5 +1,5 @@
 -- The model that texts make, and why texts make none.
-use Rattle.std.specs.Prelude.{◌≡◌, ℕ, Bool, true, false, ◌||◌, List, [], ◌∷◌, Some, None, IsSome, codes, length, nat_lt, slice_get, take}
+use Rattle.std.specs.Prelude.{◌≡◌, ℕ, Bool, true, false, ◌||◌, List, [], ◌∷◌, Some, None, IsSome, length, nat_lt, slice_get, take}
 use Rattle.std.specs.List.{list_any}
 use Rattle.sim_values.specs.Memory.{no_memory}
 use Rattle.ini_config.specs.declared.lines.IniLine.{IniLine}
@@ -46,7 +46,7 @@ pub record AreRead (texts : List (List ℕ)) (ini : List ℕ) : Type 0 where
   pub said : IsIniText ini lines
   pub together : fault_of (types_of files) ≡ None
 
--- The model has what the texts say, and the chain of the configuration, whose section is there.
+-- The model has what the texts say, and the chain of the configuration, whose section is there; and no injection.
 pub record IsReadAs (texts : List (List ℕ)) (ini config : List ℕ) (m : Model) : Type 0 where
   pub read : AreRead texts ini
   pub types : m.types ≡ types_of read.files
@@ -54,6 +54,8 @@ pub record IsReadAs (texts : List (List ℕ)) (ini config : List ℕ) (m : Model
   pub selected : m.config ≡ config
   pub exists : is_section config read.lines ≡ true
   pub chained : IsChain read.lines config m.chain
+  pub outside : m.injections ≡ []
+  pub unused : m.last_injection ≡ 0
 
 -- THE MODEL of these texts and that configuration
 pub record IsModelOf (texts : List (List ℕ)) (ini config : List ℕ) (m : Model) : Type 0 where

@@ -187,6 +187,8 @@ fn read_model(
         ini: lines,
         config,
         chain,
+        injections: Items::new(alloc),
+        last_injection: 0,
     };
     if model.network().is_none() {
         return Err(BeginFault::NoSuchNetwork);

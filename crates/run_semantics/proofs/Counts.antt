@@ -14,7 +14,9 @@ use Rattle.run_semantics.specs.declared.pending.Pending.{Pending}
 use Rattle.run_semantics.specs.World.{World, empty, asked}
 use Rattle.run_semantics.specs.Perform.{Flow, On, Stopped, Broken, ◌>>=◌}
 use Rattle.run_semantics.specs.Event.{begun, event, message_of}
-use Rattle.run_semantics.specs.Run.{rooted, built, unless_many, root_asked, inside_asked, prepared, Part, parts_of, place, place_all, place_parts, ready, standing, most_stages, initialize, one_stage, stages_from, initialize_all, with_started, Stage, Running, Over, world_at, settled, start, is_after_limit, picked, next_stage, after, IsReached}
+use Rattle.run_semantics.specs.Run.{rooted, built, unless_many, root_asked, inside_asked, prepared, Part, parts_of, place, place_all, place_parts, ready, standing, most_stages, initialize, one_stage, stages_from, initialize_all, with_started, Stage, Running, Over, world_at, settled, start, is_after_limit, went, next_stage, after, IsReached}
+use Rattle.run_semantics.specs.Upcoming.{Upcoming, Comes, Nothing, upcoming}
+use Rattle.run_semantics.proofs.Looking.{beside, looked_count, upcoming_looks}
 use Rattle.run_semantics.proofs.Sound.{in_flow, call_keeps}
 
 pub then_count : (n : ℕ) (fl : Flow) (k : World → Flow) → (in_flow fl).count ≡ n → ((w : World) → w.count ≡ n → (in_flow (k w)).count ≡ n) → (in_flow (fl >>= k)).count ≡ n
@@ -34,6 +36,7 @@ root_count (answer.Inside bs) w = refl
 root_count (answer.Value v) w = refl
 root_count (answer.Fault path f) w = refl
 root_count (answer.Beyond beyond) w = refl
+root_count (answer.Injection next) w = refl
 root_count answer.Absent w = refl
 
 many_count : (parent : ℕ) (bs : List Built) (w : World) (one : Option Built) → (in_flow (unless_many parent bs w one)).count ≡ w.count
@@ -46,6 +49,7 @@ built_count parent (answer.Root name) w = refl
 built_count parent (answer.Value v) w = refl
 built_count parent (answer.Fault path f) w = refl
 built_count parent (answer.Beyond beyond) w = refl
+built_count parent (answer.Injection next) w = refl
 built_count parent answer.Absent w = refl
 
 pub prepared_count : (m : Model) → (in_flow (prepared m)).count ≡ 0
@@ -100,13 +104,17 @@ either_at_most : (n : ℕ) (c : Bool) (s t : Stage) → (world_at s).count ≤ n
 either_at_most n true s t h k = h
 either_at_most n false s t h k = k
 
-picked_count : (b : Behaviour) (m : Model) (w : World) (pending : List Pending) → (world_at (picked b m w pending)).count ≤ w.count + 1
-picked_count b m w [] = omega arith
-picked_count b m w (p ∷ rest) =
-    either_at_most (w.count + 1) (is_after_limit m w.records p) (Over w TimeLimit) (settled (event b m p rest w)) (omega arith) (omega (arith, settled_count (event b m p rest w), event_count b m p rest w))
+-- what comes next finds the count as it was
+pub upcoming_count : (m : Model) (w : World) → (beside (upcoming m w)).count ≡ w.count
+upcoming_count m w = looked_count w (beside (upcoming m w)) (upcoming_looks m w)
+
+went_count : (b : Behaviour) (m : Model) (w : World) (up : Upcoming) → (beside up).count ≡ w.count → (world_at (went b m w up)).count ≤ w.count + 1
+went_count b m w (Nothing u) e = omega arith
+went_count b m w (Comes u p rest) e =
+    either_at_most (w.count + 1) (is_after_limit m u.records p) (Over w TimeLimit) (settled (event b m p rest u)) (omega arith) (omega (arith, e, settled_count (event b m p rest u), event_count b m p rest u))
 
 next_count : (b : Behaviour) (m : Model) (s : Stage) → (world_at (next_stage b m s)).count ≤ (world_at s).count + 1
-next_count b m (Running w) = either_at_most (w.count + 1) w.ended _ _ (omega arith) (picked_count b m w w.pending)
+next_count b m (Running w) = either_at_most (w.count + 1) w.ended _ _ (omega arith) (went_count b m w (upcoming m w) (upcoming_count m w))
 next_count b m (Over w outcome) = omega arith
 
 -- after n turns at most n events were executed
@@ -132,16 +140,17 @@ either_runs true n w outcome s f u e = cc
 either_runs false n w outcome s f u e = f u e
 
 -- the next event is counted
-picked_runs : (b : Behaviour) (m : Model) (w : World) (pending : List Pending) → RunsOn (w.count + 1) (picked b m w pending)
-picked_runs b m w [] u e = cc
-picked_runs b m w (p ∷ rest) u e =
-    either_runs (is_after_limit m w.records p) (w.count + 1) w TimeLimit (settled (event b m p rest w)) (settled_runs (w.count + 1) (event b m p rest w) (event_count b m p rest w)) u e
+went_runs : (b : Behaviour) (m : Model) (w : World) (up : Upcoming) → (beside up).count ≡ w.count → RunsOn (w.count + 1) (went b m w up)
+went_runs b m w (Nothing v) same u e = cc
+went_runs b m w (Comes v p rest) same u e =
+    let more = either_runs (is_after_limit m v.records p) (v.count + 1) w TimeLimit (settled (event b m p rest v)) (settled_runs (v.count + 1) (event b m p rest v) (event_count b m p rest v)) u e in
+    omega (arith, same, more)
 
 -- one turn of a run
 next_runs : (b : Behaviour) (m : Model) (n : ℕ) (s : Stage) → RunsOn n s → RunsOn (suc n) (next_stage b m s)
 next_runs b m n (Running w) f u e =
     let at = f w refl in
-    let more = either_runs w.ended (w.count + 1) w Ended (picked b m w w.pending) (picked_runs b m w w.pending) u e in
+    let more = either_runs w.ended (w.count + 1) w Ended (went b m w (upcoming m w)) (went_runs b m w (upcoming m w) (upcoming_count m w)) u e in
     omega (arith, at, more)
 next_runs b m n (Over w outcome) f u e = cc
 

@@ -92,6 +92,7 @@ root_built (answer.Inside bs) = tt
 root_built (answer.Value v) = tt
 root_built (answer.Fault path f) = tt
 root_built (answer.Beyond beyond) = tt
+root_built (answer.Injection next) = tt
 root_built answer.Absent = tt
 
 -- submodules are created, unless they are too many
@@ -111,6 +112,7 @@ built_built parent (answer.Root name) w f = tt
 built_built parent (answer.Value v) w f = tt
 built_built parent (answer.Fault path fault) w f = tt
 built_built parent (answer.Beyond beyond) w f = tt
+built_built parent (answer.Injection next) w f = tt
 built_built parent answer.Absent w f = tt
 
 -- the second question, and what follows it
@@ -217,15 +219,15 @@ begin_started b m (Stopped w) f h = absurd h
 begin_started b m (Broken w path fault) f h = tt
 
 -- one turn of a run leaves it
-next_started : (s t : Stage) → Follows (world_at s) (world_at t) → ((w : World) (outcome : Outcome) → s ≡ Over w outcome → IfRunning AreStarted t) → IfRunning AreStarted s → IfRunning AreStarted t
-next_started (Running v) (Running w) g k f = started_kept v w g.records g.same g.started g.live f
-next_started (Running v) (Over w outcome) g k f = tt
-next_started (Over v outcome) t g k f = k v outcome refl
+next_started : (m : Model) (s t : Stage) → Follows m (world_at s) (world_at t) → ((w : World) (outcome : Outcome) → s ≡ Over w outcome → IfRunning AreStarted t) → IfRunning AreStarted s → IfRunning AreStarted t
+next_started m (Running v) (Running w) g k f = started_kept v w g.records g.same g.started g.live f
+next_started m (Running v) (Over w outcome) g k f = tt
+next_started m (Over v outcome) t g k f = k v outcome refl
 
 -- so it is in each run that goes on
 started_after : (b : Behaviour) (m : Model) (n : ℕ) → IfRunning AreStarted (after b m n)
 started_after b m zero = begin_started b m (ready b m) (orderly_none (in_flow (ready b m)) (ready_none b m).0) (ready_ready b m)
-started_after b m (suc n) = next_started (after b m n) (after b m (suc n)) (after_follows b m n) (λ w outcome e. rw e tt) (started_after b m n)
+started_after b m (suc n) = next_started m (after b m n) (after b m (suc n)) (after_follows b m n) (λ w outcome e. rw e tt) (started_after b m n)
 
 -- ---- calls
 

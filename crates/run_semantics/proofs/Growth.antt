@@ -58,17 +58,17 @@ pub record Fits (w : World) : Type 0 where
   pub questions : AllAbout (length w.records) w.questions
 
 -- two lists of questions of one event
-AllOfEvent-append : (n : ℕ) (xs ys : List Asked) → AllOfEvent n xs → AllOfEvent n ys → AllOfEvent n (xs ++ ys)
+pub AllOfEvent-append : (n : ℕ) (xs ys : List Asked) → AllOfEvent n xs → AllOfEvent n ys → AllOfEvent n (xs ++ ys)
 AllOfEvent-append n [] ys f g = g
 AllOfEvent-append n (x ∷ xs) ys f g = (f.0, AllOfEvent-append n xs ys f.1 g)
 
 -- two lists of questions about these modules
-AllAbout-append : (n : ℕ) (xs ys : List Asked) → AllAbout n xs → AllAbout n ys → AllAbout n (xs ++ ys)
+pub AllAbout-append : (n : ℕ) (xs ys : List Asked) → AllAbout n xs → AllAbout n ys → AllAbout n (xs ++ ys)
 AllAbout-append n [] ys f g = g
 AllAbout-append n (x ∷ xs) ys f g = (f.0, AllAbout-append n xs ys f.1 g)
 
 -- more modules were created
-AllAbout-more : (n k : ℕ) (xs : List Asked) → n ≤ k → AllAbout n xs → AllAbout k xs
+pub AllAbout-more : (n k : ℕ) (xs : List Asked) → n ≤ k → AllAbout n xs → AllAbout k xs
 AllAbout-more n k [] h f = tt
 AllAbout-more n k (x ∷ xs) h f = (omega (arith, f.0), AllAbout-more n k xs h f.1)
 
@@ -356,6 +356,7 @@ rooted_grows (answer.Inside bs) = grown_same _ (asked_grows Root empty fits_empt
 rooted_grows (answer.Value v) = grown_same _ (asked_grows Root empty fits_empty (omega arith)).fits
 rooted_grows (answer.Fault path f) = grown_same _ (asked_grows Root empty fits_empty (omega arith)).fits
 rooted_grows (answer.Beyond beyond) = grown_same _ (asked_grows Root empty fits_empty (omega arith)).fits
+rooted_grows (answer.Injection next) = grown_same _ (asked_grows Root empty fits_empty (omega arith)).fits
 rooted_grows answer.Absent = grown_same _ (asked_grows Root empty fits_empty (omega arith)).fits
 
 -- the first question, and what follows it
@@ -394,6 +395,7 @@ built_grows parent (answer.Root name) w f l = grown_same w f
 built_grows parent (answer.Value v) w f l = grown_same w f
 built_grows parent (answer.Fault path fault) w f l = grown_same w f
 built_grows parent (answer.Beyond beyond) w f l = grown_same w f
+built_grows parent (answer.Injection next) w f l = grown_same w f
 built_grows parent answer.Absent w f l = grown_same w f
 
 -- the second question, and what follows it

@@ -1,7 +1,9 @@
+pub mod Ahead
 pub mod Counts
 pub mod Ends
 pub mod Grown
 pub mod Growth
+pub mod Looking
 pub mod Order
 pub mod Orderly
 pub mod Reuse

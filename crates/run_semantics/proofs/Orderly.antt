@@ -1,6 +1,6 @@
 -- In every world of a run the events to come are in order, none is late, each has a number of its own, and each is for a
 -- module that stands; and what was emitted stands in the order of events.
-use Rattle.std.proofs.Common.{◌≡◌, ◌≢◌, inl, inr, ℕ, zero, suc, ◌+◌, ◌≤◌, ◌<◌, ◌==◌, cond, Bool, true, false, List, [], ◌∷◌, ◌++◌, Option, Some, None, refl, sym, ap, ◌∙◌, arith, subst, append_assoc, append-nil, slice_get, slice_set, length, map, if◌then◌else◌, nat_lt, nat_le, eqb-true}
+use Rattle.std.proofs.Common.{◌≡◌, ◌≢◌, ◌⊎◌, inl, inr, ℕ, zero, suc, ◌+◌, ◌≤◌, ◌<◌, ◌==◌, cond, Bool, true, false, List, [], ◌∷◌, ◌++◌, Option, Some, None, refl, sym, ap, ◌∙◌, arith, subst, append_assoc, append-nil, slice_get, slice_set, length, map, if◌then◌else◌, nat_lt, nat_le, eqb-true}
 use Rattle.std.specs.List.{list_any, position_from}
 use Rattle.sim_time.specs.Time.{time_sum}
 use Rattle.module_api.specs.Behaviour.{Behaviour, Replied}
@@ -30,11 +30,14 @@ use Rattle.run_semantics.specs.World.{World, empty, asked}
 use Rattle.run_semantics.specs.Order.{inserted}
 use Rattle.run_semantics.specs.Perform.{Flow, On, Stopped, Broken, ◌>>=◌, broken, with_scalar, is_timer, scheduled, perform, perform_all, ask_all, question_of, acted, read_fault, unless_fault, answered}
 use Rattle.run_semantics.specs.Event.{call_of, place_in, with_state, called, call_at, call_module, begun, event, message_of}
-use Rattle.run_semantics.specs.Run.{rooted, built, unless_many, root_asked, inside_asked, prepared, Part, parts_of, place, place_all, place_parts, ready, standing, most_stages, initialize, one_stage, stages_from, initialize_all, with_started, part_of, Stage, Running, Over, world_at, settled, is_after_limit, picked, next_stage, after}
+use Rattle.run_semantics.specs.Run.{rooted, built, unless_many, root_asked, inside_asked, prepared, Part, parts_of, place, place_all, place_parts, ready, standing, most_stages, initialize, one_stage, stages_from, initialize_all, with_started, part_of, Stage, Running, Over, world_at, settled, is_after_limit, went, next_stage, after}
 use Rattle.run_semantics.specs.Laws.{Each, AreInOrder, AreInTurn, HaveOwnNumbers, IsAmong, ids_of, GoesOn}
+use Rattle.run_semantics.specs.Upcoming.{Upcoming, Comes, Nothing, upcoming}
+use Rattle.run_semantics.proofs.Ahead.{IsAhead, MayCome, ComesWell, ahead_at_zero, upcoming_well}
+use Rattle.run_semantics.proofs.Looking.{beside, looking, HasLooked, upcoming_looks}
 use Rattle.run_semantics.proofs.Sound.{in_flow}
 use Rattle.run_semantics.proofs.Counts.{event_count}
-use Rattle.run_semantics.proofs.Order.{before_time, each_map, each_append, each_inserted, ordered_inserted, own_inserted}
+use Rattle.run_semantics.proofs.Order.{each_map, each_append, each_inserted, ordered_inserted, own_inserted}
 
 -- what holds of the events to come of a world
 pub record IsOrderly (w : World) : Type 0 where
@@ -57,6 +60,7 @@ pub record Leads (old new : World) : Type 0 where
   pub same : standing new.modules ≡ standing old.modules
   pub started : new.started ≡ old.started
   pub live : new.live ≡ old.live
+  pub delivered : new.delivered ≡ old.delivered
   pub emissions : GoesOn old.emissions new.emissions
   pub scalars : GoesOn old.scalars new.scalars
   pub present : AreOf old.count old.clock emissions.0
@@ -81,7 +85,7 @@ on_more xs ys zs f g = (f.0 ++ g.0, sym (append_assoc xs f.0 g.0) ∙ (ap (λ us
 
 -- nothing happened
 leads_same : (w : World) → IsOrderly w → Leads w w
-leads_same w f = record { clock = refl; count = refl; present = tt; next = omega arith; records = refl; same = refl; started = refl; live = refl; emissions = on_same w.emissions; scalars = on_same w.scalars; orderly = f }
+leads_same w f = record { clock = refl; count = refl; present = tt; next = omega arith; records = refl; same = refl; started = refl; live = refl; delivered = refl; emissions = on_same w.emissions; scalars = on_same w.scalars; orderly = f }
 
 -- one part and then another
 leads_on : {u v w : World} → Leads u v → Leads v w → Leads u w
@@ -93,6 +97,7 @@ leads_on {u} {v} {w} f g = record {
   same = g.same ∙ f.same;
   started = g.started ∙ f.started;
   live = g.live ∙ f.live;
+  delivered = g.delivered ∙ f.delivered;
   emissions = on_more u.emissions v.emissions w.emissions f.emissions g.emissions;
   scalars = on_more u.scalars v.scalars w.scalars f.scalars g.scalars;
   present = each_append (λ (e : Emission). (e.event ≡ u.count) × (e.time ≡ u.clock)) f.emissions.0 g.emissions.0 f.present (rw (← f.count, ← f.clock) g.present);
@@ -146,6 +151,7 @@ leads_inserted e w f number time stands =
       same = refl;
       started = refl;
       live = refl;
+      delivered = refl;
       emissions = on_same w.emissions;
       scalars = on_same w.scalars;
       orderly = record {
@@ -175,6 +181,7 @@ perform_leads id (Emit signal value) w f h = record {
   same = refl;
   started = refl;
   live = refl;
+  delivered = refl;
   emissions = (_, refl);
   scalars = on_same w.scalars;
   orderly = record { order = f.order; own = f.own; below = f.below; due = f.due; modules = f.modules };
@@ -190,6 +197,7 @@ perform_leads id (RecordScalar name value) w f h =
       same = refl;
       started = refl;
       live = refl;
+      delivered = refl;
       emissions = on_same w.emissions;
       scalars = (_, refl);
       orderly = record { order = f.order; own = f.own; below = f.below; due = f.due; modules = f.modules };
@@ -212,8 +220,8 @@ acted_leads id actions w f h = either_leads w (nat_lt 1000 (length actions)) _ _
 -- ---- replies and calls
 
 -- what changes neither clock, modules, events, emissions nor scalars
-leads_beside : (u v : World) → IsOrderly u → v.clock ≡ u.clock → v.next ≡ u.next → v.pending ≡ u.pending → v.records ≡ u.records → standing v.modules ≡ standing u.modules → v.started ≡ u.started → v.live ≡ u.live → v.emissions ≡ u.emissions → v.scalars ≡ u.scalars → v.count ≡ u.count → Leads u v
-leads_beside u v f clock next pending records same started live emissions scalars count = record {
+leads_beside : (u v : World) → IsOrderly u → v.clock ≡ u.clock → v.next ≡ u.next → v.pending ≡ u.pending → v.records ≡ u.records → standing v.modules ≡ standing u.modules → v.started ≡ u.started → v.live ≡ u.live → v.delivered ≡ u.delivered → v.emissions ≡ u.emissions → v.scalars ≡ u.scalars → v.count ≡ u.count → Leads u v
+leads_beside u v f clock next pending records same started live delivered emissions scalars count = record {
   clock = clock;
   count = count;
   present = tt;
@@ -222,6 +230,7 @@ leads_beside u v f clock next pending records same started live emissions scalar
   same = same;
   started = started;
   live = live;
+  delivered = delivered;
   emissions = ([], append-nil u.emissions ∙ sym emissions);
   scalars = ([], append-nil u.scalars ∙ sym scalars);
   orderly = record {
@@ -237,7 +246,7 @@ leads_beside u v f clock next pending records same started live emissions scalar
 ask_all_leads : (id : ℕ) (reads : List Read) (w : World) → IsOrderly w → Leads w (ask_all id reads w)
 ask_all_leads id [] w f = leads_same w f
 ask_all_leads id (r ∷ rs) w f =
-    let g : Leads w (asked (question_of id r) w) = leads_beside w _ f refl refl refl refl refl refl refl refl refl refl in
+    let g : Leads w (asked (question_of id r) w) = leads_beside w _ f refl refl refl refl refl refl refl refl refl refl refl in
     leads_on g (ask_all_leads id rs (asked (question_of id r) w) g.orderly)
 
 -- a fault changes nothing
@@ -264,7 +273,7 @@ called_leads b m id p w place None e f h = leads_same w f
 called_leads b m id p w place (Some i) e f h =
     let r : Replied = (b.naming i.kind).reply i.state (call_of m id p w) in
     let v : World = with_state place i r.state w in
-    let g : Leads w v = leads_beside w v f refl refl refl refl (standing_set w.modules place i r.state e) refl refl refl refl refl in
+    let g : Leads w v = leads_beside w v f refl refl refl refl (standing_set w.modules place i r.state e) refl refl refl refl refl refl in
     leads_on g (answered_leads m id r.reply v g.orderly (stands_on id w v g h))
 
 -- a module that has a place stands
@@ -313,9 +322,9 @@ initialize_all_leads b m w f = stages_lead b m (standing w.modules) 0 (most_stag
 
 -- ---- setup: no event is to come, and nothing was emitted
 
--- no event is to come, and nothing was emitted
+-- no event is to come, nothing was emitted, and the clock is at zero
 abbrev IsQuiet : World → Type 0
-IsQuiet w = (w.pending ≡ []) × (w.emissions ≡ [])
+IsQuiet w = (w.pending ≡ []) × (w.emissions ≡ []) × (w.clock ≡ 0)
 
 -- the next part, where the flow goes on
 then_none : (fl : Flow) (k : World → Flow) → IsQuiet (in_flow fl) → ((w : World) → IsQuiet w → IsQuiet (in_flow (k w))) → IsQuiet (in_flow (fl >>= k))
@@ -330,12 +339,13 @@ either_none false f g e d = d
 
 -- the network is created
 root_none : (found : Answer) → IsQuiet (in_flow (rooted found (asked Root empty)))
-root_none (answer.Root name) = (refl, refl)
-root_none (answer.Inside bs) = (refl, refl)
-root_none (answer.Value v) = (refl, refl)
-root_none (answer.Fault path f) = (refl, refl)
-root_none (answer.Beyond beyond) = (refl, refl)
-root_none answer.Absent = (refl, refl)
+root_none (answer.Root name) = (refl, refl, refl)
+root_none (answer.Inside bs) = (refl, refl, refl)
+root_none (answer.Value v) = (refl, refl, refl)
+root_none (answer.Fault path f) = (refl, refl, refl)
+root_none (answer.Beyond beyond) = (refl, refl, refl)
+root_none (answer.Injection next) = (refl, refl, refl)
+root_none answer.Absent = (refl, refl, refl)
 
 -- submodules are created, unless they are too many
 many_none : (parent : ℕ) (bs : List Built) (w : World) (one : Option Built) → IsQuiet w → IsQuiet (in_flow (unless_many parent bs w one))
@@ -349,6 +359,7 @@ built_none parent (answer.Root name) w e = e
 built_none parent (answer.Value v) w e = e
 built_none parent (answer.Fault path f) w e = e
 built_none parent (answer.Beyond beyond) w e = e
+built_none parent (answer.Injection next) w e = e
 built_none parent answer.Absent w e = e
 
 -- modules are placed
@@ -369,8 +380,12 @@ orderly_none w e = record { order = rw e tt; own = rw e tt; below = rw e tt; due
 
 -- ---- runs
 
+-- no injection that is left is due before the clock
+abbrev IsInTime : Model → World → Type 0
+IsInTime m w = IsAhead w.clock w.delivered m.injections
+
 -- from the first world to the second, over one event at most
-pub record Follows (old new : World) : Type 0 where
+pub record Follows (m : Model) (old new : World) : Type 0 where
   pub clock : old.clock ≤ new.clock
   pub count : old.count ≤ new.count
   pub next : old.next ≤ new.next
@@ -382,19 +397,40 @@ pub record Follows (old new : World) : Type 0 where
   pub scalars : GoesOn old.scalars new.scalars
   pub present : AreOf new.count new.clock emissions.0
   pub orderly : IsOrderly new
+  pub in_time : IsInTime m new
 
 -- no event was executed
-follows_same : (w : World) → IsOrderly w → Follows w w
-follows_same w f = record { present = tt; clock = omega arith; count = omega arith; next = omega arith; records = refl; same = refl; started = refl; live = refl; emissions = on_same w.emissions; scalars = on_same w.scalars; orderly = f }
+follows_same : (m : Model) (w : World) → IsOrderly w → IsInTime m w → Follows m w w
+follows_same m w f t = record {
+  present = tt;
+  clock = omega arith;
+  count = omega arith;
+  next = omega arith;
+  records = refl;
+  same = refl;
+  started = refl;
+  live = refl;
+  emissions = on_same w.emissions;
+  scalars = on_same w.scalars;
+  orderly = f;
+  in_time = t;
+}
 
--- the first event is taken out, and none that is left is before it
-orderly_begun : (p : Pending) (rest : List Pending) (w : World) → w.pending ≡ p ∷ rest → IsOrderly w → IsOrderly (begun p rest w)
-orderly_begun p rest w e f =
+-- An event is one of those to come, which is taken out, or is none of them; and of those that are left none is due before it.
+orderly_begun : (p : Pending) (rest : List Pending) (w : World) → (rest ≡ w.pending) ⊎ (w.pending ≡ p ∷ rest) → Each (λ g. p.time ≤ g.time) rest → IsOrderly w → IsOrderly (begun p rest w)
+orderly_begun p rest w (inl e) later f = record {
+  order = subst AreInOrder (sym e) f.order;
+  own = subst HaveOwnNumbers (sym e) f.own;
+  below = subst (Each (λ (g : Pending). g.number < w.next)) (sym e) f.below;
+  due = later;
+  modules = subst (Each (λ (g : Pending). IsAmong g.id (ids_of w.modules))) (sym e) f.modules;
+}
+orderly_begun p rest w (inr e) later f =
     let order : AreInOrder (p ∷ rest) = subst AreInOrder e f.order in
     let own : HaveOwnNumbers (p ∷ rest) = subst HaveOwnNumbers e f.own in
     let below : Each (λ g. g.number < w.next) (p ∷ rest) = subst (Each (λ (g : Pending). g.number < w.next)) e f.below in
     let modules : Each (λ g. IsAmong g.id (ids_of w.modules)) (p ∷ rest) = subst (Each (λ (g : Pending). IsAmong g.id (ids_of w.modules))) e f.modules in
-    record { order = order.1; own = own.1; below = below.1; due = each_map _ (λ g. p.time ≤ g.time) rest (λ g b. before_time p g b) order.0; modules = modules.1 }
+    record { order = order.1; own = own.1; below = below.1; due = later; modules = modules.1 }
 
 -- the end of an event changes nothing of the world
 settled_at : (fl : Flow) → world_at (settled fl) ≡ in_flow fl
@@ -402,47 +438,61 @@ settled_at (On w) = refl
 settled_at (Stopped w) = refl
 settled_at (Broken w path f) = refl
 
--- one event
-event_follows : (b : Behaviour) (m : Model) (p : Pending) (rest : List Pending) (w : World) → w.pending ≡ p ∷ rest → IsOrderly w → Follows w (world_at (settled (event b m p rest w)))
-event_follows b m p rest w e f =
-    let due : Each (λ g. w.clock ≤ g.time) (p ∷ rest) = subst (Each (λ (g : Pending). w.clock ≤ g.time)) e f.due in
-    let now : w.clock ≤ p.time = due.0 in
-    let g = call_leads b m p.id (prompt.Message (message_of p)) (begun p rest w) (orderly_begun p rest w e f) in
-    let count = event_count b m p rest w in
-    subst (Follows w) (sym (settled_at (event b m p rest w))) (record {
-      clock = omega (arith, g.clock, now);
-      count = omega (arith, count);
-      next = g.next;
-      records = g.records;
-      same = g.same;
-      started = g.started;
-      live = g.live;
-      emissions = g.emissions;
-      scalars = g.scalars;
-      present = rw (g.count, g.clock) g.present;
-      orderly = g.orderly;
-    })
+-- one event, from a world in which only questions were asked and injections delivered
+event_follows : (b : Behaviour) (m : Model) (p : Pending) (rest : List Pending) (w u : World) → HasLooked w u → MayCome m w.clock w.pending u p rest → IsOrderly w → Follows m w (world_at (settled (event b m p rest u)))
+event_follows b m p rest w u looked may f =
+    subst (λ v. MayCome m w.clock w.pending v p rest → Follows m w (world_at (settled (event b m p rest v)))) looked.same (by (looking w looked.last looked.rest) refl refl refl refl refl refl refl refl refl (record { order = f.order; own = f.own; below = f.below; due = f.due; modules = f.modules })) may
+  where
+    by : (v : World) → v.pending ≡ w.pending → v.count ≡ w.count → v.next ≡ w.next → v.records ≡ w.records → v.modules ≡ w.modules → v.started ≡ w.started → v.live ≡ w.live → v.emissions ≡ w.emissions → v.scalars ≡ w.scalars → IsOrderly v → MayCome m w.clock w.pending v p rest → Follows m w (world_at (settled (event b m p rest v)))
+    by v pending count next records modules started live emissions scalars o c =
+        let left : (rest ≡ v.pending) ⊎ (v.pending ≡ p ∷ rest) = subst (λ (ps : List Pending). (rest ≡ ps) ⊎ (ps ≡ p ∷ rest)) (sym pending) c.left in
+        let g = call_leads b m p.id (prompt.Message (message_of p)) (begun p rest v) (orderly_begun p rest v left c.later o) in
+        let more = event_count b m p rest v in
+        subst (Follows m w) (sym (settled_at (event b m p rest v))) (record {
+          clock = omega (arith, g.clock, c.due);
+          count = omega (arith, more, count);
+          next = omega (arith, g.next, next);
+          records = g.records ∙ records;
+          same = g.same ∙ ap standing modules;
+          started = g.started ∙ started;
+          live = g.live ∙ live;
+          emissions = (g.emissions.0, ap (λ es. es ++ g.emissions.0) (sym emissions) ∙ g.emissions.1);
+          scalars = (g.scalars.0, ap (λ ss. ss ++ g.scalars.0) (sym scalars) ∙ g.scalars.1);
+          present = rw (g.count, g.clock) g.present;
+          orderly = g.orderly;
+          in_time = rw (g.clock, g.delivered) c.ahead;
+        })
 
 -- where the run is over nothing happens
-either_follows : (c : Bool) (w : World) (outcome : Outcome) (s : Stage) → IsOrderly w → Follows w (world_at s) → Follows w (world_at (if c then Over w outcome else s))
-either_follows true w outcome s f g = follows_same w f
-either_follows false w outcome s f g = g
+either_follows : (m : Model) (c : Bool) (w : World) (outcome : Outcome) (s : Stage) → Follows m w w → Follows m w (world_at s) → Follows m w (world_at (if c then Over w outcome else s))
+either_follows m true w outcome s f g = f
+either_follows m false w outcome s f g = g
 
 -- the next event, where there is one
-picked_follows : (b : Behaviour) (m : Model) (w : World) (pending : List Pending) → w.pending ≡ pending → IsOrderly w → Follows w (world_at (picked b m w pending))
-picked_follows b m w [] e f = follows_same w f
-picked_follows b m w (p ∷ rest) e f = either_follows (is_after_limit m w.records p) w TimeLimit (settled (event b m p rest w)) f (event_follows b m p rest w e f)
+went_follows : (b : Behaviour) (m : Model) (w : World) (up : Upcoming) → HasLooked w (beside up) → ComesWell m w.clock w.pending up → IsOrderly w → IsInTime m w → Follows m w (world_at (went b m w up))
+went_follows b m w (Nothing u) looked may f t = follows_same m w f t
+went_follows b m w (Comes u p rest) looked may f t =
+    either_follows m (is_after_limit m u.records p) w TimeLimit (settled (event b m p rest u)) (follows_same m w f t) (event_follows b m p rest w u looked may f)
 
 -- one turn of a run
-next_follows : (b : Behaviour) (m : Model) (s : Stage) → IsOrderly (world_at s) → Follows (world_at s) (world_at (next_stage b m s))
-next_follows b m (Running w) f = either_follows w.ended w Ended (picked b m w w.pending) f (picked_follows b m w w.pending refl f)
-next_follows b m (Over w outcome) f = follows_same w f
+next_follows : (b : Behaviour) (m : Model) (s : Stage) → IsOrderly (world_at s) → IsInTime m (world_at s) → Follows m (world_at s) (world_at (next_stage b m s))
+next_follows b m (Running w) f t =
+    either_follows m w.ended w Ended (went b m w (upcoming m w)) (follows_same m w f t) (went_follows b m w (upcoming m w) (upcoming_looks m w) (upcoming_well m w f.order f.due t) f t)
+next_follows b m (Over w outcome) f t = follows_same m w f t
+
+-- what holds in every world of a run
+record IsSound (m : Model) (w : World) : Type 0 where
+  orderly : IsOrderly w
+  in_time : IsInTime m w
 
 -- initialization, where the flow goes on
-orderly_then : (b : Behaviour) (m : Model) (fl : Flow) → IsOrderly (in_flow fl) → IsOrderly (in_flow (fl >>= initialize_all b m))
-orderly_then b m (On w) f = (initialize_all_leads b m w f).orderly
-orderly_then b m (Stopped w) f = f
-orderly_then b m (Broken w path fault) f = f
+sound_then : (b : Behaviour) (m : Model) (fl : Flow) → IsQuiet (in_flow fl) → IsSound m (in_flow (fl >>= initialize_all b m))
+sound_then b m (On w) q =
+    let g = initialize_all_leads b m w (orderly_none w q.0) in
+    let v : World = in_flow (initialize_all b m w) in
+    record { orderly = g.orderly; in_time = subst (λ (time : ℕ). IsAhead time v.delivered m.injections) (sym (g.clock ∙ q.2)) (ahead_at_zero v.delivered m.injections) }
+sound_then b m (Stopped w) q = record { orderly = orderly_none w q.0; in_time = subst (λ (time : ℕ). IsAhead time w.delivered m.injections) (sym q.2) (ahead_at_zero w.delivered m.injections) }
+sound_then b m (Broken w path fault) q = record { orderly = orderly_none w q.0; in_time = subst (λ (time : ℕ). IsAhead time w.delivered m.injections) (sym q.2) (ahead_at_zero w.delivered m.injections) }
 
 -- ---- emissions
 
@@ -497,14 +547,25 @@ told_then b m (Broken w path fault) f h = h
 
 -- ---- every world
 
+-- every world of a run is sound
+sound_after : (b : Behaviour) (m : Model) (n : ℕ) → IsSound m (world_at (after b m n))
+sound_after b m zero = subst (IsSound m) (sym (settled_at (ready b m >>= initialize_all b m))) (sound_then b m (ready b m) (ready_none b m))
+sound_after b m (suc n) =
+    let f = sound_after b m n in
+    let g = next_follows b m (after b m n) f.orderly f.in_time in
+    record { orderly = g.orderly; in_time = g.in_time }
+
 -- every world of a run is orderly
 pub orderly_after : (b : Behaviour) (m : Model) (n : ℕ) → IsOrderly (world_at (after b m n))
-orderly_after b m zero = subst IsOrderly (sym (settled_at (ready b m >>= initialize_all b m))) (orderly_then b m (ready b m) (orderly_none (in_flow (ready b m)) (ready_none b m).0))
-orderly_after b m (suc n) = (next_follows b m (after b m n) (orderly_after b m n)).orderly
+orderly_after b m n = (sound_after b m n).orderly
+
+-- in every world of a run no injection that is left is due before the clock
+pub in_time_after : (b : Behaviour) (m : Model) (n : ℕ) → IsAhead (world_at (after b m n)).clock (world_at (after b m n)).delivered m.injections
+in_time_after b m n = (sound_after b m n).in_time
 
 -- from each world of a run to the next
-pub after_follows : (b : Behaviour) (m : Model) (n : ℕ) → Follows (world_at (after b m n)) (world_at (after b m (suc n)))
-after_follows b m n = next_follows b m (after b m n) (orderly_after b m n)
+pub after_follows : (b : Behaviour) (m : Model) (n : ℕ) → Follows m (world_at (after b m n)) (world_at (after b m (suc n)))
+after_follows b m n = let f = sound_after b m n in next_follows b m (after b m n) f.orderly f.in_time
 
 -- and its emissions are in their turn
 told_after : (b : Behaviour) (m : Model) (n : ℕ) → ToldIn (world_at (after b m n))

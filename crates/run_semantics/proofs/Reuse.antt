@@ -11,7 +11,9 @@ use Rattle.module_api.specs.declared.reply.Read.TheVariants as read
 use Rattle.model_answers.specs.declared.answer.Answer.{Answer}
 use Rattle.model_answers.specs.declared.answer.Answer.TheVariants as answer
 use Rattle.model_answers.specs.declared.answer.Asked.{Asked}
-use Rattle.model_answers.specs.declared.answer.Question.TheVariants.{Root, Build, BeyondLimit}
+use Rattle.model_answers.specs.declared.answer.Question.{Question}
+use Rattle.model_answers.specs.declared.answer.Question.TheVariants.{Root, Build, BeyondLimit, InjectionBefore}
+use Rattle.model_answers.specs.declared.injection.Injection.{Injection}
 use Rattle.model_answers.specs.declared.model.Model.{Model}
 use Rattle.model_answers.specs.declared.record.Record.{Record}
 use Rattle.model_answers.specs.Answering.{answer_of, parameters_of}
@@ -20,17 +22,18 @@ use Rattle.run_semantics.specs.declared.outcome.Outcome.{Outcome}
 use Rattle.run_semantics.specs.declared.outcome.Outcome.TheVariants.{Ended, EventLimit, NoMoreEvents, TimeLimit, Fault}
 use Rattle.run_semantics.specs.declared.pending.Pending.{Pending}
 use Rattle.run_semantics.specs.declared.traces.Instance.{Instance}
-use Rattle.run_semantics.specs.Agreement.{Agrees, AgreesUpTo, not_begun, questions_of}
-use Rattle.run_semantics.specs.Laws.{Each}
-use Rattle.run_semantics.specs.World.{World, empty, asked}
+use Rattle.run_semantics.specs.Agreement.{Agrees, AgreesUpTo, tried, questions_of}
+use Rattle.run_semantics.specs.Laws.{Each, GoesOn}
+use Rattle.run_semantics.specs.World.{World, empty, asked, asked_next}
 use Rattle.run_semantics.specs.Perform.{Flow, On, Stopped, Broken, ◌>>=◌, ask_all, question_of, acted, first_fault, fault_of_read, read_fault, unless_fault}
 use Rattle.run_semantics.specs.Event.{call_of, place_in, with_state, replied, called, call_at, call_module, counted, begun, event, message_of}
-use Rattle.run_semantics.specs.Run.{rooted, built, root_asked, inside_asked, prepared, Part, place_parts, ready, standing, most_stages, initialize, one_stage, stages_from, initialize_all, with_started, Stage, Running, Over, world_at, settled, start, says_beyond, is_after_limit, picked, next_stage, after, IsReached}
+use Rattle.run_semantics.specs.Run.{rooted, built, root_asked, inside_asked, prepared, Part, place_parts, ready, standing, most_stages, initialize, one_stage, stages_from, initialize_all, with_started, Stage, Running, Over, world_at, settled, start, says_beyond, is_after_limit, went, next_stage, after, IsReached}
+use Rattle.run_semantics.specs.Upcoming.{first_due, delivered, target_of, Upcoming, Comes, Nothing, aimed, chosen, upcoming_in, most_injections, upcoming}
+use Rattle.run_semantics.proofs.Looking.{beside, HasLooked, looked_same, looked_count, looked_joined, looked_questions, chosen_looks, coming_looks, upcoming_looks, upcoming_tried, first_asked, upcoming_asks}
 use Rattle.run_semantics.proofs.Sound.{in_flow}
 use Rattle.run_semantics.proofs.Counts.{RunsOn, runs_on}
 use Rattle.run_semantics.proofs.Ends.{over_stays}
-use Rattle.run_semantics.proofs.Order.{each_append}
-use Rattle.run_semantics.proofs.Growth.{AllOfEvent, AllAbout, Fits, IsGrown, grown_same, grown_on, fits_empty, root_grows, rooted_grows, inside_grows, built_grows, then_grows, asked_grows, asked_read_grows, ask_all_grows, answered_on, fits_with_state, replied_grows, within_of_place, call_grows, place_parts_grows, initialize_all_grows}
+use Rattle.run_semantics.proofs.Growth.{AllOfEvent, AllAbout, AllOfEvent-append, AllAbout-append, AllAbout-more, Fits, IsGrown, grown_same, grown_on, fits_empty, root_grows, rooted_grows, inside_grows, built_grows, then_grows, asked_grows, asked_read_grows, ask_all_grows, answered_on, fits_with_state, replied_grows, within_of_place, call_grows, place_parts_grows, initialize_all_grows}
 
 -- ---- agreement on fewer questions
 
@@ -197,6 +200,7 @@ rooted_on (answer.Inside bs) = tt
 rooted_on (answer.Value v) = tt
 rooted_on (answer.Fault path f) = tt
 rooted_on (answer.Beyond beyond) = tt
+rooted_on (answer.Injection next) = tt
 rooted_on answer.Absent = tt
 
 -- the second question, and what follows it
@@ -267,21 +271,21 @@ settled_world (Broken w path f) = refl
 -- ---- all that was asked
 
 -- what is noted stands first of it
-noted_first : (P : List Asked → Type 0) → ((xs ys : List Asked) → P (xs ++ ys) → P xs) → (s : Stage) → P (questions_of s) → P (world_at s).questions
-noted_first P front (Running w) h = h
-noted_first P front (Over w Ended) h = h
-noted_first P front (Over w EventLimit) h = h
-noted_first P front (Over w NoMoreEvents) h = h
-noted_first P front (Over w TimeLimit) h = front w.questions (not_begun w w.pending) h
-noted_first P front (Over w (Fault event path f)) h = h
+noted_first : (P : List Asked → Type 0) → ((xs ys : List Asked) → P (xs ++ ys) → P xs) → (m : Model) (s : Stage) → P (questions_of m s) → P (world_at s).questions
+noted_first P front m (Running w) h = h
+noted_first P front m (Over w Ended) h = h
+noted_first P front m (Over w EventLimit) h = h
+noted_first P front m (Over w NoMoreEvents) h = let t = upcoming_tried m w in front w.questions t.rest (subst P (sym t.joined) h)
+noted_first P front m (Over w TimeLimit) h = let t = upcoming_tried m w in front w.questions t.rest (subst P (sym t.joined) h)
+noted_first P front m (Over w (Fault event path f)) h = h
 
 -- the models agree on all that was asked up to that stage
 abbrev pub AgreesAt : Model → Model → Stage → Type 0
-AgreesAt m n s = Agrees m n (world_at s).records (questions_of s)
+AgreesAt m n s = Agrees m n (world_at s).records (questions_of m s)
 
 -- so they agree on what is noted
 AgreesAt-noted : (m n : Model) (s : Stage) → AgreesAt m n s → AgreesIn m n (world_at s)
-AgreesAt-noted m n s h = noted_first (Agrees m n (world_at s).records) (Agrees-front m n (world_at s).records) s h
+AgreesAt-noted m n s h = noted_first (Agrees m n (world_at s).records) (Agrees-front m n (world_at s).records) m s h
 
 -- event zero, settled
 start_same : (b : Behaviour) → IsLawful b → (m n : Model) → AgreesAt m n (start b m) → start b m ≡ start b n
@@ -318,44 +322,116 @@ either_later : (event : ℕ) (c : Bool) (w : World) (outcome : Outcome) (s : Sta
 either_later event true w outcome s f g = later_same event w f
 either_later event false w outcome s f g = g
 
+-- the same modules are there
+looked_records : (w u : World) → HasLooked w u → u.records ≡ w.records
+looked_records w u h = sym (ap (λ (v : World). v.records) h.same)
+
+-- questions about no module fit in any world
+fits_looked : (w u : World) → HasLooked w u → Fits w → Fits u
+fits_looked w u h f =
+    subst Fits h.same (record {
+      nested = f.nested;
+      modules = f.modules;
+      questions = AllAbout-append (length w.records) w.questions h.rest f.questions (AllAbout-more 0 (length w.records) h.rest (omega arith) h.of_none);
+    })
+
+-- what was asked before the event is of its number too
+later_looked : (w u v : World) → HasLooked w u → IsLater (u.count + 1) u v → IsLater (w.count + 1) w v
+later_looked w u v h g = record {
+  rest = h.rest ++ g.rest;
+  joined = sym (append_assoc w.questions h.rest g.rest) ∙ (ap (λ qs. qs ++ g.rest) (looked_joined w u h) ∙ g.joined);
+  later = AllOfEvent-append (w.count + 1) h.rest g.rest h.of_next (subst (λ (c : ℕ). AllOfEvent (c + 1) g.rest) (looked_count w u h) g.later);
+  more = g.more;
+  records = ap (λ rs. rs ++ g.more) (sym (looked_records w u h)) ∙ g.records;
+  fits = g.fits;
+}
+
 -- so does the next event, where there is one
-picked_later : (b : Behaviour) (m : Model) (w : World) (pending : List Pending) → Fits w → IsLater (w.count + 1) w (world_at (picked b m w pending))
-picked_later b m w [] f = later_same (w.count + 1) w f
-picked_later b m w (p ∷ rest) f = either_later (w.count + 1) (is_after_limit m w.records p) w TimeLimit (settled (event b m p rest w)) f (event_later b m p rest w f)
+went_later : (b : Behaviour) (m : Model) (w : World) (up : Upcoming) → HasLooked w (beside up) → Fits w → IsLater (w.count + 1) w (world_at (went b m w up))
+went_later b m w (Nothing u) looked f = later_same (w.count + 1) w f
+went_later b m w (Comes u p rest) looked f =
+    either_later (w.count + 1) (is_after_limit m u.records p) w TimeLimit (settled (event b m p rest u)) f
+    (later_looked w u (world_at (settled (event b m p rest u))) looked (event_later b m p rest u (fits_looked w u looked f)))
 
 -- one turn of a run
 next_later : (b : Behaviour) (m : Model) (n : ℕ) (s : Stage) → RunsOn n s → Fits (world_at s) → IsLater (suc n) (world_at s) (world_at (next_stage b m s))
 next_later b m n (Running w) at f =
     let e : w.count + 1 ≡ suc n = omega (arith, at w refl) in
-    subst (λ event. IsLater event w (world_at (next_stage b m (Running w)))) e (either_later (w.count + 1) w.ended w Ended (picked b m w w.pending) f (picked_later b m w w.pending f))
+    subst (λ event. IsLater event w (world_at (next_stage b m (Running w)))) e (either_later (w.count + 1) w.ended w Ended (went b m w (upcoming m w)) f (went_later b m w (upcoming m w) (upcoming_looks m w) f))
 next_later b m n (Over w outcome) at f = later_same (suc n) w f
 
--- where the limit stops an event, the models agree on it
-limit_agreed : (m n : Model) (w : World) (p : Pending) (rest : List Pending) → w.pending ≡ p ∷ rest → AgreesAt m n (Over w TimeLimit) → is_after_limit m w.records p ≡ is_after_limit n w.records p
-limit_agreed m n w p rest e h =
-    let all : Agrees m n w.records (w.questions ++ not_begun w (p ∷ rest)) = subst (λ ps. Agrees m n w.records (w.questions ++ not_begun w ps)) e h in
-    ap says_beyond (Agrees-last m n w.records w.questions (record { event = w.count + 1; question = BeyondLimit p.time }) all)
+-- ---- what comes next in two models
 
--- where it begins, they agree on that
-begun_agreed : (b : Behaviour) (m n : Model) (p : Pending) (rest : List Pending) (w : World) → Fits w → AgreesIn m n (in_flow (event b m p rest w)) → is_after_limit m w.records p ≡ is_after_limit n w.records p
-begun_agreed b m n p rest w f h =
-    let fits = (begun_grows p rest w f).fits in
-    let here : AgreesIn m n (begun p rest w) = Agrees-before m n (begun p rest w) (in_flow (event b m p rest w)) fits (call_grows b m p.id (prompt.Message (message_of p)) (begun p rest w) fits) h in
-    ap says_beyond (Agrees-last m n w.records w.questions (record { event = w.count + 1; question = BeyondLimit p.time }) here)
+-- an injection, for the module that stands at its path
+aimed_same : (m n : Model) (go_on other : World → Upcoming) (u : World) (ps : List Pending) (i : Injection) (target : Option ℕ) → (Agrees m n u.records (beside (go_on u)).questions → go_on u ≡ other u) → Agrees m n u.records (beside (aimed go_on u ps i target)).questions → aimed go_on u ps i target ≡ aimed other u ps i target
+aimed_same m n go_on other u ps i None f h = f h
+aimed_same m n go_on other u ps i (Some id) f h = refl
+
+-- what was answered
+chosen_same : (m n : Model) (go_on other : World → Upcoming) (u : World) (ps : List Pending) (found : Answer) → ((i : Injection) → Agrees m n u.records (beside (go_on (delivered i u))).questions → go_on (delivered i u) ≡ other (delivered i u)) → Agrees m n u.records (beside (chosen go_on u ps found)).questions → chosen go_on u ps found ≡ chosen other u ps found
+chosen_same m n go_on other u ps (answer.Injection (Some i)) f h = aimed_same m n go_on other (delivered i u) ps i (target_of i.path u) (f i) h
+chosen_same m n go_on other u ps _ f h = refl
+
+-- models that agree on all that was asked to know what comes next have the same next
+coming_same : (left : ℕ) (m n : Model) (ps : List Pending) (v : World) → Agrees m n v.records (beside (upcoming_in left m ps v)).questions → upcoming_in left m ps v ≡ upcoming_in left n ps v
+coming_same zero m n ps v h = refl
+coming_same (suc left) m n ps v h =
+    let q : Question = InjectionBefore (first_due ps) v.delivered in
+    let u : World = asked_next q v in
+    let found : Answer = answer_of m v.records q in
+    let looked = chosen_looks u u (upcoming_in left m ps) ps found (λ x f. coming_looks left m ps u x f) (looked_same u) in
+    let more = looked_questions u (beside (chosen (upcoming_in left m ps) u ps found)) looked in
+    let here : Agrees m n v.records u.questions = Agrees-front m n v.records u.questions more.0 (subst (Agrees m n v.records) (sym more.1) h) in
+    let alike : found ≡ answer_of n v.records q = Agrees-last m n v.records v.questions (record { event = v.count + 1; question = q }) here in
+    chosen_same m n (upcoming_in left m ps) (upcoming_in left n ps) u ps found (λ i k. coming_same left m n ps (delivered i u) k) h
+    ∙ ap (λ (a : Answer). chosen (upcoming_in left n ps) u ps a) alike
+
+-- what is noted stands first of what was tried
+tried_first : (up : Upcoming) → GoesOn (beside up).questions (tried up)
+tried_first (Comes u p rest) = (record { event = u.count + 1; question = BeyondLimit p.time } ∷ [], refl)
+tried_first (Nothing u) = ([], append-nil u.questions)
+
+-- so it is of all that was tried
+upcoming_same : (m n : Model) (w : World) → Agrees m n w.records (tried (upcoming m w)) → upcoming m w ≡ upcoming n w
+unfolding upcoming
+upcoming_same m n w h =
+    let t = tried_first (upcoming m w) in
+    coming_same (suc most_injections) m n w.pending w (Agrees-front m n w.records (beside (upcoming m w)).questions t.0 (subst (Agrees m n w.records) (sym t.1) h))
+
+-- an event that begins has asked all that was tried
+begun_agreed : (b : Behaviour) (m n : Model) (p : Pending) (rest : List Pending) (u : World) → Fits u → AgreesAt m n (settled (event b m p rest u)) → AgreesIn m n (begun p rest u)
+begun_agreed b m n p rest u f h =
+    let fits = (begun_grows p rest u f).fits in
+    Agrees-before m n (begun p rest u) (in_flow (event b m p rest u)) fits (call_grows b m p.id (prompt.Message (message_of p)) (begun p rest u) fits)
+    (subst (AgreesIn m n) (settled_world (event b m p rest u)) (AgreesAt-noted m n (settled (event b m p rest u)) h))
+
+-- by whether the event is after the limit
+tried_by : (m n : Model) (w : World) (up : Upcoming) (c : Bool) (s : Stage) → up ≡ upcoming m w → (AgreesAt m n s → Agrees m n w.records (tried up)) → AgreesAt m n (if c then Over w TimeLimit else s) → Agrees m n w.records (tried up)
+tried_by m n w up true s e k h = subst (λ x. Agrees m n w.records (tried x)) (sym e) h
+tried_by m n w up false s e k h = k h
+
+-- models that agree on all that was asked up to the next event agree on all that was tried
+tried_agreed : (b : Behaviour) (m n : Model) (w : World) (up : Upcoming) → up ≡ upcoming m w → HasLooked w (beside up) → Fits w → AgreesAt m n (went b m w up) → Agrees m n w.records (tried up)
+tried_agreed b m n w (Nothing u) e looked f h = subst (λ x. Agrees m n w.records (tried x)) (sym e) h
+tried_agreed b m n w (Comes u p rest) e looked f h =
+    tried_by m n w (Comes u p rest) (is_after_limit m u.records p) (settled (event b m p rest u)) e
+    (λ a. subst (λ rs. Agrees m n rs (tried (Comes u p rest))) (looked_records w u looked) (begun_agreed b m n p rest u (fits_looked w u looked f) a))
+    h
 
 -- by whether the event is after the limit: in the first model and in the second
-picked_by : (m n : Model) (w : World) (c d : Bool) (s t : Stage) → (AgreesAt m n (Over w TimeLimit) → c ≡ d) → (AgreesAt m n s → c ≡ d) → (AgreesAt m n s → s ≡ t) → AgreesAt m n (if c then Over w TimeLimit else s) → (if c then Over w TimeLimit else s) ≡ (if d then Over w TimeLimit else t)
-picked_by m n w true d s t stops begins same h = ap (λ (x : Bool). if x then Over w TimeLimit else t) (stops h)
-picked_by m n w false d s t stops begins same h = same h ∙ ap (λ (x : Bool). if x then Over w TimeLimit else t) (begins h)
+went_by : (m n : Model) (w : World) (c d : Bool) (s t : Stage) → c ≡ d → (AgreesAt m n s → s ≡ t) → AgreesAt m n (if c then Over w TimeLimit else s) → (if c then Over w TimeLimit else s) ≡ (if d then Over w TimeLimit else t)
+went_by m n w true d s t e same h = ap (λ (x : Bool). if x then Over w TimeLimit else t) e
+went_by m n w false d s t e same h = same h ∙ ap (λ (x : Bool). if x then Over w TimeLimit else t) e
 
 -- the next event is the same
-picked_same : (b : Behaviour) → IsLawful b → (m n : Model) (w : World) (pending : List Pending) → w.pending ≡ pending → Fits w → AgreesAt m n (picked b m w pending) → picked b m w pending ≡ picked b n w pending
-picked_same b law m n w [] e f h = refl
-picked_same b law m n w (p ∷ rest) e f h =
-    let fits = (begun_grows p rest w f).fits in
-    let noted : AgreesAt m n (settled (event b m p rest w)) → AgreesIn m n (in_flow (event b m p rest w)) = λ a. subst (AgreesIn m n) (settled_world (event b m p rest w)) (AgreesAt-noted m n (settled (event b m p rest w)) a) in
-    picked_by m n w (is_after_limit m w.records p) (is_after_limit n w.records p) (settled (event b m p rest w)) (settled (event b n p rest w)) (limit_agreed m n w p rest e) (λ a. begun_agreed b m n p rest w f (noted a))
-    (λ a. ap settled ((call_same b law m n p.id (prompt.Message (message_of p)) (begun p rest w) fits).same (noted a)))
+went_same : (b : Behaviour) → IsLawful b → (m n : Model) (w : World) (up : Upcoming) → HasLooked w (beside up) → Fits w → Agrees m n w.records (tried up) → AgreesAt m n (went b m w up) → went b m w up ≡ went b n w up
+went_same b law m n w (Nothing u) looked f a h = refl
+went_same b law m n w (Comes u p rest) looked f a h =
+    let fits = (begun_grows p rest u (fits_looked w u looked f)).fits in
+    let limit : answer_of m u.records (BeyondLimit p.time) ≡ answer_of n u.records (BeyondLimit p.time) =
+    Agrees-last m n u.records u.questions (record { event = u.count + 1; question = BeyondLimit p.time }) (subst (λ rs. Agrees m n rs (tried (Comes u p rest))) (sym (looked_records w u looked)) a) in
+    went_by m n w (is_after_limit m u.records p) (is_after_limit n u.records p) (settled (event b m p rest u)) (settled (event b n p rest u)) (ap says_beyond limit)
+    (λ k. ap settled ((call_same b law m n p.id (prompt.Message (message_of p)) (begun p rest u) fits).same (subst (AgreesIn m n) (settled_world (event b m p rest u)) (AgreesAt-noted m n (settled (event b m p rest u)) k))))
     h
 
 -- where the run is over it is so in both
@@ -365,7 +441,10 @@ either_same m n false w outcome s t k h = k h
 
 -- one turn is the same
 next_same : (b : Behaviour) → IsLawful b → (m n : Model) (s : Stage) → Fits (world_at s) → AgreesAt m n (next_stage b m s) → next_stage b m s ≡ next_stage b n s
-next_same b law m n (Running w) f h = either_same m n w.ended w Ended (picked b m w w.pending) (picked b n w w.pending) (picked_same b law m n w w.pending refl f) h
+next_same b law m n (Running w) f h =
+    either_same m n w.ended w Ended (went b m w (upcoming m w)) (went b n w (upcoming n w)) (λ a.
+    let all : Agrees m n w.records (tried (upcoming m w)) = tried_agreed b m n w (upcoming m w) refl (upcoming_looks m w) f a in
+    went_same b law m n w (upcoming m w) (upcoming_looks m w) f all a ∙ ap (went b n w) (upcoming_same m n w all)) h
 next_same b law m n (Over w outcome) f h = refl
 
 -- models that agree on all that was asked up to the next turn agree on all that was asked before
@@ -417,56 +496,55 @@ AllUpTo-of v event [] h f = tt
 AllUpTo-of v event (x ∷ xs) h f = (omega (arith, f.0), AllUpTo-of v event xs h f.1)
 
 -- from a world that goes on to the stage after the next turn, questions of that event were asked
-record HasAsked (event : ℕ) (w : World) (s : Stage) : Type 0 where
+record HasAsked (m : Model) (event : ℕ) (w : World) (s : Stage) : Type 0 where
   rest : List Asked
-  joined : w.questions ++ rest ≡ questions_of s
+  joined : w.questions ++ rest ≡ questions_of m s
   of_event : AllOfEvent event rest
 
 -- nothing more was asked at the end of an event
-settled_questions : (fl : Flow) → questions_of (settled fl) ≡ (in_flow fl).questions
-settled_questions (On w) = refl
-settled_questions (Stopped w) = refl
-settled_questions (Broken w path f) = refl
+settled_questions : (m : Model) (fl : Flow) → questions_of m (settled fl) ≡ (in_flow fl).questions
+settled_questions m (On w) = refl
+settled_questions m (Stopped w) = refl
+settled_questions m (Broken w path f) = refl
 
 -- the next event that did not begin is of the next number
-not_begun_of : (w : World) (ps : List Pending) → AllOfEvent (w.count + 1) (not_begun w ps)
-not_begun_of w [] = tt
-not_begun_of w (p ∷ rest) = (refl, tt)
+over_asked : (m : Model) (w : World) (s : Stage) → tried (upcoming m w) ≡ questions_of m s → HasAsked m (w.count + 1) w s
+over_asked m w s e = let t = upcoming_tried m w in record { rest = t.rest; joined = t.joined ∙ e; of_event = t.of_next }
 
 -- by whether the event is after the limit
-either_asked : (c : Bool) (w : World) (s : Stage) → HasAsked (w.count + 1) w s → HasAsked (w.count + 1) w (if c then Over w TimeLimit else s)
-either_asked true w s h = record { rest = not_begun w w.pending; joined = refl; of_event = not_begun_of w w.pending }
-either_asked false w s h = h
+either_asked : (m : Model) (c : Bool) (w : World) (s : Stage) → HasAsked m (w.count + 1) w s → HasAsked m (w.count + 1) w (if c then Over w TimeLimit else s)
+either_asked m true w s h = over_asked m w (Over w TimeLimit) refl
+either_asked m false w s h = h
 
 -- one event
-event_asked : (b : Behaviour) (m : Model) (p : Pending) (rest : List Pending) (w : World) → Fits w → HasAsked (w.count + 1) w (settled (event b m p rest w))
-event_asked b m p rest w f =
-    let g = event_later b m p rest w f in
-    record { rest = g.rest; joined = g.joined ∙ (ap (λ (v : World). v.questions) (settled_world (event b m p rest w)) ∙ sym (settled_questions (event b m p rest w))); of_event = g.later }
+event_asked : (b : Behaviour) (m : Model) (p : Pending) (rest : List Pending) (w u : World) → HasLooked w u → Fits w → HasAsked m (w.count + 1) w (settled (event b m p rest u))
+event_asked b m p rest w u looked f =
+    let g = later_looked w u (world_at (settled (event b m p rest u))) looked (event_later b m p rest u (fits_looked w u looked f)) in
+    record { rest = g.rest; joined = g.joined ∙ (ap (λ (v : World). v.questions) (settled_world (event b m p rest u)) ∙ sym (settled_questions m (event b m p rest u))); of_event = g.later }
 
 -- the next event, where there is one
-picked_asked : (b : Behaviour) (m : Model) (w : World) (pending : List Pending) → Fits w → HasAsked (w.count + 1) w (picked b m w pending)
-picked_asked b m w [] f = record { rest = []; joined = append-nil w.questions; of_event = tt }
-picked_asked b m w (p ∷ rest) f = either_asked (is_after_limit m w.records p) w (settled (event b m p rest w)) (event_asked b m p rest w f)
+went_asked : (b : Behaviour) (m : Model) (w : World) (up : Upcoming) → HasLooked w (beside up) → Fits w → HasAsked m (w.count + 1) w (went b m w up)
+went_asked b m w (Nothing u) looked f = over_asked m w (Over w NoMoreEvents) refl
+went_asked b m w (Comes u p rest) looked f = either_asked m (is_after_limit m u.records p) w (settled (event b m p rest u)) (event_asked b m p rest w u looked f)
 
 -- unless the end was asked for
-ended_asked : (c : Bool) (event : ℕ) (w : World) (s : Stage) → HasAsked event w s → HasAsked event w (if c then Over w Ended else s)
-ended_asked true event w s h = record { rest = []; joined = append-nil w.questions; of_event = tt }
-ended_asked false event w s h = h
+ended_asked : (m : Model) (c : Bool) (event : ℕ) (w : World) (s : Stage) → HasAsked m event w s → HasAsked m event w (if c then Over w Ended else s)
+ended_asked m true event w s h = record { rest = []; joined = append-nil w.questions; of_event = tt }
+ended_asked m false event w s h = h
 
 -- one turn asks questions of the next event alone
-next_up_to : (b : Behaviour) (m : Model) (v : ℕ) (s : Stage) → RunsOn v s → Fits (world_at s) → AllUpTo v (questions_of s) → AllUpTo (suc v) (questions_of (next_stage b m s))
+next_up_to : (b : Behaviour) (m : Model) (v : ℕ) (s : Stage) → RunsOn v s → Fits (world_at s) → AllUpTo v (questions_of m s) → AllUpTo (suc v) (questions_of m (next_stage b m s))
 next_up_to b m v (Running w) at f h =
-    let g = ended_asked w.ended (w.count + 1) w (picked b m w w.pending) (picked_asked b m w w.pending f) in
+    let g = ended_asked m w.ended (w.count + 1) w (went b m w (upcoming m w)) (went_asked b m w (upcoming m w) (upcoming_looks m w) f) in
     let count = at w refl in
     subst (AllUpTo (suc v)) g.joined (AllUpTo-append (suc v) w.questions g.rest (AllUpTo-more v (suc v) w.questions (omega arith) h) (AllUpTo-of (suc v) (w.count + 1) g.rest (omega (arith, count)) g.of_event))
-next_up_to b m v (Over w outcome) at f h = AllUpTo-more v (suc v) (questions_of (Over w outcome)) (omega arith) h
+next_up_to b m v (Over w outcome) at f h = AllUpTo-more v (suc v) (questions_of m (Over w outcome)) (omega arith) h
 
 -- all that was asked in a run up to an event is of the events up to it
-up_to_after : (b : Behaviour) (m : Model) (v : ℕ) → AllUpTo v (questions_of (after b m v))
+up_to_after : (b : Behaviour) (m : Model) (v : ℕ) → AllUpTo v (questions_of m (after b m v))
 up_to_after b m zero =
     let g = begins_grows b m in
-    subst (AllUpTo 0) (sym (settled_questions (begins b m))) (subst (AllUpTo 0) g.joined (AllUpTo-of 0 0 g.rest (omega arith) g.present))
+    subst (AllUpTo 0) (sym (settled_questions m (begins b m))) (subst (AllUpTo 0) g.joined (AllUpTo-of 0 0 g.rest (omega arith) g.present))
 up_to_after b m (suc v) = next_up_to b m v (after b m v) (runs_on b m v) (fits_after b m v) (up_to_after b m v)
 
 -- the first of such questions
@@ -523,27 +601,29 @@ noted_stay : (m : Model) (rs more : List Record) → AreNested 0 rs → (qs : Li
 noted_stay m rs more h [] f = tt
 noted_stay m rs more h (a ∷ qs) f = (answer_more m rs more h a.question f.0, noted_stay m rs more h qs f.1)
 
--- what holds of what is noted, and of each question about the limit, holds of all that was asked
-each_asked : (P : Asked → Type 0) (s : Stage) → ((event time : ℕ) → P (record { event = event; question = BeyondLimit time })) → Each P (world_at s).questions → Each P (questions_of s)
-each_asked P (Running w) limit h = h
-each_asked P (Over w Ended) limit h = h
-each_asked P (Over w EventLimit) limit h = h
-each_asked P (Over w NoMoreEvents) limit h = h
-each_asked P (Over w TimeLimit) limit h = each_append P w.questions (not_begun w w.pending) h (by w.pending)
-  where
-    by : (ps : List Pending) → Each P (not_begun w ps)
-    by [] = tt
-    by (p ∷ rest) = (limit (w.count + 1) p.time, tt)
-each_asked P (Over w (Fault event path f)) limit h = h
+-- all that was asked is about modules that are there
+tried_about : (m : Model) (w : World) → Fits w → AllAbout (length w.records) (tried (upcoming m w))
+tried_about m w f =
+    let t = upcoming_tried m w in
+    subst (AllAbout (length w.records)) t.joined (AllAbout-append (length w.records) w.questions t.rest f.questions (AllAbout-more 0 (length w.records) t.rest (omega arith) t.of_none))
+
+-- the same, in a run up to that stage
+asked_about : (m : Model) (s : Stage) → Fits (world_at s) → AllAbout (length (world_at s).records) (questions_of m s)
+asked_about m (Running w) f = f.questions
+asked_about m (Over w Ended) f = f.questions
+asked_about m (Over w EventLimit) f = f.questions
+asked_about m (Over w NoMoreEvents) f = tried_about m w f
+asked_about m (Over w TimeLimit) f = tried_about m w f
+asked_about m (Over w (Fault event path fault)) f = f.questions
 
 -- what was asked has the same answers with the modules of a later world
-pub noted_after : (b : Behaviour) (m other : Model) (n k : ℕ) → n ≤ k → Each (λ a. answer_of other (world_at (after b m k)).records a.question ≡ answer_of other (world_at (after b m n)).records a.question) (questions_of (after b m n))
+pub noted_after : (b : Behaviour) (m other : Model) (n k : ℕ) → n ≤ k → Each (λ a. answer_of other (world_at (after b m k)).records a.question ≡ answer_of other (world_at (after b m n)).records a.question) (questions_of m (after b m n))
 noted_after b m other n k h =
     let u : World = world_at (after b m n) in
     let p = past_after b m n k h in
     let f = fits_after b m n in
-    each_asked (λ a. answer_of other (world_at (after b m k)).records a.question ≡ answer_of other u.records a.question) (after b m n) (λ event time. refl)
-    (subst (λ rs. Each (λ (a : Asked). answer_of other rs a.question ≡ answer_of other u.records a.question) u.questions) p.records (noted_stay other u.records p.more f.nested u.questions f.questions))
+    let qs : List Asked = questions_of m (after b m n) in
+    subst (λ rs. Each (λ (a : Asked). answer_of other rs a.question ≡ answer_of other u.records a.question) qs) p.records (noted_stay other u.records p.more f.nested qs (asked_about m (after b m n) f))
 
 -- by the first events of a longer run the models agree on what is noted
 noted_same : (b : Behaviour) (m n : Model) (v k : ℕ) → v ≤ k → AgreesUpTo v m n (world_at (after b m k)).records (world_at (after b m k)).questions → AgreesIn m n (world_at (after b m v))
@@ -552,43 +632,49 @@ noted_same b m n v k h a =
     let w : World = world_at (after b m k) in
     let p = past_after b m v k h in
     let own : AgreesUpTo v m n w.records u.questions = AgreesUpTo-front v m n w.records u.questions p.rest (subst (AgreesUpTo v m n w.records) (sym p.joined) a) in
-    let up_to : AllUpTo v u.questions = noted_first (AllUpTo v) (AllUpTo-front v) (after b m v) (up_to_after b m v) in
+    let up_to : AllUpTo v u.questions = noted_first (AllUpTo v) (AllUpTo-front v) m (after b m v) (up_to_after b m v) in
     let all : Agrees m n w.records u.questions = Agrees-up_to v m n w.records u.questions up_to own in
     let f = fits_after b m v in
     Agrees-fewer m n u.records p.more f.nested u.questions f.questions (subst (λ rs. Agrees m n rs u.questions) (sym p.records) all)
 
 -- and on all that was asked, where the longer run is over the same way
-all_same : (v : ℕ) (m n : Model) (s t : Stage) → AllUpTo v (questions_of s) → ((w : World) (outcome : Outcome) → s ≡ Over w outcome → t ≡ Over w outcome) → AgreesUpTo v m n (world_at t).records (questions_of t) → AgreesIn m n (world_at s) → AgreesAt m n s
+all_same : (v : ℕ) (m n : Model) (s t : Stage) → AllUpTo v (questions_of m s) → ((w : World) (outcome : Outcome) → s ≡ Over w outcome → t ≡ Over w outcome) → AgreesUpTo v m n (world_at t).records (questions_of m t) → AgreesIn m n (world_at s) → AgreesAt m n s
 all_same v m n (Running w) t up_to over a h = h
 all_same v m n (Over w outcome) t up_to over a h =
-    let own : AgreesUpTo v m n w.records (questions_of (Over w outcome)) = subst (λ x. AgreesUpTo v m n (world_at x).records (questions_of x)) (over w outcome refl) a in
-    Agrees-up_to v m n w.records (questions_of (Over w outcome)) up_to own
+    let own : AgreesUpTo v m n w.records (questions_of m (Over w outcome)) = subst (λ x. AgreesUpTo v m n (world_at x).records (questions_of m x)) (over w outcome refl) a in
+    Agrees-up_to v m n w.records (questions_of m (Over w outcome)) up_to own
 
 -- the same, by the questions of the first events of a longer run
-pub after_same_up_to : (b : Behaviour) → IsLawful b → (m n : Model) (v k : ℕ) → v ≤ k → AgreesUpTo v m n (world_at (after b m k)).records (questions_of (after b m k)) → after b m v ≡ after b n v
+pub after_same_up_to : (b : Behaviour) → IsLawful b → (m n : Model) (v k : ℕ) → v ≤ k → AgreesUpTo v m n (world_at (after b m k)).records (questions_of m (after b m k)) → after b m v ≡ after b n v
 after_same_up_to b law m n v k h a =
-    let noted : AgreesUpTo v m n (world_at (after b m k)).records (world_at (after b m k)).questions = noted_first (AgreesUpTo v m n (world_at (after b m k)).records) (AgreesUpTo-front v m n (world_at (after b m k)).records) (after b m k) a in
+    let noted : AgreesUpTo v m n (world_at (after b m k)).records (world_at (after b m k)).questions = noted_first (AgreesUpTo v m n (world_at (after b m k)).records) (AgreesUpTo-front v m n (world_at (after b m k)).records) m (after b m k) a in
     after_same b law m n v (all_same v m n (after b m v) (after b m k) (up_to_after b m v) (λ w outcome e. over_stays b m w outcome v k h e) a (noted_same b m n v k h noted))
 
 -- ---- runs that got as far
 
--- a run that got as far was not stopped by the time limit before
-none_stopped : (v : ℕ) (w : World) (ps : List Pending) → w.count ≡ v → AllUpTo v (w.questions ++ not_begun w ps) → w.questions ++ not_begun w ps ≡ w.questions
-none_stopped v w [] e h = append-nil w.questions
-none_stopped v w (p ∷ rest) e h = let l = (AllUpTo-back v w.questions (not_begun w (p ∷ rest)) h).0 in absurd (omega (arith, e, l))
+-- a run that got as far did not end before
+none_stopped : (v : ℕ) (m : Model) (w : World) → w.count ≡ v → AllUpTo v (tried (upcoming m w)) → ⊥
+none_stopped v m w e h =
+    let up : Upcoming = upcoming m w in
+    let t = tried_first up in
+    let asks = upcoming_asks m w in
+    let noted : AllUpTo v (beside up).questions = AllUpTo-front v (beside up).questions t.0 (subst (AllUpTo v) (sym t.1) h) in
+    let first : AllUpTo v (w.questions ++ first_asked w ∷ []) = AllUpTo-front v (w.questions ++ first_asked w ∷ []) asks.0 (subst (AllUpTo v) (sym asks.1) noted) in
+    let l = (AllUpTo-back v w.questions (first_asked w ∷ []) first).0 in
+    absurd (omega (arith, e, l))
 
 -- so all that it asked is noted
-all_noted : (v : ℕ) (s : Stage) → IsReached s v → AllUpTo v (questions_of s) → questions_of s ≡ (world_at s).questions
-all_noted v (Running w) e h = refl
-all_noted v (Over w Ended) e h = refl
-all_noted v (Over w EventLimit) e h = refl
-all_noted v (Over w NoMoreEvents) e h = refl
-all_noted v (Over w TimeLimit) e h = none_stopped v w w.pending e h
-all_noted v (Over w (Fault event path f)) e h = refl
+all_noted : (v : ℕ) (m : Model) (s : Stage) → IsReached s v → AllUpTo v (questions_of m s) → questions_of m s ≡ (world_at s).questions
+all_noted v m (Running w) e h = refl
+all_noted v m (Over w Ended) e h = refl
+all_noted v m (Over w EventLimit) e h = refl
+all_noted v m (Over w NoMoreEvents) e h = absurd (none_stopped v m w e h)
+all_noted v m (Over w TimeLimit) e h = absurd (none_stopped v m w e h)
+all_noted v m (Over w (Fault event path f)) e h = refl
 
 -- in a run that got as far the questions that are noted decide
 pub reached_same : (b : Behaviour) → IsLawful b → (m n : Model) (v : ℕ) → IsReached (after b m v) v → AgreesIn m n (world_at (after b m v)) → after b m v ≡ after b n v
-reached_same b law m n v e h = after_same b law m n v (subst (Agrees m n (world_at (after b m v)).records) (sym (all_noted v (after b m v) e (up_to_after b m v))) h)
+reached_same b law m n v e h = after_same b law m n v (subst (Agrees m n (world_at (after b m v)).records) (sym (all_noted v m (after b m v) e (up_to_after b m v))) h)
 
 -- and those of a longer run
 pub reached_same_up_to : (b : Behaviour) → IsLawful b → (m n : Model) (v k : ℕ) → v ≤ k → IsReached (after b m v) v → AgreesUpTo v m n (world_at (after b m k)).records (world_at (after b m k)).questions → after b m v ≡ after b n v

@@ -12,7 +12,7 @@ use Rattle.model_answers.specs.declared.model.Model.{Model}
 use Rattle.model_answers.specs.Answering.{parameters_of}
 use Rattle.model_answers.specs.Records.{path_of, record_at, index_of}
 use Rattle.run_semantics.specs.declared.pending.Happening.{Happening}
-use Rattle.run_semantics.specs.declared.pending.Happening.TheVariants.{Timer}
+use Rattle.run_semantics.specs.declared.pending.Happening.TheVariants.{Arrival, Timer}
 use Rattle.run_semantics.specs.declared.pending.Pending.{Pending}
 use Rattle.run_semantics.specs.declared.traces.Instance.{Instance}
 use Rattle.run_semantics.specs.World.{World, asked}
@@ -62,6 +62,7 @@ call_module b m id prompt w = call_at b m id prompt w (place_in id w.modules)
 -- the message that arrives
 abbrev pub message_by : ℤ → Happening → Message
 message_by priority (Timer timer kind) = record { kind = kind; priority = priority; bits = 0; payload = []; origin = origin.Timer timer }
+message_by priority (Arrival kind bits payload) = record { kind = kind; priority = priority; bits = bits; payload = payload; origin = origin.Outside }
 
 abbrev pub message_of : Pending → Message
 message_of p = message_by p.priority p.what
@@ -70,10 +71,10 @@ message_of p = message_by p.priority p.what
 abbrev pub counted : Pending → List Pending → World → World
 counted p rest w = record w { clock = p.time; count = w.count + 1; pending = rest }
 
--- it begins: its first question is whether the time limit allows it
+-- it begins: it is asked whether the time limit allows it
 abbrev pub begun : Pending → List Pending → World → World
 begun p rest w = asked (BeyondLimit p.time) (counted p rest w)
 
--- ONE EVENT, the first of those to come
+-- ONE EVENT, with those that are left to come behind it
 abbrev pub event : Behaviour → Model → Pending → List Pending → World → Flow
 event b m p rest w = call_module b m p.id (prompt.Message (message_of p)) (begun p rest w)

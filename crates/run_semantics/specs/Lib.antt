@@ -2,6 +2,7 @@ pub mod World
 pub mod Order
 pub mod Perform
 pub mod Event
+pub mod Upcoming
 pub mod Run
 pub mod Ending
 pub mod Agreement

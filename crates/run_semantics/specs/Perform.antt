@@ -1,5 +1,5 @@
 -- What a reply leads to.
-use Rattle.std.specs.Prelude.{ℕ, ℤ, ◌+◌, nat_lt, ◌==◌, ◌&&◌, Bool, List, [], ◌∷◌, ◌++◌, Option, Some, None, if◌then◌else◌, length}
+use Rattle.std.specs.Prelude.{ℕ, ℤ, ◌+◌, nat_lt, ◌==◌, ◌&&◌, Bool, false, List, [], ◌∷◌, ◌++◌, Option, Some, None, if◌then◌else◌, length}
 use Rattle.std.specs.List.{list_any}
 use Rattle.sim_time.specs.Time.{time_sum}
 use Rattle.module_api.specs.declared.reply.Action.{Action}
@@ -24,7 +24,7 @@ use Rattle.run_semantics.specs.declared.outcome.Fault.TheVariants as fault
 use Rattle.run_semantics.specs.declared.outcome.Turn.{Turn}
 use Rattle.run_semantics.specs.declared.outcome.Turn.TheVariants.{GoOn, Stop, Break}
 use Rattle.run_semantics.specs.declared.pending.Happening.{Happening}
-use Rattle.run_semantics.specs.declared.pending.Happening.TheVariants.{Timer}
+use Rattle.run_semantics.specs.declared.pending.Happening.TheVariants.{Arrival, Timer}
 use Rattle.run_semantics.specs.declared.pending.Pending.{Pending}
 use Rattle.run_semantics.specs.Order.{inserted}
 use Rattle.run_semantics.specs.World.{World, asked}
@@ -63,6 +63,7 @@ model_fault model_fault_kind.Mismatch = fault.Mismatch
 -- whether it is that timer of that module
 abbrev pub is_timer_number : ℕ → Happening → Bool
 is_timer_number timer (Timer number kind) = number == timer
+is_timer_number timer (Arrival kind bits payload) = false
 
 abbrev pub is_timer : ℕ → ℕ → Pending → Bool
 is_timer id timer p = (p.id == id) && is_timer_number timer p.what

@@ -18,6 +18,7 @@ use Rattle.run_semantics.specs.declared.traces.Instance.{Instance}
 use Rattle.run_semantics.specs.World.{World, empty, asked}
 use Rattle.run_semantics.specs.Perform.{Flow, On, Stopped, Broken, ◌>>=◌, broken, model_fault}
 use Rattle.run_semantics.specs.Event.{call_module, event}
+use Rattle.run_semantics.specs.Upcoming.{Upcoming, Comes, Nothing, upcoming}
 
 -- ---- setup: the network, and its submodules in the order of their declaration
 
@@ -168,13 +169,13 @@ says_beyond _ = false
 abbrev pub is_after_limit : Model → List Record → Pending → Bool
 is_after_limit m records p = says_beyond (answer_of m records (BeyondLimit p.time))
 
--- THE NEXT EVENT, the first of those to come; where it is too late it stays among them, and nothing is noted
-abbrev pub picked : Behaviour → Model → World → List Pending → Stage
-picked b m w [] = Over w NoMoreEvents
-picked b m w (p ∷ rest) = if is_after_limit m w.records p then Over w TimeLimit else settled (event b m p rest w)
+-- THE NEXT EVENT; where there is none, or it is too late, nothing is noted, and no injection counts as delivered
+abbrev pub went : Behaviour → Model → World → Upcoming → Stage
+went b m w (Nothing asked) = Over w NoMoreEvents
+went b m w (Comes asked p rest) = if is_after_limit m asked.records p then Over w TimeLimit else settled (event b m p rest asked)
 
 abbrev pub next_stage : Behaviour → Model → Stage → Stage
-next_stage b m (Running w) = if w.ended then Over w Ended else picked b m w w.pending
+next_stage b m (Running w) = if w.ended then Over w Ended else went b m w (upcoming m w)
 next_stage b m (Over w outcome) = Over w outcome
 
 -- the run after n events, or where it ended before

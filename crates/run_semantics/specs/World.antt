@@ -1,7 +1,8 @@
 -- What a run is at a moment.
-use Rattle.std.specs.Prelude.{ℕ, ◌+◌, ◌*◌, ◌^◌, ◌≤◌, Bool, false, List, [], ◌∷◌, ◌++◌}
+use Rattle.std.specs.Prelude.{ℕ, ◌+◌, ◌*◌, ◌^◌, ◌≤◌, Bool, false, List, [], ◌∷◌, ◌++◌, Option, None}
 use Rattle.model_answers.specs.declared.answer.Asked.{Asked}
 use Rattle.model_answers.specs.declared.answer.Question.{Question}
+use Rattle.model_answers.specs.declared.injection.Turn.{Turn}
 use Rattle.model_answers.specs.declared.record.Record.{Record}
 use Rattle.run_semantics.specs.declared.pending.Pending.{Pending}
 use Rattle.run_semantics.specs.declared.traces.Emission.{Emission}
@@ -11,7 +12,8 @@ use Rattle.run_semantics.specs.declared.traces.Scalar.{Scalar}
 -- A world: the clock; how many events were executed; the records of the modules that were created, and the ids of those
 -- that live; the simple modules with their states, by rising id; the ids of the modules that were started, and of those
 -- that were finished; the events to come, in order, and the number of the next one that is inserted; whether the end was
--- asked for; what was emitted; the scalars that modules recorded; what was asked of the model, each question with its event.
+-- asked for; which injection was delivered last, and with it all that go before it; what was emitted; the scalars that modules
+-- recorded; what was asked of the model, each question with its event.
 pub record World : Type 0 where
   pub clock : ℕ
   pub count : ℕ
@@ -23,6 +25,7 @@ pub record World : Type 0 where
   pub pending : List Pending
   pub next : ℕ
   pub ended : Bool
+  pub delivered : Option Turn
   pub emissions : List Emission
   pub scalars : List Scalar
   pub questions : List Asked
@@ -40,6 +43,7 @@ empty = record {
   pending = [];
   next = 0;
   ended = false;
+  delivered = None;
   emissions = [];
   scalars = [];
   questions = [];
@@ -48,6 +52,10 @@ empty = record {
 -- a question is asked in the event that is executed
 abbrev pub asked : Question → World → World
 asked q w = record w { questions = w.questions ++ record { event = w.count; question = q } ∷ [] }
+
+-- a question is asked for the event behind it, which may not come
+abbrev pub asked_next : Question → World → World
+asked_next q w = record w { questions = w.questions ++ record { event = w.count + 1; question = q } ∷ [] }
 
 -- insertion numbers are far from running out
 abbrev pub HasRoom : World → Type 0

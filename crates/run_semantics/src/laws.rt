@@ -28,7 +28,7 @@ pub fn over_is_over()
 /// Where the run got as far as that event, all that it asked is noted in its world.
 pub fn equal_answers_equal_runs()
     ensures all { (b : Behaviour) → IsLawful b → (m n : Model) (v : ℕ)
-        → Agrees m n (world_at (after b m v)).records (questions_of (after b m v))
+        → Agrees m n (world_at (after b m v)).records (questions_of m (after b m v))
         → after b m v ≡ after b n v }
     ensures reached { (b : Behaviour) → IsLawful b → (m n : Model) (v : ℕ) → IsReached (after b m v) v
         → Agrees m n (world_at (after b m v)).records (world_at (after b m v)).questions
@@ -40,7 +40,7 @@ pub fn equal_answers_equal_runs()
 /// are noted are enough.
 pub fn equal_runs_up_to_an_event()
     ensures all { (b : Behaviour) → IsLawful b → (m n : Model) (v k : ℕ) → v ≤ k
-        → AgreesUpTo v m n (world_at (after b m k)).records (questions_of (after b m k))
+        → AgreesUpTo v m n (world_at (after b m k)).records (questions_of m (after b m k))
         → after b m v ≡ after b n v }
     ensures reached { (b : Behaviour) → IsLawful b → (m n : Model) (v k : ℕ) → v ≤ k → IsReached (after b m v) v
         → AgreesUpTo v m n (world_at (after b m k)).records (world_at (after b m k)).questions
@@ -52,7 +52,7 @@ pub fn equal_runs_up_to_an_event()
 pub fn answers_stay()
     ensures { (b : Behaviour) (m other : Model) (n k : ℕ) → n ≤ k
         → Each (λ a. answer_of other (world_at (after b m k)).records a.question
-        ≡ answer_of other (world_at (after b m n)).records a.question) (questions_of (after b m n)) }
+        ≡ answer_of other (world_at (after b m n)).records a.question) (questions_of m (after b m n)) }
 {}
 
 /// What is to come rests on where the run stands alone: n + k events are k more from the stage after n.
@@ -64,7 +64,7 @@ pub fn runs_go_on()
 /// the run of that model is the one that goes on from there.
 pub fn kept_worlds_serve()
     ensures all { (b : Behaviour) → IsLawful b → (m n : Model) (v k : ℕ) → v ≤ k
-        → AgreesUpTo v m n (world_at (after b m k)).records (questions_of (after b m k))
+        → AgreesUpTo v m n (world_at (after b m k)).records (questions_of m (after b m k))
         → (more : ℕ) → after b n (v + more) ≡ gone_on b n more (after b m v) }
     ensures reached { (b : Behaviour) → IsLawful b → (m n : Model) (v k : ℕ) → v ≤ k → IsReached (after b m v) v
         → AgreesUpTo v m n (world_at (after b m k)).records (world_at (after b m k)).questions

@@ -44,6 +44,7 @@ few_inside (answer.Fault path f) w one = omega arith
 few_inside (answer.Root name) w one = omega arith
 few_inside (answer.Value v) w one = omega arith
 few_inside (answer.Beyond beyond) w one = omega arith
+few_inside (answer.Injection found) w one = omega arith
 few_inside answer.Absent w one = omega arith
 
 few_root : (m : Model) (a : Answer) (w : World) → boxes_after (rooted a w >>= inside_asked m) ≤ most_boxes
@@ -53,6 +54,7 @@ few_root m (answer.Inside bs) w = omega arith
 few_root m (answer.Fault path f) w = omega arith
 few_root m (answer.Value v) w = omega arith
 few_root m (answer.Beyond beyond) w = omega arith
+few_root m (answer.Injection found) w = omega arith
 few_root m answer.Absent w = omega arith
 
 pub few_boxes : (m : Model) → boxes_of m ≤ most_boxes

@@ -6,7 +6,6 @@ use Rattle.sim_values.specs.declared.value.Value.TheVariants as values
 use Rattle.ned_values.specs.declared.ast.Expression.TheVariants as expression
 use Rattle.ned_values.specs.declared.ast.Mode.TheVariants as mode
 use Rattle.ned_syntax.specs.declared.ast.ParameterValue.TheVariants as parameter_value
-use Rattle.ned_syntax.specs.declared.ast.ParameterWord.{ParameterWord}
 use Rattle.ned_syntax.specs.declared.ast.ParameterWord.TheVariants as word
 use Rattle.ned_syntax.specs.declared.ast.SectionLine.{SectionLine}
 use Rattle.ned_syntax.specs.declared.ast.SectionLine.TheVariants as line
@@ -97,7 +96,7 @@ ini_of more =
 
 -- the network of Ticks of these names, with these lines of the ini text
 abbrev pub ticks : List (List ℕ) → List IniLine → Model
-ticks names more = record { types = tick ∷ network names ∷ []; ini = ini_of more; config = codes "General"; chain = codes "General" ∷ [] }
+ticks names more = record { types = tick ∷ network names ∷ []; ini = ini_of more; config = codes "General"; chain = codes "General" ∷ []; injections = []; last_injection = 0 }
 
 -- one Tick that fires three times
 abbrev pub three_ticks : Model

@@ -1,6 +1,5 @@
 -- The first example, as its files have it: examples/three_ticks.
-use Rattle.std.specs.Prelude.{◌≡◌, ℕ, List, [], ◌∷◌, ◌++◌, codes}
-use Rattle.model_answers.specs.declared.model.Model.{Model}
+use Rattle.std.specs.Prelude.{ℕ, List, [], ◌∷◌, codes}
 use Rattle.model_texts.specs.Models.{IsModelOf, IsOnlyModelOf}
 use Rattle.worked_runs.specs.Models.{three_ticks}
 use Rattle.worked_runs.specs.Runs.{ThreeTicks}

@@ -1,4 +1,4 @@
-use Rattle.std.proofs.Common.{◌≡◌, ℕ, List, [], ◌∷◌, codes, pos, refl, inl}
+use Rattle.std.proofs.Common.{[], ◌∷◌, codes, pos, refl, inl}
 use Rattle.std.proofs.lemmas.Bool.{leb-true}
 use lib.Utf8.{encode}
 use Rattle.std.specs.Str.{chars, is_utf8}
@@ -101,6 +101,8 @@ model = record {
     selected = refl;
     exists = refl;
     chained = inl (refl, refl);
+    outside = refl;
+    unused = refl;
   };
   network = cc;
 }

@@ -1,4 +1,4 @@
-use Rattle.std.proofs.Common.{◌≡◌, ◌+◌, Some, suc, arith, refl, sym, ap, subst, ◌∙◌, take, ◌++◌, ◌∷◌, [], slice_get}
+use Rattle.std.proofs.Common.{◌≡◌, ◌+◌, Some, suc, arith, sym, ap, subst, ◌∙◌, take, ◌++◌, ◌∷◌, []}
 use Rattle.std.proofs.Math.Seq.{take-suc}
 use Rattle.std.proofs.lemmas.Option.{slice_get-get_or}
 use Rattle.std.proofs.lemmas.Result.{err_from_is_err_and}

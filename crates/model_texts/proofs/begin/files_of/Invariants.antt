@@ -1,4 +1,4 @@
-use Rattle.std.proofs.Common.{◌≡◌, ◌≤◌, length, take}
+use Rattle.std.proofs.Common.{take}
 use Rattle.model_texts.specs.Models.{AreNedFiles}
 use Rattle.model_texts.proofs.begin.files_of.Given as goal
 

@@ -1,13 +1,12 @@
-use Rattle.std.proofs.Common.{◌≡◌, Bool, true, false, not, Option, Some, None, is_some, IsSome, subst, refl, sym, ap, ◌∙◌}
+use Rattle.std.proofs.Common.{not, IsSome, subst, refl, sym, ap, ◌∙◌}
 use Rattle.std.proofs.lemmas.Result.{err_from_is_err_and}
-use Rattle.std.specs.Option.{option_copied}
-use Rattle.model_texts.specs.Models.{AreRead, IsReadAs, IsModelOf, HasNoNetwork}
+use Rattle.model_texts.specs.Models.{AreRead}
 use Rattle.model_texts.proofs.Reading.{config_refused, none_copied, some_copied}
 use Rattle.model_texts.proofs.begin.read_model.Goals as goal
 
 pub returns-then-is_none-clause-refused : goal.returns-then-is_none-clause-refused
 returns-then-is_none-clause-refused c = record {
-  model = record { types = c.in_ok-types.types; ini = c.in_ok-lines.lines; config = c.in_ok-config.config; chain = c.in_ok-chain.chain };
+  model = record { types = c.in_ok-types.types; ini = c.in_ok-lines.lines; config = c.in_ok-config.config; chain = c.in_ok-chain.chain; injections = c.new.result; last_injection = 0 };
   read = record {
     read = record {
       small = sym c.is_too_large.ensures ∙ c.if-is_too_large.false;
@@ -22,6 +21,8 @@ returns-then-is_none-clause-refused c = record {
     selected = c.in_ok-config.ensures;
     exists = c.in_ok-chain.ensures.accepted.1;
     chained = c.in_ok-chain.ensures.accepted.0;
+    outside = c.new.ensures;
+    unused = refl;
   };
   none = sym c.network.ensures ∙ none_copied c.network.result (c.is_none.ensures ∙ ap not c.if-is_none.true);
 }
@@ -42,6 +43,8 @@ returns-clause-accepted c = record {
     selected = c.in_ok-config.ensures;
     exists = c.in_ok-chain.ensures.accepted.1;
     chained = c.in_ok-chain.ensures.accepted.0;
+    outside = c.new.ensures;
+    unused = refl;
   };
   network = subst IsSome c.network.ensures (some_copied c.network.result (c.is_none.ensures ∙ ap not c.if-is_none.false));
 }

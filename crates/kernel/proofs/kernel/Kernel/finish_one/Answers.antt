@@ -1,6 +1,6 @@
-use Rattle.std.proofs.Common.{◌≡◌, ap, sym, ◌∙◌, arith}
+use Rattle.std.proofs.Common.{ap, sym, ◌∙◌, arith}
 use Rattle.run_semantics.specs.World.{World}
-use Rattle.run_semantics.specs.Perform.{Flow, On, flow_of}
+use Rattle.run_semantics.specs.Perform.{On, flow_of}
 use Rattle.run_semantics.specs.Ending.{marked, with_finished}
 use Rattle.run_semantics.proofs.Sound.{call_last_leaves}
 use Rattle.kernel.specs.Seats.{world_of}

@@ -1,9 +1,9 @@
-use Rattle.std.proofs.Common.{◌≡◌, ◌+◌, ◌<◌, length, drop, sym, ap, ◌∙◌, arith}
+use Rattle.std.proofs.Common.{◌+◌, drop, sym, ◌∙◌, arith}
 use Rattle.std.proofs.lemmas.List.{length-map}
 use Rattle.run_semantics.specs.Perform.{On, flow_of}
 use Rattle.run_semantics.specs.Run.{standing, one_stage}
 use Rattle.kernel.specs.Kernels.{seat_of, seats_in, world_in}
-use Rattle.kernel.proofs.Starting.{stops, stage_step, none_left, length-standing}
+use Rattle.kernel.proofs.Starting.{stops, stage_step, length-standing}
 use Rattle.kernel.proofs.Seating.{still_kept}
 use Rattle.kernel.proofs.kernel.Kernel.one_stage.Goals as goal
 

@@ -1,0 +1,78 @@
+-- What comes next in a run, step by step.
+use Rattle.std.proofs.Common.{◌≡◌, ℕ, suc, zero, ◌+◌, ◌<◌, true, false, Bool, List, [], ◌∷◌, Option, Some, None, refl, ap, ◌∙◌, sym, arith, append-nil, if◌then◌else◌}
+use Rattle.model_answers.specs.declared.model.Model.{Model}
+use Rattle.module_api.specs.Behaviour.{Behaviour}
+use Rattle.run_semantics.specs.declared.outcome.Outcome.TheVariants.{Ended, NoMoreEvents, TimeLimit}
+use Rattle.run_semantics.specs.declared.pending.Pending.{Pending}
+use Rattle.run_semantics.specs.World.{World}
+use Rattle.run_semantics.specs.Event.{event}
+use Rattle.model_answers.specs.declared.answer.Asked.{Asked}
+use Rattle.run_semantics.specs.Upcoming.{first_of, most_injections, upcoming, upcoming_in}
+use Rattle.run_semantics.proofs.Looking.{beside}
+use Rattle.run_semantics.specs.Run.{Stage, Running, Over, settled, is_after_limit, next_stage, went}
+use Rattle.kernel.specs.declared.core_part.Look.{Look}
+use Rattle.kernel.specs.declared.core_part.Next.{Next}
+use Rattle.kernel.specs.declared.core_part.Next.TheVariants as next
+use Rattle.kernel.specs.Upcoming.{looked, upcoming_of, BeginsWith, HasNone, IsTooLate, LooksOn}
+
+-- where a test fails, what stands behind it
+unless : (c : Bool) (s t : Stage) → c ≡ false → (if c then s else t) ≡ t
+unless c s t e = ap (λ (x : Bool). if x then s else t) e
+
+-- where it is met, what stands before it
+where_met : (c : Bool) (s t : Stage) → c ≡ true → (if c then s else t) ≡ s
+where_met c s t e = ap (λ (x : Bool). if x then s else t) e
+
+-- an event begins: it makes the next stage
+pub next_begins : (b : Behaviour) (m : Model) (w after : World) (p : Pending) → w.ended ≡ false → (h : BeginsWith m (upcoming m w) p after)
+    → next_stage b m (Running w) ≡ settled (event b m p h.rest h.world)
+next_begins b m w after p going h =
+    unless w.ended (Over w Ended) (went b m w (upcoming m w)) going
+    ∙ ap (went b m w) h.comes ∙ unless (is_after_limit m h.world.records p) (Over w TimeLimit) (settled (event b m p h.rest h.world)) h.in_time
+
+-- nothing comes
+pub next_none : (b : Behaviour) (m : Model) (w after : World) → w.ended ≡ false → HasNone (upcoming m w) w after → next_stage b m (Running w) ≡ Over after NoMoreEvents
+next_none b m w after going h =
+    unless w.ended (Over w Ended) (went b m w (upcoming m w)) going ∙ ap (went b m w) h.none ∙ ap (λ (u : World). Over u NoMoreEvents) (sym h.same)
+
+-- what comes is too late
+pub next_too_late : (b : Behaviour) (m : Model) (w after : World) → w.ended ≡ false → IsTooLate m (upcoming m w) w after → next_stage b m (Running w) ≡ Over after TimeLimit
+next_too_late b m w after going h =
+    unless w.ended (Over w Ended) (went b m w (upcoming m w)) going
+    ∙ ap (went b m w) h.comes ∙ where_met (is_after_limit m h.world.records h.event) (Over w TimeLimit) (settled (event b m h.event h.rest h.world)) h.late
+    ∙ ap (λ (u : World). Over u TimeLimit) (sym h.same)
+
+-- ---- looks
+
+-- before the first look
+pub first_look : (m : Model) (w : World) (look : Look) → look ≡ record { delivered = w.delivered; asked = [] } → upcoming_in 10001 m w.pending (looked w look) ≡ upcoming m w
+unfolding upcoming most_injections
+first_look m w look e =
+    ap (λ (l : Look). upcoming_in 10001 m w.pending (looked w l)) e
+    ∙ ap (λ (qs : List Asked). upcoming_in 10001 m w.pending (record w { questions = qs })) (append-nil w.questions)
+
+-- an injection was discarded
+pub next_look : (m : Model) (w : World) (before after : Look) (n : Option Next) (counter left : ℕ) → counter < 10001 → left + counter ≡ 10001
+    → upcoming_in left m w.pending (looked w before) ≡ upcoming m w → n ≡ None → LooksOn m (looked w before) n (looked w after)
+    → (x : ℕ) × (x + (counter + 1) ≡ 10001) × (upcoming_in x m w.pending (looked w after) ≡ upcoming m w)
+next_look m w before after (Some x) counter left few sum inv none looks = absurd cc
+next_look m w before after None counter zero few sum inv none looks = absurd (omega (arith, few, sum))
+next_look m w before after None counter (suc left) few sum inv none looks = (left, omega (arith, sum), sym (looks left) ∙ inv)
+
+-- ---- an event that begins
+
+first_beside : (w : World) (ps : List Pending) → beside (first_of w ps) ≡ w
+first_beside w [] = refl
+first_beside w (p ∷ rest) = refl
+
+next_beside : (n : Next) (w : World) → beside (upcoming_of n w) ≡ w
+next_beside next.First w = first_beside w w.pending
+next_beside (next.Arrival p) w = refl
+next_beside next.Nothing w = refl
+
+-- it is counted, and nothing is inserted
+pub begins_counted : (m : Model) (n : Next) (w after : World) (look : Look) (p : Pending) → BeginsWith m (upcoming_of n (looked w look)) p after
+    → (after.next ≡ w.next) × (after.count ≡ w.count + 1)
+begins_counted m n w after look p h =
+    let same : h.world ≡ looked w look = sym (ap beside h.comes) ∙ next_beside n (looked w look) in
+    (ap (λ (u : World). u.next) h.begins ∙ ap (λ (u : World). u.next) same, ap (λ (u : World). u.count) h.begins ∙ ap (λ (u : World). u.count + 1) same)

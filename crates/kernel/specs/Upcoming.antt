@@ -1,0 +1,74 @@
+-- What comes next in a run, step by step.
+use Rattle.std.specs.Prelude.{◌≡◌, ℕ, suc, Bool, true, false, List, [], ◌∷◌, ◌++◌, Option, Some, None, Result, Ok, Err}
+use Rattle.model_answers.specs.declared.answer.Answer.{Answer}
+use Rattle.model_answers.specs.declared.answer.Question.TheVariants.{InjectionBefore}
+use Rattle.model_answers.specs.declared.model.Model.{Model}
+use Rattle.model_answers.specs.declared.record.Record.{Record}
+use Rattle.model_answers.specs.Answering.{answer_of}
+use Rattle.run_semantics.specs.declared.outcome.Outcome.{Outcome}
+use Rattle.run_semantics.specs.declared.outcome.Outcome.TheVariants.{NoMoreEvents, TimeLimit}
+use Rattle.run_semantics.specs.declared.pending.Pending.{Pending}
+use Rattle.run_semantics.specs.World.{World, asked_next}
+use Rattle.run_semantics.specs.Event.{begun}
+use Rattle.run_semantics.specs.Upcoming.{Upcoming, Comes, Nothing, first_due, first_of, upcoming_in}
+use Rattle.run_semantics.specs.Run.{is_after_limit}
+use Rattle.kernel.specs.declared.core_part.Look.{Look}
+use Rattle.kernel.specs.declared.core_part.Next.{Next}
+use Rattle.kernel.specs.declared.core_part.Next.TheVariants as next
+
+-- the world in which all is noted that was asked to know what comes next
+abbrev pub looked : World → Look → World
+looked w look = record w { delivered = look.delivered; questions = w.questions ++ look.asked }
+
+-- what comes next of a world, in code
+abbrev pub upcoming_of : Next → World → Upcoming
+upcoming_of next.First w = first_of w w.pending
+upcoming_of (next.Arrival p) w = Comes w p w.pending
+upcoming_of next.Nothing w = Nothing w
+
+-- the answer to what is asked for an injection
+abbrev pub injection_asked : Model → World → Answer
+injection_asked m w = answer_of m w.records (InjectionBefore (first_due w.pending) w.delivered)
+
+abbrev pub with_injection_asked : World → World
+with_injection_asked w = asked_next (InjectionBefore (first_due w.pending) w.delivered) w
+
+-- ONE LOOK: what comes next, however many injections may be discarded behind it; or an injection is discarded, and the next one is looked at
+abbrev pub LooksOn : Model → World → Option Next → World → Type 0
+LooksOn m w (Some n) w' = (left : ℕ) → upcoming_in (suc left) m w.pending w ≡ upcoming_of n w'
+LooksOn m w None w' = (left : ℕ) → upcoming_in (suc left) m w.pending w ≡ upcoming_in left m w.pending w'
+
+-- whether the first of these events is later than the option sim-time-limit allows
+abbrev pub first_is_after_limit : Model → List Record → List Pending → Bool
+first_is_after_limit m records [] = false
+first_is_after_limit m records (p ∷ rest) = is_after_limit m records p
+
+-- an event begins, where it is not too late
+pub record BeginsWith (m : Model) (u : Upcoming) (p : Pending) (after : World) : Type 0 where
+  pub world : World
+  pub rest : List Pending
+  pub comes : u ≡ Comes world p rest
+  pub in_time : is_after_limit m world.records p ≡ false
+  pub begins : after ≡ begun p rest world
+
+-- nothing comes
+pub record HasNone (u : Upcoming) (before after : World) : Type 0 where
+  pub world : World
+  pub none : u ≡ Nothing world
+  pub same : after ≡ before
+
+-- what comes is too late
+pub record IsTooLate (m : Model) (u : Upcoming) (before after : World) : Type 0 where
+  pub world : World
+  pub event : Pending
+  pub rest : List Pending
+  pub comes : u ≡ Comes world event rest
+  pub late : is_after_limit m world.records event ≡ true
+  pub same : after ≡ before
+
+-- WHAT BEGINS: an event; or nothing, and then the world is what it was
+abbrev pub Begins : Model → Upcoming → World → Result Pending Outcome → World → Type 0
+Begins m u before (Ok p) after = BeginsWith m u p after
+Begins m u before (Err NoMoreEvents) after = HasNone u before after
+Begins m u before (Err TimeLimit) after = IsTooLate m u before after
+Begins m u before (Err _) after = ⊥
