@@ -75,18 +75,27 @@ refusal_text f = refusal_name f ++ refusal_place f
 
 -- ---- edits
 
--- THE ANSWER of an edit that is made: up to which event the last run stays valid
+-- THE ANSWER of an edit that is made: up to which event the last run stays valid, and the number of the injection that is added
 abbrev pub valid_text : Option ℕ → List ℕ
 valid_text None = codes "none"
 valid_text (Some event) = decimal event
 
-abbrev pub edited_text : Option ℕ → List ℕ
-edited_text valid_to = codes "edited valid " ++ valid_text valid_to
+abbrev pub injection_text : Option ℕ → List ℕ
+injection_text None = []
+injection_text (Some number) = codes " injection " ++ decimal number
+
+abbrev pub edited_text : Option ℕ → Option ℕ → List ℕ
+edited_text valid_to injection = codes "edited valid " ++ (valid_text valid_to ++ injection_text injection)
+
+-- THE ANSWER TO `held`: how many boxes there are
+abbrev pub held_text : ℕ → List ℕ
+held_text held = codes "held " ++ decimal held
 
 -- THE ANSWER of an edit that is refused: its name, and the line where it is known. Want of memory has no text: it is handed on.
 abbrev pub edit_refusal_text : Refusal → Option (List ℕ)
 edit_refusal_text edit.TooLarge = Some (codes "refused TooLarge")
 edit_refusal_text edit.NoSuchLine = Some (codes "refused NoSuchLine")
+edit_refusal_text edit.NoSuchInjection = Some (codes "refused NoSuchInjection")
 edit_refusal_text (edit.IniSyntax line) = Some (codes "refused IniSyntax line " ++ decimal line)
 edit_refusal_text edit.NoSuchConfig = Some (codes "refused NoSuchConfig")
 edit_refusal_text edit.ChainFault = Some (codes "refused ChainFault")

@@ -4,12 +4,12 @@ use Rattle.module_api.specs.Behaviour.{Behaviour}
 use Rattle.model_answers.specs.declared.model.Model.{Model}
 use Rattle.model_edits.specs.declared.edit.Edit.{Edit}
 use Rattle.model_edits.specs.declared.edit.Refusal.{Refusal}
-use Rattle.model_edits.specs.Edited.{IsEditOf, IsOnlyEditOf, Refuses}
+use Rattle.model_edits.specs.Edited.{number_given, IsEditOf, IsOnlyEditOf, Refuses}
 use Rattle.command_lines.specs.Commands.{command_of}
 use Rattle.command_lines.specs.declared.commands.Command.{Command}
 use Rattle.command_lines.specs.declared.commands.Command.TheVariants as command
 use Rattle.kernel.specs.Kernels.{Members}
-use Rattle.edit_session.specs.Editing.{Editing, completed, fresh_run, WaitsFor}
+use Rattle.edit_session.specs.Editing.{Editing, boxes_left, completed, fresh_run, WaitsFor}
 use Rattle.edit_session.specs.declared.running.Phase.TheVariants.{Idle}
 use Rattle.edit_session.specs.Sessions.{editing_of, IsSound, KeepsModel}
 use Rattle.desk.specs.Answers.{done_text, edit_refusal_text, edited_text}
@@ -46,6 +46,7 @@ run_answer b m limit =
 pub record HasRun (b : Behaviour) (e : Editing) (limit : ℕ) (text : List ℕ) : Type 0 where
   pub answer : text ≡ run_answer b e.model limit
   pub done : e.done ≡ Some (completed b e.model limit)
+  pub held : e.held ≡ boxes_left b e.model limit
 
 -- WHAT A RUN COMES TO: it is done, and its answer is that of a fresh run; or it waits for a box
 abbrev pub IsRunTurn : Behaviour → Editing → ℕ → DeskTurn → Editing → Type 0
@@ -60,7 +61,7 @@ MayBeDone b e limit = (e.done ≡ None) ⊎ (e.done ≡ Some (completed b e.mode
 
 -- The edit is made: the model is the one that it makes, and it makes no other.
 pub record IsMade (m : Model) (e : Edit) (text : List ℕ) (new : Model) : Type 0 where
-  pub text_is : text ≡ edited_text None
+  pub text_is : text ≡ edited_text None (number_given e m)
   pub edited : IsEditOf m e new
   pub only : IsOnlyEditOf m e new
 

@@ -2,7 +2,7 @@
 
 ghost use Rattle.std.specs.Prelude.{◌≡◌, ◌++◌, Some, IfOk, OnOk, codes};
 ghost use Rattle.std.specs.Fmt.{decimal};
-ghost use Rattle.desk.specs.Answers.{done_text, edit_refusal_text, edited_text, valid_text};
+ghost use Rattle.desk.specs.Answers.{done_text, edit_refusal_text, edited_text, held_text, injection_text, valid_text};
 ghost use Rattle.desk.specs.Answers.{fault_detail, fault_name, outcome_text, refusal_name, refusal_place, refusal_text, start_text};
 
 use edit_session::session::Report;
@@ -164,13 +164,39 @@ fn push_valid(text: &mut Vec<u8>, valid_to: Option<u64>) -> Result<(), AllocErro
     }
 }
 
+/// Adds the number of the injection that is added.
+fn push_injection(text: &mut Vec<u8>, injection: Option<u64>) -> Result<(), AllocError>
+    ensures { OnOk result (text.new.items ≡ text.old.items ++ injection_text injection) }
+{
+    if let Some(number) = injection {
+        push(text, b" injection ")?;
+        push_number(text, number)?;
+    }
+    Ok(())
+}
+
 /// The answer of an edit that is made.
-pub fn edited_text(alloc: Global, valid_to: Option<u64>) -> Result<Text, AllocError>
-    ensures { IfOk result (λ text. text ≡ edited_text valid_to) }
+pub fn edited_text(
+    alloc: Global,
+    valid_to: Option<u64>,
+    injection: Option<u64>,
+) -> Result<Text, AllocError>
+    ensures { IfOk result (λ text. text ≡ edited_text valid_to injection) }
 {
     let mut text = Vec::new(alloc);
     push(&mut text, b"edited valid ")?;
     push_valid(&mut text, valid_to)?;
+    push_injection(&mut text, injection)?;
+    Ok(Text::from_vec(text))
+}
+
+/// The answer to `held`.
+pub fn held_text(alloc: Global, held: usize) -> Result<Text, AllocError>
+    ensures { IfOk result (λ text. text ≡ held_text held) }
+{
+    let mut text = Vec::new(alloc);
+    push(&mut text, b"held ")?;
+    push_number(&mut text, held as u64)?;
     Ok(Text::from_vec(text))
 }
 
@@ -201,6 +227,7 @@ pub fn edit_refusal_text(alloc: Global, refusal: Refusal) -> Result<Text, NoMemo
     match refusal {
         Refusal::TooLarge => Ok(refused_as(alloc, b"TooLarge")?),
         Refusal::NoSuchLine => Ok(refused_as(alloc, b"NoSuchLine")?),
+        Refusal::NoSuchInjection => Ok(refused_as(alloc, b"NoSuchInjection")?),
         Refusal::IniSyntax(line) => Ok(bad_line(alloc, line)?),
         Refusal::NoSuchConfig => Ok(refused_as(alloc, b"NoSuchConfig")?),
         Refusal::ChainFault => Ok(refused_as(alloc, b"ChainFault")?),

@@ -7,9 +7,10 @@ ghost use Rattle.edit_session.specs.Sessions.{editing_of, IsSound};
 ghost use Rattle.edit_session.specs.declared.running.Phase.{Phase};
 ghost use Rattle.edit_session.specs.declared.session.SupplyReason.{SupplyReason};
 ghost use Rattle.command_lines.specs.Commands.{command_of};
+ghost use Rattle.desk.specs.Answers.{held_text};
 ghost use Rattle.desk.specs.Turns.{editing_at, limit_at, limit_after, AnswersEdit, AnswersLine, Forgoes, IsRunTurn, IsSettled, MayBeDone, StaysSettled};
 
-use crate::answers::{done_text, edit_refusal_text, edited_text, refused_as};
+use crate::answers::{done_text, edit_refusal_text, edited_text, held_text, refused_as};
 use command_lines::commands::{Command, command_of};
 use edit_session::session::{FileFault, NotWanted, Progress, Session, SupplyFault};
 use kernel::request::Request;
@@ -91,7 +92,8 @@ impl<C: Catalogue> Desk<C> {
         ensures memory { OnErr result (self.new ≡ self.old) }
     {
         // The answer is made before the edit: so where it has no room the edit isn't made.
-        let accepted = edited_text(self.alloc, None)?;
+        let number = self.session.number_given(&edit);
+        let accepted = edited_text(self.alloc, None, number)?;
         match self.session.edit(edit) {
             Ok(_) => Ok(accepted),
             Err(refusal) => edit_refusal_text(self.alloc, refusal),
@@ -161,6 +163,14 @@ impl<C: Catalogue> Desk<C> {
         ensures limit { limit_at self.new ≡ limit_at self.old }
     {
         self.session.decline()
+    }
+
+    /// Answers how many boxes there are.
+    pub fn held(&self) -> Result<Text, NoMemory>
+        ensures { let editing = editing_at SimpleModule-box self.now in
+            IfOk result (λ text. text ≡ held_text editing.held) }
+    {
+        Ok(held_text(self.alloc, self.session.held())?)
     }
 
     /// Writes the scalar file of the last run.

@@ -39,6 +39,7 @@ root_goes (answer.Inside bs) = tt
 root_goes (answer.Value v) = tt
 root_goes (answer.Fault path f) = tt
 root_goes (answer.Beyond beyond) = tt
+root_goes (answer.Injection found) = tt
 root_goes answer.Absent = tt
 
 many_goes : (parent : ℕ) (bs : List Built) (w : World) (one : Option Built) → w.next ≡ 0 → GoesOn (unless_many parent bs w one)
@@ -51,6 +52,7 @@ built_goes parent (answer.Root name) w e = tt
 built_goes parent (answer.Value v) w e = tt
 built_goes parent (answer.Fault path f) w e = tt
 built_goes parent (answer.Beyond beyond) w e = tt
+built_goes parent (answer.Injection found) w e = tt
 built_goes parent answer.Absent w e = tt
 
 then_goes : (fl : Flow) (k : World → Flow) → GoesOn fl → ((w : World) → w.next ≡ 0 → GoesOn (k w)) → GoesOn (fl >>= k)

@@ -11,7 +11,7 @@ use Rattle.run_semantics.specs.Perform.{Flow, On, Stopped, Broken}
 use Rattle.run_semantics.specs.Run.{Part, parts_of, prepared, ready, place_all, start, Over, Ran, run_to}
 use Rattle.run_semantics.specs.Ending.{ending}
 use Rattle.model_edits.specs.declared.edit.Edit.{Edit}
-use Rattle.model_edits.specs.Edited.{IsEditOf, IsOnlyEditOf}
+use Rattle.model_edits.specs.Edited.{number_given, IsEditOf, IsOnlyEditOf}
 use Rattle.result_files.specs.declared.files.ResultFiles.{ResultFiles}
 use Rattle.result_files.specs.Files.{files_of}
 use Rattle.kernel.specs.declared.request.Request.{Request}
@@ -46,6 +46,10 @@ abbrev pub completed : Behaviour → Model → ℕ → Completed
 completed b m limit =
     let ran = fresh_run b m limit in
     record { limit = limit; outcome = ran.outcome; files = files_in m ran.world }
+
+-- how many boxes it leaves: one for each of its simple modules
+abbrev pub boxes_left : Behaviour → Model → ℕ → ℕ
+boxes_left b m limit = length (fresh_run b m limit).world.modules
 
 -- what callers see of a session: the model; the last run, where it is done; where a run stands that isn't, and how many
 -- boxes it holds
@@ -176,6 +180,7 @@ pub record IsFreshRun (b : Behaviour) (before : Editing) (limit : ℕ) (report :
   pub started_from : report.started_from ≡ None
   pub executed : report.executed ≡ (fresh_run b before.model limit).world.count
   pub done : after.done ≡ Some (completed b before.model limit)
+  pub held : after.held ≡ boxes_left b before.model limit
   pub needs_none : (before.phase ≡ Declined) ⊎ (wanted_by before.model (kept_boxes before.phase before.held) ≡ None)
 
 -- It waits for the box that its model wants next, with those that it kept, and none is done. No box was declined before.
@@ -184,6 +189,11 @@ pub record WaitsFor (before : Editing) (request : Request) (after : Editing) : T
   pub wanted : wanted_by before.model (kept_boxes before.phase before.held) ≡ Some request
   pub waits : after ≡ record { model = before.model; done = None; phase = Waiting; held = kept_boxes before.phase before.held }
 
+-- the last number that was used, where one was given
+abbrev pub last_used : ℕ → Option ℕ → Option ℕ
+last_used last None = None
+last_used last (Some number) = Some last
+
 -- WHAT AN ACCEPTED EDIT LEAVES: the model that the edit makes, and it makes no other. No run waits and none is done; boxes stay
 -- until the next run. Nothing of the last run is kept, so the next one begins with setup.
 pub record IsAccepted (before : Editing) (e : Edit) (edited : Edited) (after : Editing) : Type 0 where
@@ -191,6 +201,7 @@ pub record IsAccepted (before : Editing) (e : Edit) (edited : Edited) (after : E
   pub only : IsOnlyEditOf before.model e after.model
   pub left : after ≡ record { model = after.model; done = None; phase = Idle; held = before.held }
   pub valid_to : edited.valid_to ≡ None
+  pub injection : edited.injection ≡ number_given e before.model
 
 -- no run waits, and none is done
 pub record IsIdle (e : Editing) : Type 0 where

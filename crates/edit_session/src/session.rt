@@ -6,9 +6,9 @@ ghost use Rattle.model_answers.specs.declared.model.Model.{Model};
 ghost use Rattle.result_files.specs.ScalarText.{scalar_text};
 ghost use Rattle.result_files.specs.VectorText.{vector_text};
 ghost use Rattle.model_texts.specs.Models.{IsModelOf, IsRuledOut, Refuses};
-ghost use Rattle.model_edits.specs.Edited.{IsRuledOut as IsEditRuledOut, Refuses as RefusesEdit};
+ghost use Rattle.model_edits.specs.Edited.{number_given, IsRuledOut as IsEditRuledOut, Refuses as RefusesEdit};
 ghost use Rattle.edit_session.specs.Files.{scalars_of_run, vectors_of_run, FileWritten, TextWritten};
-ghost use Rattle.edit_session.specs.Editing.{Completed, fresh_editing, wanted_of, IfDone, IfWant, IsAccepted, IsFor, IsFreshRun, IsIdle, IsUnknown, WaitsFor};
+ghost use Rattle.edit_session.specs.Editing.{Completed, fresh_editing, last_used, wanted_of, IfDone, IfWant, IsAccepted, IsFor, IsFreshRun, IsIdle, IsUnknown, WaitsFor};
 ghost use Rattle.kernel.specs.declared.request.Request.{Request};
 ghost use Rattle.edit_session.specs.Sessions.{editing_of, IsSound, KeepsModel};
 
@@ -17,7 +17,7 @@ use kernel::kernel::Kernel;
 use kernel::request::Request;
 use model_answers::model::Model;
 use model_answers::record::Record;
-use model_edits::edit::{Edit, Refusal, apply};
+use model_edits::edit::{Edit, Refusal, apply, number_given};
 use model_texts::begin::{BeginFault, model_of};
 use module_api::catalogue::Catalogue;
 use module_api::simple_module::SimpleModule;
@@ -63,6 +63,8 @@ pub enum Progress {
 pub struct Edited {
     /// The greatest event up to which the last run stays that of the model as edited. None: the next run begins with setup.
     pub valid_to: Option<u64>,
+    /// The number of the injection that was added, where one was.
+    pub injection: Option<u32>,
 }
 
 /// No box is waited for.
@@ -163,9 +165,21 @@ impl<C: Catalogue> Session<C> {
         // A REFUSED EDIT CHANGES NOTHING.
         ensures unchanged { OnErr result (self.new ≡ self.old) }
     {
+        let given = self.number_given(&edit);
         apply(self.alloc, &mut self.model, edit)?;
         self.give_up();
-        Ok(Edited { valid_to: None })
+        Ok(Edited {
+            valid_to: None,
+            injection: last_used(self.model.last_injection, given),
+        })
+    }
+
+    /// The number that this edit would give to the injection that it adds, where it adds one. No number is given twice.
+    pub fn number_given(&self, edit: &Edit) -> Option<u64>
+        ensures { let editing = editing_of SimpleModule-box self.now in
+            result ≡ number_given edit.now editing.model }
+    {
+        number_given(&self.model, edit)
     }
 
     /// Gives up a run that waits, and what is kept of the last one that is done.
@@ -323,6 +337,13 @@ impl<C: Catalogue> Session<C> {
         }
     }
 
+    /// How many boxes the session holds.
+    pub fn held(&self) -> usize
+        ensures { result ≡ (editing_of SimpleModule-box self.now).held }
+    {
+        self.runner.kernel.held()
+    }
+
     /// How the last run ended, where one is done.
     pub fn outcome(&self) -> Option<&Outcome>
         ensures { let editing = editing_of SimpleModule-box self.now in
@@ -332,6 +353,16 @@ impl<C: Catalogue> Session<C> {
             Some(done) => Some(&done.outcome),
             None => None,
         }
+    }
+}
+
+/// The last number that was used, where one was given.
+fn last_used(last: u32, given: Option<u64>) -> Option<u32>
+    ensures { result ≡ last_used last given }
+{
+    match given {
+        Some(_) => Some(last),
+        None => None,
     }
 }
 

@@ -1,1 +1,2 @@
 pub mod Ruling
+pub mod Withdrawing

@@ -15,8 +15,8 @@ use Rattle.model_edits.specs.declared.edit.Edit.{Edit}
 use Rattle.model_edits.specs.declared.edit.Edit.TheVariants as edit
 use Rattle.model_edits.specs.declared.edit.Refusal.{Refusal}
 use Rattle.model_edits.specs.declared.edit.Refusal.TheVariants as refusal
-use Rattle.model_edits.specs.Edited.{AreBehind, IsEditOf, IsOnlyEditOf, IsRuledOut, IsWith, Refuses, RefusesChange, RefusesLines, change_of, selected}
-use Rattle.model_edits.specs.Steps.{Comes, Takes, TakesMade, has_network, told_as}
+use Rattle.model_edits.specs.Edited.{AreBehind, IsEditOf, IsOnlyEditOf, IsRuledOut, IsTextEditOf, IsWith, Refuses, RefusesChange, RefusesLines, RefusesText, change_of, selected}
+use Rattle.model_edits.specs.Steps.{Comes, ComesOfText, Takes, TakesMade, has_network, told_as}
 
 -- ---- one model
 
@@ -43,6 +43,7 @@ lines_ruled_out m lines config refusal.NoSuchNetwork why new is net =
 lines_ruled_out m lines config (refusal.NoMemory _) why new is net = refl
 lines_ruled_out m lines config refusal.TooLarge why new is net = absurd why
 lines_ruled_out m lines config refusal.NoSuchLine why new is net = absurd why
+lines_ruled_out m lines config refusal.NoSuchInjection why new is net = absurd why
 lines_ruled_out m lines config (refusal.IniSyntax line) why new is net = absurd why
 
 -- ---- lines that make no model
@@ -60,19 +61,20 @@ no_network_with m lines config chain chained exists none = (
 )
 
 no_model : (m : Model) (e : Edit) (lines : List IniLine) (r : Refusal) → AreBehind (change_of e m.ini) m.ini lines
-    → RefusesLines m lines (selected e m.config) r → Refuses m e r
+    → RefusesLines m lines (selected e m.config) r → RefusesText m e r
 no_model m e lines refusal.NoSuchConfig behind why = record { lines = lines; behind = behind; refused = why }
 no_model m e lines refusal.ChainFault behind why = record { lines = lines; behind = behind; refused = why }
 no_model m e lines refusal.NoSuchNetwork behind why = record { lines = lines; behind = behind; refused = why }
 no_model m e lines (refusal.NoMemory _) behind why = tt
 no_model m e lines refusal.TooLarge behind why = absurd why
 no_model m e lines refusal.NoSuchLine behind why = absurd why
+no_model m e lines refusal.NoSuchInjection behind why = absurd why
 no_model m e lines (refusal.IniSyntax line) behind why = absurd why
 
 -- what comes of lines that are those behind the edit, and no others are
 comes_of : (m : Model) (e : Edit) (lines : List IniLine) → AreBehind (change_of e m.ini) m.ini lines
     → ((others : List IniLine) → AreBehind (change_of e m.ini) m.ini others → others ≡ lines)
-    → (new : Model) (result : Result Unit Refusal) → Takes m lines (selected e m.config) new result → Comes m e new result
+    → (new : Model) (result : Result Unit Refusal) → Takes m lines (selected e m.config) new result → ComesOfText m e new result
 comes_of m e lines behind one new (Ok u) took = (
   record { lines = lines; behind = behind; made = took.0; network = took.1 },
   λ other is. one_with m lines (selected e m.config) other new (subst (λ (l : List IniLine). IsWith m l (selected e m.config) other) (one is.lines is.behind) is.made) took.0,
@@ -88,13 +90,14 @@ comes_of m e lines behind one new (Err r) took = (
 
 pub comes_selected : (m : Model) (name : List ℕ) (new : Model) (result : Result Unit Refusal) → Takes m m.ini name new result
     → Comes m (edit.SelectConfig name) new result
-comes_selected m name new result took = comes_of m (edit.SelectConfig name) m.ini refl (λ others same. same) new result took
+comes_selected m name new (Ok u) took = comes_of m (edit.SelectConfig name) m.ini refl (λ others same. same) new (Ok u) took
+comes_selected m name new (Err r) took = comes_of m (edit.SelectConfig name) m.ini refl (λ others same. same) new (Err r) took
 
 -- the same of an edit whose change is known
 changed : (m : Model) (e : Edit) (c : change.Edit) → change_of e m.ini ≡ Some c → selected e m.config ≡ m.config
     → (made : Result (List IniLine) EditError) → IfOk made (λ lines. IsEdited c lines)
     → ((lines : List IniLine) → IsEdited c lines → AnswersEdit lines made) → Refused c made
-    → (new : Model) (result : Result Unit Refusal) → TakesMade m made new result → Comes m e new result
+    → (new : Model) (result : Result Unit Refusal) → TakesMade m made new result → ComesOfText m e new result
 changed m e c is_change same (Ok lines) edited complete refused new result took =
     comes_of m e lines (subst (λ (o : Option change.Edit). AreBehind o m.ini lines) (sym is_change) edited)
     (λ others behind. sym (complete others (subst (λ (o : Option change.Edit). AreBehind o m.ini others) is_change behind)))
@@ -105,13 +108,13 @@ changed m e c is_change same (Err why) edited complete refused new (Err r) took 
     told : r ≡ told_as why
     told = cc
 
-    due : (w : EditError) → Refused c (Err w) → Refuses m e (told_as w)
+    due : (w : EditError) → Refused c (Err w) → RefusesText m e (told_as w)
     due errors.TooLarge is = subst (λ (o : Option change.Edit). RefusesChange o refusal.TooLarge) (sym is_change) is
     due errors.NoSuchLine is = subst (λ (o : Option change.Edit). RefusesChange o refusal.NoSuchLine) (sym is_change) is
     due (errors.IniSyntax line) is = subst (λ (o : Option change.Edit). RefusesChange o (refusal.IniSyntax line)) (sym is_change) is
     due (errors.NoMemory error) is = tt
 
-    ruled : (w : EditError) → ((lines : List IniLine) → IsEdited c lines → AnswersEdit lines (Err w)) → IsRuledOut m e (told_as w)
+    ruled : (w : EditError) → ((lines : List IniLine) → IsEdited c lines → AnswersEdit lines (Err w)) → (other : Model) → IsTextEditOf m e other → told_as w ≡ refusal.NoMemory no_memory
     ruled errors.TooLarge all other is = absurd (all is.lines (subst (λ (o : Option change.Edit). AreBehind o m.ini is.lines) is_change is.behind))
     ruled errors.NoSuchLine all other is = absurd (all is.lines (subst (λ (o : Option change.Edit). AreBehind o m.ini is.lines) is_change is.behind))
     ruled (errors.IniSyntax line) all other is = absurd (all is.lines (subst (λ (o : Option change.Edit). AreBehind o m.ini is.lines) is_change is.behind))
@@ -121,19 +124,22 @@ pub comes_inserted : (m : Model) (line : ℕ) (text : List ℕ) (c : change.Edit
     → (made : Result (List IniLine) EditError) → IfOk made (λ lines. IsEdited c lines)
     → ((lines : List IniLine) → IsEdited c lines → AnswersEdit lines made) → Refused c made
     → (new : Model) (result : Result Unit Refusal) → TakesMade m made new result → Comes m (edit.InsertIni line text) new result
-comes_inserted m line text c is_change = changed m (edit.InsertIni line text) c is_change refl
+comes_inserted m line text c is_change made edited complete refused new (Ok u) took = changed m (edit.InsertIni line text) c is_change refl made edited complete refused new (Ok u) took
+comes_inserted m line text c is_change made edited complete refused new (Err r) took = changed m (edit.InsertIni line text) c is_change refl made edited complete refused new (Err r) took
 
 pub comes_replaced : (m : Model) (line : ℕ) (text : List ℕ) (c : change.Edit) → change_of (edit.ReplaceIni line text) m.ini ≡ Some c
     → (made : Result (List IniLine) EditError) → IfOk made (λ lines. IsEdited c lines)
     → ((lines : List IniLine) → IsEdited c lines → AnswersEdit lines made) → Refused c made
     → (new : Model) (result : Result Unit Refusal) → TakesMade m made new result → Comes m (edit.ReplaceIni line text) new result
-comes_replaced m line text c is_change = changed m (edit.ReplaceIni line text) c is_change refl
+comes_replaced m line text c is_change made edited complete refused new (Ok u) took = changed m (edit.ReplaceIni line text) c is_change refl made edited complete refused new (Ok u) took
+comes_replaced m line text c is_change made edited complete refused new (Err r) took = changed m (edit.ReplaceIni line text) c is_change refl made edited complete refused new (Err r) took
 
 pub comes_removed : (m : Model) (line : ℕ) (c : change.Edit) → change_of (edit.RemoveIni line) m.ini ≡ Some c
     → (made : Result (List IniLine) EditError) → IfOk made (λ lines. IsEdited c lines)
     → ((lines : List IniLine) → IsEdited c lines → AnswersEdit lines made) → Refused c made
     → (new : Model) (result : Result Unit Refusal) → TakesMade m made new result → Comes m (edit.RemoveIni line) new result
-comes_removed m line c is_change = changed m (edit.RemoveIni line) c is_change refl
+comes_removed m line c is_change made edited complete refused new (Ok u) took = changed m (edit.RemoveIni line) c is_change refl made edited complete refused new (Ok u) took
+comes_removed m line c is_change made edited complete refused new (Err r) took = changed m (edit.RemoveIni line) c is_change refl made edited complete refused new (Err r) took
 
 -- ---- what comes of an edit, clause by clause
 

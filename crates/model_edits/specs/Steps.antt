@@ -9,7 +9,8 @@ use Rattle.model_answers.specs.Models.{network_of}
 use Rattle.model_edits.specs.declared.edit.Edit.{Edit}
 use Rattle.model_edits.specs.declared.edit.Refusal.{Refusal}
 use Rattle.model_edits.specs.declared.edit.Refusal.TheVariants as refusal
-use Rattle.model_edits.specs.Edited.{IsEditOf, IsOnlyEditOf, IsRuledOut, IsWith, Refuses, RefusesLines}
+use Rattle.model_edits.specs.Edited.{IsEditOf, IsOnlyEditOf, IsRuledOut, IsTextEditOf, IsWith, Refuses, RefusesLines, RefusesText}
+use Rattle.sim_values.specs.Memory.{no_memory}
 
 -- whether the option `network` names a network, in these lines along this chain
 abbrev pub has_network : Model → List IniLine → List (List ℕ) → Bool
@@ -39,6 +40,11 @@ Takes m lines config new (Err r) = (new ≡ m) × RefusesLines m lines config r
 abbrev pub TakesMade : Model → Result (List IniLine) EditError → Model → Result Unit Refusal → Type 0
 TakesMade m (Ok lines) new result = Takes m lines m.config new result
 TakesMade m (Err e) new result = (new ≡ m) × (result ≡ Err (told_as e))
+
+-- what comes of an edit of the text or of the configuration
+abbrev pub ComesOfText : Model → Edit → Model → Result Unit Refusal → Type 0
+ComesOfText m e new (Ok u) = IsTextEditOf m e new × ((other : Model) → IsTextEditOf m e other → other ≡ new)
+ComesOfText m e new (Err r) = (new ≡ m) × RefusesText m e r × ((other : Model) → IsTextEditOf m e other → r ≡ refusal.NoMemory no_memory)
 
 -- WHAT COMES OF AN EDIT: the one model that it makes; or the model is what it was, and this refusal is due
 abbrev pub Comes : Model → Edit → Model → Result Unit Refusal → Type 0

@@ -1,22 +1,30 @@
 //! Edits of a model.
 
-ghost use Rattle.std.specs.Prelude.{◌≡◌, true, IfOk, IfErr, OnOk, OnErr, is_some};
+ghost use Rattle.std.specs.Prelude.{◌≡◌, ◌<◌, true, length, position, IfOk, IfErr, IfSome, OnOk, OnErr, is_some};
 ghost use Rattle.std.specs.Option.{option_and_then, option_copied};
 ghost use Rattle.ini_config.specs.Sections.{IsChain, is_section};
 ghost use Rattle.model_answers.specs.Models.{as_network};
-ghost use Rattle.model_edits.specs.Edited.{IsEditOf, IsOnlyEditOf, IsRuledOut, Refuses, RefusesLines};
+ghost use Rattle.model_edits.specs.Edited.{has_no_room, is_numbered, number_given, IsEditOf, IsOnlyEditOf, IsRuledOut, Refuses, RefusesLines};
+ghost use Rattle.model_edits.specs.declared.edit.Edit.TheVariants as edits;
 ghost use Rattle.model_edits.specs.Steps.{has_network, told_as, Comes, RefusesChain, Takes, TakesMade};
 
 use ini_config::entries::network_entry;
 use ini_config::error::{ChainError, EditError};
 use ini_config::lines::IniText;
 use ini_config::speaks::last_name;
+use model_answers::injection::{Due, Injection};
 use model_answers::model::Model;
 use ned_syntax::ast::{TypeDeclaration, TypeKind};
 use sim_values::NoMemory;
 use sim_values::text::Text;
 use sqlite_items::Items;
 use std::alloc::Global;
+
+/// The longest payload of an injection, in bytes.
+pub const MAX_PAYLOAD: usize = 4096;
+
+/// How many injections a model holds at most.
+pub const MAX_INJECTIONS: usize = 10_000;
 
 /// An edit of a model.
 #[derive(Debug, Drop)]
@@ -30,15 +38,23 @@ pub enum Edit {
     RemoveIni(usize),
     /// The configuration of this name is selected.
     SelectConfig(Text),
+    /// A message from outside arrives at the simple module of this path when it is due: of this kind, so many bits long, and with
+    /// this payload.
+    Inject(Text, Due, i16, u64, Text),
+    /// The injection of this number is taken back.
+    Withdraw(u64),
 }
 
 /// Why an edit is refused. Of several reasons the first in this order is told, and want of memory in any place.
 #[derive(Clone, Copy, Debug, PartialEq, Eq)]
 pub enum Refusal {
-    /// The changed ini text is longer than 1 MiB.
+    /// The changed ini text is longer than 1 MiB; or a payload is longer than 4,096 bytes, 10,000 injections are held, or all
+    /// their numbers are used.
     TooLarge,
     /// There is no line of that number.
     NoSuchLine,
+    /// No injection of that number is held.
+    NoSuchInjection,
     /// The number, from 1, of the first line of the changed ini text that means nothing.
     IniSyntax(usize),
     /// The selected configuration isn't in the ini text.
@@ -154,6 +170,80 @@ fn select(alloc: Global, model: &mut Model, name: Text) -> Result<(), Refusal>
     Ok(())
 }
 
+/// Adds an injection, with the next number.
+fn inject(
+    model: &mut Model,
+    path: Text,
+    due: Due,
+    kind: i16,
+    bits: u64,
+    payload: Text,
+) -> Result<(), Refusal>
+    ensures { Comes model.old (edits.Inject path due kind bits payload) model.new result }
+{
+    if has_no_room(model, &payload) {
+        return Err(Refusal::TooLarge);
+    }
+    let number = model.last_injection + 1;
+    let injection = Injection {
+        number,
+        path,
+        due,
+        kind,
+        bits,
+        payload,
+    };
+    match model.injections.push(injection) {
+        Ok(()) => {
+            model.last_injection = number;
+            Ok(())
+        }
+        Err(failed) => Err(Refusal::NoMemory(failed.into())),
+    }
+}
+
+/// Whether there is no room for an injection with this payload.
+fn has_no_room(model: &Model, payload: &Text) -> bool
+    ensures { result ≡ has_no_room model.now payload.now }
+{
+    payload.as_bytes().len() > MAX_PAYLOAD
+        || model.injections.len() >= MAX_INJECTIONS
+        || model.last_injection == u32::MAX
+}
+
+/// The number that this edit gives to the injection that it adds: the one behind the last that was used, be it held still or not.
+pub fn number_given(model: &Model, edit: &Edit) -> Option<u64>
+    ensures { result ≡ number_given edit.now model.now }
+{
+    match edit {
+        Edit::Inject(_, _, _, _, _) => Some(u64::from(model.last_injection) + 1),
+        _ => None,
+    }
+}
+
+/// Takes the injection of that number back.
+fn withdraw(model: &mut Model, number: u64) -> Result<(), Refusal>
+    ensures { Comes model.old (edits.Withdraw number) model.new result }
+{
+    match place_of(model.injections.as_slice(), number) {
+        Some(place) => {
+            model.injections.remove(place);
+            Ok(())
+        }
+        None => Err(Refusal::NoSuchInjection),
+    }
+}
+
+/// Where the injection of that number stands.
+fn place_of(injections: &[Injection], number: u64) -> Option<usize>
+    ensures value { result ≡ position (is_numbered number) injections.now }
+    ensures within { IfSome result (λ place. place < length injections.now) }
+{
+    injections
+        .iter()
+        .position(|injection| u64::from(injection.number) == number)
+}
+
 /// Changes the model as the edit says, or tells why not.
 fn change(alloc: Global, model: &mut Model, edit: Edit) -> Result<(), Refusal>
     ensures { Comes model.old edit model.new result }
@@ -172,6 +262,10 @@ fn change(alloc: Global, model: &mut Model, edit: Edit) -> Result<(), Refusal>
             take_made(alloc, model, made)
         }
         Edit::SelectConfig(name) => select(alloc, model, name),
+        Edit::Inject(path, due, kind, bits, payload) => {
+            inject(model, path, due, kind, bits, payload)
+        }
+        Edit::Withdraw(number) => withdraw(model, number),
     }
 }
 

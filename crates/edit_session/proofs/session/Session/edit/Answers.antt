@@ -1,4 +1,5 @@
-use Rattle.std.proofs.Common.{refl}
+use Rattle.std.proofs.Common.{refl, ◌∙◌}
+use Rattle.edit_session.proofs.Giving.{given}
 use Rattle.edit_session.proofs.session.Session.edit.Goals as goal
 
 pub returns-clause-accepted : goal.returns-clause-accepted
@@ -7,4 +8,5 @@ returns-clause-accepted g c = rw c.give_up.ensures (record {
   only = c.in_ok-apply.ensures.only;
   left = refl;
   valid_to = refl;
+  injection = rw c.give_up.ensures at c.last_used.ensures ∙ given _ c.args.edit _ _ c.in_ok-apply.ensures.accepted c.number_given-given.ensures;
 })
