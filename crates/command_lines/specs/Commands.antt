@@ -1,37 +1,14 @@
 -- What command lines ask for.
-use Rattle.std.specs.Prelude.{ℕ, ◌+◌, ◌==◌, Bool, ◌&&◌, not, List, Option, Some, None, option_map, codes, length, nat_lt, position, take, drop, if◌then◌else◌}
-use Rattle.std.specs.List.{list_any, starts_with}
+use Rattle.std.specs.Prelude.{ℕ, List, Option, Some, None, option_map, codes, length, nat_lt, if◌then◌else◌}
 use Rattle.std.specs.Option.{option_and_then}
-use Rattle.std.specs.Str.{bytes_eq, is_utf8}
+use Rattle.std.specs.Str.{bytes_eq}
 use Rattle.model_edits.specs.declared.edit.Edit.{Edit}
 use Rattle.model_edits.specs.declared.edit.Edit.TheVariants as edit
 use Rattle.command_lines.specs.declared.commands.Command.{Command}
 use Rattle.command_lines.specs.declared.commands.Command.TheVariants as command
+use Rattle.command_lines.specs.Injections.{injection_of, withdrawal_of}
 use Rattle.command_lines.specs.Numbers.{number_of}
-
--- ---- words: each is parted from the next by one space
-
-abbrev pub is_space : ℕ → Bool
-is_space b = b == 32
-
--- what stands behind these bytes, where the line begins with them
-abbrev pub behind : List ℕ → List ℕ → Option (List ℕ)
-behind first line = if starts_with (λ a b. a == b) line first then Some (drop (length first) line) else None
-
--- the number of the first word, with all that stands behind the space that ends it
-abbrev pub numbered_at : List ℕ → Option ℕ → Option (ℕ × List ℕ)
-numbered_at bytes None = None
-numbered_at bytes (Some at) = option_map (λ n. (n, drop (at + 1) bytes)) (number_of (take at bytes))
-
-abbrev pub numbered : List ℕ → Option (ℕ × List ℕ)
-numbered bytes = numbered_at bytes (position is_space bytes)
-
--- one word, which is UTF-8
-abbrev pub is_word : List ℕ → Bool
-is_word bytes = is_utf8 bytes && not (list_any is_space bytes)
-
-abbrev pub word_of : List ℕ → Option (List ℕ)
-word_of bytes = if is_word bytes then Some bytes else None
+use Rattle.command_lines.specs.Words.{behind, numbered, word_of}
 
 -- ---- edits
 
@@ -60,8 +37,10 @@ abbrev pub selection_of : List ℕ → Option Edit
 selection_of line = option_map edit.SelectConfig (option_and_then word_of (behind (codes "config ") line))
 
 -- the edit that a line asks for
-abbrev pub edit_of : List ℕ → Option Edit
-edit_of line = or_else (option_and_then ini_edit_of (behind (codes "ini ") line)) (selection_of line)
+unfoldable pub edit_of : List ℕ → Option Edit
+edit_of line =
+    or_else (option_and_then ini_edit_of (behind (codes "ini ") line))
+    (or_else (selection_of line) (or_else (injection_of line) (withdrawal_of line)))
 
 -- ---- commands
 
@@ -69,9 +48,12 @@ edit_of line = or_else (option_and_then ini_edit_of (behind (codes "ini ") line)
 abbrev pub limit_of : List ℕ → Option ℕ
 limit_of line = option_and_then number_of (behind (codes "run ") line)
 
--- what is neither a run nor an edit: `write`, or nothing
+-- what is neither a run nor an edit: `write`, `held`, or nothing
 abbrev pub plain_command : List ℕ → Command
-plain_command line = if bytes_eq line (codes "write") then command.Write else command.Unknown
+plain_command line =
+    if bytes_eq line (codes "write") then command.Write
+    else if bytes_eq line (codes "held") then command.Held
+    else command.Unknown
 
 abbrev pub edit_or_plain : List ℕ → Option Edit → Command
 edit_or_plain line (Some e) = command.Edit e
@@ -89,6 +71,7 @@ command_of line = if nat_lt 65536 (length line) then command.TooLarge else run_o
 abbrev pub IsEdit : Command → Type 0
 IsEdit (command.Edit e) = Unit {0}
 IsEdit (command.Run limit) = ⊥
+IsEdit command.Held = ⊥
 IsEdit command.Write = ⊥
 IsEdit command.Unknown = ⊥
 IsEdit command.TooLarge = ⊥

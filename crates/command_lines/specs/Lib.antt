@@ -1,2 +1,4 @@
 pub mod Commands
+pub mod Injections
 pub mod Numbers
+pub mod Words

@@ -1,5 +1,6 @@
 -- Numbers in command lines.
-use Rattle.std.specs.Prelude.{ℕ, ◌+◌, ◌-◌, ◌*◌, ◌^◌, Bool, ◌||◌, List, [], ◌∷◌, Option, Some, None, nat_lt, if◌then◌else◌}
+use Rattle.std.specs.Prelude.{ℕ, ◌+◌, ◌-◌, ◌*◌, ◌^◌, ◌==◌, ℤ, pos, neg_ℤ, Bool, ◌||◌, List, [], ◌∷◌, Option, Some, None, nat_lt, if◌then◌else◌}
+use Rattle.std.specs.Option.{option_and_then}
 
 -- the byte is no decimal digit
 abbrev pub is_no_digit : ℕ → Bool
@@ -17,3 +18,20 @@ number_after n (d ∷ ds) =
 abbrev pub number_of : List ℕ → Option ℕ
 number_of [] = None
 number_of (d ∷ ds) = number_after 0 (d ∷ ds)
+
+-- ---- numbers with a sign
+
+-- this number, where 16 bits hold it
+abbrev pub from_zero : ℕ → Option ℤ
+from_zero n = if nat_lt (2 ^ 15 - 1) n then None else Some (pos n)
+
+-- the number so far below zero, where 16 bits hold it
+abbrev pub below_zero : ℕ → Option ℤ
+below_zero n = if nat_lt (2 ^ 15) n then None else Some (neg_ℤ (pos n))
+
+-- the number that a word of decimal digits writes, with a `-` before them where it is below zero: none where 16 bits do not hold it
+unfoldable pub signed_of : List ℕ → Option ℤ
+signed_of [] = None
+signed_of (b ∷ bs) =
+    if b == 45 then option_and_then below_zero (number_of bs)
+    else option_and_then from_zero (number_of (b ∷ bs))

@@ -1,18 +1,16 @@
 //! What command lines ask for.
 
-ghost use Rattle.std.specs.Prelude.{◌≡◌, ◌<◌, length, position, IfOk, IfSome, IsSome, OnErr, option_map};
-ghost use Rattle.std.specs.List.{list_any};
-ghost use Rattle.std.specs.Str.{is_utf8};
-ghost use Rattle.std.specs.Option.{option_copied};
-ghost use Rattle.command_lines.specs.Commands.{behind, command_of, edit_of, ini_edit_of, insertion_of, is_space};
-ghost use Rattle.command_lines.specs.Commands.{is_word, limit_of, numbered, plain_command, removal_of, replacement_of, selection_of, word_of, IsEdit};
+ghost use Rattle.std.specs.Prelude.{◌≡◌, IfOk, IsSome, OnErr};
+ghost use Rattle.command_lines.specs.Commands.{command_of, edit_of, ini_edit_of, insertion_of};
+ghost use Rattle.command_lines.specs.Commands.{limit_of, plain_command, removal_of, replacement_of, selection_of, IsEdit};
 
+use crate::injections::{injection_of, withdrawal_of};
 use crate::numbers::number_of;
+use crate::words::{behind, numbered, word_of};
 use model_edits::edit::Edit;
 use sim_values::NoMemory;
 use sim_values::text::Text;
 use std::alloc::{AllocError, Global};
-use std::str::from_utf8;
 
 /// The longest command line, in bytes.
 pub const MAX_LINE: usize = 65_536;
@@ -22,75 +20,17 @@ pub const MAX_LINE: usize = 65_536;
 pub enum Command {
     /// `run N`: run for at most N events.
     Run(u64),
-    /// `ini insert L TEXT`, `ini replace L TEXT`, `ini remove L`, `config NAME`: an edit of the model.
+    /// `ini insert L TEXT`, `ini replace L TEXT`, `ini remove L`, `config NAME`,
+    /// `inject PATH TIME PRIORITY KIND BITS HEX`, `withdraw K`: an edit of the model.
     Edit(Edit),
+    /// `held`: say how many boxes there are.
+    Held,
     /// `write`: write the files of the last run.
     Write,
     /// The line is no command.
     Unknown,
     /// The line is longer than 65,536 bytes.
     TooLarge,
-}
-
-// ---- words: each is parted from the next by one space
-
-/// What stands behind these bytes, where the line begins with them.
-fn behind<'a>(first: &[u8], line: &'a [u8]) -> Option<&'a [u8]>
-    ensures { option_copied result ≡ behind first.now line.now }
-{
-    if !line.starts_with(first) {
-        return None;
-    }
-    Some(&line[first.len()..])
-}
-
-/// The place of the first space.
-fn first_space(bytes: &[u8]) -> Option<usize>
-    ensures value { result ≡ position is_space bytes.now }
-    ensures within { IfSome result (λ at. at < length bytes.now) }
-{
-    bytes.iter().position(|b| *b == b' ')
-}
-
-/// The number of the first word, with all that stands behind the space that ends it.
-fn numbered(bytes: &[u8]) -> Option<(u64, &[u8])>
-    ensures { option_map (λ p. (p.0, p.1.now)) result ≡ numbered bytes.now }
-{
-    let Some(at) = first_space(bytes) else {
-        return None;
-    };
-    let Some(number) = number_of(&bytes[..at]) else {
-        return None;
-    };
-    Some((number, &bytes[at + 1..]))
-}
-
-/// Whether the bytes are UTF-8.
-fn is_text(bytes: &[u8]) -> bool
-    ensures { result ≡ is_utf8 bytes.now }
-{
-    from_utf8(bytes).is_ok()
-}
-
-/// Whether a space is among the bytes.
-fn has_space(bytes: &[u8]) -> bool
-    ensures { result ≡ list_any is_space bytes.now }
-{
-    bytes.contains(&b' ')
-}
-
-/// Whether it is one word, which is UTF-8.
-fn is_word(bytes: &[u8]) -> bool
-    ensures { result ≡ is_word bytes.now }
-{
-    is_text(bytes) && !has_space(bytes)
-}
-
-/// The word that the bytes are.
-fn word_of(bytes: &[u8]) -> Option<&[u8]>
-    ensures { option_copied result ≡ word_of bytes.now }
-{
-    if is_word(bytes) { Some(bytes) } else { None }
 }
 
 // ---- edits
@@ -161,6 +101,7 @@ fn selection_of(alloc: Global, line: &[u8]) -> Result<Option<Edit>, AllocError>
 }
 
 /// The edit that a line asks for.
+#[tactic(auto, unfolding(crate::specs::Commands::edit_of))]
 fn edit_of(alloc: Global, line: &[u8]) -> Result<Option<Edit>, AllocError>
     ensures found { IfOk result (λ found. found ≡ edit_of line.now) }
     ensures memory { OnErr result (IsSome (edit_of line.now)) }
@@ -170,7 +111,13 @@ fn edit_of(alloc: Global, line: &[u8]) -> Result<Option<Edit>, AllocError>
             return Ok(Some(edit));
         }
     }
-    selection_of(alloc, line)
+    if let Some(selection) = selection_of(alloc, line)? {
+        return Ok(Some(selection));
+    }
+    if let Some(injection) = injection_of(alloc, line)? {
+        return Ok(Some(injection));
+    }
+    Ok(withdrawal_of(line))
 }
 
 // ---- commands
@@ -188,12 +135,15 @@ fn plain_command(line: &[u8]) -> Command
 {
     if line == b"write".as_slice() {
         Command::Write
+    } else if line == b"held".as_slice() {
+        Command::Held
     } else {
         Command::Unknown
     }
 }
 
-/// The command that a line asks for. `NoMemory` comes of an edit alone, where memory ran out for the copy of its TEXT or NAME.
+/// The command that a line asks for. `NoMemory` comes of an edit alone, where memory ran out for the copy of its TEXT, NAME or
+/// PATH, or for the bytes of its HEX.
 pub fn command_of(alloc: Global, line: &[u8]) -> Result<Command, NoMemory>
     ensures command { IfOk result (λ command. command ≡ command_of line.now) }
     ensures memory { OnErr result (IsEdit (command_of line.now)) }

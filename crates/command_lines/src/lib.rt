@@ -2,4 +2,6 @@
 #![tactic(auto)]
 
 pub mod commands;
+mod injections;
 pub mod numbers;
+mod words;

@@ -1,7 +1,7 @@
 //! Numbers in command lines.
 
 ghost use Rattle.std.specs.Prelude.{◌≡◌};
-ghost use Rattle.command_lines.specs.Numbers.{number_after, number_of};
+ghost use Rattle.command_lines.specs.Numbers.{below_zero, from_zero, number_after, number_of, signed_of};
 
 /// The number that further digits make, where the digits so far made this one. There is none where
 /// a byte is no digit, or where it doesn't fit in 64 bits.
@@ -32,4 +32,35 @@ pub fn number_of(word: &[u8]) -> Option<u64>
         return None;
     }
     number_after(0, word)
+}
+
+/// The number, where 16 bits with a sign hold it.
+fn from_zero(number: u64) -> Option<i16>
+    ensures { result ≡ from_zero number }
+{
+    if number > 32_767 {
+        return None;
+    }
+    Some(number as i16)
+}
+
+/// The number so far below zero, where 16 bits hold it.
+fn below_zero(number: u64) -> Option<i16>
+    ensures { result ≡ below_zero number }
+{
+    if number > 32_768 {
+        return None;
+    }
+    Some((-(number as i32)) as i16)
+}
+
+/// The number of 16 bits that a word of decimal digits writes, with a `-` before them where it is below zero.
+#[tactic(auto, unfolding(crate::specs::Numbers::signed_of))]
+pub(crate) fn signed_of(word: &[u8]) -> Option<i16>
+    ensures { result ≡ signed_of word.now }
+{
+    match word {
+        [b'-', digits @ ..] => below_zero(number_of(digits)?),
+        _ => from_zero(number_of(word)?),
+    }
 }
