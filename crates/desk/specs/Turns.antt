@@ -12,7 +12,7 @@ use Rattle.kernel.specs.Kernels.{Members}
 use Rattle.edit_session.specs.Editing.{Editing, boxes_left, completed, fresh_run, WaitsFor}
 use Rattle.edit_session.specs.declared.running.Phase.TheVariants.{Idle}
 use Rattle.edit_session.specs.Sessions.{editing_of, IsSound, KeepsModel}
-use Rattle.desk.specs.Answers.{done_text, edit_refusal_text, edited_text}
+use Rattle.desk.specs.Answers.{done_text, edit_refusal_text, edited_text, held_text}
 use Rattle.desk.specs.declared.desk.Desk.{Desk}
 use Rattle.desk.specs.declared.desk.DeskTurn.{DeskTurn}
 use Rattle.desk.specs.declared.desk.DeskTurn.TheVariants as turn
@@ -93,6 +93,7 @@ IsTextOf (turn.Want request) P = ⊥
 abbrev pub AnswersCommand : Behaviour → Editing → Command → DeskTurn → Editing → Type 0
 AnswersCommand b before (command.Run limit) answer after = IsRunTurn b before limit answer after × (after.model ≡ before.model)
 AnswersCommand b before (command.Edit e) answer after = IsTextOf answer (λ text. AnswersEdit before e text after)
+AnswersCommand b before command.Held answer after = (answer ≡ turn.Text (held_text before.held)) × (after ≡ before)
 AnswersCommand b before command.Write answer after = (answer ≡ turn.Text (codes "refused Command")) × (after ≡ before)
 AnswersCommand b before command.Unknown answer after = (answer ≡ turn.Text (codes "refused Command")) × (after ≡ before)
 AnswersCommand b before command.TooLarge answer after = (answer ≡ turn.Text (codes "refused TooLarge")) × (after ≡ before)

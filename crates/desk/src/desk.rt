@@ -74,6 +74,7 @@ impl<C: Catalogue> Desk<C> {
         match command_of(self.alloc, line)? {
             Command::Run(limit) => self.run(limit),
             Command::Edit(edit) => Ok(DeskTurn::Text(self.edit(edit)?)),
+            Command::Held => Ok(DeskTurn::Text(self.held()?)),
             Command::Write | Command::Unknown => Ok(DeskTurn::Text(refused_as(
                 self.alloc, b"Command",
             )?)),

@@ -1,8 +1,9 @@
 //! The files that a run is written to.
 
-ghost use Rattle.std.specs.Prelude.{◌≡◌, [], IfOk, OnOk};
+ghost use Rattle.std.specs.Prelude.{◌≡◌, [], IfOk, OnOk, string_bytes};
 ghost use Rattle.sim_values.specs.Counts.{next_count};
-ghost use Rattle.nedrun.specs.Devices.{unwritten};
+ghost use Rattle.nedrun.specs.Devices.{taken_by, unwritten};
+ghost use Rattle.stock_desk.specs.Devices.{untouched};
 
 use crate::stops::Stop;
 use result_files::writer::{Out, WriteFault};
@@ -51,7 +52,8 @@ pub struct FileOut<'a, R: Files> {
 impl<'a, R: Files + AllocGlobal> FileOut<'a, R> {
     /// The file of that path. It is not made yet.
     pub fn new(rt: &'a R, path: String) -> Result<FileOut<'a, R>, Stop>
-        ensures { IfOk result (λ out. out.content.bytes ≡ []) }
+        ensures taken { IfOk result (λ out. taken_by out ≡ untouched) }
+        ensures path { IfOk result (λ out. out.path ≡ path) }
     {
         let file = LateFile {
             rt,
@@ -114,7 +116,7 @@ impl<R: Files> FileOut<'_, R> {
 }
 
 impl<R: Files> Out for FileOut<'_, R> {
-    ghost taken = { λ out. record { bytes = out.content.bytes; failures = out.failures } };
+    ghost taken = { taken_by };
 
     fn write(&mut self, bytes: &[u8]) -> Result<usize, WriteFault> {
         match self.writer.write(bytes) {

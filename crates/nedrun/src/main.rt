@@ -6,7 +6,8 @@ ghost use Rattle.model_answers.specs.declared.model.Model.{Model};
 ghost use Rattle.model_texts.specs.Models.{IsModelOf};
 ghost use Rattle.stock_modules.specs.Stock.{stock};
 ghost use Rattle.stock_desk.specs.Served.{fresh_machine};
-ghost use Rattle.stock_desk.specs.Serving.{Ends, MayStop};
+ghost use Rattle.stock_desk.specs.Serving.{Ends};
+ghost use Rattle.stock_desk.specs.Stops.{at_stop};
 ghost use Rattle.nedrun.specs.declared.user.Ask.TheVariants as ask;
 ghost use Rattle.nedrun.specs.Typing.{AsksInOrder};
 
@@ -41,8 +42,8 @@ fn serve_user<'a, R: Files + Input + Print + Eprint + AllocGlobal>(
     ensures asked { IfOk result (λ r. AsksInOrder words.now.limit r.0.ask r.0.transcript.asked
         r.0.lines.source.given.bytes r.0.lines.buffer) }
     // and nothing that it gave is left unasked, unless the user can't go on, or a device fails.
-    ensures stopped { IfOk result (λ r. MayStop ((r.0.ask ≡ ask.Line) × (r.0.lines.buffer.bytes ≡ []))
-        (IsSome r.0.stop) r.1) }
+    ensures stopped { IfOk result (λ r. at_stop ((r.0.ask ≡ ask.Line) × (r.0.lines.buffer.bytes ≡ []))
+        (IsSome r.0.stop) (λ _ _. IsSome r.0.stop) r.1) }
 {
     let user = User::new(rt, words, sources);
     serve(

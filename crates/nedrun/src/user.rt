@@ -3,9 +3,11 @@
 ghost use Rattle.std.specs.Prelude.{◌≡◌, [], ◌∷◌, ◌++◌, None, IsSome, IfOk, OnOk, OnErr, codes};
 ghost use Rattle.std.specs.Fmt.{decimal};
 ghost use Rattle.nedrun.specs.Asking.{left_of};
-ghost use Rattle.nedrun.specs.Devices.{unwritten};
+ghost use Rattle.nedrun.specs.Devices.{taken_by, unwritten};
 ghost use Rattle.nedrun.specs.Typing.{AsksInOrder, AsksNext};
 ghost use Rattle.nedrun.specs.declared.user.Ask.TheVariants as ask;
+ghost use Rattle.stock_desk.specs.Devices.{untouched, HasFailed};
+ghost use Rattle.stock_desk.specs.Stops.{at_stop};
 ghost use Rattle.transcripts.specs.Heard as heards;
 
 use crate::devices::FileOut;
@@ -21,6 +23,7 @@ use std::alloc::Global;
 use std::rt::Files;
 use stock_desk::serving::{Client, Gone, Page, Pages};
 use text_explanations::sources::Sources;
+use text_files::noted::Noted;
 use text_files::reader::NotedReader;
 use text_files::reading::ReadFault;
 use transcripts::asked::Asked;
@@ -208,14 +211,17 @@ impl<'a, R: Files + Input + Print + Eprint + AllocGlobal> User<'a, R> {
         requires scalars { unwritten pages.now.scalars ≡ [] }
         requires vectors { unwritten pages.now.vectors ≡ [] }
         ensures heard { self.new.transcript.heard ≡ self.old.transcript.heard
-            ++ heards.Files pages.now.scalars.content.bytes pages.now.vectors.content.bytes ∷ [] }
+            ++ heards.Files pages.now.config.bytes pages.now.scalars.content.bytes pages.now.vectors.content.bytes ∷ [] }
         ensures asked { self.new.transcript.asked ≡ self.old.transcript.asked }
         ensures words { self.new.words ≡ self.old.words }
         ensures ask { self.new.ask ≡ self.old.ask }
         ensures lines { self.new.lines ≡ self.old.lines }
     {
-        self.transcript
-            .hears_files(pages.scalars.content(), pages.vectors.content());
+        self.transcript.hears_files(
+            &pages.config,
+            pages.scalars.content(),
+            pages.vectors.content(),
+        );
     }
 
     /// Prints an answer: warnings before the first one, and an explanation behind a fault.
@@ -241,11 +247,15 @@ impl<'a, R: Files + Input + Print + Eprint + AllocGlobal> User<'a, R> {
 
     /// The devices of the files of a configuration's run.
     fn pages(&self, config: &[u8]) -> Result<Pages<FileOut<'a, R>>, Stop>
-        ensures scalars { IfOk result (λ pages. pages.scalars.content.bytes ≡ []) }
-        ensures vectors { IfOk result (λ pages. pages.vectors.content.bytes ≡ []) }
+        ensures config { IfOk result (λ pages. pages.config.bytes ≡ config.now) }
+        ensures scalars { IfOk result (λ pages. taken_by pages.scalars ≡ untouched) }
+        ensures vectors { IfOk result (λ pages. taken_by pages.vectors ≡ untouched) }
     {
         let directory = self.words.directory.as_str();
+        let mut name = Noted::new();
+        name.note(config);
         Ok(Pages {
+            config: name,
             scalars: FileOut::new(
                 self.rt,
                 output::file_path(self.rt.alloc(), directory, config, "sca")?,
@@ -264,6 +274,7 @@ fn finish<R: Files + AllocGlobal>(pages: &mut Pages<FileOut<'_, R>>) -> Result<(
     ensures vectors { OnOk result (unwritten pages.new.vectors ≡ []) }
     ensures scalars_taken { pages.new.scalars.content.bytes ≡ pages.old.scalars.content.bytes }
     ensures vectors_taken { pages.new.vectors.content.bytes ≡ pages.old.vectors.content.bytes }
+    ensures config { pages.new.config ≡ pages.old.config }
 {
     pages.scalars.finish()?;
     pages.vectors.finish()
@@ -281,9 +292,7 @@ impl<'a, R: Files + Input + Print + Eprint + AllocGlobal> Client<FileOut<'a, R>>
 
     ghost label = { λ user. user.words.now.limit };
 
-    ghost is_over = { λ user. (user.ask ≡ ask.Line) × (user.lines.buffer.bytes ≡ []) };
-
-    ghost is_gone = { λ user. IsSome user.stop };
+    ghost stops = { λ user why. at_stop ((user.ask ≡ ask.Line) × (user.lines.buffer.bytes ≡ [])) (IsSome user.stop) (λ _ _. IsSome user.stop) why };
 
     fn next(&mut self) -> Result<Option<Asked>, Gone> {
         match self.ask {
@@ -308,8 +317,9 @@ impl<'a, R: Files + Input + Print + Eprint + AllocGlobal> Client<FileOut<'a, R>>
             self.old.lines.source.given.bytes self.old.lines.buffer }
         ensures kept { AsksInOrder self.new.words.now.limit self.new.ask self.new.transcript.asked
             self.new.lines.source.given.bytes self.new.lines.buffer }
-        ensures scalars { IfOk result (λ pages. pages.scalars.content.bytes ≡ []) }
-        ensures vectors { IfOk result (λ pages. pages.vectors.content.bytes ≡ []) }
+        ensures config { IfOk result (λ pages. pages.config.bytes ≡ config.now) }
+        ensures scalars { IfOk result (λ pages. taken_by pages.scalars ≡ untouched) }
+        ensures vectors { IfOk result (λ pages. taken_by pages.vectors ≡ untouched) }
         ensures heard { self.new.transcript.heard ≡ self.old.transcript.heard }
         ensures stuck { OnErr result (IsSome self.new.stop) }
         ensures label { self.new.words.now.limit ≡ self.old.words.now.limit }
@@ -328,7 +338,7 @@ impl<'a, R: Files + Input + Print + Eprint + AllocGlobal> Client<FileOut<'a, R>>
         ensures kept { AsksInOrder self.new.words.now.limit self.new.ask self.new.transcript.asked
             self.new.lines.source.given.bytes self.new.lines.buffer }
         ensures heard { OnOk result (self.new.transcript.heard ≡ self.old.transcript.heard
-            ++ heards.Files pages.entry.scalars.content.bytes pages.entry.vectors.content.bytes ∷ []) }
+            ++ heards.Files pages.entry.config.bytes pages.entry.scalars.content.bytes pages.entry.vectors.content.bytes ∷ []) }
         ensures gone { OnErr result (self.new.transcript.heard ≡ self.old.transcript.heard) }
         ensures stuck { OnErr result (IsSome self.new.stop) }
         ensures label { self.new.words.now.limit ≡ self.old.words.now.limit }
@@ -345,11 +355,13 @@ impl<'a, R: Files + Input + Print + Eprint + AllocGlobal> Client<FileOut<'a, R>>
         }
     }
 
-    fn lose(&mut self, pages: Pages<FileOut<'a, R>>, page: Page)
+    fn lose(&mut self, pages: Pages<FileOut<'a, R>>, page: Page, _written: u128)
         requires kept { AsksInOrder self.old.words.now.limit self.old.ask self.old.transcript.asked
             self.old.lines.source.given.bytes self.old.lines.buffer }
+        requires failed { HasFailed page _written (taken_by pages.scalars) (taken_by pages.vectors) }
         ensures kept { AsksInOrder self.new.words.now.limit self.new.ask self.new.transcript.asked
             self.new.lines.source.given.bytes self.new.lines.buffer }
+        ensures stuck { IsSome self.new.stop }
         ensures heard { self.new.transcript.heard ≡ self.old.transcript.heard }
         ensures label { self.new.words.now.limit ≡ self.old.words.now.limit }
         ensures asked { self.new.transcript.asked ≡ self.old.transcript.asked }

@@ -1,16 +1,20 @@
 -- What a client hears of one command.
-use Rattle.std.proofs.Common.{◌≡◌, ℕ, List, [], ◌∷◌, ◌++◌, Some, None, codes, inl, inr, refl, sym, ap, ◌∙◌, subst}
+use Rattle.std.proofs.Common.{◌≡◌, ℕ, Bor, true, false, List, [], ◌∷◌, ◌++◌, Option, Some, None, IsSome, is_some, option_copied, option_map, codes, inl, inr, refl, sym, ap, ◌∙◌, subst}
 use Rattle.module_api.specs.Behaviour.{Behaviour}
 use Rattle.model_answers.specs.declared.model.Model.{Model}
-use Rattle.edit_session.specs.Editing.{Editing, completed}
-use Rattle.desk.specs.Turns.{run_answer, HasRun, IsMade, IsRefused, MayBeDone}
+use Rattle.run_semantics.specs.declared.outcome.Outcome.{Outcome}
+use Rattle.edit_session.specs.Editing.{Completed, Editing, boxes_left, completed}
+use Rattle.edit_session.specs.Files.{scalars_of_run, vectors_of_run}
+use Rattle.desk.specs.Answers.{held_text}
+use Rattle.desk.specs.Turns.{run_answer, AnswersEdit, HasRun, IsMade, IsRefused, MayBeDone}
 use Rattle.model_edits.specs.declared.edit.Edit.{Edit}
+use Rattle.command_lines.specs.Commands.{IsEdit}
+use Rattle.command_lines.specs.declared.commands.Command.{Command}
 use Rattle.command_lines.specs.declared.commands.Command.TheVariants as command
-use Rattle.desk.specs.Turns.{AnswersEdit}
-use Rattle.stock_desk.specs.Served.{Machine, AreHeard, Hears, command_asked, out_of_memory}
-use Rattle.transcripts.specs.Heard.{Answer, Heard}
+use Rattle.stock_desk.specs.Served.{Machine, AreHeard, Hears, HearsFiles, command_asked}
+use Rattle.transcripts.specs.Heard.{Answer, Files, Heard}
 use Rattle.transcripts.specs.declared.asked.Asked.{Asked}
-use Rattle.stock_desk.specs.Serving.{Seen, HearsAnswer, HearsNext, IsAt, IsCutOff, IsRunIn}
+use Rattle.stock_desk.specs.Serving.{Seen, AreFilled, ComesTo, HearsAnswer, HearsNext, IsAt, IsCutOff, IsRunIn}
 use Rattle.stock_desk.specs.declared.serving.Next.{Next}
 use Rattle.stock_desk.specs.declared.serving.Next.TheVariants as next
 use Rattle.stock_desk.specs.declared.serving.Stop.TheVariants as stop
@@ -20,116 +24,247 @@ nothing_more : (heard : List Heard) → heard ≡ heard ++ []
 nothing_more [] = refl
 nothing_more (h ∷ hs) = ap (λ (more : List Heard). h ∷ more) (nothing_more hs)
 
-pub cut_off : (before after : Seen) → after.asked ≡ before.asked → after.heard ≡ before.heard → IsCutOff before after
-cut_off before after asked same = record { asked = asked; more = []; heard = same ∙ nothing_more before.heard }
+joined_on : (xs ys zs : List Heard) → (xs ++ ys) ++ zs ≡ xs ++ (ys ++ zs)
+joined_on [] ys zs = refl
+joined_on (x ∷ xs) ys zs = ap (λ (more : List Heard). x ∷ more) (joined_on xs ys zs)
+
+-- ---- one answer
+
+-- what is told of a command by one answer, wherever the machine may be
+abbrev Told : Behaviour → Command → List ℕ → Machine → Editing → Type 0
+Told b c text s e = (s' : Machine) × Hears b s c (Answer text ∷ []) s' × IsAt b e s'
+
+-- that answer is missed
+cut_off : (b : Behaviour) (c : Command) (may_be : Machine → Type 0) (before after : Seen) (text : List ℕ) → after.asked ≡ before.asked → after.heard ≡ before.heard
+    → ((s : Machine) → may_be s → Told b c text s after.editing) → IsCutOff b c may_be before after
+cut_off b c may_be before after text asked same told = record {
+  asked = asked;
+  more = [];
+  heard = same ∙ nothing_more before.heard;
+  begins = λ s is. let t = told s is in record { missed = Answer text; rest = []; behind = t.0; whole = t.1 };
+}
+
+-- it is heard, or missed
+tells : (b : Behaviour) (c : Command) (before after : Seen) (text : List ℕ) (n : Next) → after.asked ≡ before.asked → after.may ≡ before.may → after.running ≡ None
+    → HearsAnswer text before.heard after.heard n → ((s : Machine) → IsAt b before.editing s → Told b c text s after.editing) → HearsNext b c before after n
+tells b c before after text next.GoOn asked may running heard told =
+    (asked, may, running, λ s at. let t = told s at in (Answer text ∷ [], t.0, heard, t.1, t.2))
+tells b c before after text (next.Stop stop.Gone) asked may running heard told = cut_off b c (IsAt b before.editing) before after text asked heard told
+tells b c before after text (next.Stop stop.End) asked may running heard told = absurd heard
+tells b c before after text (next.Stop (stop.Device page written)) asked may running heard told = absurd heard
+
+-- the same of a run
+tells_going : (b : Behaviour) (limit : ℕ) (before after : Seen) (text : List ℕ) (n : Next) → after.asked ≡ before.asked → after.may ≡ before.may → after.running ≡ None
+    → HearsAnswer text before.heard after.heard n → ((s : Machine) → before.editing.model ≡ s.model → Told b (command.Run limit) text s after.editing)
+    → IsRunIn b limit before after (turn.Over n)
+tells_going b limit before after text next.GoOn asked may running heard told =
+    inr (asked, may, running, λ s same. let t = told s same in (Answer text ∷ [], t.0, heard, t.1, t.2))
+tells_going b limit before after text (next.Stop stop.Gone) asked may running heard told =
+    cut_off b (command.Run limit) (λ s. before.editing.model ≡ s.model) before after text asked heard told
+tells_going b limit before after text (next.Stop stop.End) asked may running heard told = absurd heard
+tells_going b limit before after text (next.Stop (stop.Device page written)) asked may running heard told = absurd heard
+
+-- ---- runs
 
 -- a run is done, and its answer is told
 pub tells_run : (b : Behaviour) (limit : ℕ) (before after : Seen) (text : List ℕ) (n : Next) → after.asked ≡ before.asked → after.may ≡ before.may
     → after.running ≡ None → after.editing.model ≡ before.editing.model → HasRun b after.editing limit text → HearsAnswer text before.heard after.heard n
     → IsRunIn b limit before after (turn.Over n)
-tells_run b limit before after text next.GoOn asked may running model ran heard = inr (
-  asked,
-  may,
-  running,
-  λ s same. (
-    Answer text ∷ [],
-    record { model = s.model; last = Some limit },
-    heard,
-    inl (ap (λ (t : List ℕ). Answer t ∷ []) (ran.answer ∙ ap (λ (m : Model). run_answer b m limit) (model ∙ same)), refl),
-    record { model = model ∙ same; done = ran.done ∙ ap (λ (m : Model). Some (completed b m limit)) (model ∙ same) },
-  ),
-)
-tells_run b limit before after text (next.Stop stop.Gone) asked may running model ran heard = cut_off before after asked heard
-tells_run b limit before after text (next.Stop stop.End) asked may running model ran heard = absurd heard
-tells_run b limit before after text (next.Stop (stop.Device page written)) asked may running model ran heard = absurd heard
+tells_run b limit before after text n asked may running model ran heard = tells_going b limit before after text n asked may running heard (λ s same. (
+  record { model = s.model; last = Some limit; held = boxes_left b s.model limit },
+  inl (ap (λ (t : List ℕ). Answer t ∷ []) (ran.answer ∙ ap (λ (m : Model). run_answer b m limit) (model ∙ same)), refl),
+  record {
+    model = model ∙ same;
+    done = ran.done ∙ ap (λ (m : Model). Some (completed b m limit)) (model ∙ same);
+    held = ran.held ∙ ap (λ (m : Model). boxes_left b m limit) (model ∙ same);
+  },
+))
 
--- memory ran out for a run, and that is told
+-- memory ran out for a run: none is done, or this one is
+after_memory : (b : Behaviour) (limit : ℕ) (s : Machine) (e : Editing) → e.model ≡ s.model → MayBeDone b e limit → Told b (command.Run limit) (codes "refused NoMemory") s e
+after_memory b limit s e model (inl none) = (
+  record { model = s.model; last = None; held = e.held },
+  inr (refl, refl, inl refl),
+  record { model = model; done = none; held = refl },
+)
+after_memory b limit s e model (inr done) = (
+  record { model = s.model; last = Some limit; held = e.held },
+  inr (refl, refl, inr refl),
+  record { model = model; done = done ∙ ap (λ (m : Model). Some (completed b m limit)) model; held = refl },
+)
+
+-- and that is told
 pub tells_memory : (b : Behaviour) (limit : ℕ) (before after : Seen) (n : Next) → after.asked ≡ before.asked → after.may ≡ before.may
     → after.running ≡ None → after.editing.model ≡ before.editing.model → MayBeDone b after.editing limit
     → HearsAnswer (codes "refused NoMemory") before.heard after.heard n
     → IsRunIn b limit before after (turn.Over n)
-tells_memory b limit before after next.GoOn asked may running model (inl none) heard = inr (
-  asked,
-  may,
-  running,
-  λ s same. (
-    out_of_memory ∷ [],
-    record { model = s.model; last = None },
-    heard,
-    inr (refl, refl, inl refl),
-    record { model = model ∙ same; done = none },
-  ),
+tells_memory b limit before after n asked may running model is heard =
+    tells_going b limit before after (codes "refused NoMemory") n asked may running heard (λ s same. after_memory b limit s after.editing (model ∙ same) is)
+
+-- ---- edits
+
+edited : (b : Behaviour) (e : Edit) (before after : Editing) (text : List ℕ) → AnswersEdit before e text after → (s : Machine) → IsAt b before s
+    → Told b (command.Edit e) text s after
+edited b e before after text (inl made) s at = (
+  record { model = after.model; last = None; held = s.held },
+  inl (text, refl, inl (subst (λ m. IsMade m e text after.model) at.model made.0, refl, refl)),
+  record { model = refl; done = ap (λ (x : Editing). x.done) made.1; held = ap (λ (x : Editing). x.held) made.1 ∙ at.held },
 )
-tells_memory b limit before after next.GoOn asked may running model (inr done) heard = inr (
-  asked,
-  may,
-  running,
-  λ s same. (
-    out_of_memory ∷ [],
-    record { model = s.model; last = Some limit },
-    heard,
-    inr (refl, refl, inr refl),
-    record { model = model ∙ same; done = done ∙ ap (λ (m : Model). Some (completed b m limit)) (model ∙ same) },
-  ),
+edited b e before after text (inr refused) s at = (
+  s,
+  inl (text, refl, inr (subst (λ m. IsRefused m e text) at.model refused.0, refl)),
+  subst (λ x. IsAt b x s) (sym refused.1) at,
 )
-tells_memory b limit before after (next.Stop stop.Gone) asked may running model is heard = cut_off before after asked heard
-tells_memory b limit before after (next.Stop stop.End) asked may running model is heard = absurd heard
-tells_memory b limit before after (next.Stop (stop.Device page written)) asked may running model is heard = absurd heard
 
 -- what is told of an edit
 pub tells_edit : (b : Behaviour) (e : Edit) (before after : Seen) (text : List ℕ) (n : Next) → after.asked ≡ before.asked → after.may ≡ before.may
     → after.running ≡ None → AnswersEdit before.editing e text after.editing → HearsAnswer text before.heard after.heard n
     → HearsNext b (command.Edit e) before after n
-tells_edit b e before after text next.GoOn asked may running (inl made) heard = (
-  asked,
-  may,
-  running,
-  λ s at. (
-    Answer text ∷ [],
-    record { model = after.editing.model; last = None },
-    heard,
-    inl (text, refl, inl (subst (λ m. IsMade m e text after.editing.model) at.model made.0, refl)),
-    record { model = refl; done = ap (λ (x : Editing). x.done) made.1 },
-  ),
-)
-tells_edit b e before after text next.GoOn asked may running (inr refused) heard = (
-  asked,
-  may,
-  running,
-  λ s at. (
-    Answer text ∷ [],
-    s,
-    heard,
-    inl (text, refl, inr (subst (λ m. IsRefused m e text) at.model refused.0, refl)),
-    record { model = ap (λ (x : Editing). x.model) refused.1 ∙ at.model; done = ap (λ (x : Editing). x.done) refused.1 ∙ at.done },
-  ),
-)
-tells_edit b e before after text (next.Stop stop.Gone) asked may running is heard = cut_off before after asked heard
-tells_edit b e before after text (next.Stop stop.End) asked may running is heard = absurd heard
-tells_edit b e before after text (next.Stop (stop.Device page written)) asked may running is heard = absurd heard
+tells_edit b e before after text n asked may running is heard =
+    tells b (command.Edit e) before after text n asked may running heard (edited b e before.editing after.editing text is)
+
+-- memory ran out for it
+pub tells_no_edit : (b : Behaviour) (e : Edit) (before after : Seen) (n : Next) → after.asked ≡ before.asked → after.may ≡ before.may → after.running ≡ None
+    → after.editing ≡ before.editing → HearsAnswer (codes "refused NoMemory") before.heard after.heard n → HearsNext b (command.Edit e) before after n
+tells_no_edit b e before after n asked may running same heard =
+    tells b (command.Edit e) before after (codes "refused NoMemory") n asked may running heard (λ s at. (s, inr (refl, refl), subst (λ x. IsAt b x s) (sym same) at))
+
+-- or for the line that asks for it
+pub tells_no_line : (b : Behaviour) (c : Command) (before after : Seen) (n : Next) → IsEdit c → after.asked ≡ before.asked → after.may ≡ before.may → after.running ≡ None
+    → after.editing ≡ before.editing → HearsAnswer (codes "refused NoMemory") before.heard after.heard n → ComesTo b c before after (turn.Over n)
+tells_no_line b (command.Edit e) before after n is asked may running same heard = tells_no_edit b e before after n asked may running same heard
+tells_no_line b (command.Run limit) before after n is asked may running same heard = absurd is
+tells_no_line b command.Held before after n is asked may running same heard = absurd is
+tells_no_line b command.Write before after n is asked may running same heard = absurd is
+tells_no_line b command.Unknown before after n is asked may running same heard = absurd is
+tells_no_line b command.TooLarge before after n is asked may running same heard = absurd is
+
+-- ---- what changes nothing
+
+-- what is told of the boxes
+pub tells_held : (b : Behaviour) (before after : Seen) (text : List ℕ) (n : Next) → after.asked ≡ before.asked → after.may ≡ before.may → after.running ≡ None
+    → after.editing ≡ before.editing → text ≡ held_text before.editing.held → HearsAnswer text before.heard after.heard n → HearsNext b command.Held before after n
+tells_held b before after text n asked may running same is heard = tells b command.Held before after text n asked may running heard (λ s at. (
+  s,
+  (inl (ap (λ (t : List ℕ). Answer t ∷ []) (is ∙ ap held_text at.held)), refl),
+  subst (λ x. IsAt b x s) (sym same) at,
+))
+
+-- memory ran out for that
+pub tells_no_number : (b : Behaviour) (before after : Seen) (n : Next) → after.asked ≡ before.asked → after.may ≡ before.may → after.running ≡ None
+    → after.editing ≡ before.editing → HearsAnswer (codes "refused NoMemory") before.heard after.heard n → HearsNext b command.Held before after n
+tells_no_number b before after n asked may running same heard =
+    tells b command.Held before after (codes "refused NoMemory") n asked may running heard (λ s at. (s, (inr refl, refl), subst (λ x. IsAt b x s) (sym same) at))
 
 -- what is told of a line that is no command, or too long
 pub tells_unknown : (b : Behaviour) (before after : Seen) (n : Next) → after.asked ≡ before.asked → after.may ≡ before.may → after.running ≡ None
     → after.editing ≡ before.editing → HearsAnswer (codes "refused Command") before.heard after.heard n → HearsNext b command.Unknown before after n
-tells_unknown b before after next.GoOn asked may running same heard =
-    (asked, may, running, λ s at. (Answer (codes "refused Command") ∷ [], s, heard, (refl, refl), subst (λ x. IsAt b x s) (sym same) at))
-tells_unknown b before after (next.Stop stop.Gone) asked may running same heard = cut_off before after asked heard
-tells_unknown b before after (next.Stop stop.End) asked may running same heard = absurd heard
-tells_unknown b before after (next.Stop (stop.Device page written)) asked may running same heard = absurd heard
+tells_unknown b before after n asked may running same heard =
+    tells b command.Unknown before after (codes "refused Command") n asked may running heard (λ s at. (s, (refl, refl), subst (λ x. IsAt b x s) (sym same) at))
 
 pub tells_too_large : (b : Behaviour) (before after : Seen) (n : Next) → after.asked ≡ before.asked → after.may ≡ before.may → after.running ≡ None
     → after.editing ≡ before.editing → HearsAnswer (codes "refused TooLarge") before.heard after.heard n → HearsNext b command.TooLarge before after n
-tells_too_large b before after next.GoOn asked may running same heard =
-    (asked, may, running, λ s at. (Answer (codes "refused TooLarge") ∷ [], s, heard, (refl, refl), subst (λ x. IsAt b x s) (sym same) at))
-tells_too_large b before after (next.Stop stop.Gone) asked may running same heard = cut_off before after asked heard
-tells_too_large b before after (next.Stop stop.End) asked may running same heard = absurd heard
-tells_too_large b before after (next.Stop (stop.Device page written)) asked may running same heard = absurd heard
+tells_too_large b before after n asked may running same heard =
+    tells b command.TooLarge before after (codes "refused TooLarge") n asked may running heard (λ s at. (s, (refl, refl), subst (λ x. IsAt b x s) (sym same) at))
+
+-- ---- files
+
+-- no outcome is told: no run is done
+pub none_done : (told : Option (Bor Outcome)) (last : Option Completed) → is_some told ≡ false → option_copied told ≡ option_map (λ (d : Completed). d.outcome) last
+    → last ≡ None
+none_done None None is same = refl
+none_done None (Some d) is same = cc
+none_done (Some o) last is same = cc
+
+-- one is told: a run is done
+pub some_done : (told : Option (Bor Outcome)) (last : Option Completed) → is_some told ≡ true → option_copied told ≡ option_map (λ (d : Completed). d.outcome) last
+    → IsSome last
+some_done (Some o) (Some d) is same = refl
+some_done (Some o) None is same = cc
+some_done None last is same = cc
+
+no_files : (b : Behaviour) (m : Model) (of : Option Completed) (last : Option ℕ) → of ≡ option_map (completed b m) last → of ≡ None
+    → HearsFiles b m last (Answer (codes "refused NotDone") ∷ [])
+no_files b m of None at none = refl
+no_files b m of (Some limit) at none = cc
+
+-- no run is done, and that is told
+pub tells_not_done : (b : Behaviour) (before after : Seen) (n : Next) → after.asked ≡ before.asked → after.may ≡ before.may → after.running ≡ None
+    → after.editing ≡ before.editing → before.editing.done ≡ None → HearsAnswer (codes "refused NotDone") before.heard after.heard n → HearsNext b command.Write before after n
+tells_not_done b before after n asked may running same none heard = tells b command.Write before after (codes "refused NotDone") n asked may running heard (λ s at. (
+  s,
+  (no_files b s.model before.editing.done s.last at.done none, refl),
+  subst (λ x. IsAt b x s) (sym same) at,
+))
+
+-- the files of the last run, and the answer behind them
+abbrev files_heard : List ℕ → List ℕ → List ℕ → List Heard
+files_heard config scalars vectors = Files config scalars vectors ∷ Answer (codes "written") ∷ []
+
+some_files : (b : Behaviour) (m : Model) (of : Option Completed) (last : Option ℕ) → of ≡ option_map (completed b m) last → IsSome of
+    → (scalars vectors : List ℕ) × HearsFiles b m last (files_heard m.config scalars vectors)
+some_files b m of None at is = cc
+some_files b m of (Some limit) at is = (scalars_of_run b m limit, vectors_of_run b m limit, refl)
+
+-- the device of one failed, or the client is gone: nothing is heard
+pub misses_files : (b : Behaviour) (before after : Seen) → after.asked ≡ before.asked → after.heard ≡ before.heard → IsSome before.editing.done
+    → IsCutOff b command.Write (IsAt b before.editing) before after
+misses_files b before after asked same is = record {
+  asked = asked;
+  more = [];
+  heard = same ∙ nothing_more before.heard;
+  begins = λ s at. let f = some_files b s.model before.editing.done s.last at.done is in
+      record { missed = Files s.model.config f.0 f.1; rest = Answer (codes "written") ∷ []; behind = s; whole = (f.2, refl) };
+}
+
+filled_by : (b : Behaviour) (m : Model) (limit : ℕ) (of : Option Completed) (config scalars vectors : List ℕ) → of ≡ Some (completed b m limit) → config ≡ m.config
+    → AreFilled b m of scalars vectors → files_heard config scalars vectors ≡ files_heard m.config (scalars_of_run b m limit) (vectors_of_run b m limit)
+filled_by b m limit of config scalars vectors at named filled =
+    let f = subst (λ d. AreFilled b m d scalars vectors) at filled in rw (named, f.0, f.1) refl
+
+whole_files : (b : Behaviour) (m : Model) (of : Option Completed) (last : Option ℕ) (config scalars vectors : List ℕ) → of ≡ option_map (completed b m) last
+    → config ≡ m.config → AreFilled b m of scalars vectors → HearsFiles b m last (files_heard config scalars vectors)
+whole_files b m of None config scalars vectors at named filled = absurd (subst (λ d. AreFilled b m d scalars vectors) at filled)
+whole_files b m of (Some limit) config scalars vectors at named filled = filled_by b m limit of config scalars vectors at named filled
+
+files_of_machine : (b : Behaviour) (e : Editing) (config scalars vectors : List ℕ) → config ≡ e.model.config → AreFilled b e.model e.done scalars vectors
+    → (s : Machine) → IsAt b e s → HearsFiles b s.model s.last (files_heard config scalars vectors)
+files_of_machine b e config scalars vectors named filled s at =
+    whole_files b s.model e.done s.last config scalars vectors at.done (named ∙ ap (λ (m : Model). m.config) at.model)
+    (subst (λ m. AreFilled b m e.done scalars vectors) at.model filled)
+
+-- both are kept, and that is told
+pub tells_written : (b : Behaviour) (before after : Seen) (kept : List Heard) (config scalars vectors : List ℕ) (n : Next) → after.asked ≡ before.asked
+    → after.may ≡ before.may → after.running ≡ None → after.editing ≡ before.editing → config ≡ before.editing.model.config
+    → AreFilled b before.editing.model before.editing.done scalars vectors → kept ≡ before.heard ++ Files config scalars vectors ∷ []
+    → HearsAnswer (codes "written") kept after.heard n → HearsNext b command.Write before after n
+tells_written b before after kept config scalars vectors next.GoOn asked may running same named filled keeps heard = (
+  asked,
+  may,
+  running,
+  λ s at. (
+    files_heard config scalars vectors,
+    s,
+    heard ∙ ap (λ (h : List Heard). h ++ Answer (codes "written") ∷ []) keeps ∙ joined_on before.heard (Files config scalars vectors ∷ []) (Answer (codes "written") ∷ []),
+    (files_of_machine b before.editing config scalars vectors named filled s at, refl),
+    subst (λ x. IsAt b x s) (sym same) at,
+  ),
+)
+tells_written b before after kept config scalars vectors (next.Stop stop.Gone) asked may running same named filled keeps heard = record {
+  asked = asked;
+  more = Files config scalars vectors ∷ [];
+  heard = heard ∙ keeps;
+  begins = λ s at. record {
+    missed = Answer (codes "written");
+    rest = [];
+    behind = s;
+    whole = (files_of_machine b before.editing config scalars vectors named filled s at, refl);
+  };
+}
+tells_written b before after kept config scalars vectors (next.Stop stop.End) asked may running same named filled keeps heard = absurd heard
+tells_written b before after kept config scalars vectors (next.Stop (stop.Device page written)) asked may running same named filled keeps heard = absurd heard
 
 -- ---- one thing more is asked and heard
-
-joined_on : (xs ys zs : List Heard) → (xs ++ ys) ++ zs ≡ xs ++ (ys ++ zs)
-joined_on [] ys zs = refl
-joined_on (x ∷ xs) ys zs = ap (λ (more : List Heard). x ∷ more) (joined_on xs ys zs)
 
 pub heard_more : (b : Behaviour) (s mid after : Machine) (asks : List Asked) (hs front : List Heard) (a : Asked)
     → AreHeard b s asks hs mid → Hears b mid (command_asked a) front after → AreHeard b s (asks ++ a ∷ []) (hs ++ front) after

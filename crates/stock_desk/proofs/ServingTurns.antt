@@ -9,8 +9,8 @@ use Rattle.model_answers.specs.declared.model.Model.{Model}
 use Rattle.stock_modules.specs.declared.modules.StockModule.{StockModule}
 use Rattle.edit_session.specs.declared.running.Phase.TheVariants.{Idle, Waiting, Declined}
 use Rattle.stock_desk.specs.Boxes.{most_boxes}
-use Rattle.stock_desk.specs.Served.{Machine, AreHeard, Hears, command_asked, fresh_machine}
-use Rattle.stock_desk.specs.Serving.{Seen, ComesTo, Ends, EndsServing, HearsAnswer, HearsNext, IsAt, IsGoing, IsNextServing, IsRunIn, IsServed, IsServingTurn, NeedsBox, Stands, StandsBy, WaitsIn, left_in_run, left_seen}
+use Rattle.stock_desk.specs.Served.{Machine, AreHeard, BeginsToHear, Hears, command_asked, fresh_machine}
+use Rattle.stock_desk.specs.Serving.{Seen, ComesTo, Ends, EndsServing, HearsAnswer, HearsNext, IsAt, IsCutOff, IsGoing, IsNextServing, IsRunIn, IsServed, IsServingTurn, NeedsBox, Stands, StandsBy, WaitsIn, left_in_run, left_seen}
 use Rattle.transcripts.specs.Heard.{Heard}
 use Rattle.transcripts.specs.declared.asked.Asked.{Asked}
 use Rattle.stock_desk.specs.declared.serving.Next.{Next}
@@ -78,7 +78,7 @@ run_goes b limit first before after (turn.Over next.GoOn) on fits (inr run) = (
   none_left (left_seen first) before after fits run.2 run.1,
 )
 run_goes b limit first before after (turn.Over (next.Stop stop.Gone)) on fits cut = λ s stands. let g = on s stands in
-    inr (record { before = g.before; last = g.last; all = cut.asked ∙ g.all; front = before.heard; more = cut.more; heard_is = cut.heard; left = g.machine; are = g.heard })
+    inr (record { before = g.before; last = g.last; all = cut.asked ∙ g.all; front = before.heard; more = cut.more; heard_is = cut.heard; left = g.machine; are = g.heard; begins = rw g.runs (cut.begins g.machine g.model) })
 run_goes b limit first before after (turn.Over (next.Stop stop.End)) on fits run = absurd run
 run_goes b limit first before after (turn.Over (next.Stop (stop.Device page written))) on fits run = absurd run
 
@@ -117,6 +117,10 @@ now_going b s a limit before mid is asks v = record {
   heard = subst (λ (h : List Heard). AreHeard b s before.asked h v.machine) (sym asks.heard) v.heard;
 }
 
+now_begins : (b : Behaviour) (a : Asked) (c : Command) (before mid after : Seen) → command_asked a ≡ c → AsksNow before mid a → (cut : IsCutOff b c (IsAt b mid.editing) mid after)
+    → (s : Machine) → IsAt b before.editing s → BeginsToHear b s (command_asked a) cut.more
+now_begins b a c before mid after is asks cut s at = rw is (cut.begins s (subst (λ e. IsAt b e s) (sym asks.editing) at))
+
 now_heard : (b : Behaviour) (s : Machine) (a : Asked) (c : Command) (before mid after : Seen) (n : Next) → command_asked a ≡ c → AsksNow before mid a → HearsNext b c mid after n
     → IsNextServing b before after n
 now_heard b s a c before mid after next.GoOn is asks hears = (
@@ -130,9 +134,9 @@ now_heard b s a c before mid after next.GoOn is asks hears = (
   rw (hears.2, hears.1) (fewer_left before.may mid.may _ asks.less),
 )
 now_heard b s a c before mid after (next.Stop stop.Gone) is asks cut = λ t stands. let v = served b t before asks.idle stands in
-    inr (record { before = before.asked; last = a; all = cut.asked ∙ asks.asked; front = before.heard; more = cut.more; heard_is = cut.heard ∙ ap (λ (h : List Heard). h ++ cut.more) asks.heard; left = v.machine; are = v.heard })
+    inr (record { before = before.asked; last = a; all = cut.asked ∙ asks.asked; front = before.heard; more = cut.more; heard_is = cut.heard ∙ ap (λ (h : List Heard). h ++ cut.more) asks.heard; left = v.machine; are = v.heard; begins = now_begins b a c before mid after is asks cut v.machine v.at })
 now_heard b s a c before mid after (next.Stop (stop.Device page written)) is asks cut = λ t stands. let v = served b t before asks.idle stands in
-    record { before = before.asked; last = a; all = cut.asked ∙ asks.asked; front = before.heard; more = cut.more; heard_is = cut.heard ∙ ap (λ (h : List Heard). h ++ cut.more) asks.heard; left = v.machine; are = v.heard }
+    record { before = before.asked; last = a; all = cut.asked ∙ asks.asked; front = before.heard; more = cut.more; heard_is = cut.heard ∙ ap (λ (h : List Heard). h ++ cut.more) asks.heard; left = v.machine; are = v.heard; begins = now_begins b a c before mid after is asks cut v.machine v.at }
 now_heard b s a c before mid after (next.Stop stop.End) is asks cut = absurd cut
 
 by_command : (b : Behaviour) (s : Machine) (a : Asked) (c : Command) (before mid after : Seen) (t : Turn) → command_asked a ≡ c → AsksNow before mid a → ComesTo b c mid after t
@@ -141,16 +145,18 @@ by_command b s a (command.Run limit) before mid after t is asks run =
     run_goes b limit before mid after t (λ m stands. now_going b m a limit before mid is asks (served b m before asks.idle stands))
     (fewer_going before.may mid.may (left_in_run mid.editing) _ asks.less (few_left mid.editing)) run
 by_command b s a (command.Edit e) before mid after (turn.Over n) is asks hears = now_heard b s a (command.Edit e) before mid after n is asks hears
+by_command b s a command.Held before mid after (turn.Over n) is asks hears = now_heard b s a command.Held before mid after n is asks hears
 by_command b s a command.Write before mid after (turn.Over n) is asks hears = now_heard b s a command.Write before mid after n is asks hears
 by_command b s a command.Unknown before mid after (turn.Over n) is asks hears = now_heard b s a command.Unknown before mid after n is asks hears
 by_command b s a command.TooLarge before mid after (turn.Over n) is asks hears = now_heard b s a command.TooLarge before mid after n is asks hears
 by_command b s a (command.Edit e) before mid after (turn.Need made) is asks hears = absurd hears
+by_command b s a command.Held before mid after (turn.Need made) is asks hears = absurd hears
 by_command b s a command.Write before mid after (turn.Need made) is asks hears = absurd hears
 by_command b s a command.Unknown before mid after (turn.Need made) is asks hears = absurd hears
 by_command b s a command.TooLarge before mid after (turn.Need made) is asks hears = absurd hears
 
 pub asked_turn : (b : Behaviour) (a : Asked) (before mid after : Seen) (t : Turn) → AsksNow before mid a → ComesTo b (command_asked a) mid after t → IsServingTurn b before after t
-asked_turn b a before mid after t asks comes = by_command b (record { model = before.editing.model; last = None }) a (command_asked a) before mid after t refl asks comes
+asked_turn b a before mid after t asks comes = by_command b (record { model = before.editing.model; last = None; held = 0 }) a (command_asked a) before mid after t refl asks comes
 
 -- ---- memory runs out for a box
 
@@ -190,6 +196,6 @@ ends_served b s v (stop.Device page written) is = is
 pub served_first : (b : Behaviour) (m : Model) (v : Seen) → v.editing ≡ fresh_editing m → v.asked ≡ [] → v.heard ≡ [] → IsServed b (fresh_machine m) v
 served_first b m v fresh asked heard = record {
   machine = fresh_machine m;
-  at = record { model = ap (λ (e : Editing). e.model) fresh; done = ap (λ (e : Editing). e.done) fresh };
+  at = record { model = ap (λ (e : Editing). e.model) fresh; done = ap (λ (e : Editing). e.done) fresh; held = ap (λ (e : Editing). e.held) fresh };
   heard = rw (asked, heard) (refl, refl);
 }

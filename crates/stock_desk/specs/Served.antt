@@ -6,16 +6,19 @@ use Rattle.model_edits.specs.declared.edit.Edit.{Edit}
 use Rattle.command_lines.specs.Commands.{command_of}
 use Rattle.command_lines.specs.declared.commands.Command.{Command}
 use Rattle.command_lines.specs.declared.commands.Command.TheVariants as command
+use Rattle.edit_session.specs.Editing.{boxes_left}
 use Rattle.edit_session.specs.Files.{scalars_of_run, vectors_of_run}
+use Rattle.desk.specs.Answers.{held_text}
 use Rattle.desk.specs.Turns.{run_answer, IsMade, IsRefused}
 use Rattle.transcripts.specs.Heard.{Answer, Files, Heard}
 use Rattle.transcripts.specs.declared.asked.Asked.{Asked}
 use Rattle.transcripts.specs.declared.asked.Asked.TheVariants as asked
 
--- THE PLAIN MACHINE holds a model, and the limit of the last run that is done, if there is one. It keeps nothing else of a run.
+-- THE PLAIN MACHINE holds a model, the limit of the last run that is done, if there is one, and how many boxes there are. It keeps nothing else of a run.
 pub record Machine : Type 0 where
   pub model : Model
   pub last : Option ℕ
+  pub held : ℕ
 
 -- the command that is asked for; a line that is too long to be kept is too large
 abbrev pub command_asked : Asked → Command
@@ -25,28 +28,35 @@ command_asked asked.TooLong = command.TooLarge
 abbrev pub out_of_memory : Heard
 out_of_memory = Answer (codes "refused NoMemory")
 
--- A RUN is answered as a fresh run of the model. Or memory ran out: the run may be done nevertheless.
+-- A RUN is answered as a fresh run of the model, and there are as many boxes then as that leaves. Or memory ran out: the run may be done nevertheless, and
+-- nothing is said of the boxes.
 abbrev pub HearsRun : Behaviour → Machine → ℕ → List Heard → Machine → Type 0
 HearsRun b s limit heard s' =
-    ((heard ≡ Answer (run_answer b s.model limit) ∷ []) × (s' ≡ record { model = s.model; last = Some limit }))
+    ((heard ≡ Answer (run_answer b s.model limit) ∷ []) × (s' ≡ record { model = s.model; last = Some limit; held = boxes_left b s.model limit }))
     ⊎ ((heard ≡ out_of_memory ∷ []) × (s'.model ≡ s.model) × ((s'.last ≡ None) ⊎ (s'.last ≡ Some limit)))
 
--- AN EDIT is made, and then no run is done; or it is refused, or memory ran out, and then nothing changed.
+-- AN EDIT is made, and then no run is done, and the boxes stay; or it is refused, or memory ran out, and then nothing changed.
 abbrev pub HearsEdit : Machine → Edit → List Heard → Machine → Type 0
 HearsEdit s e heard s' =
     ((text : List ℕ) × (heard ≡ Answer text ∷ [])
-    × ((IsMade s.model e text s'.model × (s'.last ≡ None)) ⊎ (IsRefused s.model e text × (s' ≡ s))))
+    × ((IsMade s.model e text s'.model × (s'.last ≡ None) × (s'.held ≡ s.held)) ⊎ (IsRefused s.model e text × (s' ≡ s))))
     ⊎ ((heard ≡ out_of_memory ∷ []) × (s' ≡ s))
 
--- THE FILES of the last run are those of a fresh run of the model to its limit. Where none is done there are none.
+-- HOW MANY BOXES there are is told, or memory ran out.
+abbrev pub HearsHeld : ℕ → List Heard → Type 0
+HearsHeld held heard = (heard ≡ Answer (held_text held) ∷ []) ⊎ (heard ≡ out_of_memory ∷ [])
+
+-- THE FILES of the last run are those of a fresh run of the model to its limit, and of the configuration that the model selects. Where no run is done there
+-- are none.
 abbrev pub HearsFiles : Behaviour → Model → Option ℕ → List Heard → Type 0
 HearsFiles b m None heard = heard ≡ Answer (codes "refused NotDone") ∷ []
-HearsFiles b m (Some limit) heard = heard ≡ Files (scalars_of_run b m limit) (vectors_of_run b m limit) ∷ Answer (codes "written") ∷ []
+HearsFiles b m (Some limit) heard = heard ≡ Files m.config (scalars_of_run b m limit) (vectors_of_run b m limit) ∷ Answer (codes "written") ∷ []
 
 -- WHAT IS HEARD OF A COMMAND, and what the machine holds behind it
 abbrev pub Hears : Behaviour → Machine → Command → List Heard → Machine → Type 0
 Hears b s (command.Run limit) heard s' = HearsRun b s limit heard s'
 Hears b s (command.Edit e) heard s' = HearsEdit s e heard s'
+Hears b s command.Held heard s' = HearsHeld s.held heard × (s' ≡ s)
 Hears b s command.Write heard s' = HearsFiles b s.model s.last heard × (s' ≡ s)
 Hears b s command.Unknown heard s' = (heard ≡ Answer (codes "refused Command") ∷ []) × (s' ≡ s)
 Hears b s command.TooLarge heard s' = (heard ≡ Answer (codes "refused TooLarge") ∷ []) × (s' ≡ s)
@@ -57,11 +67,18 @@ AreHeard b s [] heard s' = (heard ≡ []) × (s' ≡ s)
 AreHeard b s (a ∷ more) heard s' = (front rest : List Heard) × (mid : Machine)
     × (heard ≡ front ++ rest) × Hears b s (command_asked a) front mid × AreHeard b mid more rest s'
 
--- a machine that has run nothing
+-- a machine that has run nothing has no boxes
 abbrev pub fresh_machine : Model → Machine
-fresh_machine m = record { model = m; last = None }
+fresh_machine m = record { model = m; last = None; held = 0 }
 
--- Of the last that was asked not all is heard.
+-- THE FIRST PART of what a command is answered is heard, or nothing; what comes next is missed.
+pub record BeginsToHear (b : Behaviour) (s : Machine) (c : Command) (heard : List Heard) : Type 0 where
+  pub missed : Heard
+  pub rest : List Heard
+  pub behind : Machine
+  pub whole : Hears b s c (heard ++ missed ∷ rest) behind
+
+-- Of the last that was asked not all is heard, and nothing else.
 pub record IsBroken (b : Behaviour) (s : Machine) (asks : List Asked) (heard : List Heard) : Type 0 where
   pub before : List Asked
   pub last : Asked
@@ -71,3 +88,4 @@ pub record IsBroken (b : Behaviour) (s : Machine) (asks : List Asked) (heard : L
   pub heard_is : heard ≡ front ++ more
   pub left : Machine
   pub are : AreHeard b s before front left
+  pub begins : BeginsToHear b left (command_asked last) more

@@ -12,7 +12,7 @@ use Rattle.kernel.specs.Kernels.{Members}
 use Rattle.desk.specs.Turns.{editing_at, IsSettled}
 use Rattle.edit_session.specs.declared.running.Phase.TheVariants.{Declined}
 use Rattle.stock_desk.specs.Boxes.{boxes_of, left_of, most_boxes}
-use Rattle.stock_desk.specs.Served.{Machine, AreHeard, Hears, HearsRun, IsBroken, command_asked}
+use Rattle.stock_desk.specs.Served.{Machine, AreHeard, BeginsToHear, Hears, HearsRun, IsBroken, command_asked}
 use Rattle.transcripts.specs.Heard.{Answer, Heard}
 use Rattle.transcripts.specs.declared.asked.Asked.{Asked}
 use Rattle.stock_desk.specs.declared.serving.Next.{Next}
@@ -41,6 +41,7 @@ seen e asked heard may running = record { editing = e; asked = asked; heard = he
 pub record IsAt (b : Behaviour) (e : Editing) (s : Machine) : Type 0 where
   pub model : e.model ≡ s.model
   pub done : e.done ≡ option_map (completed b s.model) s.last
+  pub held : e.held ≡ s.held
 
 -- All that was asked is heard.
 pub record IsServed (b : Behaviour) (s : Machine) (v : Seen) : Type 0 where
@@ -96,19 +97,14 @@ Ends b s asked heard stop.End = (s' : Machine) × AreHeard b s asked heard s'
 Ends b s asked heard stop.Gone = ((s' : Machine) × AreHeard b s asked heard s') ⊎ IsBroken b s asked heard
 Ends b s asked heard (stop.Device page written) = IsBroken b s asked heard
 
--- A client is served no more where it has nothing more to ask, or can't go on; or a device failed.
-abbrev pub MayStop : Type 0 → Type 0 → Stop → Type 0
-MayStop over gone stop.End = over
-MayStop over gone stop.Gone = gone
-MayStop over gone (stop.Device page written) = Unit {0}
+-- A client is served no more only where that is true of it which it says of the reason.
+abbrev pub MayStopAt : (Stop → Type 0) → Next → Type 0
+MayStopAt stops next.GoOn = Unit {0}
+MayStopAt stops (next.Stop why) = stops why
 
-abbrev pub MayStopAt : Type 0 → Type 0 → Next → Type 0
-MayStopAt over gone next.GoOn = Unit {0}
-MayStopAt over gone (next.Stop why) = MayStop over gone why
-
-abbrev pub MayStopIn : Type 0 → Type 0 → Turn → Type 0
-MayStopIn over gone (turn.Need made) = Unit {0}
-MayStopIn over gone (turn.Over n) = MayStopAt over gone n
+abbrev pub MayStopIn : (Stop → Type 0) → Turn → Type 0
+MayStopIn stops (turn.Need made) = Unit {0}
+MayStopIn stops (turn.Over n) = MayStopAt stops n
 
 -- an answer is heard, or the client is gone
 abbrev pub HearsAnswer : List ℕ → List Heard → List Heard → Next → Type 0
@@ -147,17 +143,18 @@ IsHeardRun b limit before after = (after.asked ≡ before.asked) × (after.may �
     × ((s : Machine) → before.editing.model ≡ s.model
     → (front : List Heard) × (s' : Machine) × (after.heard ≡ before.heard ++ front) × HearsRun b s limit front s' × IsAt b after.editing s')
 
--- Something of it may be heard, and no more.
-pub record IsCutOff (before after : Seen) : Type 0 where
+-- The first part of it is heard, or nothing, and no more, wherever the machine may be.
+pub record IsCutOff (b : Behaviour) (c : Command) (may_be : Machine → Type 0) (before after : Seen) : Type 0 where
   pub asked : after.asked ≡ before.asked
   pub more : List Heard
   pub heard : after.heard ≡ before.heard ++ more
+  pub begins : (s : Machine) → may_be s → BeginsToHear b s c more
 
 abbrev pub HearsNext : Behaviour → Command → Seen → Seen → Next → Type 0
 HearsNext b c before after next.GoOn =
     (after.asked ≡ before.asked) × (after.may ≡ before.may) × (after.running ≡ None) × IsHeardNow b c before after
 HearsNext b c before after (next.Stop stop.End) = ⊥
-HearsNext b c before after (next.Stop why) = IsCutOff before after
+HearsNext b c before after (next.Stop why) = IsCutOff b c (IsAt b before.editing) before after
 
 -- the files of the last run, where one is done
 abbrev pub AreFilled : Behaviour → Model → Option Completed → List ℕ → List ℕ → Type 0
@@ -200,7 +197,7 @@ IsRunIn b limit before after (turn.Need made) =
 IsRunIn b limit before after (turn.Over next.GoOn) =
     (WaitsIn before after limit × (left_in_run after.editing < left_in_run before.editing))
     ⊎ IsHeardRun b limit before after
-IsRunIn b limit before after (turn.Over (next.Stop stop.Gone)) = IsCutOff before after
+IsRunIn b limit before after (turn.Over (next.Stop stop.Gone)) = IsCutOff b (command.Run limit) (λ s. before.editing.model ≡ s.model) before after
 IsRunIn b limit before after (turn.Over (next.Stop _)) = ⊥
 
 -- What a command comes to that is asked where no run goes on: a run goes on or is heard; all else is heard at once.

@@ -10,7 +10,10 @@ ghost use Rattle.desk.specs.Turns.{editing_at, IsSettled};
 ghost use Rattle.stock_desk.specs.Served.{fresh_machine};
 ghost use Rattle.command_lines.specs.declared.commands.Command.TheVariants as commands;
 ghost use Rattle.stock_desk.specs.Served.{command_asked};
-ghost use Rattle.stock_desk.specs.Serving.{seen_in, AreFilled, ComesTo, Ends, HearsAnswer, HearsNext, IsMetIn, IsNextServing, IsRunIn, IsServer, IsServingTurn, MayStop, MayStopAt, MayStopIn};
+ghost use Rattle.stock_desk.specs.Serving.{seen_in, AreFilled, ComesTo, Ends, HearsAnswer, HearsNext, IsMetIn, IsNextServing, IsRunIn, IsServer, IsServingTurn, MayStopAt, MayStopIn};
+ghost use Rattle.stock_desk.specs.Devices.{untouched, HasFailed};
+ghost use Rattle.stock_desk.specs.declared.serving.Stop.{Stop as StopValue};
+ghost use Rattle.stock_desk.specs.declared.serving.Stop.TheVariants as why;
 ghost use Rattle.transcripts.specs.declared.asked.Asked.{Asked as AskedValue};
 ghost use Rattle.transcripts.specs.Heard.{Heard, Answer, Files};
 
@@ -27,15 +30,17 @@ use std::alloc::Global;
 use std::marker::PhantomData;
 use stock_modules::modules::StockModule;
 use stock_modules::stock::Stock;
+use text_files::noted::Noted;
 use transcripts::asked::Asked;
 
 /// A client can't ask or hear any more. It knows why.
 #[derive(Clone, Copy, Debug, PartialEq, Eq)]
 pub struct Gone;
 
-/// The devices of the files of a run.
+/// The devices of the files of a run, with the name of the configuration that they were opened for.
 #[derive(Drop)]
 pub struct Pages<O> {
+    pub config: Noted,
     pub scalars: O,
     pub vectors: O,
 }
@@ -64,11 +69,8 @@ pub trait Client<O: Out + Drop> {
     /// A number that it never changes, so that it is known again.
     ghost label: { Self → ℕ };
 
-    /// It has nothing more to ask.
-    ghost is_over: { Self → Type 0 };
-
-    /// It can't go on.
-    ghost is_gone: { Self → Type 0 };
+    /// What is true of it where it is served no more, for that reason.
+    ghost stops: { Self → StopValue → Type 0 };
 
     /// What it asks next, or nothing more.
     fn next(&mut self) -> Result<Option<Asked>, Gone>
@@ -78,8 +80,8 @@ pub trait Client<O: Out + Drop> {
         ensures asked { IfOk result (λ next. IfSome next (λ a. asked self.new ≡ asked self.old ++ a ∷ [])) }
         ensures less { IfOk result (λ next. IfSome next (λ _. left self.new < left self.old)) }
         ensures none { IfOk result (λ next. next ≡ None → asked self.new ≡ asked self.old) }
-        ensures over { IfOk result (λ next. next ≡ None → is_over self.new) }
-        ensures stuck { OnErr result (is_gone self.new) }
+        ensures over { IfOk result (λ next. next ≡ None → stops self.new why.End) }
+        ensures stuck { OnErr result (stops self.new why.Gone) }
         ensures gone { OnErr result (asked self.new ≡ asked self.old) }
         ensures heard { heard self.new ≡ heard self.old };
 
@@ -88,20 +90,21 @@ pub trait Client<O: Out + Drop> {
         requires kept { keeps self.old }
         ensures kept { keeps self.new }
         ensures label { label self.new ≡ label self.old }
-        ensures stuck { OnErr result (is_gone self.new) }
+        ensures stuck { OnErr result (stops self.new why.Gone) }
         ensures heard { OnOk result (heard self.new ≡ heard self.old ++ Answer answer.now ∷ []) }
         ensures gone { OnErr result (heard self.new ≡ heard self.old) }
         ensures asked { asked self.new ≡ asked self.old }
         ensures left { left self.new ≡ left self.old };
 
-    /// Devices for the files of a run of the configuration of that name, which took nothing yet.
+    /// Devices for the files of a run of the configuration of that name, which took nothing yet and never failed.
     fn open(&mut self, config: &[u8]) -> Result<Pages<O>, Gone>
         requires kept { keeps self.old }
         ensures kept { keeps self.new }
         ensures label { label self.new ≡ label self.old }
-        ensures stuck { OnErr result (is_gone self.new) }
-        ensures scalars { IfOk result (λ pages. (O.taken pages.scalars).bytes ≡ []) }
-        ensures vectors { IfOk result (λ pages. (O.taken pages.vectors).bytes ≡ []) }
+        ensures stuck { OnErr result (stops self.new why.Gone) }
+        ensures config { IfOk result (λ pages. pages.config.bytes ≡ config.now) }
+        ensures scalars { IfOk result (λ pages. O.taken pages.scalars ≡ untouched) }
+        ensures vectors { IfOk result (λ pages. O.taken pages.vectors ≡ untouched) }
         ensures heard { heard self.new ≡ heard self.old }
         ensures asked { asked self.new ≡ asked self.old }
         ensures left { left self.new ≡ left self.old };
@@ -111,17 +114,19 @@ pub trait Client<O: Out + Drop> {
         requires kept { keeps self.old }
         ensures kept { keeps self.new }
         ensures label { label self.new ≡ label self.old }
-        ensures stuck { OnErr result (is_gone self.new) }
+        ensures stuck { OnErr result (stops self.new why.Gone) }
         ensures heard { OnOk result (heard self.new ≡ heard self.old
-            ++ Files (O.taken pages.scalars).bytes (O.taken pages.vectors).bytes ∷ []) }
+            ++ Files pages.config.bytes (O.taken pages.scalars).bytes (O.taken pages.vectors).bytes ∷ []) }
         ensures gone { OnErr result (heard self.new ≡ heard self.old) }
         ensures asked { asked self.new ≡ asked self.old }
         ensures left { left self.new ≡ left self.old };
 
-    /// Hears that the device of this file failed.
-    fn lose(&mut self, pages: Pages<O>, page: Page)
+    /// Hears that the device of this file failed, after so many bytes.
+    fn lose(&mut self, pages: Pages<O>, page: Page, written: u128)
         requires kept { keeps self.old }
+        requires failed { HasFailed page written (O.taken pages.scalars) (O.taken pages.vectors) }
         ensures kept { keeps self.new }
+        ensures stuck { stops self.new (why.Device page written) }
         ensures label { label self.new ≡ label self.old }
         ensures heard { heard self.new ≡ heard self.old }
         ensures asked { asked self.new ≡ asked self.old }
@@ -174,7 +179,7 @@ impl<O: Out + Drop, K: Client<O> + Drop> Server<O, K> {
         requires kept { K.keeps self.old.client }
         ensures kept { K.keeps self.new.client }
         ensures label { K.label self.new.client ≡ K.label self.old.client }
-        ensures stops { MayStopAt (K.is_over self.new.client) (K.is_gone self.new.client) result }
+        ensures stops { MayStopAt (K.stops self.new.client) result }
         ensures desk { self.new.desk ≡ self.old.desk }
         ensures running { self.new.running ≡ self.old.running }
         ensures asked { K.asked self.new.client ≡ K.asked self.old.client }
@@ -212,7 +217,7 @@ impl<O: Out + Drop, K: Client<O> + Drop> Server<O, K> {
         requires kept { K.keeps self.old.client }
         ensures kept { K.keeps self.new.client }
         ensures label { K.label self.new.client ≡ K.label self.old.client }
-        ensures stops { MayStopIn (K.is_over self.new.client) (K.is_gone self.new.client) result }
+        ensures stops { MayStopIn (K.stops self.new.client) result }
         ensures sound { IsServer stock SimpleModule-box self.new }
         ensures ran { let before = seen_in SimpleModule-box K.asked K.heard K.left self.old in
             let after = seen_in SimpleModule-box K.asked K.heard K.left self.new in
@@ -236,7 +241,7 @@ impl<O: Out + Drop, K: Client<O> + Drop> Server<O, K> {
         requires kept { K.keeps self.old.client }
         ensures kept { K.keeps self.new.client }
         ensures label { K.label self.new.client ≡ K.label self.old.client }
-        ensures stops { MayStopAt (K.is_over self.new.client) (K.is_gone self.new.client) result }
+        ensures stops { MayStopAt (K.stops self.new.client) result }
         ensures desk { self.new.desk ≡ self.old.desk }
         ensures running { self.new.running ≡ None }
         ensures asked { K.asked self.new.client ≡ K.asked self.old.client }
@@ -254,13 +259,32 @@ impl<O: Out + Drop, K: Client<O> + Drop> Server<O, K> {
         requires kept { K.keeps self.old.client }
         ensures kept { K.keeps self.new.client }
         ensures label { K.label self.new.client ≡ K.label self.old.client }
-        ensures stops { MayStopAt (K.is_over self.new.client) (K.is_gone self.new.client) result }
+        ensures stops { MayStopAt (K.stops self.new.client) result }
         ensures sound { IsServer stock SimpleModule-box self.new }
         ensures heard { let before = seen_in SimpleModule-box K.asked K.heard K.left self.old in
             let after = seen_in SimpleModule-box K.asked K.heard K.left self.new in
             HearsNext stock (commands.Edit edit) before after result }
     {
         match self.desk.edit(edit) {
+            Ok(text) => self.hear(text.as_bytes()),
+            Err(_) => self.out_of_memory(),
+        }
+    }
+
+    /// Tells how many boxes there are.
+    fn held(&mut self) -> Next
+        requires sound { IsServer stock SimpleModule-box self.old }
+        requires idle { self.old.running ≡ None }
+        requires kept { K.keeps self.old.client }
+        ensures kept { K.keeps self.new.client }
+        ensures label { K.label self.new.client ≡ K.label self.old.client }
+        ensures stops { MayStopAt (K.stops self.new.client) result }
+        ensures sound { IsServer stock SimpleModule-box self.new }
+        ensures heard { let before = seen_in SimpleModule-box K.asked K.heard K.left self.old in
+            let after = seen_in SimpleModule-box K.asked K.heard K.left self.new in
+            HearsNext stock commands.Held before after result }
+    {
+        match self.desk.held() {
             Ok(text) => self.hear(text.as_bytes()),
             Err(_) => self.out_of_memory(),
         }
@@ -273,7 +297,7 @@ impl<O: Out + Drop, K: Client<O> + Drop> Server<O, K> {
         requires kept { K.keeps self.old.client }
         ensures kept { K.keeps self.new.client }
         ensures label { K.label self.new.client ≡ K.label self.old.client }
-        ensures stops { MayStopAt (K.is_over self.new.client) (K.is_gone self.new.client) result }
+        ensures stops { MayStopAt (K.stops self.new.client) result }
         ensures sound { IsServer stock SimpleModule-box self.new }
         ensures heard { let before = seen_in SimpleModule-box K.asked K.heard K.left self.old in
             let after = seen_in SimpleModule-box K.asked K.heard K.left self.new in
@@ -293,12 +317,13 @@ impl<O: Out + Drop, K: Client<O> + Drop> Server<O, K> {
         requires sound { IsServer stock SimpleModule-box self.old }
         requires idle { self.old.running ≡ None }
         requires done { IsSome (editing_at SimpleModule-box self.old.desk).done }
-        requires scalars { (O.taken pages.scalars).bytes ≡ [] }
-        requires vectors { (O.taken pages.vectors).bytes ≡ [] }
+        requires config { pages.config.bytes ≡ (editing_at SimpleModule-box self.old.desk).model.config }
+        requires scalars { O.taken pages.scalars ≡ untouched }
+        requires vectors { O.taken pages.vectors ≡ untouched }
         requires kept { K.keeps self.old.client }
         ensures kept { K.keeps self.new.client }
         ensures label { K.label self.new.client ≡ K.label self.old.client }
-        ensures stops { MayStopAt (K.is_over self.new.client) (K.is_gone self.new.client) result }
+        ensures stops { MayStopAt (K.stops self.new.client) result }
         ensures sound { IsServer stock SimpleModule-box self.new }
         ensures heard { let before = seen_in SimpleModule-box K.asked K.heard K.left self.old in
             let after = seen_in SimpleModule-box K.asked K.heard K.left self.new in
@@ -311,7 +336,7 @@ impl<O: Out + Drop, K: Client<O> + Drop> Server<O, K> {
                 Err(Gone) => Next::Stop(Stop::Gone),
             },
             Err((page, written)) => {
-                self.client.lose(pages, page);
+                self.client.lose(pages, page, written);
                 Next::Stop(Stop::Device(page, written))
             }
         }
@@ -321,11 +346,13 @@ impl<O: Out + Drop, K: Client<O> + Drop> Server<O, K> {
     fn write_both(&self, pages: &mut Pages<O>) -> Result<(), (Page, u128)>
         requires sound { IsServer stock SimpleModule-box self.now }
         requires done { IsSome (editing_at SimpleModule-box self.now.desk).done }
-        requires scalars { (O.taken pages.old.scalars).bytes ≡ [] }
-        requires vectors { (O.taken pages.old.vectors).bytes ≡ [] }
-        ensures { let editing = editing_at SimpleModule-box self.now.desk in
+        requires scalars { O.taken pages.old.scalars ≡ untouched }
+        requires vectors { O.taken pages.old.vectors ≡ untouched }
+        ensures config { pages.new.config ≡ pages.old.config }
+        ensures written { let editing = editing_at SimpleModule-box self.now.desk in
             OnOk result (AreFilled stock editing.model editing.done
             (O.taken pages.new.scalars).bytes (O.taken pages.new.vectors).bytes) }
+        ensures failed { IfErr result (λ fault. HasFailed fault.0 fault.1 (O.taken pages.new.scalars) (O.taken pages.new.vectors)) }
     {
         match self.desk.scalars(&mut pages.scalars) {
             Ok(()) => match self.desk.vectors(&mut pages.vectors) {
@@ -345,7 +372,7 @@ impl<O: Out + Drop, K: Client<O> + Drop> Server<O, K> {
         requires kept { K.keeps self.old.client }
         ensures kept { K.keeps self.new.client }
         ensures label { K.label self.new.client ≡ K.label self.old.client }
-        ensures stops { MayStopIn (K.is_over self.new.client) (K.is_gone self.new.client) result }
+        ensures stops { MayStopIn (K.stops self.new.client) result }
         ensures sound { IsServer stock SimpleModule-box self.new }
         ensures comes { let before = seen_in SimpleModule-box K.asked K.heard K.left self.old in
             let after = seen_in SimpleModule-box K.asked K.heard K.left self.new in
@@ -354,6 +381,7 @@ impl<O: Out + Drop, K: Client<O> + Drop> Server<O, K> {
         match command {
             Command::Run(limit) => self.run(limit),
             Command::Edit(edit) => Turn::Over(self.edit(edit)),
+            Command::Held => Turn::Over(self.held()),
             Command::Write => Turn::Over(self.write()),
             Command::Unknown => Turn::Over(self.hear(b"refused Command".as_slice())),
             Command::TooLarge => Turn::Over(self.hear(b"refused TooLarge".as_slice())),
@@ -367,7 +395,7 @@ impl<O: Out + Drop, K: Client<O> + Drop> Server<O, K> {
         requires kept { K.keeps self.old.client }
         ensures kept { K.keeps self.new.client }
         ensures label { K.label self.new.client ≡ K.label self.old.client }
-        ensures stops { MayStopIn (K.is_over self.new.client) (K.is_gone self.new.client) result }
+        ensures stops { MayStopIn (K.stops self.new.client) result }
         ensures sound { IsServer stock SimpleModule-box self.new }
         ensures comes { let before = seen_in SimpleModule-box K.asked K.heard K.left self.old in
             let after = seen_in SimpleModule-box K.asked K.heard K.left self.new in
@@ -388,7 +416,7 @@ impl<O: Out + Drop, K: Client<O> + Drop> Server<O, K> {
         requires kept { K.keeps self.old.client }
         ensures kept { K.keeps self.new.client }
         ensures label { K.label self.new.client ≡ K.label self.old.client }
-        ensures stops { MayStopIn (K.is_over self.new.client) (K.is_gone self.new.client) result }
+        ensures stops { MayStopIn (K.stops self.new.client) result }
         ensures sound { IsServer stock SimpleModule-box self.new }
         ensures turn { let before = seen_in SimpleModule-box K.asked K.heard K.left self.old in
             let after = seen_in SimpleModule-box K.asked K.heard K.left self.new in
@@ -414,7 +442,7 @@ impl<O: Out + Drop, K: Client<O> + Drop> Server<O, K> {
         requires kept { K.keeps self.old.client }
         ensures kept { K.keeps self.new.client }
         ensures label { K.label self.new.client ≡ K.label self.old.client }
-        ensures stops { MayStopAt (K.is_over self.new.client) (K.is_gone self.new.client) result }
+        ensures stops { MayStopAt (K.stops self.new.client) result }
         ensures sound { IsServer stock SimpleModule-box self.new }
         ensures next { let before = seen_in SimpleModule-box K.asked K.heard K.left self.old in
             let after = seen_in SimpleModule-box K.asked K.heard K.left self.new in
@@ -461,8 +489,9 @@ pub fn serve<O: Out + Drop, K: Client<O> + Drop>(
     ensures served { IfOk result (λ r. (model : Model)
         × IsModelOf texts.now ini.now config.now model
         × Ends stock (fresh_machine model) (K.asked r.0) (K.heard r.0) r.1) }
-    // The client is served until it has nothing more to ask or can't go on, or a device fails.
-    ensures stopped { IfOk result (λ r. MayStop (K.is_over r.0) (K.is_gone r.0) r.1) }
+    // It is served no more only where that is true of it which it says of the reason: it has nothing more to ask, can't go on, or
+    // heard that a device failed, which one, and after how many bytes.
+    ensures stopped { IfOk result (λ r. K.stops r.0 r.1) }
     // The client keeps true of itself what it says.
     ensures kept { IfOk result (λ r. K.keeps r.0) }
     ensures label { IfOk result (λ r. K.label r.0 ≡ K.label client) }

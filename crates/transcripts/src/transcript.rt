@@ -54,9 +54,10 @@ impl Transcript {
         ensures asked { self.new.asked ≡ self.old.asked }
     {}
 
-    /// Both files of a run were kept, of these bytes.
-    pub fn hears_files(&mut self, _scalars: &Noted, _vectors: &Noted)
-        ensures heard { self.new.heard ≡ self.old.heard ++ Files _scalars.now.bytes _vectors.now.bytes ∷ [] }
+    /// Both files of a run of the configuration of that name were kept, of these bytes.
+    pub fn hears_files(&mut self, _config: &Noted, _scalars: &Noted, _vectors: &Noted)
+        ensures heard { self.new.heard ≡ self.old.heard
+            ++ Files _config.now.bytes _scalars.now.bytes _vectors.now.bytes ∷ [] }
         ensures asked { self.new.asked ≡ self.old.asked }
     {}
 }

@@ -80,12 +80,12 @@ returns-in-Stop-clause-kept g c =
 
 pub returns-in-Stop-clause-stopped : goal.returns-in-Stop-clause-stopped
 returns-in-Stop-clause-stopped g c =
-    let may : MayStopAt (g.K.Client.is_over c.match-turn.server.client) (g.K.Client.is_gone c.match-turn.server.client) c.match-turn.next = elim c.match-turn.branch [
+    let may : MayStopAt (g.K.Client.stops c.match-turn.server.client) c.match-turn.next = elim c.match-turn.branch [
       | in-Need+in-Ok w ↦ rw (w.server-is, w.next-is) w.supply.ensures.stops
       | in-Need+in-Err w ↦ rw (w.server-is, w.next-is) w.out_of_memory.ensures.stops
       | in-Over w ↦ rw (w.server-is, w.next-is) w.in-Over.ensures.stops
     ] in
-    rw c.into_client.ensures (subst (MayStopAt (g.K.Client.is_over c.match-turn.server.client) (g.K.Client.is_gone c.match-turn.server.client)) c.in-Stop.is may)
+    rw c.into_client.ensures (subst (MayStopAt (g.K.Client.stops c.match-turn.server.client)) c.in-Stop.is may)
 
 pub returns-in-Stop-clause-label : goal.returns-in-Stop-clause-label
 returns-in-Stop-clause-label g c =

@@ -1,0 +1,15 @@
+-- The devices of the files of a run.
+use Rattle.std.specs.Prelude.{◌≡◌, ℕ, [], length}
+use Rattle.result_files.specs.Taken.{Taken}
+use Rattle.stock_desk.specs.declared.serving.Page.{Page}
+use Rattle.stock_desk.specs.declared.serving.Page.TheVariants as page
+
+-- a device that took nothing yet, and never failed
+abbrev pub untouched : Taken
+untouched = record { bytes = []; failures = 0 }
+
+-- THE DEVICE of that file failed, once, and took so many bytes before. The scalar file is written first: where its device fails the other one took
+-- nothing, and it did not fail where the other one does.
+abbrev pub HasFailed : Page → ℕ → Taken → Taken → Type 0
+HasFailed page.Scalars written scalars vectors = (length scalars.bytes ≡ written) × (scalars.failures ≡ 1) × (vectors ≡ untouched)
+HasFailed page.Vectors written scalars vectors = (length vectors.bytes ≡ written) × (vectors.failures ≡ 1) × (scalars.failures ≡ 0)
