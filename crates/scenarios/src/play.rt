@@ -1,6 +1,8 @@
 //! A scenario at a desk, with the stock modules.
 
-ghost use Rattle.std.specs.Prelude.{◌≡◌, ℕ, ◌++◌, ◌∷◌, [], IfOk, IfSome, IsSome, OnOk, OnErr, length};
+ghost use Rattle.std.specs.Prelude.{◌≡◌, ℕ, ◌++◌, ◌∷◌, [], Some, IfOk, IfSome, IsSome, OnOk, OnErr, length};
+ghost use Rattle.stock_desk.specs.Devices.{untouched, HasFailed};
+ghost use Rattle.stock_desk.specs.Stops.{at_stop};
 ghost use Rattle.transcripts.specs.Heard as heards;
 
 use crate::scenario::Scenario;
@@ -53,6 +55,8 @@ struct Player<'a> {
     transcript: Transcript,
     /// Why the player can't go on.
     error: Option<NoMemory>,
+    /// The file that had no room, and how many of its bytes had.
+    lost: Option<(Page, u128)>,
 }
 
 impl<'a> Player<'a> {
@@ -68,6 +72,7 @@ impl<'a> Player<'a> {
             told: Vec::new(alloc),
             transcript: Transcript::new(),
             error: None,
+            lost: None,
         }
     }
 
@@ -144,9 +149,7 @@ impl Client<Buffer> for Player<'_> {
 
     ghost label = { λ _. 0 };
 
-    ghost is_over = { λ player. player.lines.now ≡ [] };
-
-    ghost is_gone = { λ player. IsSome player.error };
+    ghost stops = { λ player why. at_stop (player.lines.now ≡ []) (IsSome player.error) (λ page written. player.lost ≡ Some (page, written)) why };
 
     fn next(&mut self) -> Result<Option<Asked>, Gone> {
         match self.lines {
@@ -173,18 +176,22 @@ impl Client<Buffer> for Player<'_> {
         }
     }
 
-    fn open(&mut self, _config: &[u8]) -> Result<Pages<Buffer>, Gone>
+    fn open(&mut self, config: &[u8]) -> Result<Pages<Buffer>, Gone>
         requires kept { Unit {0} }
         ensures kept { Unit {0} }
         ensures label { ◌≡◌ {A = ℕ} 0 0 }
         ensures stuck { OnErr result (IsSome self.new.error) }
-        ensures scalars { IfOk result (λ pages. pages.scalars.bytes ≡ []) }
-        ensures vectors { IfOk result (λ pages. pages.vectors.bytes ≡ []) }
+        ensures config { IfOk result (λ pages. pages.config.bytes ≡ config.now) }
+        ensures scalars { IfOk result (λ pages. pages.scalars ≡ untouched) }
+        ensures vectors { IfOk result (λ pages. pages.vectors ≡ untouched) }
         ensures heard { self.new.transcript.heard ≡ self.old.transcript.heard }
         ensures asked { self.new.transcript.asked ≡ self.old.transcript.asked }
         ensures left { length self.new.lines.now ≡ length self.old.lines.now }
     {
+        let mut name = Noted::new();
+        name.note(config);
         Ok(Pages {
+            config: name,
             scalars: Buffer::new(self.alloc),
             vectors: Buffer::new(self.alloc),
         })
@@ -196,7 +203,7 @@ impl Client<Buffer> for Player<'_> {
         ensures label { ◌≡◌ {A = ℕ} 0 0 }
         ensures stuck { OnErr result (IsSome self.new.error) }
         ensures heard { OnOk result (self.new.transcript.heard ≡ self.old.transcript.heard
-            ++ heards.Files pages.scalars.bytes pages.vectors.bytes ∷ []) }
+            ++ heards.Files pages.config.bytes pages.scalars.bytes pages.vectors.bytes ∷ []) }
         ensures gone { OnErr result (self.new.transcript.heard ≡ self.old.transcript.heard) }
         ensures asked { self.new.transcript.asked ≡ self.old.transcript.asked }
         ensures left { length self.new.lines.now ≡ length self.old.lines.now }
@@ -207,21 +214,27 @@ impl Client<Buffer> for Player<'_> {
                 scalars.note(pages.scalars.as_bytes());
                 let mut vectors = Noted::new();
                 vectors.note(pages.vectors.as_bytes());
-                self.transcript.hears_files(&scalars, &vectors);
+                self.transcript
+                    .hears_files(&pages.config, &scalars, &vectors);
                 Ok(())
             }
             Err(error) => Err(self.gone(error)),
         }
     }
 
-    fn lose(&mut self, _pages: Pages<Buffer>, _page: Page)
+    fn lose(&mut self, pages: Pages<Buffer>, page: Page, written: u128)
         requires kept { Unit {0} }
+        requires failed { HasFailed page written pages.scalars pages.vectors }
         ensures kept { Unit {0} }
+        ensures stuck { self.new.lost ≡ Some (page, written) }
         ensures label { ◌≡◌ {A = ℕ} 0 0 }
         ensures heard { self.new.transcript.heard ≡ self.old.transcript.heard }
         ensures asked { self.new.transcript.asked ≡ self.old.transcript.asked }
         ensures left { length self.new.lines.now ≡ length self.old.lines.now }
-    {}
+    {
+        drop(pages);
+        self.lost = Some((page, written));
+    }
 }
 
 /// Says why the texts make no model.
