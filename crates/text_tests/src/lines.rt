@@ -120,7 +120,7 @@ fn long_lines(rt: HostRuntime) -> Result<(), Fail> {
     text.push(b'\n')?;
     add(&mut text, b'b', 65_537)?;
     text.extend_from_slice(b"\nrun 1\n")?;
-    for step in [1000, 4096, 65_536] {
+    for step in [1000, 4095, 4096] {
         assert!(rt;
             are_long_lines(rt.alloc(), text.as_slice(), longest.as_slice(), step),
             "{step}"
