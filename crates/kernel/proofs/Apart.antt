@@ -1,6 +1,5 @@
 -- What a reply leads to neither reads nor changes modules.
 use Rattle.std.proofs.Common.{◌≡◌, ℕ, List, [], ◌∷◌, refl, sym, ap, ◌∙◌, Bool, true, false, Option, Some, None, slice_get, length, nat_lt, if◌then◌else◌}
-use Rattle.std.specs.List.{list_any}
 use Rattle.sim_time.specs.Time.{time_sum}
 use Rattle.module_api.specs.declared.reply.Action.{Action}
 use Rattle.module_api.specs.Names.{is_scalar_name}
@@ -19,7 +18,8 @@ use Rattle.run_semantics.specs.declared.outcome.Turn.{Turn}
 use Rattle.run_semantics.specs.declared.outcome.Turn.TheVariants.{GoOn, Stop, Break}
 use Rattle.run_semantics.specs.declared.traces.Instance.{Instance}
 use Rattle.run_semantics.specs.World.{World, empty, asked}
-use Rattle.run_semantics.specs.Perform.{Flow, On, Stopped, Broken, ◌>>=◌, flow_of, is_timer, scheduled, perform, perform_all, ask_all, question_of, acted, read_fault, unless_fault, answered}
+use Rattle.event_set.specs.Timers.{has_timer}
+use Rattle.run_semantics.specs.Perform.{Flow, On, Stopped, Broken, ◌>>=◌, flow_of, scheduled, perform, perform_all, ask_all, question_of, acted, read_fault, unless_fault, answered}
 use Rattle.run_semantics.specs.Run.{rooted, built, unless_many, root_asked, inside_asked, prepared}
 use Rattle.run_semantics.specs.Ending.{is_last_action, perform_last, perform_last_all, acted_last, answered_last}
 
@@ -50,7 +50,7 @@ either_apart ms false f g h k e d = d
 
 scheduled_apart : (ms : List Instance) (id : ℕ) (s : Schedule) (w : World) (time : Option ℕ) → scheduled id s (with_modules ms w) time ≡ flow_with ms (scheduled id s w time)
 scheduled_apart ms id s w None = refl
-scheduled_apart ms id s w (Some time) = either_apart ms (list_any (λ p. is_timer id s.timer p) w.pending) _ _ _ _ refl refl
+scheduled_apart ms id s w (Some time) = either_apart ms (has_timer id s.timer w.pending) _ _ _ _ refl refl
 
 perform_apart : (ms : List Instance) (id : ℕ) (action : Action) (w : World) → perform id action (with_modules ms w) ≡ flow_with ms (perform id action w)
 perform_apart ms id (Emit signal value) w = refl

@@ -3,7 +3,7 @@ use Rattle.std.proofs.Common.{◌≡◌, ℕ, suc, zero, ◌+◌, ◌<◌, true,
 use Rattle.model_answers.specs.declared.model.Model.{Model}
 use Rattle.module_api.specs.Behaviour.{Behaviour}
 use Rattle.run_semantics.specs.declared.outcome.Outcome.TheVariants.{Ended, NoMoreEvents, TimeLimit}
-use Rattle.run_semantics.specs.declared.pending.Pending.{Pending}
+use Rattle.event_set.specs.declared.pending.Pending.{Pending}
 use Rattle.run_semantics.specs.World.{World}
 use Rattle.run_semantics.specs.Event.{event}
 use Rattle.model_answers.specs.declared.answer.Asked.{Asked}

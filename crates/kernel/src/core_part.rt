@@ -13,7 +13,8 @@ ghost use Rattle.model_answers.specs.declared.answer.Answer.TheVariants as answe
 ghost use Rattle.model_answers.specs.declared.answer.Question.TheVariants.{BeyondLimit};
 ghost use Rattle.run_semantics.specs.Run.{rooted, built, unless_many, with_submodules, with_started, root_asked, inside_asked, prepared};
 
-use crate::event_list::EventList;
+use event_set::pending::{Happening, Pending};
+use event_set::set::EventSet;
 use model_answers::answer::{Answer, Asked, Built, Question};
 use model_answers::answering::{answer, is_beyond, parameters_of};
 use model_answers::injection::{Due, Injection, Turn as InjectionTurn, injection_before};
@@ -23,7 +24,6 @@ use module_api::call::{Call, Prompt};
 use module_api::names::is_scalar_name;
 use module_api::reply::{Action, Read, Reply, Schedule};
 use run_semantics::outcome::{Fault, Outcome, Turn, fault_of};
-use run_semantics::pending::{Happening, Pending};
 use run_semantics::traces::{Emission, Scalar};
 use sim_time::SimTime;
 use sim_values::NoMemory;
@@ -72,8 +72,7 @@ pub struct Core {
     live: Items<u32>,
     started: Items<u32>,
     finished: Items<u32>,
-    pending: EventList,
-    next: u128,
+    pending: EventSet,
     ended: bool,
     delivered: Option<InjectionTurn>,
     emissions: Items<Emission>,
@@ -95,8 +94,8 @@ impl Model for Core {
       modules = [];
       started = k.started;
       finished = k.finished;
-      pending = k.pending;
-      next = k.next;
+      pending = k.pending.list;
+      next = k.pending.next;
       ended = k.ended;
       delivered = k.delivered;
       emissions = k.emissions;
@@ -120,8 +119,7 @@ impl Core {
             live: Items::new(alloc),
             started: Items::new(alloc),
             finished: Items::new(alloc),
-            pending: EventList::new(alloc),
-            next: 0,
+            pending: EventSet::new(alloc),
             ended: false,
             delivered: None,
             emissions: Items::new(alloc),
@@ -230,14 +228,8 @@ impl Core {
         if self.pending.has_timer(id, schedule.timer) {
             return self.broken(alloc, id, Fault::AlreadyScheduled);
         }
-        self.pending.insert(Pending {
-            time,
-            priority: schedule.priority,
-            number: self.next,
-            id,
-            what: Happening::Timer(schedule.timer, schedule.kind),
-        })?;
-        self.next += 1;
+        let what = Happening::Timer(schedule.timer, schedule.kind);
+        self.pending.insert(time, schedule.priority, id, what)?;
         Ok(Turn::GoOn)
     }
 
@@ -482,9 +474,9 @@ impl Core {
         ensures { result ≡ first_due self.now.pending }
     {
         match self.pending.first() {
-            Some(event) => Some(Due {
-                time: event.time,
-                priority: event.priority,
+            Some(coming) => Some(Due {
+                time: coming.time,
+                priority: coming.priority,
             }),
             None => None,
         }
@@ -582,7 +574,7 @@ impl Core {
         ensures { result ≡ first_is_after_limit model.now self.now.records self.now.pending }
     {
         match self.pending.first() {
-            Some(event) => is_beyond(model, event.time.ps()),
+            Some(coming) => is_beyond(model, coming.time.ps()),
             None => false,
         }
     }

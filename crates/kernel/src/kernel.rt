@@ -15,6 +15,7 @@ ghost use Rattle.kernel.specs.Kernels.{seat_of, seats_in, world_in, ran_in, HasK
 
 use crate::core_part::{Core, Look, Next};
 use crate::request::Request;
+use event_set::pending::{Happening, Pending};
 use model_answers::injection::Injection;
 use model_answers::model::Model;
 use model_answers::record::{Record, path_of};
@@ -25,7 +26,6 @@ use module_api::reply::Reply;
 use module_api::simple_module::SimpleModule;
 use module_tree::Tree;
 use run_semantics::outcome::{Fault, Outcome, Turn};
-use run_semantics::pending::{Happening, Pending};
 use run_semantics::traces::{Emission, Scalar};
 use sim_values::NoMemory;
 use sim_values::text::Text;

@@ -2,6 +2,5 @@
 #![tactic(auto)]
 
 pub mod core_part;
-pub mod event_list;
 pub mod kernel;
 pub mod request;

@@ -8,11 +8,11 @@ use Rattle.model_answers.specs.declared.injection.Injection.{Injection}
 use Rattle.model_answers.specs.declared.injection.Turn.{Turn}
 use Rattle.model_answers.specs.declared.model.Model.{Model}
 use Rattle.model_answers.specs.Injections.{due_before, goes_before, turn_of, is_undelivered, sooner, first_undelivered, goes_first, if_first}
-use Rattle.run_semantics.specs.declared.pending.Pending.{Pending}
+use Rattle.event_set.specs.declared.pending.Pending.{Pending}
 use Rattle.run_semantics.specs.Laws.{Each, AreInOrder}
 use Rattle.run_semantics.specs.World.{World, asked_next}
 use Rattle.run_semantics.specs.Upcoming.{first_due, delivered, target_of, Upcoming, Comes, Nothing, first_of, aimed, chosen, upcoming_in, most_injections, upcoming}
-use Rattle.run_semantics.proofs.Order.{before_time, each_map}
+use Rattle.event_set.proofs.Order.{before_time, each_map}
 
 -- ---- times
 

@@ -17,7 +17,7 @@ use Rattle.run_semantics.specs.Event.{place_in}
 use Rattle.run_semantics.specs.Run.{rooted, record_under, ids_from, built, unless_many, root_asked, inside_asked, prepared, Part, with_class, parts_from, parts_of, placed, place_all, place_parts, ready, initialize_all, with_started, standing, part_of, Stage, Running, Over, world_at, settled, after}
 use Rattle.run_semantics.specs.Laws.{Each, IsAmong, ids_of, HasGrown, CanBeCalled}
 use Rattle.run_semantics.proofs.Sound.{in_flow}
-use Rattle.run_semantics.proofs.Order.{each_map}
+use Rattle.event_set.proofs.Order.{each_map}
 use Rattle.run_semantics.proofs.Reuse.{after_later}
 use Rattle.run_semantics.proofs.Orderly.{IsOrderly, Follows, same_ids, on_same, on_more, initialize_all_leads, orderly_none, ready_none, orderly_after, after_follows}
 

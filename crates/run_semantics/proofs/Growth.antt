@@ -1,6 +1,6 @@
 -- What parts of an event add to a world: questions, and modules.
 use Rattle.std.proofs.Common.{◌≡◌, ℕ, zero, suc, ◌+◌, ◌≤◌, ◌==◌, cond, Bool, true, false, List, [], ◌∷◌, ◌++◌, Option, Some, None, refl, sym, ap, ◌∙◌, arith, subst, append_assoc, append-nil, length-append, slice_get, slice_set, length, map, if◌then◌else◌, nat_lt, eqb-true}
-use Rattle.std.specs.List.{list_any, position_from}
+use Rattle.std.specs.List.{position_from}
 use Rattle.sim_time.specs.Time.{time_sum}
 use Rattle.module_api.specs.Behaviour.{Behaviour, Replied}
 use Rattle.module_api.specs.declared.call.Prompt.{Prompt}
@@ -23,7 +23,8 @@ use Rattle.model_answers.specs.Answering.{answer_of}
 use Rattle.run_semantics.specs.declared.outcome.Fault.{Fault}
 use Rattle.run_semantics.specs.declared.traces.Instance.{Instance}
 use Rattle.run_semantics.specs.World.{World, empty, asked}
-use Rattle.run_semantics.specs.Perform.{Flow, On, Stopped, Broken, ◌>>=◌, is_timer, scheduled, perform, perform_all, ask_all, question_of, acted, read_fault, unless_fault}
+use Rattle.event_set.specs.Timers.{has_timer}
+use Rattle.run_semantics.specs.Perform.{Flow, On, Stopped, Broken, ◌>>=◌, scheduled, perform, perform_all, ask_all, question_of, acted, read_fault, unless_fault}
 use Rattle.run_semantics.specs.Event.{call_of, place_in, with_state, replied, called, call_at, call_module, event}
 use Rattle.run_semantics.specs.Run.{rooted, record_under, built, unless_many, root_asked, inside_asked, Part, with_class, parts_from, parts_of, place, place_all, place_parts, standing, most_stages, initialize, one_stage, stages_from, initialize_all, with_started}
 use Rattle.run_semantics.proofs.Sound.{in_flow}
@@ -168,7 +169,7 @@ either_grows w false f g h k = k
 -- an event to come is no question
 scheduled_grows : (id : ℕ) (s : Schedule) (w : World) (time : Option ℕ) → Fits w → IsGrown w (in_flow (scheduled id s w time))
 scheduled_grows id s w None f = grown_same w f
-scheduled_grows id s w (Some time) f = either_grows w (list_any (λ p. is_timer id s.timer p) w.pending) _ _ (grown_same w f) (grown_beside w _ f refl refl refl refl)
+scheduled_grows id s w (Some time) f = either_grows w (has_timer id s.timer w.pending) _ _ (grown_same w f) (grown_beside w _ f refl refl refl refl)
 
 -- an action asks nothing
 perform_grows : (id : ℕ) (action : Action) (w : World) → Fits w → IsGrown w (in_flow (perform id action w))

@@ -4,7 +4,6 @@ pub mod Ends
 pub mod Grown
 pub mod Growth
 pub mod Looking
-pub mod Order
 pub mod Orderly
 pub mod Reuse
 pub mod Setup

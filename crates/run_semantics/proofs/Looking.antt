@@ -11,7 +11,7 @@ use Rattle.model_answers.specs.declared.model.Model.{Model}
 use Rattle.model_answers.specs.Answering.{answer_of}
 use Rattle.model_answers.specs.Injections.{turn_of}
 use Rattle.model_answers.proofs.AnswerLemmas.{about}
-use Rattle.run_semantics.specs.declared.pending.Pending.{Pending}
+use Rattle.event_set.specs.declared.pending.Pending.{Pending}
 use Rattle.run_semantics.specs.Agreement.{tried}
 use Rattle.run_semantics.specs.Laws.{GoesOn}
 use Rattle.run_semantics.specs.World.{World, asked_next}

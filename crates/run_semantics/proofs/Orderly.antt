@@ -1,7 +1,7 @@
 -- In every world of a run the events to come are in order, none is late, each has a number of its own, and each is for a
 -- module that stands; and what was emitted stands in the order of events.
 use Rattle.std.proofs.Common.{◌≡◌, ◌≢◌, ◌⊎◌, inl, inr, ℕ, zero, suc, ◌+◌, ◌≤◌, ◌<◌, ◌==◌, cond, Bool, true, false, List, [], ◌∷◌, ◌++◌, Option, Some, None, refl, sym, ap, ◌∙◌, arith, subst, append_assoc, append-nil, slice_get, slice_set, length, map, if◌then◌else◌, nat_lt, nat_le, eqb-true}
-use Rattle.std.specs.List.{list_any, position_from}
+use Rattle.std.specs.List.{position_from}
 use Rattle.sim_time.specs.Time.{time_sum}
 use Rattle.module_api.specs.Behaviour.{Behaviour, Replied}
 use Rattle.module_api.specs.declared.call.Prompt.{Prompt}
@@ -22,13 +22,14 @@ use Rattle.run_semantics.specs.declared.outcome.Fault.{Fault}
 use Rattle.run_semantics.specs.declared.outcome.Fault.TheVariants as fault
 use Rattle.run_semantics.specs.declared.outcome.Outcome.{Outcome}
 use Rattle.run_semantics.specs.declared.outcome.Outcome.TheVariants.{Ended, TimeLimit}
-use Rattle.run_semantics.specs.declared.pending.Happening.TheVariants.{Timer}
-use Rattle.run_semantics.specs.declared.pending.Pending.{Pending}
+use Rattle.event_set.specs.declared.pending.Happening.TheVariants.{Timer}
+use Rattle.event_set.specs.declared.pending.Pending.{Pending}
 use Rattle.run_semantics.specs.declared.traces.Emission.{Emission}
 use Rattle.run_semantics.specs.declared.traces.Instance.{Instance}
 use Rattle.run_semantics.specs.World.{World, empty, asked}
-use Rattle.run_semantics.specs.Order.{inserted}
-use Rattle.run_semantics.specs.Perform.{Flow, On, Stopped, Broken, ◌>>=◌, broken, with_scalar, is_timer, scheduled, perform, perform_all, ask_all, question_of, acted, read_fault, unless_fault, answered}
+use Rattle.event_set.specs.Order.{inserted}
+use Rattle.event_set.specs.Timers.{has_timer}
+use Rattle.run_semantics.specs.Perform.{Flow, On, Stopped, Broken, ◌>>=◌, broken, with_scalar, scheduled, perform, perform_all, ask_all, question_of, acted, read_fault, unless_fault, answered}
 use Rattle.run_semantics.specs.Event.{call_of, place_in, with_state, called, call_at, call_module, begun, event, message_of}
 use Rattle.run_semantics.specs.Run.{rooted, built, unless_many, root_asked, inside_asked, prepared, Part, parts_of, place, place_all, place_parts, ready, standing, most_stages, initialize, one_stage, stages_from, initialize_all, with_started, part_of, Stage, Running, Over, world_at, settled, is_after_limit, went, next_stage, after}
 use Rattle.run_semantics.specs.Laws.{Each, AreInOrder, AreInTurn, HaveOwnNumbers, IsAmong, ids_of, GoesOn}
@@ -37,7 +38,7 @@ use Rattle.run_semantics.proofs.Ahead.{IsAhead, MayCome, ComesWell, ahead_at_zer
 use Rattle.run_semantics.proofs.Looking.{beside, looking, HasLooked, upcoming_looks}
 use Rattle.run_semantics.proofs.Sound.{in_flow}
 use Rattle.run_semantics.proofs.Counts.{event_count}
-use Rattle.run_semantics.proofs.Order.{each_map, each_append, each_inserted, ordered_inserted, own_inserted}
+use Rattle.event_set.proofs.Order.{each_map, each_append, each_inserted, ordered_inserted, own_inserted}
 
 -- what holds of the events to come of a world
 pub record IsOrderly (w : World) : Type 0 where
@@ -167,7 +168,7 @@ leads_inserted e w f number time stands =
 scheduled_leads : (id : ℕ) (s : Schedule) (w : World) (found : Option ℕ) → time_sum w.clock s.delay ≡ found → IsOrderly w → StandsIn id w → Leads w (in_flow (scheduled id s w found))
 scheduled_leads id s w None e f h = leads_same w f
 scheduled_leads id s w (Some time) e f h =
-    either_leads w (list_any (λ p. is_timer id s.timer p) w.pending) _ _ (leads_same w f)
+    either_leads w (has_timer id s.timer w.pending) _ _ (leads_same w f)
     (leads_inserted (record { time = time; priority = s.priority; number = w.next; id = id; what = Timer s.timer s.kind }) w f refl (sum_is_after w.clock s.delay time e) h)
 
 -- one action

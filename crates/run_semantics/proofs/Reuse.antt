@@ -20,7 +20,7 @@ use Rattle.model_answers.specs.Answering.{answer_of, parameters_of}
 use Rattle.model_answers.proofs.AnswerLemmas.{AreNested, answer_more, same_value}
 use Rattle.run_semantics.specs.declared.outcome.Outcome.{Outcome}
 use Rattle.run_semantics.specs.declared.outcome.Outcome.TheVariants.{Ended, EventLimit, NoMoreEvents, TimeLimit, Fault}
-use Rattle.run_semantics.specs.declared.pending.Pending.{Pending}
+use Rattle.event_set.specs.declared.pending.Pending.{Pending}
 use Rattle.run_semantics.specs.declared.traces.Instance.{Instance}
 use Rattle.run_semantics.specs.Agreement.{Agrees, AgreesUpTo, tried, questions_of}
 use Rattle.run_semantics.specs.Laws.{Each, GoesOn}

@@ -1,6 +1,5 @@
 -- The worlds of a run have room for more: an action inserts one event at most.
 use Rattle.std.proofs.Common.{◌≡◌, ℕ, suc, ◌+◌, ◌≤◌, Bool, true, false, List, [], ◌∷◌, Option, Some, None, refl, sym, ◌∙◌, ap, arith, subst, slice_get, length, nat_lt, if◌then◌else◌}
-use Rattle.std.specs.List.{list_any}
 use Rattle.std.proofs.lemmas.Bool.Decides.{nat_tests}
 use Rattle.sim_time.specs.Time.{time_sum}
 use Rattle.module_api.specs.Behaviour.{Behaviour, Replied}
@@ -18,7 +17,8 @@ use Rattle.run_semantics.specs.declared.outcome.Turn.{Turn}
 use Rattle.run_semantics.specs.declared.outcome.Turn.TheVariants.{GoOn, Stop, Break}
 use Rattle.run_semantics.specs.declared.traces.Instance.{Instance}
 use Rattle.run_semantics.specs.World.{World, asked}
-use Rattle.run_semantics.specs.Perform.{Flow, flow_of, On, Stopped, Broken, ◌>>=◌, is_timer, scheduled, perform, perform_all, ask_all, question_of, acted, read_fault, unless_fault, answered}
+use Rattle.event_set.specs.Timers.{has_timer}
+use Rattle.run_semantics.specs.Perform.{Flow, flow_of, On, Stopped, Broken, ◌>>=◌, scheduled, perform, perform_all, ask_all, question_of, acted, read_fault, unless_fault, answered}
 use Rattle.run_semantics.specs.Event.{call_of, place_in, with_state, called, call_at, call_module}
 use Rattle.run_semantics.specs.Ending.{is_last_action, perform_last, perform_last_all, acted_last, answered_last, called_last, call_last_at}
 
@@ -62,7 +62,7 @@ either_keeps n false f g w h k = k refl
 scheduled_keeps : (id : ℕ) (s : Schedule) (w : World) (time : Option ℕ) → Keeps 1 w (in_flow (scheduled id s w time))
 scheduled_keeps id s w None = keeps_same 1 w
 scheduled_keeps id s w (Some time) =
-    either_keeps 1 (list_any (λ p. is_timer id s.timer p) w.pending) _ _ w (keeps_same 1 w) (λ e. record { count = refl; next = omega arith })
+    either_keeps 1 (has_timer id s.timer w.pending) _ _ w (keeps_same 1 w) (λ e. record { count = refl; next = omega arith })
 
 pub perform_keeps : (id : ℕ) (action : Action) (w : World) → Keeps 1 w (in_flow (perform id action w))
 perform_keeps id (Emit signal value) w = record { count = refl; next = omega arith }

@@ -11,9 +11,9 @@ use Rattle.model_answers.specs.declared.answer.Question.TheVariants.{BeyondLimit
 use Rattle.model_answers.specs.declared.model.Model.{Model}
 use Rattle.model_answers.specs.Answering.{parameters_of}
 use Rattle.model_answers.specs.Records.{path_of, record_at, index_of}
-use Rattle.run_semantics.specs.declared.pending.Happening.{Happening}
-use Rattle.run_semantics.specs.declared.pending.Happening.TheVariants.{Arrival, Timer}
-use Rattle.run_semantics.specs.declared.pending.Pending.{Pending}
+use Rattle.event_set.specs.declared.pending.Happening.{Happening}
+use Rattle.event_set.specs.declared.pending.Happening.TheVariants.{Arrival, Timer}
+use Rattle.event_set.specs.declared.pending.Pending.{Pending}
 use Rattle.run_semantics.specs.declared.traces.Instance.{Instance}
 use Rattle.run_semantics.specs.World.{World, asked}
 use Rattle.run_semantics.specs.Perform.{Flow, On, answered}

@@ -1,29 +1,13 @@
 -- Words for what holds of the worlds that a run reaches.
-use Rattle.std.specs.Prelude.{◌≡◌, ◌≢◌, ◌⊎◌, ℕ, zero, suc, ◌≤◌, List, [], ◌∷◌, ◌++◌, IsSome, IsTrue, map}
+pub use Rattle.event_set.specs.Order.{Each, AreInOrder, HaveOwnNumbers}
+use Rattle.std.specs.Prelude.{◌≡◌, ◌⊎◌, ℕ, zero, suc, ◌≤◌, List, [], ◌∷◌, ◌++◌, IsSome, map}
 use Rattle.module_api.specs.Behaviour.{Behaviour}
 use Rattle.model_answers.specs.declared.model.Model.{Model}
-use Rattle.run_semantics.specs.declared.pending.Pending.{Pending}
 use Rattle.run_semantics.specs.declared.traces.Emission.{Emission}
 use Rattle.run_semantics.specs.declared.traces.Instance.{Instance}
-use Rattle.run_semantics.specs.Order.{comes_before}
 use Rattle.run_semantics.specs.World.{World}
 use Rattle.run_semantics.specs.Event.{place_in}
 use Rattle.run_semantics.specs.Run.{Stage, next_stage}
-
--- it holds of each
-abbrev pub Each : {X : Type 0} → (X → Type 0) → List X → Type 0
-Each P [] = Unit {0}
-Each P (x ∷ xs) = P x × Each P xs
-
--- each event comes before all that follow it
-abbrev pub AreInOrder : List Pending → Type 0
-AreInOrder [] = Unit {0}
-AreInOrder (e ∷ es) = Each (λ f. IsTrue (comes_before e f)) es × AreInOrder es
-
--- no two events have the same insertion number
-abbrev pub HaveOwnNumbers : List Pending → Type 0
-HaveOwnNumbers [] = Unit {0}
-HaveOwnNumbers (e ∷ es) = Each (λ f. f.number ≢ e.number) es × HaveOwnNumbers es
 
 -- along emissions neither event numbers nor times fall
 abbrev pub AreInTurn : List Emission → Type 0

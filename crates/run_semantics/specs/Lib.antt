@@ -1,5 +1,4 @@
 pub mod World
-pub mod Order
 pub mod Perform
 pub mod Event
 pub mod Upcoming

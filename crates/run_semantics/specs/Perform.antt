@@ -1,6 +1,5 @@
 -- What a reply leads to.
-use Rattle.std.specs.Prelude.{ℕ, ℤ, ◌+◌, nat_lt, ◌==◌, ◌&&◌, Bool, false, List, [], ◌∷◌, ◌++◌, Option, Some, None, if◌then◌else◌, length}
-use Rattle.std.specs.List.{list_any}
+use Rattle.std.specs.Prelude.{ℕ, ℤ, ◌+◌, nat_lt, List, [], ◌∷◌, ◌++◌, Option, Some, None, if◌then◌else◌, length}
 use Rattle.sim_time.specs.Time.{time_sum}
 use Rattle.module_api.specs.declared.reply.Action.{Action}
 use Rattle.module_api.specs.declared.reply.Action.TheVariants.{Emit, RecordScalar, ScheduleAfter, Fail}
@@ -23,10 +22,9 @@ use Rattle.run_semantics.specs.declared.outcome.Fault.{Fault}
 use Rattle.run_semantics.specs.declared.outcome.Fault.TheVariants as fault
 use Rattle.run_semantics.specs.declared.outcome.Turn.{Turn}
 use Rattle.run_semantics.specs.declared.outcome.Turn.TheVariants.{GoOn, Stop, Break}
-use Rattle.run_semantics.specs.declared.pending.Happening.{Happening}
-use Rattle.run_semantics.specs.declared.pending.Happening.TheVariants.{Arrival, Timer}
-use Rattle.run_semantics.specs.declared.pending.Pending.{Pending}
-use Rattle.run_semantics.specs.Order.{inserted}
+use Rattle.event_set.specs.declared.pending.Happening.TheVariants.{Timer}
+use Rattle.event_set.specs.Order.{inserted}
+use Rattle.event_set.specs.Timers.{has_timer}
 use Rattle.run_semantics.specs.World.{World, asked}
 
 -- where an event stands: it goes on; the rest of it is discarded; or a fault, told with a path, has ended the run
@@ -60,18 +58,10 @@ model_fault model_fault_kind.Mismatch = fault.Mismatch
 
 -- ---- actions
 
--- whether it is that timer of that module
-abbrev pub is_timer_number : ℕ → Happening → Bool
-is_timer_number timer (Timer number kind) = number == timer
-is_timer_number timer (Arrival kind bits payload) = false
-
-abbrev pub is_timer : ℕ → ℕ → Pending → Bool
-is_timer id timer p = (p.id == id) && is_timer_number timer p.what
-
 -- an event at a time, where there is one
 abbrev pub scheduled_at : ℕ → Schedule → World → ℕ → Flow
 scheduled_at id s w time =
-    if list_any (λ p. is_timer id s.timer p) w.pending then broken id fault.AlreadyScheduled w
+    if has_timer id s.timer w.pending then broken id fault.AlreadyScheduled w
     else On (record w {
       pending = inserted (record { time = time; priority = s.priority; number = w.next; id = id; what = Timer s.timer s.kind }) w.pending;
       next = w.next + 1;

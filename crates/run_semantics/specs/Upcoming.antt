@@ -10,8 +10,8 @@ use Rattle.model_answers.specs.declared.record.Record.{Record}
 use Rattle.model_answers.specs.Answering.{answer_of}
 use Rattle.model_answers.specs.Injections.{turn_of}
 use Rattle.model_answers.specs.Records.{path_of}
-use Rattle.run_semantics.specs.declared.pending.Happening.TheVariants.{Arrival}
-use Rattle.run_semantics.specs.declared.pending.Pending.{Pending}
+use Rattle.event_set.specs.declared.pending.Happening.TheVariants.{Arrival}
+use Rattle.event_set.specs.declared.pending.Pending.{Pending}
 use Rattle.run_semantics.specs.declared.traces.Instance.{Instance}
 use Rattle.run_semantics.specs.World.{World, asked_next}
 

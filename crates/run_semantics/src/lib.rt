@@ -3,5 +3,4 @@
 
 pub mod laws;
 pub mod outcome;
-pub mod pending;
 pub mod traces;

@@ -1,7 +1,10 @@
 //! Events to come.
 
+ghost use Rattle.std.specs.Prelude.{◌≡◌, IfOk};
+
 use sim_time::SimTime;
 use sim_values::text::Text;
+use std::alloc::{AllocError, Global};
 
 /// What is to happen.
 #[derive(Debug, Drop)]
@@ -10,6 +13,20 @@ pub enum Happening {
     Timer(u32, i16),
     /// A message from outside: its kind, its length in bits, and its payload.
     Arrival(i16, u64, Text),
+}
+
+impl Happening {
+    /// An equal one.
+    pub fn copy(&self, alloc: Global) -> Result<Happening, AllocError>
+        ensures { IfOk result (λ copy. copy ≡ self.now) }
+    {
+        Ok(match self {
+            Happening::Timer(timer, kind) => Happening::Timer(*timer, *kind),
+            Happening::Arrival(kind, bits, payload) => {
+                Happening::Arrival(*kind, *bits, payload.copy(alloc)?)
+            }
+        })
+    }
 }
 
 /// An event to come.

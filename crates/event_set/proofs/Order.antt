@@ -2,9 +2,8 @@
 use Rattle.std.proofs.Common.{◌≡◌, ◌≢◌, ◌⊎◌, inl, inr, ⊎_elim, ℕ, ℤ, suc, ◌≤◌, ◌<◌, ◌≤ℤ◌, ◌<ℤ◌, ◌==◌, nat_lt, int_lt, Bool, true, false, true≢false, List, [], ◌∷◌, ◌++◌, IsTrue, refl, sym, ◌∙◌, arith, if◌then◌else◌, ltb-true, lt-ltb, eq-eqb, eqb-true, eq-or-lt_of_le, le_of_suc-le-suc}
 use Rattle.std.proofs.lemmas.Int.{ints}
 use Rattle.std.proofs.lemmas.Bool.Decides.{leb_tells}
-use Rattle.run_semantics.specs.declared.pending.Pending.{Pending}
-use Rattle.run_semantics.specs.Order.{comes_before, inserted}
-use Rattle.run_semantics.specs.Laws.{Each, AreInOrder, HaveOwnNumbers}
+use Rattle.event_set.specs.declared.pending.Pending.{Pending}
+use Rattle.event_set.specs.Order.{comes_before, inserted, Each, AreInOrder, HaveOwnNumbers}
 
 -- ---- the order
 

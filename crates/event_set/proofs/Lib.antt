@@ -1,0 +1,5 @@
+pub mod Order
+pub mod Keys
+pub mod Sets
+pub mod Shown
+pub mod Copies

@@ -1,0 +1,294 @@
+//! The events to come, in a tree by their order.
+
+ghost use Rattle.std.specs.Prelude.{◌≡◌, ◌+◌, ◌^◌, ◌<◌, [], ◌∷◌, false, cond, OnOk, OnErr, IfOk, MatchOption, Some, slice_get};
+ghost use Rattle.std.specs.Option.{option_map};
+ghost use Rattle.event_set.specs.Order.{Each, AreInOrder};
+ghost use Rattle.event_set.specs.Timers.{has_timer, is_pending};
+ghost use Rattle.event_set.specs.Keys.{key_order, timer_in, at_key, place_at, noted, forgotten};
+ghost use Rattle.event_set.specs.declared.set.TimerKey.{TimerKey};
+ghost use Rattle.event_set.specs.declared.set.Key.{Key};
+ghost use Rattle.std.specs.BTreeMap.{is_at, insert_entry};
+ghost use Rattle.std.specs.List.Sorted.{IsStrictlySortedBy};
+ghost use Rattle.std.specs.Map.{keys_of};
+ghost use Rattle.event_set.specs.Events.{coming_of, is_live, begins_stale, struck};
+
+use crate::pending::{Happening, Pending};
+use sim_time::SimTime;
+use sim_values::NoMemory;
+use std::alloc::{AllocError, Global};
+use std::collections::BTreeMap;
+use std::marker::Model;
+
+/// The place of an event in the order (OMNeT++ Simulation Manual, "Message Scheduling and Priority").
+#[derive(Clone, Copy, Debug, PartialEq, Eq, PartialOrd, Ord, Drop)]
+struct Key {
+    time: SimTime,
+    priority: i16,
+    number: u128,
+}
+
+/// An event but for its place.
+#[derive(Debug, Drop)]
+struct Entry {
+    id: u32,
+    what: Happening,
+}
+
+/// A timer of a module.
+#[derive(Clone, Copy, Debug, PartialEq, Eq, PartialOrd, Ord, Drop)]
+struct TimerKey {
+    id: u32,
+    timer: u32,
+}
+
+/// When an event comes, its priority and its module, told before it is taken out.
+#[derive(Clone, Copy, Debug, Drop)]
+pub struct Coming {
+    pub time: SimTime,
+    pub priority: i16,
+    pub id: u32,
+}
+
+/// The events to come, ordered by time, priority and number of insertion, which contracts see as their
+/// list and the number of the next one.
+#[derive(Drop)]
+pub struct EventSet {
+    events: BTreeMap<Key, Entry>,
+    /// Where the timers stand that are pending.
+    timers: BTreeMap<TimerKey, Key>,
+    /// The number of the next insertion.
+    next: u128,
+}
+
+impl Model for EventSet {
+    ghost use Rattle.event_set.specs.Events.{Events};
+    ghost use Rattle.event_set.specs.Keys.{list_of, AreSound};
+
+    ghost Value = { Events };
+
+    ghost view = { λ s. record { list = list_of s.events.entries; next = s.next } };
+
+    ghost invariant = { λ s. AreSound s.events.entries s.timers.entries s.next };
+}
+
+impl EventSet {
+    ghost use Rattle.event_set.specs.Events.{none, scheduled, cancelled, with_list};
+
+    /// No events.
+    pub fn new(alloc: Global) -> Self
+        ensures { result ≡ none }
+    {
+        EventSet {
+            events: BTreeMap::new(alloc),
+            timers: BTreeMap::new(alloc),
+            next: 0,
+        }
+    }
+
+    /// The events of each set are in order, and the next number is above theirs: it is new.
+    pub fn is_in_order(&self)
+        ensures order { AreInOrder self.now.list }
+        ensures below { Each (λ e. e.number < self.now.next) self.now.list }
+    {
+        let _next = self.next;
+    }
+
+    /// Whether that timer of that module is pending.
+    pub fn has_timer(&self, id: u32, timer: u32) -> bool
+        ensures { result ≡ has_timer id timer self.now.list }
+    {
+        self.timers.contains_key(&TimerKey { id, timer })
+    }
+
+    /// Puts an event in its place, with the next number, or changes nothing where memory runs out. No
+    /// timer of a module is pending twice.
+    pub fn insert(
+        &mut self,
+        time: SimTime,
+        priority: i16,
+        id: u32,
+        what: Happening,
+    ) -> Result<(), NoMemory>
+        requires room { self.old.next + 1 < 2 ^ 128 }
+        requires once { is_pending id what self.old.list ≡ false }
+        ensures ok { OnOk result (self.new ≡ scheduled time priority id what self.old) }
+        ensures err { OnErr result (self.new ≡ self.old) }
+    {
+        let key = key_of(time, priority, self.next);
+        let entry = Entry { id, what };
+        let timer = timer_in(id, &entry.what);
+        note_timer(&mut self.timers, &timer, &key)?;
+        if let Err(refused) = put_entry(&mut self.events, key, entry) {
+            forget_timer(&mut self.timers, &timer);
+            return Err(NoMemory::from(refused));
+        }
+        self.next += 1;
+        Ok(())
+    }
+
+    /// Takes that timer of that module out, and says whether it was pending.
+    pub fn cancel(&mut self, id: u32, timer: u32) -> bool
+        ensures found { result ≡ has_timer id timer self.old.list }
+        ensures rest { self.new ≡ cancelled id timer self.old }
+    {
+        let Some(key) = self.timers.remove(&TimerKey { id, timer }) else {
+            return false;
+        };
+        self.events.remove(&key);
+        true
+    }
+
+    /// When the first event comes, its priority and its module.
+    pub fn first(&self) -> Option<Coming>
+        ensures { result ≡ option_map coming_of (slice_get self.now.list 0) }
+    {
+        match self.events.first_key_value() {
+            Some((key, entry)) => Some(Coming {
+                time: key.time,
+                priority: key.priority,
+                id: entry.id,
+            }),
+            None => None,
+        }
+    }
+
+    /// Takes the first event out.
+    pub fn take_first(&mut self) -> Option<Pending>
+        ensures first { MatchOption result ((self.old.list ≡ []) × (self.new ≡ self.old)) (λ p. self.old ≡ with_list (p ∷ self.new.list) self.new) }
+    {
+        let Some((key, entry)) = self.events.pop_first() else {
+            return None;
+        };
+        let Entry { id, what } = entry;
+        forget_timer(&mut self.timers, &timer_in(id, &what));
+        Some(Pending {
+            time: key.time,
+            priority: key.priority,
+            number: key.number,
+            id,
+            what,
+        })
+    }
+
+    /// A set with the same events, and the same next number.
+    pub fn copy(&self, alloc: Global) -> Result<EventSet, NoMemory>
+        ensures { IfOk result (λ copy. copy ≡ self.now) }
+    {
+        let events = copy_events(alloc, &self.events)?;
+        let timers = self.timers.clone()?;
+        Ok(EventSet {
+            events,
+            timers,
+            next: self.next,
+        })
+    }
+
+    /// Whether the first event is of a dead module.
+    fn begins_stale(&self, live: &[bool]) -> bool
+        ensures { result ≡ begins_stale live.now self.now.list }
+    {
+        match self.first() {
+            Some(coming) => !is_live(live, coming.id),
+            None => false,
+        }
+    }
+
+    /// Strikes out the first events, as long as their modules are dead.
+    pub fn strike(&mut self, live: &[bool])
+        ensures { self.new ≡ with_list (struck live.now self.old.list) self.old }
+    {
+        while self.begins_stale(live) {
+            self.take_first();
+        }
+    }
+}
+
+/// Whether the module of that id lives.
+fn is_live(live: &[bool], id: u32) -> bool
+    ensures { result ≡ is_live live.now id }
+{
+    match live.get(id as usize) {
+        Some(lives) => *lives,
+        None => false,
+    }
+}
+
+/// The place of an event.
+fn key_of(time: SimTime, priority: i16, number: u128) -> Key
+    ensures { result ≡ record { time = time; priority = priority; number = number } }
+{
+    Key {
+        time,
+        priority,
+        number,
+    }
+}
+
+/// Equal entries at equal places.
+fn copy_events(
+    alloc: Global,
+    events: &BTreeMap<Key, Entry>,
+) -> Result<BTreeMap<Key, Entry>, NoMemory>
+    ensures { IfOk result (λ copy. copy.entries ≡ events.now.entries) }
+{
+    let mut copy = BTreeMap::new(alloc);
+    for (key, entry) in events.iter() {
+        put_entry(&mut copy, *key, copy_entry(alloc, entry)?)?;
+    }
+    Ok(copy)
+}
+
+/// An equal entry.
+fn copy_entry(alloc: Global, entry: &Entry) -> Result<Entry, AllocError>
+    ensures { IfOk result (λ copy. copy ≡ entry.now) }
+{
+    Ok(Entry {
+        id: entry.id,
+        what: entry.what.copy(alloc)?,
+    })
+}
+
+/// Puts an entry in its place, or changes nothing.
+fn put_entry(events: &mut BTreeMap<Key, Entry>, key: Key, entry: Entry) -> Result<(), AllocError>
+    ensures ordered { IsStrictlySortedBy key_order (keys_of events.new.entries) }
+    ensures entries { OnOk result (events.new.entries ≡ insert_entry key_order events.old.entries key entry) }
+    ensures places { OnOk result ((q : Key) → at_key events.new.entries q ≡ cond (is_at (key_order key) q) (Some entry) (at_key events.old.entries q)) }
+    ensures err { OnErr result (events.new.entries ≡ events.old.entries) }
+{
+    events.insert(key, entry)?;
+    Ok(())
+}
+
+/// Notes where a timer stands, if it is one.
+fn note_timer(
+    timers: &mut BTreeMap<TimerKey, Key>,
+    timer: &Option<TimerKey>,
+    key: &Key,
+) -> Result<(), AllocError>
+    ensures ok { OnOk result ((t : TimerKey) → place_at timers.new.entries t ≡ noted timer.now key.now (place_at timers.old.entries) t) }
+    ensures err { OnErr result (timers.new.entries ≡ timers.old.entries) }
+{
+    if let Some(timer) = timer {
+        timers.insert(*timer, *key)?;
+    }
+    Ok(())
+}
+
+/// Forgets where a timer stands, if it is one.
+fn forget_timer(timers: &mut BTreeMap<TimerKey, Key>, timer: &Option<TimerKey>)
+    ensures { (t : TimerKey) → place_at timers.new.entries t ≡ forgotten timer.now (place_at timers.old.entries) t }
+{
+    if let Some(timer) = timer {
+        timers.remove(timer);
+    }
+}
+
+/// Which timer it is, if it is one.
+fn timer_in(id: u32, what: &Happening) -> Option<TimerKey>
+    ensures { result ≡ timer_in id what.now }
+{
+    match what {
+        Happening::Timer(timer, _) => Some(TimerKey { id, timer: *timer }),
+        Happening::Arrival(_, _, _) => None,
+    }
+}
