@@ -1,6 +1,8 @@
-//! Tests of `stock_modules`, `result_files`, and scalars that modules record, apart from the crates that they test.
+//! Tests of `event_set`, `stock_modules`, `result_files`, and scalars that modules record, apart from the crates that they test.
 #![tactic(auto)]
 
+#[cfg(test)]
+mod events;
 #[cfg(test)]
 mod files;
 #[cfg(test)]
