@@ -9,5 +9,6 @@ pub mod LexLemmas
 pub mod LineLemmas
 pub mod BalancedLoop
 pub mod ViableLaws
+pub mod GrowthLaws
 pub mod AmountLaws
 pub mod BlankLemmas

@@ -9,6 +9,7 @@ pub mod Literals
 pub mod Lexing
 pub mod Lines
 pub mod Rule
+pub mod Growth
 pub mod Balanced
 pub mod Meaning
 pub mod Viable
