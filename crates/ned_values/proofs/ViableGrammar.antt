@@ -25,7 +25,7 @@ pub name_on : Viable name
 unfolding name
 name_on = token-viable name_of (token.Name letter) letter refl
 
-plain_literal_on : Viable plain_literal
+pub plain_literal_on : Viable plain_literal
 unfolding plain_literal
 plain_literal_on = token-viable literal_of (token.Number 0) (values.Whole (pos 0)) refl
 

@@ -16,7 +16,7 @@ use std::alloc::Global;
 /// A literal of one token.
 /// `plain_literal = number | "true" | "false" | text | quantity`.
 #[tactic(auto, unfolding(crate::specs::Grammar::plain_literal))]
-fn plain_literal(alloc: Global, tokens: &[Token]) -> Result<(Value, &[Token]), Refusal>
+pub fn plain_literal(alloc: Global, tokens: &[Token]) -> Result<(Value, &[Token]), Refusal>
     ensures { Reads grammar.plain_literal tokens.now result }
 {
     match tokens {

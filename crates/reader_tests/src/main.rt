@@ -11,6 +11,7 @@ mod ned_rows;
 mod pattern_rows;
 mod rows;
 mod time_rows;
+mod tree_rows;
 mod words;
 
 use answers::answer;

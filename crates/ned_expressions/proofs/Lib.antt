@@ -1,0 +1,4 @@
+pub mod LevelLaws
+pub mod ExpressionLaws
+pub mod ViableExpressions
+pub mod SpellingLaws
