@@ -24,9 +24,9 @@ use Rattle.run_semantics.specs.declared.outcome.Fault.{Fault}
 use Rattle.run_semantics.specs.declared.traces.Instance.{Instance}
 use Rattle.run_semantics.specs.World.{World, empty, asked}
 use Rattle.event_set.specs.Timers.{has_timer}
-use Rattle.run_semantics.specs.Perform.{Flow, On, Stopped, Broken, ◌>>=◌, scheduled, perform, perform_all, ask_all, question_of, acted, read_fault, unless_fault}
+use Rattle.run_semantics.specs.Perform.{Flow, On, Stopped, Broken, ◌>>=◌, asking, scheduled, perform, perform_all, ask_all, question_of, acted, read_fault, unless_fault}
 use Rattle.run_semantics.specs.Event.{call_of, place_in, with_state, replied, called, call_at, call_module, event}
-use Rattle.run_semantics.specs.Run.{rooted, record_under, built, unless_many, root_asked, inside_asked, Part, with_class, parts_from, parts_of, place, place_all, place_parts, standing, most_stages, initialize, one_stage, stages_from, initialize_all, with_started}
+use Rattle.run_semantics.specs.Run.{rooted, record_under, built, unless_many, Part, with_class, parts_from, parts_of, place, place_all, place_parts, standing, most_stages, initialize, one_stage, stages_from, initialize_all, with_started}
 use Rattle.run_semantics.proofs.Sound.{in_flow}
 use Rattle.model_answers.proofs.AnswerLemmas.{AreNested, about}
 
@@ -205,6 +205,10 @@ asked_grows q w f l = record {
   };
 }
 
+-- a question, and what follows it
+pub asking_grows : (m : Model) (q : Question) (next : Answer → World → Flow) (w : World) → Fits w → about q ≤ length w.records → ((a : Answer) → Fits (asked q w) → IsGrown (asked q w) (in_flow (next a (asked q w)))) → IsGrown w (in_flow (asking m q next w))
+asking_grows m q next w f l h = let g = asked_grows q w f l in grown_on g (h (answer_of m w.records q) g.fits)
+
 -- a read is about the module that replied
 about_read : (id : ℕ) (r : Read) → about (question_of id r) ≡ id
 about_read id (read.Parameter name) = refl
@@ -360,10 +364,6 @@ rooted_grows (answer.Beyond beyond) = grown_same _ (asked_grows Root empty fits_
 rooted_grows (answer.Injection next) = grown_same _ (asked_grows Root empty fits_empty (omega arith)).fits
 rooted_grows answer.Absent = grown_same _ (asked_grows Root empty fits_empty (omega arith)).fits
 
--- the first question, and what follows it
-pub root_grows : (m : Model) → IsGrown empty (in_flow (root_asked m))
-root_grows m = grown_on (asked_grows Root empty fits_empty (omega arith)) (rooted_grows (answer_of m [] Root))
-
 -- submodules are created after the module around them
 nested_more : (k : ℕ) (rs : List Record) (parent : ℕ) (bs : List Built) → AreNested k rs → parent ≤ k + length rs → AreNested k (rs ++ map (record_under parent) bs)
 nested_more k [] parent [] h l = tt
@@ -398,9 +398,3 @@ built_grows parent (answer.Fault path fault) w f l = grown_same w f
 built_grows parent (answer.Beyond beyond) w f l = grown_same w f
 built_grows parent (answer.Injection next) w f l = grown_same w f
 built_grows parent answer.Absent w f l = grown_same w f
-
--- the second question, and what follows it
-pub inside_grows : (m : Model) (w : World) → Fits w → 1 ≤ length w.records → IsGrown w (in_flow (inside_asked m w))
-inside_grows m w f l =
-    let g = asked_grows (Build 1) w f l in
-    grown_on g (built_grows 1 (answer_of m w.records (Build 1)) (asked (Build 1) w) g.fits l)

@@ -17,7 +17,7 @@ use Rattle.model_answers.specs.declared.injection.Injection.{Injection}
 use Rattle.model_answers.specs.declared.model.Model.{Model}
 use Rattle.model_answers.specs.declared.record.Record.{Record}
 use Rattle.model_answers.specs.Answering.{answer_of, parameters_of}
-use Rattle.model_answers.proofs.AnswerLemmas.{AreNested, answer_more, same_value}
+use Rattle.model_answers.proofs.AnswerLemmas.{AreNested, about, answer_more, same_value}
 use Rattle.run_semantics.specs.declared.outcome.Outcome.{Outcome}
 use Rattle.run_semantics.specs.declared.outcome.Outcome.TheVariants.{Ended, EventLimit, NoMoreEvents, TimeLimit, Fault}
 use Rattle.event_set.specs.declared.pending.Pending.{Pending}
@@ -25,7 +25,7 @@ use Rattle.run_semantics.specs.declared.traces.Instance.{Instance}
 use Rattle.run_semantics.specs.Agreement.{Agrees, AgreesUpTo, tried, questions_of}
 use Rattle.run_semantics.specs.Laws.{Each, GoesOn}
 use Rattle.run_semantics.specs.World.{World, empty, asked, asked_next}
-use Rattle.run_semantics.specs.Perform.{Flow, On, Stopped, Broken, ◌>>=◌, ask_all, question_of, acted, first_fault, fault_of_read, read_fault, unless_fault}
+use Rattle.run_semantics.specs.Perform.{Flow, On, Stopped, Broken, ◌>>=◌, asking, ask_all, question_of, acted, first_fault, fault_of_read, read_fault, unless_fault}
 use Rattle.run_semantics.specs.Event.{call_of, place_in, with_state, replied, called, call_at, call_module, counted, begun, event, message_of}
 use Rattle.run_semantics.specs.Run.{rooted, built, root_asked, inside_asked, prepared, Part, place_parts, ready, standing, most_stages, initialize, one_stage, stages_from, initialize_all, with_started, Stage, Running, Over, world_at, settled, start, says_beyond, is_after_limit, went, next_stage, after, IsReached}
 use Rattle.run_semantics.specs.Upcoming.{first_due, delivered, target_of, Upcoming, Comes, Nothing, aimed, chosen, upcoming_in, most_injections, upcoming}
@@ -33,7 +33,7 @@ use Rattle.run_semantics.proofs.Looking.{beside, HasLooked, looked_same, looked_
 use Rattle.run_semantics.proofs.Sound.{in_flow}
 use Rattle.run_semantics.proofs.Counts.{RunsOn, runs_on}
 use Rattle.run_semantics.proofs.Ends.{over_stays}
-use Rattle.run_semantics.proofs.Growth.{AllOfEvent, AllAbout, AllOfEvent-append, AllAbout-append, AllAbout-more, Fits, IsGrown, grown_same, grown_on, fits_empty, root_grows, rooted_grows, inside_grows, built_grows, then_grows, asked_grows, asked_read_grows, ask_all_grows, answered_on, fits_with_state, replied_grows, within_of_place, call_grows, place_parts_grows, initialize_all_grows}
+use Rattle.run_semantics.proofs.Growth.{AllOfEvent, AllAbout, AllOfEvent-append, AllAbout-append, AllAbout-more, Fits, IsGrown, grown_same, grown_on, fits_empty, rooted_grows, built_grows, then_grows, asked_grows, asked_read_grows, ask_all_grows, answered_on, fits_with_state, replied_grows, within_of_place, call_grows, place_parts_grows, initialize_all_grows}
 
 -- ---- agreement on fewer questions
 
@@ -121,6 +121,19 @@ either_does : (m n : Model) (w : World) (c : Bool) (f g h k : Flow) → DoesSame
 either_does m n w true f g h k d e = d
 either_does m n w false f g h k d e = e
 
+-- A QUESTION, and what follows it: where that is the same for every answer, it is the same in models that answer alike
+asking_same : (m n : Model) (q : Question) (next other : Answer → World → Flow) (w : World) → Fits w → about q ≤ length w.records → ((a : Answer) → Fits (asked q w) → DoesSame m n (asked q w) (next a (asked q w)) (other a (asked q w))) → DoesSame m n w (asking m q next w) (asking n q other w)
+asking_same m n q next other w f l h =
+    let v : World = asked q w in
+    let g = asked_grows q w f l in
+    let d = h (answer_of m w.records q) g.fits in
+    record {
+      grows = grown_on g d.grows;
+      same = λ agreed.
+          let here : AgreesIn m n v = Agrees-before m n v (in_flow (asking m q next w)) g.fits d.grows agreed in
+          d.same agreed ∙ ap (λ (a : Answer). other a v) (Agrees-last m n w.records w.questions (record { event = w.count; question = q }) here);
+    }
+
 -- ---- replies and calls
 
 -- the models answer these reads alike
@@ -181,13 +194,7 @@ call_same b law m n id p w f = call_at_same b law m n id p w (place_in id w.modu
 
 -- the first question, and what follows it
 root_same : (m n : Model) → DoesSame m n empty (root_asked m) (root_asked n)
-root_same m n = record {
-  grows = root_grows m;
-  same = λ h.
-      let v : World = asked Root empty in
-      let here : AgreesIn m n v = Agrees-before m n v (in_flow (root_asked m)) (asked_grows Root empty fits_empty (omega arith)).fits (rooted_grows (answer_of m [] Root)) h in
-      ap (λ (a : Answer). rooted a v) here.0;
-}
+root_same m n = asking_same m n Root rooted rooted empty fits_empty (omega arith) (λ a fits. does_itself m n (asked Root empty) (rooted a (asked Root empty)) (rooted_grows a))
 
 -- where a network is there, it has a record
 abbrev HasRecord : World → Type 0
@@ -205,15 +212,7 @@ rooted_on answer.Absent = tt
 
 -- the second question, and what follows it
 inside_same : (m n : Model) (w : World) → Fits w → HasRecord w → DoesSame m n w (inside_asked m w) (inside_asked n w)
-inside_same m n w f l =
-    let v : World = asked (Build 1) w in
-    let g = asked_grows (Build 1) w f l in
-    record {
-      grows = inside_grows m w f l;
-      same = λ h.
-          let here : AgreesIn m n v = Agrees-before m n v (in_flow (inside_asked m w)) g.fits (built_grows 1 (answer_of m w.records (Build 1)) v g.fits l) h in
-          ap (λ (a : Answer). built 1 a v) (Agrees-last m n w.records w.questions (record { event = w.count; question = Build 1 }) here);
-    }
+inside_same m n w f l = asking_same m n (Build 1) (built 1) (built 1) w f l (λ a fits. does_itself m n (asked (Build 1) w) (built 1 a (asked (Build 1) w)) (built_grows 1 a (asked (Build 1) w) fits l))
 
 -- setup
 prepared_same : (m n : Model) → DoesSame m n empty (prepared m) (prepared n)

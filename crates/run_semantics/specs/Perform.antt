@@ -46,6 +46,10 @@ On w >>= f = f w
 Stopped w >>= f = Stopped w
 Broken w path fault >>= f = Broken w path fault
 
+-- A QUESTION that a run asks of its model: it is noted, and what goes on is told the answer
+abbrev pub asking : Model → Question → (Answer → World → Flow) → World → Flow
+asking m q next w = next (answer_of m w.records q) (asked q w)
+
 -- a fault of the module of that id
 abbrev pub broken : ℕ → Fault → World → Flow
 broken id f w = Broken w (path_of w.records id) f

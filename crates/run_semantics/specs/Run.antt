@@ -15,8 +15,8 @@ use Rattle.run_semantics.specs.declared.outcome.Outcome.{Outcome}
 use Rattle.run_semantics.specs.declared.outcome.Outcome.TheVariants.{Ended, EventLimit, NoMoreEvents, TimeLimit, Fault}
 use Rattle.event_set.specs.declared.pending.Pending.{Pending}
 use Rattle.run_semantics.specs.declared.traces.Instance.{Instance}
-use Rattle.run_semantics.specs.World.{World, empty, asked}
-use Rattle.run_semantics.specs.Perform.{Flow, On, Stopped, Broken, ◌>>=◌, broken, model_fault}
+use Rattle.run_semantics.specs.World.{World, empty}
+use Rattle.run_semantics.specs.Perform.{Flow, On, Stopped, Broken, ◌>>=◌, asking, broken, model_fault}
 use Rattle.run_semantics.specs.Event.{call_module, event}
 use Rattle.run_semantics.specs.Upcoming.{Upcoming, Comes, Nothing, upcoming}
 
@@ -54,10 +54,10 @@ built parent _ w = broken parent fault.UnknownType w
 
 -- the network and its submodules are created, as the model answers
 abbrev pub root_asked : Model → Flow
-root_asked m = rooted (answer_of m [] Root) (asked Root empty)
+root_asked m = asking m Root rooted empty
 
 abbrev pub inside_asked : Model → World → Flow
-inside_asked m w = built 1 (answer_of m w.records (Build 1)) (asked (Build 1) w)
+inside_asked m w = asking m (Build 1) (built 1) w
 
 abbrev pub prepared : Model → Flow
 prepared m = root_asked m >>= inside_asked m
