@@ -1,5 +1,5 @@
 -- A run that gets its boxes, one after the other.
-use Rattle.std.proofs.Common.{◌≡◌, ℕ, zero, suc, Bool, true, false, List, [], ◌∷◌, ◌++◌, drop, Option, Some, None, option_map, refl, sym, ap, ◌∙◌, subst, arith, slice_get, length, map}
+use Rattle.std.proofs.Common.{◌≡◌, ℕ, zero, suc, ◌≤◌, ◌<◌, Bool, true, false, List, [], ◌∷◌, ◌++◌, drop, take, Option, Some, None, option_map, refl, sym, ap, ◌∙◌, subst, arith, slice_get, length, map}
 use Rattle.module_api.specs.Behaviour.{Behaviour}
 use Rattle.module_api.specs.Meaning.{Module, IsFresh}
 use Rattle.model_answers.specs.declared.answer.Answer.{Answer}
@@ -16,11 +16,11 @@ use Rattle.run_semantics.specs.declared.outcome.Outcome.TheVariants as outcomes
 use Rattle.run_semantics.specs.declared.traces.Instance.{Instance}
 use Rattle.run_semantics.specs.World.{World, empty, asked}
 use Rattle.run_semantics.specs.Perform.{Flow, On, Stopped, Broken, ◌>>=◌}
-use Rattle.run_semantics.specs.Run.{Part, parts_from, parts_of, rooted, built, unless_many, root_asked, inside_asked, prepared, place_parts, ready, placed, place, place_all, initialize_all, start, Running, Over, settled, is_fault}
+use Rattle.run_semantics.specs.Run.{Part, part_of, standing, parts_from, parts_of, with_class, rooted, built, unless_many, root_asked, inside_asked, prepared, place_parts, ready, placed, place, place_all, initialize_all, start, Running, Over, settled, is_fault}
 use Rattle.run_semantics.specs.Ending.{ending}
 use Rattle.run_semantics.proofs.Ends.{run_over}
 use Rattle.kernel.specs.declared.request.Request.{Request}
-use Rattle.kernel.specs.Seats.{Seat, AreOfKinds, instance_of, request_for, missing_part, missing_of}
+use Rattle.kernel.specs.Seats.{Seat, AreBelow, AreOfKinds, instance_of, request_for, missing_part, missing_of}
 use Rattle.edit_session.specs.declared.running.Phase.{Phase}
 use Rattle.edit_session.specs.declared.running.Phase.TheVariants.{Idle, Waiting, Declined}
 use Rattle.edit_session.specs.Editing.{Completed, IsKept, IsLeft, IsFor, IsUnknown, waited_for, wanted_after, wanted_by, IsFilled, IsDeclined, whole_run}
@@ -77,6 +77,7 @@ filled_first b m w none e =
       prepared_is = r.0;
       records = refl;
       next = r.1;
+      first = rw none refl;
       flow = ap (λ (ms : List Instance). place_all b (drop (length ms) (parts_of w)) w) none ∙ sym (ap (λ (fl : Flow). fl >>= place_parts b) r.0);
     }
 
@@ -165,6 +166,15 @@ whole_over b m limit w outcome e =
 requested : (w : World) (r : Request) → missing_of w ≡ Some r → (p : Part) × (missing_part w ≡ Some p) × (r ≡ request_for w p)
 requested w r e = some_part (request_for w) (missing_part w) r e
 
+standing_more : (is : List Instance) (i : Instance) → standing (is ++ i ∷ []) ≡ standing is ++ part_of i ∷ []
+standing_more [] i = refl
+standing_more (j ∷ is) i = ap (λ (ps : List Part). part_of j ∷ ps) (standing_more is i)
+
+take_more : (ps : List Part) (n : ℕ) (p : Part) → slice_get ps n ≡ Some p → take (suc n) ps ≡ take n ps ++ p ∷ []
+take_more [] n p e = cc
+take_more (q ∷ ps) zero p e = let a : q ≡ p = cc in ap (λ r. r ∷ []) a
+take_more (q ∷ ps) (suc n) p e = ap (λ (qs : List Part). q ∷ qs) (take_more ps n p e)
+
 -- one more box
 pub filled_next : (b : Behaviour) (m : Model) (w u : World) (r : Request) (box : Module) → IsFilled b m w → missing_of w ≡ Some r → IsFresh b r.kind box → u ≡ placed (record { id = r.id; kind = box.kind }) box.state w → IsFilled b m u
 filled_next b m w u r box filled wanted fresh e =
@@ -183,12 +193,56 @@ filled_next b m w u r box filled wanted fresh e =
       prepared_is = filled.prepared_is;
       records = filled.records;
       next = filled.next;
+      first =
+          standing_more w.modules _
+          ∙ ap (λ (ps : List Part). ps ++ q.0 ∷ []) filled.first
+          ∙ sym (take_more (parts_of w) (length w.modules) q.0 q.1)
+          ∙ sym (ap (λ n. take n (parts_of w)) more);
       flow =
           ap (λ n. place_all b (drop n (parts_of w)) (placed q.0 (b.naming q.0.kind).initial w)) more
           ∙ sym (ap (λ (fl : Flow). fl >>= place_all b (drop (suc (length w.modules)) (parts_of w))) (known_place b q.0 w true known refl))
           ∙ ap (λ (ps : List Part). place_all b ps w) (sym (drop_get (parts_of w) (length w.modules) q.0 q.1))
           ∙ filled.flow;
     })
+
+-- ---- boxes are given by rising ids
+
+id_or : ℕ → Option Part → ℕ
+id_or k None = k
+id_or k (Some p) = p.id
+
+AreBelowPart : ℕ → List Part → Type 0
+AreBelowPart id [] = Unit {0}
+AreBelowPart id (p ∷ ps) = (p.id < id) × AreBelowPart id ps
+
+below_instances : (id : ℕ) (is : List Instance) → AreBelowPart id (standing is) → AreBelow id is
+below_instances id [] h = tt
+below_instances id (i ∷ is) h = (h.0, below_instances id is h.1)
+
+at_least : (k : ℕ) (rs : List Record) (n : ℕ) (p : Part) → slice_get (parts_from k rs) n ≡ Some p → k ≤ p.id
+at_least k [] n p e = cc
+at_least k (r ∷ rs) n p e = by r.class n (λ n e. at_least (suc k) rs n p e) e
+  where
+    by : (class : Option (List ℕ)) (n : ℕ) → ((n : ℕ) → slice_get (parts_from (suc k) rs) n ≡ Some p → suc k ≤ p.id) → slice_get (with_class k class (parts_from (suc k) rs)) n ≡ Some p → k ≤ p.id
+    by None n later e = let h = later n e in omega (arith, h)
+    by (Some kind) zero later e = let same : k ≡ p.id = ap (λ (o : Option Part). id_or k o) e in omega (arith, same)
+    by (Some kind) (suc n) later e = let h = later n e in omega (arith, h)
+
+-- the parts before one are of smaller ids
+before_part : (k : ℕ) (rs : List Record) (n : ℕ) (p : Part) → slice_get (parts_from k rs) n ≡ Some p → AreBelowPart p.id (take n (parts_from k rs))
+before_part k [] n p e = cc
+before_part k (r ∷ rs) n p e = by r.class n (λ n e. before_part (suc k) rs n p e) e
+  where
+    by : (class : Option (List ℕ)) (n : ℕ) → ((n : ℕ) → slice_get (parts_from (suc k) rs) n ≡ Some p → AreBelowPart p.id (take n (parts_from (suc k) rs))) → slice_get (with_class k class (parts_from (suc k) rs)) n ≡ Some p → AreBelowPart p.id (take n (with_class k class (parts_from (suc k) rs)))
+    by None n later e = later n e
+    by (Some kind) zero later e = tt
+    by (Some kind) (suc n) later e = (at_least (suc k) rs n p e, later n e)
+
+filled_above : (b : Behaviour) (m : Model) (w : World) (r : Request) → IsFilled b m w → missing_of w ≡ Some r → AreBelow r.id w.modules
+filled_above b m w r filled wanted =
+    let q = requested w r wanted in
+    let id : r.id ≡ q.0.id = ap (λ (x : Request). x.id) q.2 in
+    below_instances r.id w.modules (rw (id, filled.first) (before_part 1 w.records (length w.modules) q.0 q.1))
 
 -- there is none
 pub filled_declined : (b : Behaviour) (m : Model) (w : World) (r : Request) → IsFilled b m w → missing_of w ≡ Some r → b.known r.kind ≡ false → IsDeclined b m w
@@ -230,6 +284,14 @@ kept_declined b ss w m Waiting last id e kept some unknown =
     }
 kept_declined b ss w m Idle last id e kept some unknown = cc
 kept_declined b ss w m Declined last id e kept some unknown = cc
+
+-- the box that is supplied is of a greater id than all that are there
+pub supply_above : (b : Behaviour) (ss : List Seat) (w : World) (m : Model) (phase : Phase) (done : Option Completed) (id : ℕ) → w.modules ≡ map instance_of ss → IsKept b ss w m phase done → option_map (λ (r : Request). r.id) (waited_for phase m (length ss)) ≡ Some id → AreBelow id w.modules
+supply_above b ss w m Waiting last id e kept some =
+    let q = request_of (wanted_by m (length ss)) id some in
+    subst (λ i. AreBelow i w.modules) (sym q.2) (filled_above b m w q.0 kept.live (waited b m w ss q.0 e kept.live q.1))
+supply_above b ss w m Idle last id e kept some = cc
+supply_above b ss w m Declined last id e kept some = cc
 
 pub kept_supplied : (b : Behaviour) (ss ts : List Seat) (w u : World) (m : Model) (phase : Phase) (done : Option Completed) (id : ℕ) (box : Module) → w.modules ≡ map instance_of ss → IsKept b ss w m phase done → option_map (λ (r : Request). r.id) (waited_for phase m (length ss)) ≡ Some id → IsFor b (waited_for phase m (length ss)) box → AreOfKinds b ts → u ≡ placed (record { id = id; kind = box.kind }) box.state w → IsKept b ts u m phase done
 kept_supplied b ss ts w u m Waiting last id box e kept some for_it kinds now =

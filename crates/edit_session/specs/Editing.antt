@@ -1,5 +1,5 @@
 -- What a session keeps.
-use Rattle.std.specs.Prelude.{◌≡◌, ◌⊎◌, ◌<◌, ◌^◌, ℕ, false, List, Option, Some, None, option_map, length, drop, slice_get}
+use Rattle.std.specs.Prelude.{◌≡◌, ◌⊎◌, ◌<◌, ◌^◌, ℕ, false, List, Option, Some, None, option_map, length, drop, take, slice_get}
 use Rattle.module_api.specs.Behaviour.{Behaviour}
 use Rattle.module_api.specs.Meaning.{Module, IsFresh}
 use Rattle.model_answers.specs.declared.model.Model.{Model}
@@ -8,7 +8,7 @@ use Rattle.run_semantics.specs.declared.outcome.Fault.TheVariants.{UnknownClass}
 use Rattle.run_semantics.specs.declared.outcome.Outcome.{Outcome}
 use Rattle.run_semantics.specs.World.{World, HasRoom}
 use Rattle.run_semantics.specs.Perform.{Flow, On, Stopped, Broken}
-use Rattle.run_semantics.specs.Run.{Part, parts_of, prepared, ready, place_all, start, Over, Ran, run_to}
+use Rattle.run_semantics.specs.Run.{Part, parts_of, prepared, ready, place_all, standing, start, Over, Ran, run_to}
 use Rattle.run_semantics.specs.Ending.{ending}
 use Rattle.model_edits.specs.declared.edit.Edit.{Edit}
 use Rattle.model_edits.specs.Edited.{number_given, IsEditOf, IsOnlyEditOf}
@@ -21,7 +21,7 @@ use Rattle.edit_session.specs.declared.running.Phase.TheVariants.{Idle, Waiting,
 use Rattle.edit_session.specs.declared.running.Advance.{Advance}
 use Rattle.edit_session.specs.declared.running.Advance.TheVariants as advance
 use Rattle.edit_session.specs.declared.running.Standing.{Standing}
-use Rattle.edit_session.specs.declared.running.Standing.TheVariants as standing
+use Rattle.edit_session.specs.declared.running.Standing.TheVariants as stands
 use Rattle.edit_session.specs.declared.session.Edited.{Edited}
 use Rattle.edit_session.specs.declared.session.Progress.{Progress}
 use Rattle.edit_session.specs.declared.session.Progress.TheVariants as progress
@@ -93,12 +93,13 @@ IsUndeclined Declined = ⊥
 
 -- ---- what it keeps
 
--- a world that is being filled with boxes: all that is left to place leads where all leads
+-- a world that is being filled with boxes: the first parts have theirs, and all that is left to place leads where all leads
 pub record IsFilled (b : Behaviour) (m : Model) (w : World) : Type 0 where
   pub base : World
   pub prepared_is : prepared m ≡ On base
   pub records : w.records ≡ base.records
   pub next : w.next ≡ 0
+  pub first : standing w.modules ≡ take (length w.modules) (parts_of w)
   pub flow : place_all b (drop (length w.modules) (parts_of w)) w ≡ ready b m
 
 -- a world where the next box was declined
@@ -146,13 +147,13 @@ pub record IsKept (b : Behaviour) (seats : List Seat) (w : World) (m : Model) (p
 
 -- where a run stands that has its boxes, waits for one, or can't begin
 abbrev pub Stands : Behaviour → Model → ℕ → World → Standing → Type 0
-Stands b m kept w (standing.Over outcome) = Over w outcome ≡ start b m
-Stands b m kept w (standing.Missing request) = IsFilled b m w × (missing_of w ≡ Some request) × (length w.modules ≡ kept)
-Stands b m kept w standing.Ready = (On w ≡ ready b m) × (w.next ≡ 0)
+Stands b m kept w (stands.Over outcome) = Over w outcome ≡ start b m
+Stands b m kept w (stands.Missing request) = IsFilled b m w × (missing_of w ≡ Some request) × (length w.modules ≡ kept)
+Stands b m kept w stands.Ready = (On w ≡ ready b m) × (w.next ≡ 0)
 
 -- what it waits for is what its model wants after so many boxes; it doesn't go on while there is such a box
 abbrev pub Wants : Model → ℕ → Phase → Standing → Type 0
-Wants m kept phase (standing.Missing request) = IsUndeclined phase × (wanted_by m kept ≡ Some request)
+Wants m kept phase (stands.Missing request) = IsUndeclined phase × (wanted_by m kept ≡ Some request)
 Wants m kept phase _ = (phase ≡ Declined) ⊎ (wanted_by m kept ≡ None)
 
 -- where a run is after it was asked for: it waits with the boxes that it kept, or it is done

@@ -1,76 +1,83 @@
--- Boxes and their kinds.
-use Rattle.std.proofs.Common.{◌≡◌, ℕ, suc, zero, ◌+◌, ◌<◌, Bool, cond, List, [], ◌∷◌, ◌++◌, Some, refl, sym, ap, ◌∙◌, arith, subst, slice_get, slice_set, length, map}
-use Rattle.std.specs.List.{position_from}
+-- Boxes in their places.
+use Rattle.std.proofs.Common.{◌≡◌, ℕ, suc, ◌≤◌, ◌<◌, ◌==◌, nat_lt, Bool, true, false, cond, List, [], ◌∷◌, ◌++◌, Option, Some, None, option_map, Result, Ok, Err, OnOk, OnErr, refl, sym, ap, ◌∙◌, subst, arith, map, eqb-true}
+use Rattle.std.proofs.lemmas.Bool.Decides.{nat_tests}
 use Rattle.module_api.specs.Behaviour.{Behaviour}
-use Rattle.module_api.specs.Meaning.{Module, IsSameModule, IsOfKind}
-use Rattle.run_semantics.specs.Run.{Part, part_of, standing}
-use Rattle.kernel.specs.Seats.{Seat, instance_of, AreOfKinds, AreKept}
+use Rattle.module_api.specs.Meaning.{Module, IsOfKind}
+use Rattle.module_tree.specs.Boxes.{Seated, box_of, with_box, without_box, AreRising}
+use Rattle.module_tree.proofs.Seats.{another_in, same_found, put_again}
+use Rattle.run_semantics.specs.declared.traces.Instance.{Instance}
+use Rattle.run_semantics.specs.Run.{Part, standing}
+use Rattle.kernel.specs.Seats.{Seat, instance_of, module_in, with_module, AreBelow, AreOfKinds}
 
--- ---- one more box
+-- what the boxes of a tree are
+module _ {A : Type 0} (means : A → Module) where
+  abbrev pub seat : Seated A → Seat
+  seat s = record { id = s.id; box = means s.box }
 
-kinds_placed : (b : Behaviour) (ss : List Seat) (s : Seat) → AreOfKinds b ss → IsOfKind b s.box → AreOfKinds b (ss ++ s ∷ [])
-kinds_placed b [] s h k = (k, tt)
-kinds_placed b (t ∷ ts) s h k = (h.0, kinds_placed b ts s h.1 k)
+  -- the box of an id
+  pub means_in : (id : ℕ) (ss : List (Seated A)) → module_in id (map seat ss) ≡ option_map means (box_of id ss)
+  means_in id [] = refl
+  means_in id (s ∷ ss) = by (s.id == id) (means_in id ss)
+    where
+      by : (t : Bool) → module_in id (map seat ss) ≡ option_map means (box_of id ss) → cond t (Some (means s.box)) (module_in id (map seat ss)) ≡ option_map means (cond t (Some s.box) (box_of id ss))
+      by true later = refl
+      by false later = later
 
-map_more : {A B : Type 0} (f : A → B) (xs : List A) (x : A) → map f (xs ++ x ∷ []) ≡ map f xs ++ f x ∷ []
-map_more f [] x = refl
-map_more f (y ∷ ys) x = ap (λ zs. f y ∷ zs) (map_more f ys x)
+  means_with : (id : ℕ) (y : A) (ss : List (Seated A)) → map seat (another_in id y ss) ≡ with_module id (means y) (map seat ss)
+  means_with id y [] = refl
+  means_with id y (s ∷ ss) = by (s.id == id) (means_with id y ss)
+    where
+      by : (t : Bool) → map seat (another_in id y ss) ≡ with_module id (means y) (map seat ss) → map seat (cond t (record { id = s.id; box = y } ∷ ss) (s ∷ another_in id y ss)) ≡ cond t (record { id = s.id; box = means y } ∷ map seat ss) (seat s ∷ with_module id (means y) (map seat ss))
+      by true later = refl
+      by false later = ap (λ ts. seat s ∷ ts) later
 
--- a box was placed
-pub kinds_supplied : {A : Type 0} (seat : A → Seat) (b : Behaviour) (xs : List A) (x : A) → AreOfKinds b (map seat xs) → IsOfKind b (seat x).box → AreOfKinds b (map seat (xs ++ x ∷ []))
-kinds_supplied seat b xs x h k = rw (map_more seat xs x) (kinds_placed b (map seat xs) (seat x) h k)
+  -- a box that was taken out is put back
+  pub put_back_in : (id below : ℕ) (x y : A) (ss : List (Seated A)) → AreRising 0 below ss → box_of id ss ≡ Some x → map seat (with_box id y (without_box id ss)) ≡ with_module id (means y) (map seat ss)
+  put_back_in id below x y ss r e = ap (map seat) (put_again id below x y 0 ss r e) ∙ means_with id y ss
 
--- ---- where a box stands
+  -- none was there
+  pub none_out_of : (id : ℕ) (ss : List (Seated A)) → box_of id ss ≡ None → map seat (without_box id ss) ≡ map seat ss
+  none_out_of id ss e = ap (map seat) (same_found id ss e)
 
-pub position_from-map : {A B : Type 0} (f : A → B) (p : B → Bool) (k : ℕ) (xs : List A) → position_from p k (map f xs) ≡ position_from (λ x. p (f x)) k xs
-position_from-map f p k [] = refl
-position_from-map f p k (x ∷ xs) = ap (cond (p (f x)) (Some k)) (position_from-map f p (k + 1) xs)
+  -- ---- one more box
 
-pub get_map : {A B : Type 0} (f : A → B) (xs : List A) (i : ℕ) (x : A) → slice_get xs i ≡ Some x → slice_get (map f xs) i ≡ Some (f x)
-get_map f [] i x e = cc
-get_map f (z ∷ zs) zero x e = let a : z ≡ x = cc in ap (λ y. Some (f y)) a
-get_map f (z ∷ zs) (suc i) x e = get_map f zs i x e
+  last_in : (id : ℕ) (y : A) (ss : List (Seated A)) → AreBelow id (map instance_of (map seat ss)) → with_box id y ss ≡ ss ++ record { id = id; box = y } ∷ []
+  last_in id y [] h = refl
+  last_in id y (s ∷ ss) h = rw (less id s.id h.0) (ap (λ ts. s ∷ ts) (last_in id y ss h.1))
+    where
+      less : (m n : ℕ) → n < m → nat_lt m n ≡ false
+      less m n h = grind (arith, nat_tests)
 
-pub get-map : {A B : Type 0} (f : A → B) (xs : List A) (i : ℕ) (x : A) (y : B) → slice_get xs i ≡ Some x → slice_get (map f xs) i ≡ Some y → y ≡ f x
-get-map f xs i x y e h = let g : Some y ≡ Some (f x) = sym h ∙ get_map f xs i x e in cc
+  pub none_below : (id : ℕ) (ss : List (Seated A)) → AreBelow id (map instance_of (map seat ss)) → box_of id ss ≡ None
+  none_below id [] h = refl
+  none_below id (s ∷ ss) h = rw (other id s.id h.0) (none_below id ss h.1)
+    where
+      other : (m n : ℕ) → n < m → (n == m) ≡ false
+      other m n h = grind (arith, nat_tests)
 
--- what stands at a place that is there
-pub seat_at : {A : Type 0} (xs : List A) (i : ℕ) → i < length xs → (x : A) × (slice_get xs i ≡ Some x)
-seat_at [] i h = absurd (omega arith)
-seat_at (x ∷ xs) zero h = (x, refl)
-seat_at (x ∷ xs) (suc i) h = seat_at xs i (omega arith)
+  map_more : {B C : Type 0} (f : B → C) (xs : List B) (x : B) → map f (xs ++ x ∷ []) ≡ map f xs ++ f x ∷ []
+  map_more f [] x = refl
+  map_more f (y ∷ ys) x = ap (λ zs. f y ∷ zs) (map_more f ys x)
 
--- ---- kinds at a place
+  pub supplied : (id : ℕ) (y : A) (ss : List (Seated A)) → AreBelow id (map instance_of (map seat ss)) → map seat (with_box id y ss) ≡ map seat ss ++ record { id = id; box = means y } ∷ []
+  supplied id y ss h = ap (map seat) (last_in id y ss h) ∙ map_more seat ss (record { id = id; box = y })
 
-pub kind_at : (b : Behaviour) (ss : List Seat) (i : ℕ) (s : Seat) → slice_get ss i ≡ Some s → AreOfKinds b ss → IsOfKind b s.box
-kind_at b [] i s e h = cc
-kind_at b (t ∷ ts) zero s e h = let a : t ≡ s = cc in subst (λ (x : Seat). IsOfKind b x.box) a h.0
-kind_at b (t ∷ ts) (suc i) s e h = kind_at b ts i s e h.1
+  pub instances_supplied : (id : ℕ) (y : A) (ss : List (Seated A)) → AreBelow id (map instance_of (map seat ss)) → map instance_of (map seat (with_box id y ss)) ≡ map instance_of (map seat ss) ++ record { id = id; kind = (means y).kind; state = (means y).state } ∷ []
+  instances_supplied id y ss h = ap (map instance_of) (supplied id y ss h) ∙ map_more instance_of (map seat ss) (record { id = id; box = means y })
 
-pub kinds_set : (b : Behaviour) (ss : List Seat) (i : ℕ) (s : Seat) → IsOfKind b s.box → AreOfKinds b ss → AreOfKinds b (slice_set ss i s)
-kinds_set b [] i s k h = tt
-kinds_set b (t ∷ ts) zero s k h = (k, h.1)
-kinds_set b (t ∷ ts) (suc i) s k h = (h.0, kinds_set b ts i s k h.1)
+kinds_more : (b : Behaviour) (ss : List Seat) (s : Seat) → AreOfKinds b ss → IsOfKind b s.box → AreOfKinds b (ss ++ s ∷ [])
+kinds_more b [] s h k = (k, tt)
+kinds_more b (t ∷ ts) s h k = (h.0, kinds_more b ts s h.1 k)
 
-pub kind_same : (b : Behaviour) (old new : Module) → IsSameModule old new → IsOfKind b old → IsOfKind b new
-kind_same b old new s k = record {
-  known = rw (s.kind) k.known;
-  named = s.naming ∙ k.named ∙ ap b.naming (sym s.kind);
-}
+-- by whether the box was placed
+pub on_ok : {A E P Q : Type 0} (result : Result A E) → OnOk result P → (P → Q) → OnOk result Q
+on_ok (Ok x) p step = step p
+on_ok (Err e) p step = tt
 
--- ---- what stands is not changed by a call
+pub kinds_supplied : {A : Type 0} (means : A → Module) (b : Behaviour) (id : ℕ) (y : A) (ss : List (Seated A)) → AreBelow id (map instance_of (map (seat means) ss)) → AreOfKinds b (map (seat means) ss) → IsOfKind b (means y) → AreOfKinds b (map (seat means) (with_box id y ss))
+kinds_supplied means b id y ss below h k = rw (supplied means id y ss below) (kinds_more b (map (seat means) ss) (record { id = id; box = means y }) h k)
 
--- two calls, one after the other
-pub still_kept : {b : Behaviour} {old mid new : List Seat} → AreKept b old mid → AreKept b mid new → AreKept b old new
-still_kept first second = record { kinds = second.kinds; standing_is = second.standing_is ∙ first.standing_is }
-
-part_of_seat : Seat → Part
-part_of_seat s = part_of (instance_of s)
-
-pub standing_set : (ss : List Seat) (i : ℕ) (s t : Seat) → slice_get ss i ≡ Some s → t.id ≡ s.id → t.box.kind ≡ s.box.kind → standing (map instance_of (slice_set ss i t)) ≡ standing (map instance_of ss)
-standing_set [] i s t e d k = cc
-standing_set (u ∷ us) zero s t e d k =
-    let a : u ≡ s = cc in
-    let p : part_of (instance_of t) ≡ part_of (instance_of u) = rw (d, k, a) refl in
-    ap (λ (x : Part). x ∷ standing (map instance_of us)) p
-standing_set (u ∷ us) (suc i) s t e d k = ap (λ (xs : List Part). part_of (instance_of u) ∷ xs) (standing_set us i s t e d k)
+pub kinds_placed : {A U E : Type 0} (means : A → Module) (b : Behaviour) (id : ℕ) (y : A) (old new : List (Seated A)) (result : Result U E) → AreBelow id (map instance_of (map (seat means) old)) → AreOfKinds b (map (seat means) old) → IsOfKind b (means y)
+    → OnOk result (new ≡ with_box id y old) → OnErr result (new ≡ old) → AreOfKinds b (map (seat means) new)
+kinds_placed means b id y old new (Ok x) below h k ok err = subst (λ ss. AreOfKinds b (map (seat means) ss)) (sym ok) (kinds_supplied means b id y old below h k)
+kinds_placed means b id y old new (Err e) below h k ok err = subst (λ ss. AreOfKinds b (map (seat means) ss)) (sym err) h

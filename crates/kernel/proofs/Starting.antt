@@ -1,7 +1,8 @@
 -- The start of a run, in code and in the definitions.
-use Rattle.std.proofs.Common.{◌≡◌, ℕ, zero, suc, ◌+◌, ◌-◌, ◌<◌, ◌≤◌, nat_lt, max, true, false, List, [], ◌∷◌, drop, Some, IfSome, refl, sym, ap, ◌∙◌, arith, slice_get, length, map}
+use Rattle.std.proofs.Common.{◌≡◌, ℕ, zero, suc, ◌+◌, ◌-◌, ◌<◌, ◌≤◌, nat_lt, max, true, false, List, [], ◌∷◌, Option, Some, None, option_map, refl, sym, ap, ◌∙◌, arith, map, unwrap_or}
 use Rattle.std.proofs.lemmas.Bool.Decides.{nat_tests}
 use Rattle.module_api.specs.Behaviour.{Behaviour}
+use Rattle.module_api.specs.Meaning.{Module}
 use Rattle.module_api.specs.declared.call.Prompt.TheVariants as prompt
 use Rattle.model_answers.specs.declared.model.Model.{Model}
 use Rattle.run_semantics.specs.declared.outcome.Turn.{Turn}
@@ -9,24 +10,32 @@ use Rattle.run_semantics.specs.declared.outcome.Turn.TheVariants.{GoOn, Stop, Br
 use Rattle.run_semantics.specs.World.{World}
 use Rattle.run_semantics.specs.Perform.{Flow, On, ◌>>=◌, flow_of}
 use Rattle.run_semantics.specs.Event.{call_module}
-use Rattle.run_semantics.specs.Run.{Part, part_of, standing, most_stages, initialize, one_stage, stages_from}
-use Rattle.kernel.specs.Seats.{Seat, instance_of, AreOfKinds, most_of}
+use Rattle.run_semantics.specs.Run.{Part, standing, most_stages, initialize, one_stage, stages_from}
+use Rattle.kernel.specs.Seats.{Seat, instance_of, module_in, stages_of, AreOfKinds}
+use Rattle.kernel.specs.Parts.{part_in, initialize_at}
+use Rattle.kernel.proofs.Calling.{kind_in}
+use Rattle.kernel.proofs.Rising.{Rise, parts_left, all_left, none_left, left_none, left_some, part_for, part_standing}
 
 -- ---- stages
 
--- a box has as many stages as its kind
-pub most_of-standing : (b : Behaviour) (ss : List Seat) → AreOfKinds b ss → most_of ss ≡ most_stages b (standing (map instance_of ss))
-most_of-standing b [] h = refl
-most_of-standing b (s ∷ ss) h =
-    ap (λ n. max n.stages (most_of ss)) h.0.named ∙ ap (max (b.naming s.box.kind).stages) (most_of-standing b ss h.1)
+-- the stages of a box are those of the part that stands, by its kind
+pub staged : (b : Behaviour) (id : ℕ) (ss : List Seat) (box : Module) → module_in id ss ≡ Some box → AreOfKinds b ss → box.naming.stages ≡ (b.naming box.kind).stages
+staged b id ss box e h = ap (λ n. n.stages) (kind_in b id ss box e h).named
 
--- what the box at a place says of what stands there
-pub staged : (b : Behaviour) (ss : List Seat) (place : ℕ) (p : Part) (id stages : ℕ) → AreOfKinds b ss → IfSome (slice_get ss place) (λ s. (id ≡ s.id) × (stages ≡ s.box.naming.stages)) → slice_get (standing (map instance_of ss)) place ≡ Some p → (id ≡ p.id) × (stages ≡ (b.naming p.kind).stages)
-staged b [] place p id stages h told e = cc
-staged b (s ∷ ss) zero p id stages h told e =
-    let a : part_of (instance_of s) ≡ p = cc in
-    (told.0 ∙ ap (λ (x : Part). x.id) a, told.1 ∙ ap (λ n. n.stages) h.0.named ∙ ap (λ (x : Part). (b.naming x.kind).stages) a)
-staged b (s ∷ ss) (suc place) p id stages h told e = staged b ss place p id stages h.1 told e
+some_part : (id : ℕ) (ss : List Seat) (box : Module) → module_in id ss ≡ Some box → part_in id (standing (map instance_of ss)) ≡ Some (part_for id box)
+some_part id ss box e = part_standing id ss ∙ ap (option_map (part_for id)) e
+
+pub no_part : (id : ℕ) (ss : List Seat) → module_in id ss ≡ None → part_in id (standing (map instance_of ss)) ≡ None
+no_part id ss e = part_standing id ss ∙ ap (option_map (part_for id)) e
+
+-- the box whose stages are told
+told_box : (found : Option Module) (stages : Option ℕ) → stages ≡ stages_of found → (n : ℕ) → stages ≡ Some n → (box : Module) × (found ≡ Some box) × (n ≡ box.naming.stages)
+told_box None stages e n h = cc
+told_box (Some box) stages e n h = (box, refl, cc)
+
+pub told_none : (found : Option Module) (stages : Option ℕ) → stages ≡ stages_of found → stages ≡ None → found ≡ None
+told_none None stages e h = refl
+told_none (Some box) stages e h = cc
 
 past : (stage stages : ℕ) → stages ≤ stage → nat_lt stage stages ≡ false
 past stage stages h = grind (arith, nat_tests)
@@ -34,17 +43,25 @@ past stage stages h = grind (arith, nat_tests)
 before : (stage stages : ℕ) → stage < stages → nat_lt stage stages ≡ true
 before stage stages h = grind (arith, nat_tests)
 
--- a module that doesn't have the stage
-pub initialize-past : (b : Behaviour) (m : Model) (stage : ℕ) (p : Part) (w : World) (stages : ℕ) → stages ≡ (b.naming p.kind).stages → stages ≤ stage → On w ≡ initialize b m stage p w
-initialize-past b m stage p w stages e h =
-    let t : nat_lt stage (b.naming p.kind).stages ≡ false = ap (nat_lt stage) (sym e) ∙ past stage stages h in
-    rw t refl
+-- a module that has no box
+pub initialize-none : (b : Behaviour) (m : Model) (stage id : ℕ) (ss : List Seat) (w : World) (stages : Option ℕ) → stages ≡ stages_of (module_in id ss) → stages ≡ None → On w ≡ initialize_at b m stage w (part_in id (standing (map instance_of ss)))
+initialize-none b m stage id ss w stages told none = ap (initialize_at b m stage w) (sym (no_part id ss (told_none (module_in id ss) stages told none)))
 
--- a module that has it
-pub initialize-called : (b : Behaviour) (m : Model) (stage : ℕ) (p : Part) (w : World) (id stages : ℕ) (fl : Flow) → id ≡ p.id → stages ≡ (b.naming p.kind).stages → stage < stages → fl ≡ call_module b m id (prompt.Initialize stage) w → fl ≡ initialize b m stage p w
-initialize-called b m stage p w id stages fl same e h f =
-    let t : nat_lt stage (b.naming p.kind).stages ≡ true = ap (nat_lt stage) (sym e) ∙ before stage stages h in
-    rw t (f ∙ ap (λ i. call_module b m i (prompt.Initialize stage) w) same)
+-- one that doesn't have the stage
+pub initialize-past : (b : Behaviour) (m : Model) (stage id : ℕ) (ss : List Seat) (w : World) (stages : Option ℕ) (n : ℕ) → AreOfKinds b ss → stages ≡ stages_of (module_in id ss) → stages ≡ Some n → n ≤ stage → On w ≡ initialize_at b m stage w (part_in id (standing (map instance_of ss)))
+initialize-past b m stage id ss w stages n kinds told some h =
+    let box = told_box (module_in id ss) stages told n some in
+    let e : (b.naming box.0.kind).stages ≡ n = sym (box.2 ∙ staged b id ss box.0 box.1 kinds) in
+    let t : nat_lt stage (b.naming box.0.kind).stages ≡ false = ap (nat_lt stage) e ∙ past stage n h in
+    rw (some_part id ss box.0 box.1, t) refl
+
+-- one that has it
+pub initialize-called : (b : Behaviour) (m : Model) (stage id : ℕ) (ss : List Seat) (w : World) (stages : Option ℕ) (n : ℕ) (fl : Flow) → AreOfKinds b ss → stages ≡ stages_of (module_in id ss) → stages ≡ Some n → stage < n → fl ≡ call_module b m id (prompt.Initialize stage) w → fl ≡ initialize_at b m stage w (part_in id (standing (map instance_of ss)))
+initialize-called b m stage id ss w stages n fl kinds told some h f =
+    let box = told_box (module_in id ss) stages told n some in
+    let e : (b.naming box.0.kind).stages ≡ n = sym (box.2 ∙ staged b id ss box.0 box.1 kinds) in
+    let t : nat_lt stage (b.naming box.0.kind).stages ≡ true = ap (nat_lt stage) e ∙ before stage n h in
+    rw (some_part id ss box.0 box.1, t) f
 
 -- ---- loops
 
@@ -54,30 +71,61 @@ stops GoOn w k h = absurd (h refl)
 stops Stop w k h = refl
 stops (Break path f) w k h = refl
 
-pub part_at : (ps : List Part) (i : ℕ) → i < length ps → (p : Part) × (slice_get ps i ≡ Some p) × (drop i ps ≡ p ∷ drop (suc i) ps)
-part_at [] i h = absurd (omega arith)
-part_at (p ∷ ps) zero h = (p, refl, refl)
-part_at (p ∷ ps) (suc i) h = part_at ps i (omega arith)
-
--- one module more
-pub stage_step : (b : Behaviour) (m : Model) (stage i : ℕ) (ps now : List Part) (w : World) (fl whole : Flow) → now ≡ ps → i < length ps → ((p : Part) → slice_get now i ≡ Some p → fl ≡ initialize b m stage p w) → one_stage b m stage (drop i ps) w ≡ whole → (fl >>= one_stage b m stage (drop (i + 1) ps)) ≡ whole
-stage_step b m stage i ps now w fl whole same lt step done =
-    let at = part_at ps i lt in
-    let first : fl ≡ initialize b m stage at.0 w = step at.0 (ap (λ (xs : List Part). slice_get xs i) same ∙ at.1) in
-    let next : i + 1 ≡ suc i = omega arith in
-    ap (λ n. fl >>= one_stage b m stage (drop n ps)) next
-    ∙ ap (λ (f : Flow). f >>= one_stage b m stage (drop (suc i) ps)) first
-    ∙ ap (λ (xs : List Part). one_stage b m stage xs w) (sym at.2)
+-- one id more
+stage_at : (b : Behaviour) (m : Model) (stage n below : ℕ) (ps : List Part) (w : World) (fl whole : Flow) (found : Option Part) → part_in n ps ≡ found → Rise 0 below ps → fl ≡ initialize_at b m stage w found → one_stage b m stage (parts_left n ps) w ≡ whole → (fl >>= one_stage b m stage (parts_left (n + 1) ps)) ≡ whole
+stage_at b m stage n below ps w fl whole None e r step done =
+    ap (λ (f : Flow). f >>= one_stage b m stage (parts_left (n + 1) ps)) step
+    ∙ ap (λ (xs : List Part). one_stage b m stage xs w) (sym (left_none n 0 below ps r e))
+    ∙ done
+stage_at b m stage n below ps w fl whole (Some p) e r step done =
+    ap (λ (f : Flow). f >>= one_stage b m stage (parts_left (n + 1) ps)) step
+    ∙ ap (λ (xs : List Part). one_stage b m stage xs w) (sym (left_some n 0 below ps p r e))
     ∙ done
 
-pub none_left : (b : Behaviour) (m : Model) (stage i : ℕ) (ps : List Part) (w : World) → length ps ≤ i → one_stage b m stage (drop i ps) w ≡ On w
-none_left b m stage i ps w h = ap (λ (xs : List Part). one_stage b m stage xs w) (drop_all i ps h)
-  where
-    drop_all : (i : ℕ) (ps : List Part) → length ps ≤ i → drop i ps ≡ []
-    drop_all zero [] h = refl
-    drop_all (suc i) [] h = refl
-    drop_all zero (p ∷ ps) h = absurd (omega arith)
-    drop_all (suc i) (p ∷ ps) h = drop_all i ps (omega arith)
+pub stage_step : (b : Behaviour) (m : Model) (stage n below : ℕ) (ps now : List Part) (w : World) (fl whole : Flow) → now ≡ ps → Rise 0 below ps → fl ≡ initialize_at b m stage w (part_in n now) → one_stage b m stage (parts_left n ps) w ≡ whole → (fl >>= one_stage b m stage (parts_left (n + 1) ps)) ≡ whole
+stage_step b m stage n below ps now w fl whole same r step done = stage_at b m stage n below ps w fl whole (part_in n ps) refl r (step ∙ ap (λ (qs : List Part). initialize_at b m stage w (part_in n qs)) same) done
+
+pub stage_begins : (b : Behaviour) (m : Model) (stage : ℕ) (ps : List Part) (w : World) → one_stage b m stage (parts_left 0 ps) w ≡ one_stage b m stage ps w
+stage_begins b m stage ps w = ap (λ (xs : List Part). one_stage b m stage xs w) (all_left ps)
+
+pub stage_ends : (b : Behaviour) (m : Model) (stage below n : ℕ) (ps : List Part) (w : World) → n ≡ below → Rise 0 below ps → one_stage b m stage (parts_left n ps) w ≡ On w
+stage_ends b m stage below n ps w e r = ap (λ (xs : List Part). one_stage b m stage xs w) (ap (λ i. parts_left i ps) e ∙ none_left 0 below ps r)
+
+-- ---- the greatest number of stages
+
+max_in : (most n k : ℕ) → max (max most n) k ≡ max most (max n k)
+max_in most n k = omega arith
+
+most_left : (b : Behaviour) (n below : ℕ) (ss : List Seat) (found : Option Module) → Rise 0 below (standing (map instance_of ss)) → AreOfKinds b ss → module_in n ss ≡ found
+    → most_stages b (parts_left n (standing (map instance_of ss))) ≡ max (unwrap_or (stages_of found) 0) (most_stages b (parts_left (n + 1) (standing (map instance_of ss))))
+most_left b n below ss None rise kinds e =
+    let k : ℕ = most_stages b (parts_left (n + 1) (standing (map instance_of ss))) in
+    let zero_max : k ≡ max 0 k = omega arith in
+    ap (most_stages b) (left_none n 0 below (standing (map instance_of ss)) rise (no_part n ss e)) ∙ zero_max
+most_left b n below ss (Some box) rise kinds e =
+    ap (most_stages b) (left_some n 0 below (standing (map instance_of ss)) (part_for n box) rise (some_part n ss box e))
+    ∙ ap (λ k. max k (most_stages b (parts_left (n + 1) (standing (map instance_of ss))))) (sym (staged b n ss box e kinds))
+
+-- one id more
+pub most_step : (b : Behaviour) (n below most now : ℕ) (ss : List Seat) (stages : Option ℕ) (whole : ℕ) → Rise 0 below (standing (map instance_of ss)) → AreOfKinds b ss → stages ≡ stages_of (module_in n ss) → now ≡ max most (unwrap_or stages 0)
+    → max most (most_stages b (parts_left n (standing (map instance_of ss)))) ≡ whole → max now (most_stages b (parts_left (n + 1) (standing (map instance_of ss)))) ≡ whole
+most_step b n below most now ss stages whole rise kinds told is done =
+    let k : ℕ = most_stages b (parts_left (n + 1) (standing (map instance_of ss))) in
+    ap (λ x. max x k) (is ∙ ap (λ o. max most (unwrap_or o 0)) told)
+    ∙ max_in most (unwrap_or (stages_of (module_in n ss)) 0) k
+    ∙ ap (max most) (sym (most_left b n below ss (module_in n ss) rise kinds refl))
+    ∙ done
+
+pub most_begins : (b : Behaviour) (ps : List Part) → max 0 (most_stages b (parts_left 0 ps)) ≡ most_stages b ps
+most_begins b ps =
+    let k : ℕ = most_stages b ps in
+    let zero_max : max 0 k ≡ k = omega arith in
+    ap (λ (qs : List Part). max 0 (most_stages b qs)) (all_left ps) ∙ zero_max
+
+pub most_ends : (b : Behaviour) (below n most : ℕ) (ps : List Part) (whole : ℕ) → n ≡ below → Rise 0 below ps → max most (most_stages b (parts_left n ps)) ≡ whole → most ≡ whole
+most_ends b below n most ps whole e r done =
+    let max_zero : most ≡ max most 0 = omega arith in
+    max_zero ∙ sym (ap (λ (qs : List Part). max most (most_stages b qs)) (ap (λ i. parts_left i ps) e ∙ none_left 0 below ps r)) ∙ done
 
 -- one stage more
 pub stages_step : (b : Behaviour) (m : Model) (ps : List Part) (stage most : ℕ) (w : World) → stage < most → stages_from b m ps stage (most - stage) w ≡ (one_stage b m stage ps w >>= stages_from b m ps (stage + 1) (most - (stage + 1)))
@@ -90,10 +138,6 @@ pub stages_end : (b : Behaviour) (m : Model) (ps : List Part) (stage most : ℕ)
 stages_end b m ps stage most w h =
     let none : most - stage ≡ 0 = omega arith in
     ap (λ n. stages_from b m ps stage n w) none
-
-pub length-standing : (ss : List Seat) → length (standing (map instance_of ss)) ≡ length ss
-length-standing [] = refl
-length-standing (s ∷ ss) = ap suc (length-standing ss)
 
 -- one stage more, in the loop
 pub stages_on : (b : Behaviour) (m : Model) (ps now : List Part) (stage most : ℕ) (w : World) (fl whole : Flow) → now ≡ ps → stage < most → fl ≡ one_stage b m stage now w → stages_from b m ps stage (most - stage) w ≡ whole → (fl >>= stages_from b m ps (stage + 1) (most - (stage + 1))) ≡ whole

@@ -4,12 +4,12 @@ use Rattle.std.proofs.Common.{Global}
 use Rattle.std.specs.declared.dyn_box.DynBox.{DynBox}
 use Rattle.module_api.specs.declared.simple_module.SimpleModule.{Ghosts}
 use Rattle.module_api.specs.Behaviour.{Behaviour}
+use Rattle.module_tree.specs.Boxes.{Seated}
 use Rattle.run_semantics.specs.World.{World}
 use Rattle.run_semantics.specs.declared.outcome.Outcome.{Outcome}
 use Rattle.run_semantics.specs.Run.{Ran}
 use Rattle.kernel.specs.Seats.{Seat, world_of, AreOfKinds, AreKept}
 use Rattle.kernel.specs.declared.kernel.Kernel.{Kernel}
-use Rattle.kernel.specs.declared.kernel.Slot.{Slot}
 
 -- what each box says of itself: the members of its trait, which a clause hands over as `SimpleModule-box`
 abbrev pub Members : (X : Type 0) → (X → Type 0) → Type 1
@@ -17,13 +17,13 @@ Members X Y = (b : DynBox X Global Y) → Ghosts (Y b.vtable)
 
 module _ {X : Type 0} {Y : X → Type 0} where
   -- the box, and the id of its module
-  abbrev pub seat_of : Members X Y → Slot X Y → Seat
-  seat_of members s = record { id = s.id; box = (members s.held).meaning s.held.value }
+  abbrev pub seat_of : Members X Y → Seated (DynBox X Global Y) → Seat
+  seat_of members s = record { id = s.id; box = (members s.box).meaning s.box.value }
 
 module _ {C X : Type 0} {Y : X → Type 0} where
   -- what its boxes are, in the order of their ids
   abbrev pub seats_in : Members X Y → Kernel C X Y → List Seat
-  seats_in members k = map (seat_of members) k.boxes
+  seats_in members k = map (seat_of members) k.boxes.seats
 
   -- its world
   abbrev pub world_in : Members X Y → Kernel C X Y → World

@@ -1,3 +1,4 @@
 pub mod Seats
+pub mod Parts
 pub mod Kernels
 pub mod Upcoming

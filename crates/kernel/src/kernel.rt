@@ -1,17 +1,18 @@
 //! A world in code, one event at a time.
 
-ghost use Rattle.std.specs.Prelude.{◌≡◌, ◌==◌, ◌+◌, ◌*◌, ◌^◌, ◌<◌, ◌≤◌, OnOk, OnErr, IfOk, IfErr, IfSome, Some, None, [], map, length, slice_get, option_map};
-ghost use Rattle.std.specs.List.{position_from};
+ghost use Rattle.std.specs.Prelude.{◌≡◌, ◌+◌, ◌^◌, ◌<◌, ◌≤◌, OnOk, OnErr, IfOk, IfErr, [], length, max, slice_get, option_map, unwrap_or};
 ghost use Rattle.module_api.specs.Meaning.{IsOfKind, Answered, IsSameModule};
+ghost use Rattle.module_tree.specs.Boxes.{nothing};
 ghost use Rattle.run_semantics.specs.World.{empty, HasRoom};
 ghost use Rattle.run_semantics.specs.Perform.{flow_of, On};
-ghost use Rattle.run_semantics.specs.Event.{call_module, call_of, message_of, place_in};
-ghost use Rattle.run_semantics.specs.Upcoming.{arrival, id_at, target_of, upcoming};
+ghost use Rattle.run_semantics.specs.Event.{call_module, call_of, message_of};
+ghost use Rattle.run_semantics.specs.Upcoming.{arrival, target_of, upcoming};
 ghost use Rattle.kernel.specs.Upcoming.{looked, upcoming_of, LooksOn};
-ghost use Rattle.run_semantics.specs.Run.{Running, Part, stage_of, settled, prepared, ready, placed, standing, parts_from, most_stages, initialize, one_stage, stages_from, initialize_all, start, next_stage, stopped};
-ghost use Rattle.run_semantics.specs.Ending.{call_last_at, finish, finish_all, ending};
-ghost use Rattle.kernel.specs.Seats.{Seat, ServedAt, instance_of, most_of, missing_of, missing_part};
-ghost use Rattle.kernel.specs.Kernels.{seat_of, seats_in, world_in, ran_in, HasKinds, IsCallable, KeepsBoxes};
+ghost use Rattle.run_semantics.specs.Run.{Running, Part, stage_of, settled, prepared, ready, placed, standing, parts_from, most_stages, one_stage, stages_from, initialize_all, start, next_stage, stopped};
+ghost use Rattle.run_semantics.specs.Ending.{call_last, finish_all, ending};
+ghost use Rattle.kernel.specs.Seats.{module_in, stages_of, stands_at, AreBelow, IsServed, missing_of, missing_part};
+ghost use Rattle.kernel.specs.Parts.{part_in, initialize_at, finish_at};
+ghost use Rattle.kernel.specs.Kernels.{seats_in, world_in, ran_in, HasKinds, IsCallable, KeepsBoxes};
 
 use crate::core_part::{Core, Look, Next};
 use crate::request::Request;
@@ -35,25 +36,18 @@ use std::marker::PhantomData;
 /// How many injections are looked at for one event at most: one more than a model has.
 const MOST_LOOKS: usize = 10_001;
 
-/// A module's box.
-#[derive(Drop)]
-pub struct Slot {
-    pub id: u32,
-    pub held: Box<dyn SimpleModule>,
-}
-
 /// A world in code.
 #[derive(Drop)]
 pub struct Kernel<C: Catalogue> {
     core: Core,
-    boxes: Tree<Slot>,
+    boxes: Tree<Box<dyn SimpleModule>>,
     of: PhantomData<C>,
 }
 
 impl<C: Catalogue> Kernel<C> {
     /// Nothing stands, and nothing happened. The empty tree is handed in.
-    pub fn new(alloc: Global, boxes: Tree<Slot>) -> Kernel<C>
-        requires { boxes ≡ [] }
+    pub fn new(alloc: Global, boxes: Tree<Box<dyn SimpleModule>>) -> Kernel<C>
+        requires { boxes ≡ nothing }
         ensures world { world_in SimpleModule-box result ≡ empty }
         ensures kinds { HasKinds C.behaviour SimpleModule-box result }
     {
@@ -162,13 +156,14 @@ impl<C: Catalogue> Kernel<C> {
         }
     }
 
-    /// Keeps a box of the module of that id, or hands it back where memory runs out.
+    /// Gives the module of that id its box, or hands the box back where memory runs out. All that have boxes are of smaller ids.
     pub fn supply(
         &mut self,
         id: u32,
         held: Box<dyn SimpleModule>,
     ) -> Result<(), AllocFailed<Box<dyn SimpleModule>>>
         requires of_kind { IsOfKind C.behaviour (meaning held) }
+        requires above { AreBelow id (world_in SimpleModule-box self.old).modules }
         requires kinds { HasKinds C.behaviour SimpleModule-box self.old }
         ensures kinds { HasKinds C.behaviour SimpleModule-box self.new }
         ensures ok { let part : Part = record { id = id; kind = (meaning held).kind } in
@@ -178,21 +173,30 @@ impl<C: Catalogue> Kernel<C> {
             (world_in SimpleModule-box self.new ≡ world_in SimpleModule-box self.old) }
         ensures returned { IfErr result (λ failed. failed.value ≡ held) }
     {
-        match self.boxes.place(Slot { id, held }) {
-            Ok(()) => Ok(()),
-            Err(failed) => Err(returned(failed)),
-        }
+        self.boxes.place(id, held)
     }
 
     // ---- calls
 
-    /// Where the box of the module of that id stands.
-    fn find(&self, id: u32) -> Option<usize>
-        ensures place { result ≡ place_in id (world_in SimpleModule-box self.now).modules }
-        ensures there { IfSome result (λ place.
-            place < length (seats_in SimpleModule-box self.now)) }
+    /// What the module of that id replies, where it has a box. The box is taken out for the call, and put back behind it.
+    fn reply_of(
+        &mut self,
+        alloc: Global,
+        model: &Model,
+        id: u32,
+        prompt: Prompt,
+    ) -> Option<Result<Reply, NoMemory>>
+        ensures core { self.new.core ≡ self.old.core }
+        ensures served { IsServed id (seats_in SimpleModule-box self.old)
+            (seats_in SimpleModule-box self.new)
+            (call_of model.now id prompt self.old.core) result }
     {
-        place_in(self.boxes.as_slice(), id)
+        let Some(mut held) = self.boxes.take(id) else {
+            return None;
+        };
+        let reply = reply_by(&self.core, &mut held, alloc, model, id, prompt);
+        self.boxes.put_back(id, held);
+        Some(reply)
     }
 
     /// One call of the module of that id. A call of what isn't there is passed over.
@@ -208,34 +212,44 @@ impl<C: Catalogue> Kernel<C> {
         ensures step { IfOk result (λ turn. flow_of turn (world_in SimpleModule-box self.new)
             ≡ call_module C.behaviour model.now id prompt (world_in SimpleModule-box self.old)) }
     {
-        let Some(place) = self.find(id) else {
+        let Some(reply) = self.reply_of(alloc, model, id, prompt) else {
             return Ok(Turn::GoOn);
         };
-        let reply = reply_at(&self.core, &mut self.boxes, alloc, model, id, place, prompt)?;
+        let reply = reply?;
         self.core.follow(alloc, model, id, &reply)
     }
 
     // ---- event zero
 
-    /// Initializes the module whose box stands at that place, where it has that stage.
+    /// How many stages the module of that id has, where it has a box.
+    fn stages_at(&self, id: u32) -> Option<u8>
+        ensures { result ≡ stages_of (module_in id (seats_in SimpleModule-box self.now)) }
+    {
+        match self.boxes.get(id) {
+            Some(held) => Some(stages_of(held)),
+            None => None,
+        }
+    }
+
+    /// Initializes the module of that id, where it has a box, and that stage.
     fn initialize(
         &mut self,
         alloc: Global,
         model: &Model,
         stage: u8,
-        place: usize,
+        id: u32,
     ) -> Result<Turn, NoMemory>
-        requires there { place < length (seats_in SimpleModule-box self.old) }
         requires callable { IsCallable C.behaviour SimpleModule-box 1000 self.old }
         ensures kept { KeepsBoxes C.behaviour SimpleModule-box self.old self.new }
         ensures next { let before = world_in SimpleModule-box self.old in
             OnOk result ((world_in SimpleModule-box self.new).next ≤ before.next + 1000) }
         ensures step { let before = world_in SimpleModule-box self.old in
-            IfOk result (λ turn. (p : Part) → slice_get (standing before.modules) place ≡ Some p
-            → flow_of turn (world_in SimpleModule-box self.new)
-            ≡ initialize C.behaviour model.now stage p before) }
+            IfOk result (λ turn. flow_of turn (world_in SimpleModule-box self.new)
+            ≡ initialize_at C.behaviour model.now stage before (part_in id (standing before.modules))) }
     {
-        let (id, stages) = stages_at(self.boxes.as_slice(), place);
+        let Some(stages) = self.stages_at(id) else {
+            return Ok(Turn::GoOn);
+        };
         if stage >= stages {
             return Ok(Turn::GoOn);
         }
@@ -253,8 +267,8 @@ impl<C: Catalogue> Kernel<C> {
             IfOk result (λ turn. flow_of turn (world_in SimpleModule-box self.new)
             ≡ one_stage C.behaviour model.now stage (standing before.modules) before) }
     {
-        for place in 0..self.boxes.len() {
-            match self.initialize(alloc, model, stage, place)? {
+        for index in 0..self.boxes.room() {
+            match self.initialize(alloc, model, stage, index as u32)? {
                 Turn::GoOn => {}
                 turn => return Ok(turn),
             }
@@ -268,7 +282,11 @@ impl<C: Catalogue> Kernel<C> {
         ensures { let world = world_in SimpleModule-box self.now in
             result ≡ most_stages C.behaviour (standing world.modules) }
     {
-        most_stages(self.boxes.as_slice())
+        let mut most = 0;
+        for index in 0..self.boxes.room() {
+            most = greater(most, self.stages_at(index as u32));
+        }
+        most
     }
 
     /// All stages below this number.
@@ -308,11 +326,28 @@ impl<C: Catalogue> Kernel<C> {
 
     // ---- events
 
+    /// Whether the module of that id has a box, and stands at a path.
+    fn stands_at(&self, alloc: Global, id: u32, path: &[u8]) -> Result<bool, NoMemory>
+        ensures { let records = (world_in SimpleModule-box self.now).records in
+            IfOk result (λ stands. stands
+            ≡ stands_at records path.now id (module_in id (seats_in SimpleModule-box self.now))) }
+    {
+        if self.stages_at(id).is_none() {
+            return Ok(false);
+        }
+        Ok(path_of(alloc, self.core.records(), id)?.is(path))
+    }
+
     /// The simple module that stands at a path.
     fn target(&self, alloc: Global, path: &[u8]) -> Result<Option<u32>, NoMemory>
         ensures { IfOk result (λ id. id ≡ target_of path.now (world_in SimpleModule-box self.now)) }
     {
-        id_at(alloc, self.core.records(), self.boxes.as_slice(), path)
+        for index in 0..self.boxes.room() {
+            if self.stands_at(alloc, index as u32, path)? {
+                return Ok(Some(index as u32));
+            }
+        }
+        Ok(None)
     }
 
     /// Looks at one injection more: an event comes of it, or it is discarded, or none goes before the first event to come.
@@ -390,35 +425,34 @@ impl<C: Catalogue> Kernel<C> {
 
     // ---- the end
 
-    /// Tells the module whose box stands at that place that the run is over.
+    /// Tells the module of that id that the run is over, where it has a box.
     fn call_last(&mut self, alloc: Global, model: &Model, id: u32) -> Result<Turn, NoMemory>
         requires callable { IsCallable C.behaviour SimpleModule-box 1000 self.old }
         ensures kept { KeepsBoxes C.behaviour SimpleModule-box self.old self.new }
         ensures step { let before = world_in SimpleModule-box self.old in
             IfOk result (λ turn. flow_of turn (world_in SimpleModule-box self.new)
-            ≡ call_last_at C.behaviour model.now id before (place_in id before.modules)) }
+            ≡ call_last C.behaviour model.now id before) }
     {
-        let Some(place) = self.find(id) else {
+        let Some(reply) = self.reply_of(alloc, model, id, Prompt::Finish) else {
             return Ok(Turn::GoOn);
         };
-        let prompt = Prompt::Finish;
-        let reply = reply_at(&self.core, &mut self.boxes, alloc, model, id, place, prompt)?;
+        let reply = reply?;
         self.core.follow_last(alloc, model, id, &reply)
     }
 
-    /// Finishes the module whose box stands at that place.
-    fn finish_one(&mut self, alloc: Global, model: &Model, place: usize) -> Result<Turn, NoMemory>
-        requires there { place < length (seats_in SimpleModule-box self.old) }
+    /// Finishes the module of that id, where it has a box.
+    fn finish_one(&mut self, alloc: Global, model: &Model, id: u32) -> Result<Turn, NoMemory>
         requires callable { IsCallable C.behaviour SimpleModule-box 1000 self.old }
         ensures kept { KeepsBoxes C.behaviour SimpleModule-box self.old self.new }
         ensures next { let before = world_in SimpleModule-box self.old in
             OnOk result ((world_in SimpleModule-box self.new).next ≤ before.next + 1000) }
         ensures step { let before = world_in SimpleModule-box self.old in
-            IfOk result (λ turn. (p : Part) → slice_get (standing before.modules) place ≡ Some p
-            → flow_of turn (world_in SimpleModule-box self.new)
-            ≡ finish C.behaviour model.now p before) }
+            IfOk result (λ turn. flow_of turn (world_in SimpleModule-box self.new)
+            ≡ finish_at C.behaviour model.now before (part_in id (standing before.modules))) }
     {
-        let (id, _) = stages_at(self.boxes.as_slice(), place);
+        if self.stages_at(id).is_none() {
+            return Ok(Turn::GoOn);
+        }
         match self.call_last(alloc, model, id)? {
             Turn::GoOn => {
                 self.core.mark_finished(id)?;
@@ -436,8 +470,8 @@ impl<C: Catalogue> Kernel<C> {
             IfOk result (λ turn. flow_of turn (world_in SimpleModule-box self.new)
             ≡ finish_all C.behaviour model.now (standing before.modules) before) }
     {
-        for place in 0..self.boxes.len() {
-            match self.finish_one(alloc, model, place)? {
+        for index in 0..self.boxes.room() {
+            match self.finish_one(alloc, model, index as u32)? {
                 Turn::GoOn => {}
                 turn => return Ok(turn),
             }
@@ -470,15 +504,6 @@ impl<C: Catalogue> Kernel<C> {
     }
 }
 
-/// The box that was handed back.
-fn returned(failed: AllocFailed<Slot>) -> AllocFailed<Box<dyn SimpleModule>>
-    ensures { result.value ≡ failed.value.held }
-{
-    let AllocFailed { value } = failed;
-    let Slot { id: _, held } = value;
-    AllocFailed { value: held }
-}
-
 /// The simple module of that number, counted from 0: its id and its class.
 fn part_at(records: &[Record], number: usize) -> Option<(u32, &[u8])>
     requires { length records.now < 2 ^ 32 }
@@ -497,63 +522,20 @@ fn part_at(records: &[Record], number: usize) -> Option<(u32, &[u8])>
     None
 }
 
-/// Where the box of the module of that id stands.
-fn place_in(slots: &[Slot], id: u32) -> Option<usize>
-    ensures { result ≡ position_from (λ slot. slot.id == id) 0 slots.now }
-{
-    for (place, slot) in slots.iter().enumerate() {
-        if slot.id == id {
-            return Some(place);
-        }
-    }
-    None
-}
-
-/// What the box at that place replies to a call of the module of that id.
-fn reply_at(
+/// What a box replies to a call of the module of that id.
+fn reply_by(
     core: &Core,
-    boxes: &mut Tree<Slot>,
+    held: &mut Box<dyn SimpleModule>,
     alloc: Global,
     model: &Model,
     id: u32,
-    place: usize,
     prompt: Prompt,
 ) -> Result<Reply, NoMemory>
-    requires there { place < length (map (seat_of SimpleModule-box) boxes.old) }
-    ensures { let seats = map (seat_of SimpleModule-box) boxes.old in
-        (before : Seat) → slice_get seats place ≡ Some before
-        → ServedAt seats (map (seat_of SimpleModule-box) boxes.new) place before
-        (call_of model.now id prompt core.now) result }
+    ensures answered { Answered (meaning held.old) (call_of model.now id prompt core.now) result (meaning held.new) }
+    ensures same { IsSameModule (meaning held.old) (meaning held.new) }
 {
     let call = core.call(alloc, model, id, prompt)?;
-    serve_at(boxes, alloc, place, &call)
-}
-
-/// Calls the box at that place.
-fn serve_at(
-    boxes: &mut Tree<Slot>,
-    alloc: Global,
-    place: usize,
-    call: &Call,
-) -> Result<Reply, NoMemory>
-    requires there { place < length (map (seat_of SimpleModule-box) boxes.old) }
-    ensures { let seats = map (seat_of SimpleModule-box) boxes.old in
-        (before : Seat) → slice_get seats place ≡ Some before
-        → ServedAt seats (map (seat_of SimpleModule-box) boxes.new) place before call.now result }
-{
-    let slot = boxes.get_mut(place).unwrap();
-    serve_slot(slot, alloc, call)
-}
-
-/// Calls the box of a module.
-fn serve_slot(slot: &mut Slot, alloc: Global, call: &Call) -> Result<Reply, NoMemory>
-    ensures id { slot.new.id ≡ slot.old.id }
-    ensures answered { let before = seat_of SimpleModule-box slot.old in
-        Answered before.box call.now result (seat_of SimpleModule-box slot.new).box }
-    ensures same { let before = seat_of SimpleModule-box slot.old in
-        IsSameModule before.box (seat_of SimpleModule-box slot.new).box }
-{
-    serve(&mut slot.held, alloc, call)
+    serve(held, alloc, &call)
 }
 
 /// Calls a box for what the call names.
@@ -568,16 +550,6 @@ fn serve(held: &mut Box<dyn SimpleModule>, alloc: Global, call: &Call) -> Result
     }
 }
 
-/// The id of the module whose box stands at that place, and how many stages it has.
-fn stages_at(slots: &[Slot], place: usize) -> (u32, u8)
-    requires { place < length (map (seat_of SimpleModule-box) slots.now) }
-    ensures { IfSome (slice_get (map (seat_of SimpleModule-box) slots.now) place)
-        (λ s. (result.0 ≡ s.id) × (result.1 ≡ s.box.naming.stages)) }
-{
-    let slot = &slots[place];
-    (slot.id, stages_of(&slot.held))
-}
-
 /// How many stages a module has.
 fn stages_of(held: &Box<dyn SimpleModule>) -> u8
     ensures { result ≡ (meaning held.now).naming.stages }
@@ -585,35 +557,14 @@ fn stages_of(held: &Box<dyn SimpleModule>) -> u8
     held.stages()
 }
 
-/// The greatest number of stages.
-fn most_stages(slots: &[Slot]) -> u8
-    ensures { result ≡ most_of (map (seat_of SimpleModule-box) slots.now) }
+/// The greater one of two numbers of stages, where there is a second one.
+fn greater(most: u8, stages: Option<u8>) -> u8
+    ensures { result ≡ max most (unwrap_or stages 0) }
 {
-    let mut most = 0;
-    for slot in slots {
-        let stages = stages_of(&slot.held);
-        if stages > most {
-            most = stages;
-        }
+    match stages {
+        Some(stages) if stages > most => stages,
+        _ => most,
     }
-    most
-}
-
-/// The id of the module whose box is one of these, and which stands at that path.
-fn id_at(
-    alloc: Global,
-    records: &[Record],
-    slots: &[Slot],
-    path: &[u8],
-) -> Result<Option<u32>, NoMemory>
-    ensures { IfOk result (λ id. id ≡ id_at records.now path.now (map instance_of (map (seat_of SimpleModule-box) slots.now))) }
-{
-    for slot in slots {
-        if path_of(alloc, records, slot.id)?.is(path) {
-            return Ok(Some(slot.id));
-        }
-    }
-    Ok(None)
 }
 
 /// The event that an injection becomes, of the module of that id.

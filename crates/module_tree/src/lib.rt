@@ -1,77 +1,162 @@
-//! What holds the boxes of simple modules, by rising ids.
+//! What holds the boxes of simple modules, each found by the id of its module at once.
 #![tactic(auto)]
 
-ghost use Rattle.std.specs.Prelude.{◌≡◌, [], ◌∷◌, ◌++◌, slice_get, length, OnOk, IfErr, OnErr};
-ghost use Rattle.std.specs.Option.{option_copied_mut};
-ghost use Rattle.std.specs.Borrow.{sem};
+ghost use Rattle.std.specs.Prelude.{◌≡◌, [], ◌<◌, ◌≤◌, ◌^◌, length, slice_get, None, OnOk, OnErr, IfErr, IfSome};
+ghost use Rattle.std.specs.Option.{option_copied};
+ghost use Rattle.module_tree.specs.Boxes.{box_of, with_box, without_box, without_boxes, nothing, with_seats, seats_from, AreRising};
 
-use std::alloc::{AllocFailed, Global};
+use std::alloc::{AllocError, AllocFailed, Global};
 use std::marker::Model;
 
-/// Boxes in the order in which they were placed, which contracts see as their list. A module's box is
-/// placed behind those of smaller ids.
+/// Boxes by the ids of their modules, which contracts see as a list by rising ids. Each box stands at the number of its id, so
+/// none is searched for.
 #[derive(Drop)]
 pub struct Tree<T> {
-    held: Vec<T>,
+    slots: Vec<Option<T>>,
+    count: usize,
 }
 
 impl<T> Model for Tree<T> {
-    ghost use Rattle.std.specs.Prelude.{List};
+    ghost use Rattle.std.specs.Prelude.{length};
+    ghost use Rattle.module_tree.specs.Boxes.{Held, IsCounted, seats_from};
 
-    ghost Value = { List T };
+    ghost Value = { Held T };
 
-    ghost view = { λ t. t.held.items };
+    ghost view = { λ t. record { seats = seats_from 0 t.slots.items; room = length t.slots.items } };
+
+    ghost invariant = { λ t. IsCounted t.count t.slots.items };
 }
 
 impl<T> Tree<T> {
-    ghost use Rattle.module_tree.specs.Lends.{lends_at};
-
     /// A tree without boxes, which takes no memory.
     pub fn new(alloc: Global) -> Tree<T>
-        ensures { result ≡ [] }
+        ensures { result ≡ nothing }
     {
         Tree {
-            held: Vec::new(alloc),
+            slots: Vec::new(alloc),
+            count: 0,
         }
     }
 
     /// How many boxes there are.
     pub fn len(&self) -> usize
-        ensures { result ≡ length self.now }
+        ensures { result ≡ length self.now.seats }
     {
-        self.held.len()
+        self.count
     }
 
-    /// The boxes.
-    pub fn as_slice(&self) -> &[T]
-        ensures { result.now ≡ self.now }
+    /// Up to which id there is room. All ids are below it.
+    pub fn room(&self) -> usize
+        ensures room { result ≡ self.now.room }
+        ensures few { result ≤ 2 ^ 32 }
+        ensures rising { AreRising 0 self.now.room self.now.seats }
     {
-        self.held.as_slice()
+        self.slots.len()
     }
 
-    /// Keeps a box behind the others, or hands it back where memory runs out.
-    pub fn place(&mut self, value: T) -> Result<(), AllocFailed<T>>
-        ensures ok { OnOk result (self.new ≡ self.old ++ value ∷ []) }
-        ensures err { OnErr result (self.new ≡ self.old) }
-        ensures returned { IfErr result (λ failed. failed.value ≡ value) }
+    /// The box of the module of that id.
+    pub fn get(&self, id: u32) -> Option<&T>
+        ensures { option_copied result ≡ box_of id self.now.seats }
     {
-        self.held.push(value)
+        match slot_at(self.slots.as_slice(), id as usize) {
+            Some(slot) => slot.as_ref(),
+            None => None,
+        }
     }
 
-    /// The box at that place, for writing.
-    pub fn get_mut(&mut self, place: usize) -> Option<&mut T>
-        ensures* writes_back { sem 𝓛 (lends_at T.row self.entry place result) }
-        ensures value { option_copied_mut result ≡ slice_get self.old place }
+    /// Takes the box of the module of that id out. Its place stays.
+    pub fn take(&mut self, id: u32) -> Option<T>
+        ensures value { result ≡ box_of id self.old.seats }
+        ensures rest { self.new ≡ with_seats (without_box id self.old.seats) self.old }
+        ensures there { IfSome result (λ value. id < self.old.room) }
+        ensures rising { AreRising 0 self.old.room self.old.seats }
     {
-        self.held.get_mut(place)
+        let taken = take_at(&mut self.slots, id as usize);
+        if taken.is_some() {
+            self.count -= 1;
+        }
+        taken
     }
 }
 
 impl<T: Drop> Tree<T> {
+    /// Gives the module of that id its box, or hands the box back where memory runs out. That module has none yet.
+    pub fn place(&mut self, id: u32, value: T) -> Result<(), AllocFailed<T>>
+        requires { box_of id self.old.seats ≡ None }
+        ensures ok { OnOk result (self.new.seats ≡ with_box id value self.old.seats) }
+        ensures err { OnErr result (self.new.seats ≡ self.old.seats) }
+        ensures returned { IfErr result (λ failed. failed.value ≡ value) }
+    {
+        let index = id as usize;
+        if widen(&mut self.slots, index).is_err() {
+            return Err(AllocFailed { value });
+        }
+        self.slots[index] = Some(value);
+        self.count += 1;
+        Ok(())
+    }
+
+    /// Puts the box of the module of that id back, where its place is, as after `take`.
+    pub fn put_back(&mut self, id: u32, value: T)
+        requires there { id < self.old.room }
+        requires free { box_of id self.old.seats ≡ None }
+        ensures { self.new ≡ with_seats (with_box id value self.old.seats) self.old }
+    {
+        self.slots[id as usize] = Some(value);
+        self.count += 1;
+    }
+
+    /// Drops the boxes of the modules of these ids.
+    pub fn remove(&mut self, ids: &[u32])
+        ensures { self.new ≡ with_seats (without_boxes ids.now self.old.seats) self.old }
+    {
+        for id in ids {
+            self.take(*id);
+        }
+    }
+
     /// Drops all boxes.
     pub fn clear(&mut self)
-        ensures { self.new ≡ [] }
+        ensures { self.new ≡ nothing }
     {
-        self.held.clear();
+        self.slots.clear();
+        self.count = 0;
     }
+}
+
+/// The slot of that number.
+fn slot_at<T>(slots: &[Option<T>], index: usize) -> Option<&Option<T>>
+    ensures { option_copied result ≡ slice_get slots.now index }
+{
+    slots.get(index)
+}
+
+/// Makes room up to that slot.
+#[tactic(auto, using(crate::proofs::Seats::wider))]
+fn widen<T: Drop>(slots: &mut Vec<Option<T>>, index: usize) -> Result<(), AllocError>
+    requires index { index < 2 ^ 32 }
+    requires few { length slots.old.items ≤ 2 ^ 32 }
+    ensures few { length slots.new.items ≤ 2 ^ 32 }
+    ensures same { seats_from 0 slots.new.items ≡ seats_from 0 slots.old.items }
+    ensures room { OnOk result (index < length slots.new.items) }
+    ensures longer { length slots.old.items ≤ length slots.new.items }
+{
+    for more in slots.len()..index + 1 {
+        slots.push(None)?;
+    }
+    Ok(())
+}
+
+/// Takes out what that slot holds.
+#[tactic(auto, using(crate::proofs::Seats::taken, crate::proofs::Seats::none_taken, crate::proofs::Seats::none_out, crate::proofs::Seats::emptied))]
+fn take_at<T>(slots: &mut Vec<Option<T>>, index: usize) -> Option<T>
+    ensures value { result ≡ box_of index (seats_from 0 slots.old.items) }
+    ensures rest { seats_from 0 slots.new.items ≡ without_box index (seats_from 0 slots.old.items) }
+    ensures room { length slots.new.items ≡ length slots.old.items }
+    ensures there { IfSome result (λ value. index < length slots.new.items) }
+{
+    if index >= slots.len() {
+        return None;
+    }
+    slots[index].take()
 }

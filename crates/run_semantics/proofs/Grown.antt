@@ -1,6 +1,5 @@
 -- Runs grow, and call only modules that were started.
 use Rattle.std.proofs.Common.{◌≡◌, inl, inr, ⊎_elim, ℕ, zero, suc, ◌+◌, ◌≤◌, ◌<◌, ◌==◌, cond, Bool, true, false, List, [], ◌∷◌, ◌++◌, Option, Some, None, IsSome, refl, sym, ap, ◌∙◌, arith, subst, append-nil, slice_get, length, map, if◌then◌else◌, true≢false, eq-eqb, eq-or-lt_of_le}
-use Rattle.std.specs.List.{position_from}
 use Rattle.module_api.specs.Behaviour.{Behaviour}
 use Rattle.model_answers.specs.declared.answer.Answer.{Answer}
 use Rattle.model_answers.specs.declared.answer.Answer.TheVariants as answer
@@ -13,7 +12,7 @@ use Rattle.run_semantics.specs.declared.outcome.Outcome.{Outcome}
 use Rattle.run_semantics.specs.declared.traces.Instance.{Instance}
 use Rattle.run_semantics.specs.World.{World, empty, asked}
 use Rattle.run_semantics.specs.Perform.{Flow, On, Stopped, Broken, ◌>>=◌}
-use Rattle.run_semantics.specs.Event.{place_in}
+use Rattle.run_semantics.specs.Event.{instance_in}
 use Rattle.run_semantics.specs.Run.{rooted, record_under, ids_from, built, unless_many, root_asked, inside_asked, prepared, Part, with_class, parts_from, parts_of, placed, place_all, place_parts, ready, initialize_all, with_started, standing, part_of, Stage, Running, Over, world_at, settled, after}
 use Rattle.run_semantics.specs.Laws.{Each, IsAmong, ids_of, HasGrown, CanBeCalled}
 use Rattle.run_semantics.proofs.Sound.{in_flow}
@@ -232,11 +231,11 @@ started_after b m (suc n) = next_started m (after b m n) (after b m (suc n)) (af
 -- ---- calls
 
 -- a call finds what stands
-found_in : (id k : ℕ) (is : List Instance) → IsAmong id (ids_of is) → IsSome (position_from (λ (i : Instance). i.id == id) k is)
-found_in id k [] h = absurd h
-found_in id k (i ∷ is) h = by (i.id == id) refl h (found_in id (k + 1) is)
+found_in : (id : ℕ) (is : List Instance) → IsAmong id (ids_of is) → IsSome (instance_in id is)
+found_in id [] h = absurd h
+found_in id (i ∷ is) h = by (i.id == id) refl h (found_in id is)
   where
-    by : (c : Bool) → (i.id == id) ≡ c → IsAmong id (ids_of (i ∷ is)) → (IsAmong id (ids_of is) → IsSome (position_from (λ (i : Instance). i.id == id) (k + 1) is)) → IsSome (cond c (Some k) (position_from (λ (i : Instance). i.id == id) (k + 1) is))
+    by : (c : Bool) → (i.id == id) ≡ c → IsAmong id (ids_of (i ∷ is)) → (IsAmong id (ids_of is) → IsSome (instance_in id is)) → IsSome (cond c (Some i) (instance_in id is))
     by true t h later = refl
     by false t (inl same) later = absurd (true≢false (sym (eq-eqb i.id id same) ∙ t))
     by false t (inr there) later = later there
@@ -251,7 +250,7 @@ among_of ids (x ∷ xs) id f (inr there) = among_of ids xs id f.1 there
 can_be_called : (w : World) (id : ℕ) → AreStarted w → IsAmong id (ids_of w.modules) → CanBeCalled w id
 can_be_called w id f h =
     let started = among_of w.started (ids_of w.modules) id f.modules h in
-    record { found = found_in id 0 w.modules h; started = started; live = subst (IsAmong id) f.live started }
+    record { found = found_in id w.modules h; started = started; live = subst (IsAmong id) f.live started }
 
 -- in a run that goes on exactly the simple modules that were created stand
 pub parts_after : (b : Behaviour) (m : Model) (n : ℕ) (w : World) → after b m n ≡ Running w → standing w.modules ≡ parts_of w
@@ -265,7 +264,7 @@ called_after b m n w e =
     each_map (λ x. IsAmong x.id (ids_of w.modules)) (λ x. CanBeCalled w x.id) w.pending (λ x h. can_be_called w x.id g h) f.modules
 
 -- and each event to come in any world is for a module that a call finds
-pub found_after : (b : Behaviour) (m : Model) (n : ℕ) → Each (λ e. IsSome (place_in e.id (world_at (after b m n)).modules)) (world_at (after b m n)).pending
+pub found_after : (b : Behaviour) (m : Model) (n : ℕ) → Each (λ e. IsSome (instance_in e.id (world_at (after b m n)).modules)) (world_at (after b m n)).pending
 found_after b m n =
     let w : World = world_at (after b m n) in
-    each_map (λ x. IsAmong x.id (ids_of w.modules)) (λ x. IsSome (place_in x.id w.modules)) w.pending (λ x h. found_in x.id 0 w.modules h) (orderly_after b m n).modules
+    each_map (λ x. IsAmong x.id (ids_of w.modules)) (λ x. IsSome (instance_in x.id w.modules)) w.pending (λ x h. found_in x.id w.modules h) (orderly_after b m n).modules

@@ -1,6 +1,5 @@
 -- What parts of an event add to a world: questions, and modules.
 use Rattle.std.proofs.Common.{◌≡◌, ℕ, zero, suc, ◌+◌, ◌≤◌, ◌==◌, cond, Bool, true, false, List, [], ◌∷◌, ◌++◌, Option, Some, None, refl, sym, ap, ◌∙◌, arith, subst, append_assoc, append-nil, length-append, slice_get, slice_set, length, map, if◌then◌else◌, nat_lt, eqb-true}
-use Rattle.std.specs.List.{position_from}
 use Rattle.sim_time.specs.Time.{time_sum}
 use Rattle.module_api.specs.Behaviour.{Behaviour, Replied}
 use Rattle.module_api.specs.declared.call.Prompt.{Prompt}
@@ -25,7 +24,7 @@ use Rattle.run_semantics.specs.declared.traces.Instance.{Instance}
 use Rattle.run_semantics.specs.World.{World, empty, asked}
 use Rattle.event_set.specs.Timers.{has_timer}
 use Rattle.run_semantics.specs.Perform.{Flow, On, Stopped, Broken, ◌>>=◌, asking, scheduled, perform, perform_all, ask_all, question_of, acted, read_fault, unless_fault}
-use Rattle.run_semantics.specs.Event.{call_of, place_in, with_state, replied, called, call_at, call_module, event}
+use Rattle.run_semantics.specs.Event.{call_of, instance_in, with_state, changed, replied, called, call_module, event}
 use Rattle.run_semantics.specs.Run.{rooted, record_under, built, unless_many, Part, with_class, parts_from, parts_of, place, place_all, place_parts, standing, most_stages, initialize, one_stage, stages_from, initialize_all, with_started}
 use Rattle.run_semantics.proofs.Sound.{in_flow}
 use Rattle.model_answers.proofs.AnswerLemmas.{AreNested, about}
@@ -83,24 +82,21 @@ AllWithin-append : (n : ℕ) (xs ys : List Instance) → AllWithin n xs → AllW
 AllWithin-append n [] ys f g = g
 AllWithin-append n (x ∷ xs) ys f g = (f.0, AllWithin-append n xs ys f.1 g)
 
--- the module at a place
-AllWithin-at : (n : ℕ) (xs : List Instance) (i : ℕ) (x : Instance) → slice_get xs i ≡ Some x → AllWithin n xs → x.id ≤ n
-AllWithin-at n [] i x e f = cc
-AllWithin-at n (y ∷ xs) zero x e f = let same : y ≡ x = cc in subst (λ (z : Instance). z.id ≤ n) same f.0
-AllWithin-at n (y ∷ xs) (suc i) x e f = AllWithin-at n xs i x e f.1
-
--- a module is put at a place
-AllWithin-set : (n : ℕ) (xs : List Instance) (i : ℕ) (x : Instance) → x.id ≤ n → AllWithin n xs → AllWithin n (slice_set xs i x)
-AllWithin-set n [] i x h f = tt
-AllWithin-set n (y ∷ xs) zero x h f = (h, f.1)
-AllWithin-set n (y ∷ xs) (suc i) x h f = (f.0, AllWithin-set n xs i x h f.1)
-
--- a module that has a place has an id that was given
-placed_within : (n id k place : ℕ) (xs : List Instance) → AllWithin n xs → position_from (λ (i : Instance). i.id == id) k xs ≡ Some place → id ≤ n
-placed_within n id k place [] f e = cc
-placed_within n id k place (x ∷ xs) f e = by (x.id == id) refl (placed_within n id (k + 1) place xs f.1) e
+-- a module has a new state
+AllWithin-state : (n id : ℕ) (state : List ℕ) (xs : List Instance) → AllWithin n xs → AllWithin n (with_state id state xs)
+AllWithin-state n id state [] f = tt
+AllWithin-state n id state (x ∷ xs) f = by (x.id == id) (AllWithin-state n id state xs f.1)
   where
-    by : (t : Bool) → (x.id == id) ≡ t → (position_from (λ (i : Instance). i.id == id) (k + 1) xs ≡ Some place → id ≤ n) → cond t (Some k) (position_from (λ (i : Instance). i.id == id) (k + 1) xs) ≡ Some place → id ≤ n
+    by : (t : Bool) → AllWithin n (with_state id state xs) → AllWithin n (cond t (record x { state = state } ∷ xs) (x ∷ with_state id state xs))
+    by true later = f
+    by false later = (f.0, later)
+
+-- a module that stands has an id that was given
+found_within : (n id : ℕ) (xs : List Instance) (i : Instance) → AllWithin n xs → instance_in id xs ≡ Some i → id ≤ n
+found_within n id [] i f e = cc
+found_within n id (x ∷ xs) i f e = by (x.id == id) refl (found_within n id xs i f.1) e
+  where
+    by : (t : Bool) → (x.id == id) ≡ t → (instance_in id xs ≡ Some i → id ≤ n) → cond t (Some x) (instance_in id xs) ≡ Some i → id ≤ n
     by true t later e = let same = eqb-true x.id id t in let l = f.0 in omega (arith, same, l)
     by false t later e = later e
 
@@ -237,38 +233,33 @@ pub answered_on : (id : ℕ) (found : Option Fault) (actions : List Action) (w :
 answered_on id found actions w f = unless_grows w id found (acted id actions) f (acted_grows id actions w f)
 
 -- a new state leaves the ids
-pub fits_with_state : (place : ℕ) (i : Instance) (state : List ℕ) (w : World) → Fits w → slice_get w.modules place ≡ Some i → Fits (with_state place i state w)
-fits_with_state place i state w f e = record {
+pub fits_changed : (id : ℕ) (state : List ℕ) (w : World) → Fits w → Fits (changed id state w)
+fits_changed id state w f = record {
   nested = f.nested;
-  modules = AllWithin-set (length w.records) w.modules place (record i { state = state }) (AllWithin-at (length w.records) w.modules place i e f.modules) f.modules;
+  modules = AllWithin-state (length w.records) id state w.modules f.modules;
   questions = f.questions;
 }
 
 -- what follows a reply asks for its reads
-pub replied_grows : (m : Model) (id place : ℕ) (i : Instance) (r : Replied) (w : World) → Fits w → id ≤ length w.records → slice_get w.modules place ≡ Some i → IsGrown w (in_flow (replied m id place i r w))
-replied_grows m id place i r w f l e =
-    let v : World = with_state place i r.state w in
-    let asks = ask_all_grows id r.reply.reads v (fits_with_state place i r.state w f e) l in
+pub replied_grows : (m : Model) (id : ℕ) (r : Replied) (w : World) → Fits w → id ≤ length w.records → IsGrown w (in_flow (replied m id r w))
+replied_grows m id r w f l =
+    let v : World = changed id r.state w in
+    let asks = ask_all_grows id r.reply.reads v (fits_changed id r.state w f) l in
     let g = grown_on asks (answered_on id (read_fault m w.records id r.reply.reads) r.reply.actions (ask_all id r.reply.reads v) asks.fits) in
     record { rest = g.rest; joined = g.joined; present = g.present; count = g.count; more = g.more; records = g.records; fits = g.fits }
 
--- so does a call of a module that may stand
-called_grows : (b : Behaviour) (m : Model) (id : ℕ) (p : Prompt) (w : World) (place : ℕ) (found : Option Instance) → Fits w → id ≤ length w.records → slice_get w.modules place ≡ found → IsGrown w (in_flow (called b m id p w place found))
-called_grows b m id p w place None f l e = grown_same w f
-called_grows b m id p w place (Some i) f l e = replied_grows m id place i ((b.naming i.kind).reply i.state (call_of m id p w)) w f l e
+-- a module that stands is one that was created
+pub within_of_found : (id : ℕ) (i : Instance) (w : World) → Fits w → instance_in id w.modules ≡ Some i → id ≤ length w.records
+within_of_found id i w f e = found_within (length w.records) id w.modules i f.modules e
 
--- at a place that it may have
-call_at_grows : (b : Behaviour) (m : Model) (id : ℕ) (p : Prompt) (w : World) (found : Option ℕ) → Fits w → place_in id w.modules ≡ found → IsGrown w (in_flow (call_at b m id p w found))
-call_at_grows b m id p w None f e = grown_same w f
-call_at_grows b m id p w (Some place) f e = called_grows b m id p w place (slice_get w.modules place) f (placed_within (length w.records) id 0 place w.modules f.modules e) refl
+-- so does a call of a module that may stand
+called_grows : (b : Behaviour) (m : Model) (id : ℕ) (p : Prompt) (w : World) (found : Option Instance) → Fits w → instance_in id w.modules ≡ found → IsGrown w (in_flow (called b m id p w found))
+called_grows b m id p w None f e = grown_same w f
+called_grows b m id p w (Some i) f e = replied_grows m id ((b.naming i.kind).reply i.state (call_of m id p w)) w f (within_of_found id i w f e)
 
 -- one call
 pub call_grows : (b : Behaviour) (m : Model) (id : ℕ) (p : Prompt) (w : World) → Fits w → IsGrown w (in_flow (call_module b m id p w))
-call_grows b m id p w f = call_at_grows b m id p w (place_in id w.modules) f refl
-
--- the module that has a place is one that was created
-pub within_of_place : (id place : ℕ) (w : World) → Fits w → place_in id w.modules ≡ Some place → id ≤ length w.records
-within_of_place id place w f e = placed_within (length w.records) id 0 place w.modules f.modules e
+call_grows b m id p w f = called_grows b m id p w (instance_in id w.modules) f refl
 
 -- ---- boxes and initialization
 

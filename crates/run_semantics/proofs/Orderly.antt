@@ -1,7 +1,6 @@
 -- In every world of a run the events to come are in order, none is late, each has a number of its own, and each is for a
 -- module that stands; and what was emitted stands in the order of events.
 use Rattle.std.proofs.Common.{◌≡◌, ◌≢◌, ◌⊎◌, inl, inr, ℕ, zero, suc, ◌+◌, ◌≤◌, ◌<◌, ◌==◌, cond, Bool, true, false, List, [], ◌∷◌, ◌++◌, Option, Some, None, refl, sym, ap, ◌∙◌, arith, subst, append_assoc, append-nil, slice_get, slice_set, length, map, if◌then◌else◌, nat_lt, nat_le, eqb-true}
-use Rattle.std.specs.List.{position_from}
 use Rattle.sim_time.specs.Time.{time_sum}
 use Rattle.module_api.specs.Behaviour.{Behaviour, Replied}
 use Rattle.module_api.specs.declared.call.Prompt.{Prompt}
@@ -30,7 +29,7 @@ use Rattle.run_semantics.specs.World.{World, empty, asked}
 use Rattle.event_set.specs.Order.{inserted}
 use Rattle.event_set.specs.Timers.{has_timer}
 use Rattle.run_semantics.specs.Perform.{Flow, On, Stopped, Broken, ◌>>=◌, broken, with_scalar, scheduled, perform, perform_all, ask_all, question_of, acted, read_fault, unless_fault, answered}
-use Rattle.run_semantics.specs.Event.{call_of, place_in, with_state, called, call_at, call_module, begun, event, message_of}
+use Rattle.run_semantics.specs.Event.{call_of, instance_in, with_state, changed, called, call_module, begun, event, message_of}
 use Rattle.run_semantics.specs.Run.{rooted, built, unless_many, root_asked, inside_asked, prepared, Part, parts_of, place, place_all, place_parts, ready, standing, most_stages, initialize, one_stage, stages_from, initialize_all, with_started, part_of, Stage, Running, Over, world_at, settled, is_after_limit, went, next_stage, after}
 use Rattle.run_semantics.specs.Laws.{Each, AreInOrder, AreInTurn, HaveOwnNumbers, IsAmong, ids_of, GoesOn}
 use Rattle.run_semantics.specs.Upcoming.{Upcoming, Comes, Nothing, upcoming}
@@ -263,37 +262,35 @@ answered_leads m id reply w f h =
     leads_on g (unless_leads v id (read_fault m w.records id reply.reads) (acted id reply.actions) g.orderly (acted_leads id reply.actions v g.orderly (stands_on id w v g h)))
 
 -- a new state leaves what stands
-standing_set : (is : List Instance) (place : ℕ) (i : Instance) (state : List ℕ) → slice_get is place ≡ Some i → standing (slice_set is place (record i { state = state })) ≡ standing is
-standing_set [] place i state e = refl
-standing_set (j ∷ js) zero i state e = let same : j ≡ i = cc in ap (λ (x : Instance). part_of x ∷ standing js) (sym same)
-standing_set (j ∷ js) (suc place) i state e = ap (λ ps. part_of j ∷ ps) (standing_set js place i state e)
-
--- a call of a module that may stand
-called_leads : (b : Behaviour) (m : Model) (id : ℕ) (p : Prompt) (w : World) (place : ℕ) (found : Option Instance) → slice_get w.modules place ≡ found → IsOrderly w → StandsIn id w → Leads w (in_flow (called b m id p w place found))
-called_leads b m id p w place None e f h = leads_same w f
-called_leads b m id p w place (Some i) e f h =
-    let r : Replied = (b.naming i.kind).reply i.state (call_of m id p w) in
-    let v : World = with_state place i r.state w in
-    let g : Leads w v = leads_beside w v f refl refl refl refl (standing_set w.modules place i r.state e) refl refl refl refl refl refl in
-    leads_on g (answered_leads m id r.reply v g.orderly (stands_on id w v g h))
-
--- a module that has a place stands
-placed_stands : (id k place : ℕ) (is : List Instance) → position_from (λ (i : Instance). i.id == id) k is ≡ Some place → IsAmong id (ids_of is)
-placed_stands id k place [] e = cc
-placed_stands id k place (i ∷ is) e = by (i.id == id) refl (placed_stands id (k + 1) place is) e
+standing_state : (id : ℕ) (state : List ℕ) (is : List Instance) → standing (with_state id state is) ≡ standing is
+standing_state id state [] = refl
+standing_state id state (j ∷ js) = by (j.id == id) (standing_state id state js)
   where
-    by : (t : Bool) → (i.id == id) ≡ t → (position_from (λ (i : Instance). i.id == id) (k + 1) is ≡ Some place → IsAmong id (ids_of is)) → cond t (Some k) (position_from (λ (i : Instance). i.id == id) (k + 1) is) ≡ Some place → IsAmong id (ids_of (i ∷ is))
-    by true t later e = inl (eqb-true i.id id t)
+    by : (t : Bool) → standing (with_state id state js) ≡ standing js → standing (cond t (record j { state = state } ∷ js) (j ∷ with_state id state js)) ≡ standing (j ∷ js)
+    by true later = refl
+    by false later = ap (λ ps. part_of j ∷ ps) later
+
+-- a module that a call finds stands
+found_stands : (id : ℕ) (is : List Instance) (i : Instance) → instance_in id is ≡ Some i → IsAmong id (ids_of is)
+found_stands id [] i e = cc
+found_stands id (j ∷ js) i e = by (j.id == id) refl (found_stands id js i) e
+  where
+    by : (t : Bool) → (j.id == id) ≡ t → (instance_in id js ≡ Some i → IsAmong id (ids_of js)) → cond t (Some j) (instance_in id js) ≡ Some i → IsAmong id (ids_of (j ∷ js))
+    by true t later e = inl (eqb-true j.id id t)
     by false t later e = inr (later e)
 
--- at a place that it may have
-call_at_leads : (b : Behaviour) (m : Model) (id : ℕ) (p : Prompt) (w : World) (found : Option ℕ) → place_in id w.modules ≡ found → IsOrderly w → Leads w (in_flow (call_at b m id p w found))
-call_at_leads b m id p w None e f = leads_same w f
-call_at_leads b m id p w (Some place) e f = called_leads b m id p w place (slice_get w.modules place) refl f (placed_stands id 0 place w.modules e)
+-- a call of a module that may stand
+called_leads : (b : Behaviour) (m : Model) (id : ℕ) (p : Prompt) (w : World) (found : Option Instance) → instance_in id w.modules ≡ found → IsOrderly w → Leads w (in_flow (called b m id p w found))
+called_leads b m id p w None e f = leads_same w f
+called_leads b m id p w (Some i) e f =
+    let r : Replied = (b.naming i.kind).reply i.state (call_of m id p w) in
+    let v : World = changed id r.state w in
+    let g : Leads w v = leads_beside w v f refl refl refl refl (standing_state id r.state w.modules) refl refl refl refl refl refl in
+    leads_on g (answered_leads m id r.reply v g.orderly (stands_on id w v g (found_stands id w.modules i e)))
 
 -- one call
 pub call_leads : (b : Behaviour) (m : Model) (id : ℕ) (p : Prompt) (w : World) → IsOrderly w → Leads w (in_flow (call_module b m id p w))
-call_leads b m id p w f = call_at_leads b m id p w (place_in id w.modules) refl f
+call_leads b m id p w f = called_leads b m id p w (instance_in id w.modules) refl f
 
 -- ---- initialization
 

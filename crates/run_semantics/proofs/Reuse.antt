@@ -26,14 +26,14 @@ use Rattle.run_semantics.specs.Agreement.{Agrees, AgreesUpTo, tried, questions_o
 use Rattle.run_semantics.specs.Laws.{Each, GoesOn}
 use Rattle.run_semantics.specs.World.{World, empty, asked, asked_next}
 use Rattle.run_semantics.specs.Perform.{Flow, On, Stopped, Broken, ◌>>=◌, asking, ask_all, question_of, acted, first_fault, fault_of_read, read_fault, unless_fault}
-use Rattle.run_semantics.specs.Event.{call_of, place_in, with_state, replied, called, call_at, call_module, counted, begun, event, message_of}
+use Rattle.run_semantics.specs.Event.{call_of, instance_in, changed, replied, called, call_module, counted, begun, event, message_of}
 use Rattle.run_semantics.specs.Run.{rooted, built, root_asked, inside_asked, prepared, Part, place_parts, ready, standing, most_stages, initialize, one_stage, stages_from, initialize_all, with_started, Stage, Running, Over, world_at, settled, start, says_beyond, is_after_limit, went, next_stage, after, IsReached}
 use Rattle.run_semantics.specs.Upcoming.{first_due, delivered, target_of, Upcoming, Comes, Nothing, aimed, chosen, upcoming_in, most_injections, upcoming}
 use Rattle.run_semantics.proofs.Looking.{beside, HasLooked, looked_same, looked_count, looked_joined, looked_questions, chosen_looks, coming_looks, upcoming_looks, upcoming_tried, first_asked, upcoming_asks}
 use Rattle.run_semantics.proofs.Sound.{in_flow}
 use Rattle.run_semantics.proofs.Counts.{RunsOn, runs_on}
 use Rattle.run_semantics.proofs.Ends.{over_stays}
-use Rattle.run_semantics.proofs.Growth.{AllOfEvent, AllAbout, AllOfEvent-append, AllAbout-append, AllAbout-more, Fits, IsGrown, grown_same, grown_on, fits_empty, rooted_grows, built_grows, then_grows, asked_grows, asked_read_grows, ask_all_grows, answered_on, fits_with_state, replied_grows, within_of_place, call_grows, place_parts_grows, initialize_all_grows}
+use Rattle.run_semantics.proofs.Growth.{AllOfEvent, AllAbout, AllOfEvent-append, AllAbout-append, AllAbout-more, Fits, IsGrown, grown_same, grown_on, fits_empty, rooted_grows, built_grows, then_grows, asked_grows, asked_read_grows, ask_all_grows, answered_on, fits_changed, replied_grows, within_of_found, call_grows, place_parts_grows, initialize_all_grows}
 
 -- ---- agreement on fewer questions
 
@@ -164,31 +164,27 @@ shown_alike m n id p w (read.Parameter name ∷ rs) h = (same_value m n w.record
 shown_alike m n id p w (read.Gate name ∷ rs) h = (refl, shown_alike m n id p w rs h.1)
 
 -- a call has the same reply, since the law of reads holds, and the same follows
-called_same : (b : Behaviour) → IsLawful b → (m n : Model) (id : ℕ) (p : Prompt) (w : World) (place : ℕ) (found : Option Instance) → Fits w → id ≤ length w.records → slice_get w.modules place ≡ found → DoesSame m n w (called b m id p w place found) (called b n id p w place found)
-called_same b law m n id p w place None f l e = does_itself m n w (On w) (grown_same w f)
-called_same b law m n id p w place (Some i) f l e =
+called_same : (b : Behaviour) → IsLawful b → (m n : Model) (id : ℕ) (p : Prompt) (w : World) (found : Option Instance) → Fits w → instance_in id w.modules ≡ found → DoesSame m n w (called b m id p w found) (called b n id p w found)
+called_same b law m n id p w None f e = does_itself m n w (On w) (grown_same w f)
+called_same b law m n id p w (Some i) f e =
     let r : Replied = (b.naming i.kind).reply i.state (call_of m id p w) in
-    let v : World = with_state place i r.state w in
-    let fits = fits_with_state place i r.state w f e in
+    let v : World = changed id r.state w in
+    let l = within_of_found id i w f e in
+    let fits = fits_changed id r.state w f in
     let asks = ask_all_grows id r.reply.reads v fits l in
     record {
-      grows = replied_grows m id place i r w f l e;
+      grows = replied_grows m id r w f l;
       same = λ h.
           let before : AgreesIn m n (ask_all id r.reply.reads v) = Agrees-before m n (ask_all id r.reply.reads v) _ asks.fits (answered_on id (read_fault m w.records id r.reply.reads) r.reply.actions (ask_all id r.reply.reads v) asks.fits) h in
           let alike : AnswerAlike m n w.records id r.reply.reads = alike_asked m n id r.reply.reads v fits l before in
           let reply : (b.naming i.kind).reply i.state (call_of n id p w) ≡ r = (law.reads i.kind) i.state (call_of m id p w) (parameters_of n w.records id) [] (shown_alike m n id p w r.reply.reads alike) in
           ap (λ found. unless_fault id found (acted id r.reply.actions) (ask_all id r.reply.reads v)) (fault_alike m n w.records id r.reply.reads alike)
-          ∙ ap (λ (x : Replied). replied n id place i x w) (sym reply);
+          ∙ ap (λ (x : Replied). replied n id x w) (sym reply);
     }
-
--- the same, at a place that the module may have
-call_at_same : (b : Behaviour) → IsLawful b → (m n : Model) (id : ℕ) (p : Prompt) (w : World) (found : Option ℕ) → Fits w → place_in id w.modules ≡ found → DoesSame m n w (call_at b m id p w found) (call_at b n id p w found)
-call_at_same b law m n id p w None f e = does_itself m n w (On w) (grown_same w f)
-call_at_same b law m n id p w (Some place) f e = called_same b law m n id p w place (slice_get w.modules place) f (within_of_place id place w f e) refl
 
 -- one call
 call_same : (b : Behaviour) → IsLawful b → (m n : Model) (id : ℕ) (p : Prompt) (w : World) → Fits w → DoesSame m n w (call_module b m id p w) (call_module b n id p w)
-call_same b law m n id p w f = call_at_same b law m n id p w (place_in id w.modules) f refl
+call_same b law m n id p w f = called_same b law m n id p w (instance_in id w.modules) f refl
 
 -- ---- setup, boxes and initialization
 

@@ -1,5 +1,5 @@
 -- The end of a run: the modules that were started are finished.
-use Rattle.std.specs.Prelude.{ℕ, nat_lt, Bool, true, false, List, [], ◌∷◌, ◌++◌, Option, Some, None, length, slice_get, if◌then◌else◌}
+use Rattle.std.specs.Prelude.{ℕ, nat_lt, Bool, true, false, List, [], ◌∷◌, ◌++◌, Option, Some, None, length, if◌then◌else◌}
 use Rattle.module_api.specs.declared.call.Prompt.TheVariants as prompt
 use Rattle.module_api.specs.declared.reply.Action.{Action}
 use Rattle.module_api.specs.declared.reply.Action.TheVariants.{Emit, RecordScalar, ScheduleAfter, Fail}
@@ -12,7 +12,7 @@ use Rattle.run_semantics.specs.declared.outcome.Outcome.TheVariants.{Fault}
 use Rattle.run_semantics.specs.declared.traces.Instance.{Instance}
 use Rattle.run_semantics.specs.World.{World}
 use Rattle.run_semantics.specs.Perform.{Flow, On, Stopped, Broken, ◌>>=◌, broken, perform, read_fault, unless_fault}
-use Rattle.run_semantics.specs.Event.{call_of, place_in, with_state}
+use Rattle.run_semantics.specs.Event.{call_of, instance_in, changed}
 use Rattle.run_semantics.specs.Run.{Part, standing, Ran, is_fault}
 
 -- whether an action is for a reply to the end
@@ -36,16 +36,16 @@ acted_last id actions w = if nat_lt 1000 (length actions) then broken id fault.T
 abbrev pub answered_last : Model → ℕ → Reply → World → Flow
 answered_last m id reply w = unless_fault id (read_fault m w.records id reply.reads) (acted_last id reply.actions) w
 
-abbrev pub replied_last : Model → ℕ → ℕ → Instance → Replied → World → Flow
-replied_last m id place i r w = answered_last m id r.reply (with_state place i r.state w)
+abbrev pub replied_last : Model → ℕ → Replied → World → Flow
+replied_last m id r w = answered_last m id r.reply (changed id r.state w)
 
-abbrev pub called_last : Behaviour → Model → ℕ → World → ℕ → Option Instance → Flow
-called_last b m id w place None = On w
-called_last b m id w place (Some i) = replied_last m id place i ((b.naming i.kind).reply i.state (call_of m id prompt.Finish w)) w
+abbrev pub called_last : Behaviour → Model → ℕ → World → Option Instance → Flow
+called_last b m id w None = On w
+called_last b m id w (Some i) = replied_last m id ((b.naming i.kind).reply i.state (call_of m id prompt.Finish w)) w
 
-abbrev pub call_last_at : Behaviour → Model → ℕ → World → Option ℕ → Flow
-call_last_at b m id w None = On w
-call_last_at b m id w (Some place) = called_last b m id w place (slice_get w.modules place)
+-- ONE CALL for the end
+abbrev pub call_last : Behaviour → Model → ℕ → World → Flow
+call_last b m id w = called_last b m id w (instance_in id w.modules)
 
 -- a module counts as finished when its reply is done without a fault
 abbrev pub with_finished : ℕ → World → World
@@ -55,7 +55,7 @@ abbrev pub marked : ℕ → World → Flow
 marked id w = On (with_finished id w)
 
 abbrev pub finish : Behaviour → Model → Part → World → Flow
-finish b m p w = call_last_at b m p.id w (place_in p.id w.modules) >>= marked p.id
+finish b m p w = call_last b m p.id w >>= marked p.id
 
 -- the submodules by id, and then the network
 abbrev pub finish_all : Behaviour → Model → List Part → World → Flow

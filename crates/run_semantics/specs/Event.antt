@@ -1,6 +1,5 @@
 -- One event.
-use Rattle.std.specs.Prelude.{ℕ, ℤ, ◌+◌, ◌==◌, List, [], Option, Some, None, slice_get, slice_set}
-use Rattle.std.specs.List.{position_from}
+use Rattle.std.specs.Prelude.{ℕ, ℤ, ◌+◌, ◌==◌, List, [], ◌∷◌, Option, Some, None, if◌then◌else◌}
 use Rattle.module_api.specs.declared.call.Call.{Call}
 use Rattle.module_api.specs.declared.call.Prompt.{Prompt}
 use Rattle.module_api.specs.declared.call.Prompt.TheVariants as prompt
@@ -33,29 +32,30 @@ call_of m id prompt w = record {
   prompt = prompt;
 }
 
--- where the module of that id stands among the modules
-abbrev pub place_in : ℕ → List Instance → Option ℕ
-place_in id is = position_from (λ (i : Instance). i.id == id) 0 is
+-- the module of that id, where it stands
+abbrev pub instance_in : ℕ → List Instance → Option Instance
+instance_in id [] = None
+instance_in id (i ∷ is) = if i.id == id then Some i else instance_in id is
 
--- the module at that place has a new state
-abbrev pub with_state : ℕ → Instance → List ℕ → World → World
-with_state place i state w = record w { modules = slice_set w.modules place (record i { state = state }) }
+-- the module of that id has a new state
+abbrev pub with_state : ℕ → List ℕ → List Instance → List Instance
+with_state id state [] = []
+with_state id state (i ∷ is) = if i.id == id then record i { state = state } ∷ is else i ∷ with_state id state is
 
-abbrev pub replied : Model → ℕ → ℕ → Instance → Replied → World → Flow
-replied m id place i r w = answered m id r.reply (with_state place i r.state w)
+abbrev pub changed : ℕ → List ℕ → World → World
+changed id state w = record w { modules = with_state id state w.modules }
 
--- the module of that id, which stands at that place, is called
-abbrev pub called : Behaviour → Model → ℕ → Prompt → World → ℕ → Option Instance → Flow
-called b m id prompt w place None = On w
-called b m id prompt w place (Some i) = replied m id place i ((b.naming i.kind).reply i.state (call_of m id prompt w)) w
+abbrev pub replied : Model → ℕ → Replied → World → Flow
+replied m id r w = answered m id r.reply (changed id r.state w)
 
-abbrev pub call_at : Behaviour → Model → ℕ → Prompt → World → Option ℕ → Flow
-call_at b m id prompt w None = On w
-call_at b m id prompt w (Some place) = called b m id prompt w place (slice_get w.modules place)
+-- the module of that id, where it stands, is called
+abbrev pub called : Behaviour → Model → ℕ → Prompt → World → Option Instance → Flow
+called b m id prompt w None = On w
+called b m id prompt w (Some i) = replied m id ((b.naming i.kind).reply i.state (call_of m id prompt w)) w
 
 -- ONE CALL of the module of that id; a call of what isn't there is passed over
 abbrev pub call_module : Behaviour → Model → ℕ → Prompt → World → Flow
-call_module b m id prompt w = call_at b m id prompt w (place_in id w.modules)
+call_module b m id prompt w = called b m id prompt w (instance_in id w.modules)
 
 -- ---- events
 

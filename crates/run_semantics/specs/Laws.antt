@@ -6,7 +6,7 @@ use Rattle.model_answers.specs.declared.model.Model.{Model}
 use Rattle.run_semantics.specs.declared.traces.Emission.{Emission}
 use Rattle.run_semantics.specs.declared.traces.Instance.{Instance}
 use Rattle.run_semantics.specs.World.{World}
-use Rattle.run_semantics.specs.Event.{place_in}
+use Rattle.run_semantics.specs.Event.{instance_in}
 use Rattle.run_semantics.specs.Run.{Stage, next_stage}
 
 -- along emissions neither event numbers nor times fall
@@ -25,7 +25,7 @@ ids_of modules = map (λ i. i.id) modules
 
 -- a call of that module finds it, and it was started and lives
 pub record CanBeCalled (w : World) (id : ℕ) : Type 0 where
-  pub found : IsSome (place_in id w.modules)
+  pub found : IsSome (instance_in id w.modules)
   pub started : IsAmong id w.started
   pub live : IsAmong id w.live
 

@@ -7,7 +7,7 @@ ghost use Rattle.model_answers.specs.declared.model.Model.{Model};
 ghost use Rattle.model_answers.specs.Answering.{answer_of};
 ghost use Rattle.run_semantics.specs.declared.outcome.Outcome.{Outcome};
 ghost use Rattle.run_semantics.specs.Agreement.{Agrees, AgreesUpTo, questions_of};
-ghost use Rattle.run_semantics.specs.Event.{place_in};
+ghost use Rattle.run_semantics.specs.Event.{instance_in};
 ghost use Rattle.run_semantics.specs.Laws.{Each, AreInOrder, AreInTurn, HaveOwnNumbers, HasGrown, CanBeCalled, gone_on};
 ghost use Rattle.run_semantics.specs.World.{World};
 ghost use Rattle.run_semantics.specs.Run.{Running, Over, IsReached, next_stage, after, stopped, run_to, world_at, standing, parts_of};
@@ -124,7 +124,7 @@ pub fn emissions_are_in_turn()
 /// started and lives. So no event is passed over, and none calls a module before it is started.
 pub fn events_are_for_started_modules()
     ensures found { (b : Behaviour) (m : Model) (n : ℕ)
-        → Each (λ e. IsSome (place_in e.id (world_at (after b m n)).modules)) (world_at (after b m n)).pending }
+        → Each (λ e. IsSome (instance_in e.id (world_at (after b m n)).modules)) (world_at (after b m n)).pending }
     ensures started { (b : Behaviour) (m : Model) (n : ℕ) (w : World) → after b m n ≡ Running w
         → Each (λ e. CanBeCalled w e.id) w.pending }
 {}

@@ -1,14 +1,24 @@
-use Rattle.std.proofs.Common.{refl, sym, ◌∙◌}
-use Rattle.kernel.proofs.Calling.{ok_step, boxes_kept, boxes_called}
+use Rattle.std.proofs.Common.{ap, ◌∙◌}
+use Rattle.run_semantics.specs.Perform.{On, answered}
+use Rattle.kernel.specs.Seats.{world_of}
+use Rattle.kernel.specs.Kernels.{seats_in}
+use Rattle.kernel.proofs.Calling.{ok_step, served_kept, passed_over, called_is}
 use Rattle.kernel.proofs.kernel.Kernel.call_module.Goals as goal
 
+pub returns-in_default-clause-step : goal.returns-in_default-clause-step
+returns-in_default-clause-step g c =
+    ap (λ core. On (world_of core (seats_in (λ b. (g.dyn-1.0.entry b.vtable).1) c.reply_of.new.self))) c.reply_of.ensures.core
+    ∙ passed_over g.C.Catalogue.behaviour c.args.model.now c.args.id c.args.prompt c.args.self.now.core (seats_in (λ b. (g.dyn-1.0.entry b.vtable).1) c.args.self.now) (seats_in (λ b. (g.dyn-1.0.entry b.vtable).1) c.reply_of.new.self) (rw c.in_default.is at c.reply_of.ensures.served)
+
 pub returns-in_err-reply-clause-kept : goal.returns-in_err-reply-clause-kept
-returns-in_err-reply-clause-kept g c = boxes_kept _ c.args.self.now.boxes c.reply_at.new.boxes c.in-Some.place _ c.reply_at.result c.in-Some.ensures.there c.reply_at.ensures _ c.requires.callable.kinds
+returns-in_err-reply-clause-kept g c =
+    served_kept g.C.Catalogue.behaviour c.args.id (seats_in (λ b. (g.dyn-1.0.entry b.vtable).1) c.args.self.now) (seats_in (λ b. (g.dyn-1.0.entry b.vtable).1) c.reply_of.new.self) _ c.reply_of.result c.reply_of.ensures.served c.requires.callable.kinds
 
 pub returns-clause-kept : goal.returns-clause-kept
-returns-clause-kept g c = boxes_kept _ c.args.self.now.boxes c.reply_at.new.boxes c.in-Some.place _ c.reply_at.result c.in-Some.ensures.there c.reply_at.ensures _ c.requires.callable.kinds
+returns-clause-kept g c =
+    served_kept g.C.Catalogue.behaviour c.args.id (seats_in (λ b. (g.dyn-1.0.entry b.vtable).1) c.args.self.now) (seats_in (λ b. (g.dyn-1.0.entry b.vtable).1) c.reply_of.new.self) _ c.reply_of.result c.reply_of.ensures.served c.requires.callable.kinds
 
 pub returns-clause-step : goal.returns-clause-step
 returns-clause-step g c = ok_step c.follow.result c.follow.ensures (λ turn step.
-    boxes_called _ c.args.self.now.boxes c.reply_at.new.boxes c.in-Some.place c.in-Some.ensures.there g.C.Catalogue.behaviour c.args.model.now c.args.id c.args.self.now.core c.follow.new.self _ c.in_ok-reply.reply turn
-    c.requires.callable.kinds (sym c.find.ensures.place ∙ c.in-Some.is) c.in_ok-reply.ensures c.args.prompt refl step)
+    called_is g.C.Catalogue.behaviour c.args.model.now c.args.id c.args.prompt c.args.self.now.core c.follow.new.self (seats_in (λ b. (g.dyn-1.0.entry b.vtable).1) c.args.self.now) (seats_in (λ b. (g.dyn-1.0.entry b.vtable).1) c.reply_of.new.self)
+    c.in_ok-reply.reply turn c.requires.callable.kinds (rw c.in_ok-reply.was at c.in-Some.ensures.served) (step ∙ ap (answered c.args.model.now c.args.id c.in_ok-reply.reply) c.reply_of.ensures.core))

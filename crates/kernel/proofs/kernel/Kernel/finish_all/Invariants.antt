@@ -1,15 +1,16 @@
-use Rattle.std.proofs.Common.{◌≡◌, ◌+◌, ◌*◌, ◌≤◌, drop}
+use Rattle.std.proofs.Common.{◌≡◌, ◌+◌, ◌*◌, ◌≤◌}
 use Rattle.run_semantics.specs.Run.{standing}
 use Rattle.run_semantics.specs.Ending.{finish_all}
 use Rattle.kernel.specs.Kernels.{world_in, KeepsBoxes}
+use Rattle.kernel.proofs.Rising.{parts_left}
 use Rattle.kernel.proofs.kernel.Kernel.finish_all.Given as goal
 
-abbrev pub invariant-loop-place : goal.invariant-loop-place
-invariant-loop-place g l =
+abbrev pub invariant-loop-index : goal.invariant-loop-index
+invariant-loop-index g l =
     let old = world_in (λ b. (g.dyn-1.0.entry b.vtable).1) l.fn.self in
     let world = world_in (λ b. (g.dyn-1.0.entry b.vtable).1) l.self in
     record {
-      flow : finish_all g.C.Catalogue.behaviour l.model (drop l.place (standing old.modules)) world ≡ finish_all g.C.Catalogue.behaviour l.model (standing old.modules) old;
-      next : world.next ≤ old.next + 1000 * l.place;
+      flow : finish_all g.C.Catalogue.behaviour l.model (parts_left l.index (standing old.modules)) world ≡ finish_all g.C.Catalogue.behaviour l.model (standing old.modules) old;
+      next : world.next ≤ old.next + 1000 * l.index;
       kept : KeepsBoxes g.C.Catalogue.behaviour (λ b. (g.dyn-1.0.entry b.vtable).1) l.fn.self l.self;
     }

@@ -1,14 +1,15 @@
-use Rattle.std.proofs.Common.{◌≡◌, ◌+◌, ◌*◌, ◌≤◌, drop}
+use Rattle.std.proofs.Common.{◌≡◌, ◌+◌, ◌*◌, ◌≤◌}
 use Rattle.run_semantics.specs.Run.{standing, one_stage}
 use Rattle.kernel.specs.Kernels.{world_in, KeepsBoxes}
+use Rattle.kernel.proofs.Rising.{parts_left}
 use Rattle.kernel.proofs.kernel.Kernel.one_stage.Given as goal
 
-abbrev pub invariant-loop-place : goal.invariant-loop-place
-invariant-loop-place g l =
+abbrev pub invariant-loop-index : goal.invariant-loop-index
+invariant-loop-index g l =
     let old = world_in (λ b. (g.dyn-1.0.entry b.vtable).1) l.fn.self in
     let world = world_in (λ b. (g.dyn-1.0.entry b.vtable).1) l.self in
     record {
-      flow : one_stage g.C.Catalogue.behaviour l.model l.stage (drop l.place (standing old.modules)) world ≡ one_stage g.C.Catalogue.behaviour l.model l.stage (standing old.modules) old;
-      next : world.next ≤ old.next + 1000 * l.place;
+      flow : one_stage g.C.Catalogue.behaviour l.model l.stage (parts_left l.index (standing old.modules)) world ≡ one_stage g.C.Catalogue.behaviour l.model l.stage (standing old.modules) old;
+      next : world.next ≤ old.next + 1000 * l.index;
       kept : KeepsBoxes g.C.Catalogue.behaviour (λ b. (g.dyn-1.0.entry b.vtable).1) l.fn.self l.self;
     }
