@@ -207,11 +207,11 @@ filled_next b m w u r box filled wanted fresh e =
 
 -- ---- boxes are given by rising ids
 
-id_or : ℕ → Option Part → ℕ
+abbrev id_or : ℕ → Option Part → ℕ
 id_or k None = k
 id_or k (Some p) = p.id
 
-AreBelowPart : ℕ → List Part → Type 0
+abbrev AreBelowPart : ℕ → List Part → Type 0
 AreBelowPart id [] = Unit {0}
 AreBelowPart id (p ∷ ps) = (p.id < id) × AreBelowPart id ps
 
@@ -252,6 +252,7 @@ filled_declined b m w r filled wanted unknown =
     record {
       part = q.0;
       missing = q.1;
+      first = filled.first;
       flow =
           sym (ap (λ (fl : Flow). fl >>= place_all b (drop (suc (length w.modules)) (parts_of w))) (unknown_place b q.0 w none))
           ∙ ap (λ (ps : List Part). place_all b ps w) (sym (drop_get (parts_of w) (length w.modules) q.0 q.1))

@@ -1,5 +1,5 @@
 -- What a session keeps.
-use Rattle.std.specs.Prelude.{◌≡◌, ◌⊎◌, ◌<◌, ◌^◌, ℕ, false, List, Option, Some, None, option_map, length, drop, take, slice_get}
+use Rattle.std.specs.Prelude.{◌≡◌, ◌⊎◌, ◌<◌, ◌^◌, ℕ, false, List, Option, Some, None, option_map, length, drop, slice_get}
 use Rattle.module_api.specs.Behaviour.{Behaviour}
 use Rattle.module_api.specs.Meaning.{Module, IsFresh}
 use Rattle.model_answers.specs.declared.model.Model.{Model}
@@ -8,14 +8,14 @@ use Rattle.run_semantics.specs.declared.outcome.Fault.TheVariants.{UnknownClass}
 use Rattle.run_semantics.specs.declared.outcome.Outcome.{Outcome}
 use Rattle.run_semantics.specs.World.{World, HasRoom}
 use Rattle.run_semantics.specs.Perform.{Flow, On, Stopped, Broken}
-use Rattle.run_semantics.specs.Run.{Part, parts_of, prepared, ready, place_all, standing, start, Over, Ran, run_to}
+use Rattle.run_semantics.specs.Run.{Part, parts_of, prepared, ready, place_all, start, Over, Ran, run_to}
 use Rattle.run_semantics.specs.Ending.{ending}
 use Rattle.model_edits.specs.declared.edit.Edit.{Edit}
 use Rattle.model_edits.specs.Edited.{number_given, IsEditOf, IsOnlyEditOf}
 use Rattle.result_files.specs.declared.files.ResultFiles.{ResultFiles}
 use Rattle.result_files.specs.Files.{files_of}
 use Rattle.kernel.specs.declared.request.Request.{Request}
-use Rattle.kernel.specs.Seats.{Seat, AreOfKinds, request_for, missing_of}
+use Rattle.kernel.specs.Seats.{Seat, AreFirst, AreOfKinds, request_for, missing_of}
 use Rattle.edit_session.specs.declared.running.Phase.{Phase}
 use Rattle.edit_session.specs.declared.running.Phase.TheVariants.{Idle, Waiting, Declined}
 use Rattle.edit_session.specs.declared.running.Advance.{Advance}
@@ -99,13 +99,14 @@ pub record IsFilled (b : Behaviour) (m : Model) (w : World) : Type 0 where
   pub prepared_is : prepared m ≡ On base
   pub records : w.records ≡ base.records
   pub next : w.next ≡ 0
-  pub first : standing w.modules ≡ take (length w.modules) (parts_of w)
+  pub first : AreFirst w
   pub flow : place_all b (drop (length w.modules) (parts_of w)) w ≡ ready b m
 
 -- a world where the next box was declined
 pub record IsDeclined (b : Behaviour) (m : Model) (w : World) : Type 0 where
   pub part : Part
   pub missing : slice_get (parts_of w) (length w.modules) ≡ Some part
+  pub first : AreFirst w
   pub flow : Broken w (path_of w.records part.id) UnknownClass ≡ ready b m
 
 -- where a run stands

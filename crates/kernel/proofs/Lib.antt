@@ -1,4 +1,5 @@
 pub mod Apart
+pub mod Behind
 pub mod Calling
 pub mod Ending
 pub mod Rising

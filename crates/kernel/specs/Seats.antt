@@ -1,5 +1,5 @@
 -- The world that a core and its boxes make.
-use Rattle.std.specs.Prelude.{◌≡◌, ℕ, ◌==◌, ◌<◌, Bool, false, bytes_eq, List, [], ◌∷◌, Option, Some, None, option_map, Result, map, length, slice_get, if◌then◌else◌}
+use Rattle.std.specs.Prelude.{◌≡◌, ℕ, ◌==◌, ◌<◌, Bool, false, bytes_eq, List, [], ◌∷◌, Option, Some, None, option_map, Result, map, length, slice_get, take, if◌then◌else◌}
 use Rattle.sim_values.specs.declared.NoMemory.{NoMemory}
 use Rattle.module_api.specs.declared.call.Call.{Call}
 use Rattle.module_api.specs.declared.reply.Reply.{Reply}
@@ -64,6 +64,10 @@ abbrev pub AreBelow : ℕ → List Instance → Type 0
 AreBelow id [] = Unit {0}
 AreBelow id (i ∷ is) = (i.id < id) × AreBelow id is
 
+-- the modules that have boxes are the first of the simple modules: they get them by rising ids
+abbrev pub AreFirst : World → Type 0
+AreFirst w = standing w.modules ≡ take (length w.modules) (parts_of w)
+
 -- whether the module of that id has a box, and stands at a path
 abbrev pub stands_at : List Record → List ℕ → ℕ → Option Module → Bool
 stands_at records path id None = false
@@ -78,7 +82,7 @@ stages_of (Some box) = Some box.naming.stages
 abbrev pub request_for : World → Part → Request
 request_for w p = record { kind = p.kind; path = path_of w.records p.id; id = p.id }
 
--- the simple module that has no box yet, of the least id: modules get boxes by rising ids
+-- the simple module that has no box yet, of the least id
 abbrev pub missing_part : World → Option Part
 missing_part w = slice_get (parts_of w) (length w.modules)
 

@@ -1,6 +1,6 @@
 //! A world in code, one event at a time.
 
-ghost use Rattle.std.specs.Prelude.{◌≡◌, ◌+◌, ◌^◌, ◌<◌, ◌≤◌, OnOk, OnErr, IfOk, IfErr, [], length, max, slice_get, option_map, unwrap_or};
+ghost use Rattle.std.specs.Prelude.{◌≡◌, ◌+◌, ◌^◌, ◌<◌, ◌≤◌, OnOk, OnErr, IfOk, IfErr, [], length, max, slice_get, drop, option_map, unwrap_or};
 ghost use Rattle.module_api.specs.Meaning.{IsOfKind, Answered, IsSameModule};
 ghost use Rattle.module_tree.specs.Boxes.{nothing};
 ghost use Rattle.run_semantics.specs.World.{empty, HasRoom};
@@ -10,7 +10,7 @@ ghost use Rattle.run_semantics.specs.Upcoming.{arrival, target_of, upcoming};
 ghost use Rattle.kernel.specs.Upcoming.{looked, upcoming_of, LooksOn};
 ghost use Rattle.run_semantics.specs.Run.{Running, Part, stage_of, settled, prepared, ready, placed, standing, parts_from, most_stages, one_stage, stages_from, initialize_all, start, next_stage, stopped};
 ghost use Rattle.run_semantics.specs.Ending.{call_last, finish_all, ending};
-ghost use Rattle.kernel.specs.Seats.{module_in, stages_of, stands_at, AreBelow, IsServed, missing_of, missing_part};
+ghost use Rattle.kernel.specs.Seats.{module_in, stages_of, stands_at, AreBelow, AreFirst, IsServed, missing_of, missing_part};
 ghost use Rattle.kernel.specs.Parts.{part_in, initialize_at, finish_at};
 ghost use Rattle.kernel.specs.Kernels.{seats_in, world_in, ran_in, HasKinds, IsCallable, KeepsBoxes};
 
@@ -130,27 +130,37 @@ impl<C: Catalogue> Kernel<C> {
         Ok(self.settle(turn))
     }
 
-    /// The simple module that has no box yet, of the least id.
+    /// The simple module that has no box yet, of the least id, and its class.
+    fn missing_part(&self) -> Option<(u32, &[u8])>
+        requires { AreFirst (world_in SimpleModule-box self.now) }
+        ensures { option_map (λ part. record { id = part.0; kind = part.1.now }) result
+            ≡ missing_part (world_in SimpleModule-box self.now) }
+    {
+        part_behind(self.core.records(), self.boxes.last().unwrap_or(0))
+    }
+
+    /// The simple module that has no box yet, of the least id. Those that have boxes are the first ones.
     pub fn missing(&self, alloc: Global) -> Result<Option<Request>, NoMemory>
+        requires { AreFirst (world_in SimpleModule-box self.now) }
         ensures { IfOk result (λ wanted. wanted ≡ missing_of (world_in SimpleModule-box self.now)) }
     {
-        let records = self.core.records();
-        let Some((id, kind)) = part_at(records, self.boxes.len()) else {
+        let Some((id, kind)) = self.missing_part() else {
             return Ok(None);
         };
         Ok(Some(Request {
             kind: Text::from_bytes(alloc, kind)?,
-            path: path_of(alloc, records, id)?,
+            path: path_of(alloc, self.core.records(), id)?,
             id,
         }))
     }
 
     /// The id of the simple module that has no box yet, the least such id.
     pub fn missing_id(&self) -> Option<u32>
+        requires { AreFirst (world_in SimpleModule-box self.now) }
         ensures { let world = world_in SimpleModule-box self.now in
             result ≡ option_map (λ (p : Part). p.id) (missing_part world) }
     {
-        match part_at(self.core.records(), self.boxes.len()) {
+        match self.missing_part() {
             Some((id, _)) => Some(id),
             None => None,
         }
@@ -504,19 +514,20 @@ impl<C: Catalogue> Kernel<C> {
     }
 }
 
-/// The simple module of that number, counted from 0: its id and its class.
-fn part_at(records: &[Record], number: usize) -> Option<(u32, &[u8])>
+/// The first simple module of a greater id: its id and its class.
+fn part_behind(records: &[Record], id: u32) -> Option<(u32, &[u8])>
     requires { length records.now < 2 ^ 32 }
     ensures { option_map (λ part. record { id = part.0; kind = part.1.now }) result
-        ≡ slice_get (parts_from 1 records.now) number }
+        ≡ slice_get (parts_from (id + 1) (drop id records.now)) 0 }
 {
-    let mut left = number;
-    for (index, found) in records.iter().enumerate() {
+    let first = id as usize;
+    if first >= records.len() {
+        return None;
+    }
+    let (_, behind) = records.split_at(first);
+    for (index, found) in behind.iter().enumerate() {
         if let Some(kind) = &found.class {
-            if left == 0 {
-                return Some((index as u32 + 1, kind.as_bytes()));
-            }
-            left -= 1;
+            return Some(((first + index) as u32 + 1, kind.as_bytes()));
         }
     }
     None

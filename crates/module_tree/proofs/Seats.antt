@@ -1,7 +1,7 @@
 -- What slots hold.
-use Rattle.std.proofs.Common.{◌≡◌, ℕ, zero, suc, ◌+◌, ◌^◌, ◌<◌, ◌≤◌, ◌==◌, nat_lt, Bool, true, false, cond, is_some, List, [], ◌∷◌, ◌++◌, Option, Some, None, refl, sym, ap, ◌∙◌, arith, length, slice_get, slice_set, slice_index_or, eq-eqb, eqb-true, if◌then◌else◌}
+use Rattle.std.proofs.Common.{◌≡◌, ℕ, zero, suc, ◌+◌, ◌^◌, ◌<◌, ◌≤◌, ◌==◌, nat_lt, Bool, true, false, cond, is_some, List, [], ◌∷◌, ◌++◌, Option, Some, None, refl, sym, ap, ◌∙◌, arith, length, slice_get, slice_set, slice_index_or, take, eq-eqb, eqb-true, if◌then◌else◌}
 use Rattle.std.proofs.lemmas.Bool.Decides.{nat_tests}
-use Rattle.module_tree.specs.Boxes.{box_of, with_box, without_box, seats_from, AreRising, Held, IsCounted, Seated, with_seats}
+use Rattle.module_tree.specs.Boxes.{box_of, last_after, with_box, without_box, seats_from, AreRising, Held, IsCounted, Seated, with_seats}
 
 -- ---- tests
 
@@ -136,6 +136,36 @@ module _ {X : Type 0} where
       let room = length_set id (Some y) os in
       let here : held_in (slice_set os id (Some y)) ≡ with_seats (with_box id y (seats_from 0 os)) (held_in os) = λ i. record { seats = seats i; room = room i } in
       here ∙ ap (λ (h : Held X). with_seats (with_box id y h.seats) h) is
+
+  -- ---- the last box
+
+  pub take_short : (k : ℕ) (os : List (Option X)) → k ≤ length os → length (take k os) ≡ k
+  take_short zero os h = refl
+  take_short (suc k) [] h = absurd (omega (arith, h))
+  take_short (suc k) (o ∷ os) h = ap suc (take_short k os (omega (arith, h)))
+
+  -- no slot
+  pub none_at_all : (os : List (Option X)) → length os < 1 → None ≡ last_after None (seats_from 0 os)
+  none_at_all [] h = refl
+  none_at_all (o ∷ os) h = absurd (omega (arith, h))
+
+  -- the last slot is empty
+  pub last_none : (n : ℕ) (before : Option ℕ) (os : List (Option X)) (k : ℕ) (d : Option X) → length os ≡ suc k → is_some (slice_index_or os k d) ≡ false → last_after before (seats_from n (take k os)) ≡ last_after before (seats_from n os)
+  last_none n before [] k d e h = absurd (omega (arith, e))
+  last_none n before (None ∷ []) zero d e h = refl
+  last_none n before (Some x ∷ []) zero d e h = cc
+  last_none n before (p ∷ q ∷ os) zero d e h = absurd (omega (arith, e))
+  last_none n before (None ∷ os) (suc k) d e h = last_none (suc n) before os k d (omega (arith, e)) h
+  last_none n before (Some x ∷ os) (suc k) d e h = last_none (suc n) (Some n) os k d (omega (arith, e)) h
+
+  -- it holds a box
+  pub last_some : (n : ℕ) (before : Option ℕ) (os : List (Option X)) (k : ℕ) (d : Option X) → length os ≡ suc k → is_some (slice_index_or os k d) ≡ true → Some (n + k) ≡ last_after before (seats_from n os)
+  last_some n before [] k d e h = absurd (omega (arith, e))
+  last_some n before (None ∷ []) zero d e h = cc
+  last_some n before (Some x ∷ []) zero d e h = ap Some (omega arith)
+  last_some n before (p ∷ q ∷ os) zero d e h = absurd (omega (arith, e))
+  last_some n before (None ∷ os) (suc k) d e h = ap Some (omega arith) ∙ last_some (suc n) before os k d (omega (arith, e)) h
+  last_some n before (Some x ∷ os) (suc k) d e h = ap Some (omega arith) ∙ last_some (suc n) (Some n) os k d (omega (arith, e)) h
 
   -- ---- how many there are
 

@@ -23,6 +23,14 @@ module _ {X : Type 0} where
   box_of id [] = None
   box_of id (s ∷ ss) = if s.id == id then Some s.box else box_of id ss
 
+  -- the greatest id, that of the last box, where there is one; else that one
+  abbrev pub last_after : Option ℕ → List (Seated X) → Option ℕ
+  last_after before [] = before
+  last_after before (s ∷ ss) = last_after (Some s.id) ss
+
+  abbrev pub last_id : List (Seated X) → Option ℕ
+  last_id ss = last_after None ss
+
   -- with one more, before the first of a greater id
   abbrev pub with_box : ℕ → X → List (Seated X) → List (Seated X)
   with_box id x [] = record { id = id; box = x } ∷ []

@@ -3,7 +3,7 @@
 
 ghost use Rattle.std.specs.Prelude.{◌≡◌, [], ◌<◌, ◌≤◌, ◌^◌, length, slice_get, None, OnOk, OnErr, IfErr, IfSome};
 ghost use Rattle.std.specs.Option.{option_copied};
-ghost use Rattle.module_tree.specs.Boxes.{box_of, with_box, without_box, without_boxes, nothing, with_seats, seats_from, AreRising};
+ghost use Rattle.module_tree.specs.Boxes.{box_of, last_id, with_box, without_box, without_boxes, nothing, with_seats, seats_from, AreRising};
 
 use std::alloc::{AllocError, AllocFailed, Global};
 use std::marker::Model;
@@ -62,6 +62,14 @@ impl<T> Tree<T> {
             Some(slot) => slot.as_ref(),
             None => None,
         }
+    }
+
+    /// The greatest id that has a box.
+    pub fn last(&self) -> Option<u32>
+        ensures last { result ≡ last_id self.now.seats }
+        ensures rising { AreRising 0 self.now.room self.now.seats }
+    {
+        last_at(self.slots.as_slice())
     }
 
     /// Takes the box of the module of that id out. Its place stays.
@@ -129,6 +137,21 @@ fn slot_at<T>(slots: &[Option<T>], index: usize) -> Option<&Option<T>>
     ensures { option_copied result ≡ slice_get slots.now index }
 {
     slots.get(index)
+}
+
+/// The number of the last slot that holds something.
+fn last_at<T>(slots: &[Option<T>]) -> Option<u32>
+    requires { length slots.now ≤ 2 ^ 32 }
+    ensures { result ≡ last_id (seats_from 0 slots.now) }
+{
+    let mut rest = slots;
+    while let [before @ .., slot] = rest {
+        if slot.is_some() {
+            return Some(before.len() as u32);
+        }
+        rest = before;
+    }
+    None
 }
 
 /// Makes room up to that slot.
