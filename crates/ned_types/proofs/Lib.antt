@@ -1,1 +1,2 @@
 pub mod WellFormedLaws
+pub mod Repeats

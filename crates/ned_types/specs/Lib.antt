@@ -1,3 +1,4 @@
 pub mod Types
 pub mod Flat
 pub mod WellFormed
+pub mod Seen

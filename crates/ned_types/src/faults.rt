@@ -1,36 +1,40 @@
 //! Why declared types make no model.
 
-ghost use Rattle.std.specs.Prelude.{◌≡◌, ◌||◌, ◌↔◌, None};
-ghost use Rattle.ned_types.specs.Types.{fault_of, has_duplicate, has_unknown, has_clash, is_built_in, is_type_named, names_unknown, is_submodule_known, clashes, section_clashes, submodules_clash, is_submodule_simple, is_simple, is_submodule_named, repeats_submodule, has_other_kind, redeclares, declares, is_declaration, is_declared, is_undeclared, gives_undeclared, gives_again, gives, is_given, is_fixed, name_in, value_in};
+ghost use Rattle.std.specs.Prelude.{◌≡◌, ◌||◌, ◌↔◌, None, IfOk};
+ghost use Rattle.ned_types.specs.Types.{fault_of, has_duplicate, has_unknown, has_clash, is_built_in, is_type_named, names_unknown, is_submodule_known, clashes, section_clashes, submodules_clash, is_submodule_simple, is_simple, repeats_submodule, has_other_kind, redeclares, declares, is_declaration, is_declared, is_undeclared, gives_undeclared, gives_again, gives, is_given, is_fixed, name_in, value_in};
 ghost use Rattle.ned_types.specs.WellFormed.{IsWellFormed};
 ghost use Rattle.std.specs.Option.{option_copied};
+ghost use Rattle.ned_types.specs.Seen.{is_one_named, names_in};
 
 use crate::table::{TypeFault, find_type};
+use indexmap::IndexSet;
 use ned_syntax::ast::{ParameterValue, SectionLine, Submodule, TypeDeclaration, TypeKind};
+use std::alloc::{AllocError, Global};
 
 /// The first fault of these types, in the order of TypeFault.
-pub fn fault_of(types: &[TypeDeclaration]) -> Option<TypeFault>
-    ensures first { result ≡ fault_of types.now }
+pub fn fault_of(alloc: Global, types: &[TypeDeclaration]) -> Result<Option<TypeFault>, AllocError>
+    ensures first { IfOk result (λ found. found ≡ fault_of types.now) }
     // Exactly types that keep the rules have no fault.
-    ensures rules { (result ≡ None) ↔ IsWellFormed types.now }
+    ensures rules { IfOk result (λ found. (found ≡ None) ↔ IsWellFormed types.now) }
 {
-    found_fault(types)
+    let found = found_fault(alloc, types)?;
+    Ok(found)
 }
 
 /// The first of the three faults that the types have.
-fn found_fault(types: &[TypeDeclaration]) -> Option<TypeFault>
-    ensures { result ≡ fault_of types.now }
+fn found_fault(alloc: Global, types: &[TypeDeclaration]) -> Result<Option<TypeFault>, AllocError>
+    ensures { IfOk result (λ found. found ≡ fault_of types.now) }
 {
     if has_duplicate(types) {
-        return Some(TypeFault::DuplicateType);
+        return Ok(Some(TypeFault::DuplicateType));
     }
     if has_unknown(types) {
-        return Some(TypeFault::UnknownType);
+        return Ok(Some(TypeFault::UnknownType));
     }
-    if has_clash(types) {
-        return Some(TypeFault::KindClash);
+    if has_clash(alloc, types)? {
+        return Ok(Some(TypeFault::KindClash));
     }
-    None
+    Ok(None)
 }
 
 /// Whether two types have one name, or one the name of a built-in channel.
@@ -92,18 +96,31 @@ fn is_submodule_known(types: &[TypeDeclaration], submodule: &Submodule) -> bool
 }
 
 /// Whether one of the types has a clash.
-fn has_clash(types: &[TypeDeclaration]) -> bool
-    ensures { result ≡ has_clash types.now }
+fn has_clash(alloc: Global, types: &[TypeDeclaration]) -> Result<bool, AllocError>
+    ensures { IfOk result (λ clash. clash ≡ has_clash types.now) }
 {
-    types.iter().any(|declared| clashes(types, declared))
+    let mut rest = types;
+    while let [declared, after @ ..] = rest {
+        if clashes(alloc, types, declared)? {
+            return Ok(true);
+        }
+        rest = after;
+    }
+    Ok(false)
 }
 
 /// Whether a member of the type clashes.
-fn clashes(types: &[TypeDeclaration], declared: &TypeDeclaration) -> bool
-    ensures { result ≡ clashes types.now declared.now }
+fn clashes(
+    alloc: Global,
+    types: &[TypeDeclaration],
+    declared: &TypeDeclaration,
+) -> Result<bool, AllocError>
+    ensures { IfOk result (λ clash. clash ≡ clashes types.now declared.now) }
 {
-    section_clashes(declared.lines.as_slice())
-        || submodules_clash(types, declared.submodules.as_slice())
+    if section_clashes(declared.lines.as_slice()) {
+        return Ok(true);
+    }
+    submodules_clash(alloc, types, declared.submodules.as_slice())
 }
 
 fn section_clashes(lines: &[SectionLine]) -> bool
@@ -112,10 +129,17 @@ fn section_clashes(lines: &[SectionLine]) -> bool
     redeclares(lines) || gives_undeclared(lines) || gives_again(lines)
 }
 
-fn submodules_clash(types: &[TypeDeclaration], submodules: &[Submodule]) -> bool
-    ensures { result ≡ submodules_clash types.now submodules.now }
+fn submodules_clash(
+    alloc: Global,
+    types: &[TypeDeclaration],
+    submodules: &[Submodule],
+) -> Result<bool, AllocError>
+    ensures { IfOk result (λ clash. clash ≡ submodules_clash types.now submodules.now) }
 {
-    repeats_submodule(submodules) || has_other_kind(types, submodules)
+    if repeats_submodule(alloc, submodules)? {
+        return Ok(true);
+    }
+    Ok(has_other_kind(types, submodules))
 }
 
 /// Whether a parameter is declared twice.
@@ -225,24 +249,31 @@ pub fn gives(name: &[u8], line: &SectionLine) -> bool
     value_in(line).is_some() && name_in(line) == name
 }
 
-/// Whether a submodule is declared twice.
-fn repeats_submodule(submodules: &[Submodule]) -> bool
-    ensures { result ≡ repeats_submodule submodules.now }
+/// Whether a submodule is declared twice. The names that were seen stand in a set, so each is compared with few.
+fn repeats_submodule(alloc: Global, submodules: &[Submodule]) -> Result<bool, AllocError>
+    ensures { IfOk result (λ repeats. repeats ≡ repeats_submodule submodules.now) }
+{
+    let mut seen = IndexSet::new(alloc);
+    let repeats = repeats_seen(&mut seen, submodules)?;
+    Ok(repeats)
+}
+
+/// Whether one of these has a name that was seen before.
+fn repeats_seen<'a>(
+    seen: &mut IndexSet<&'a [u8]>,
+    submodules: &'a [Submodule],
+) -> Result<bool, AllocError>
+    ensures { IfOk result (λ repeats. repeats
+        ≡ (is_one_named (names_in seen.old.keys) submodules.now || repeats_submodule submodules.now)) }
 {
     let mut rest = submodules;
     while let [submodule, after @ ..] = rest {
-        if is_submodule_named(submodule.name.as_bytes(), after) {
-            return true;
+        if !seen.insert(submodule.name.as_bytes())? {
+            return Ok(true);
         }
         rest = after;
     }
-    false
-}
-
-fn is_submodule_named(name: &[u8], submodules: &[Submodule]) -> bool
-    ensures { result ≡ is_submodule_named name.now submodules.now }
-{
-    submodules.iter().any(|submodule| submodule.name.is(name))
+    Ok(false)
 }
 
 /// Whether the type of a submodule isn't a simple type.

@@ -69,7 +69,7 @@ impl TypeTable {
             → AnswersTable (types_of files.items) result }
     {
         let types = joined(alloc, files)?;
-        match faults::fault_of(types.as_slice()) {
+        match faults::fault_of(alloc, types.as_slice())? {
             Some(fault) => Err(fault),
             None => Ok(TypeTable { types }),
         }
