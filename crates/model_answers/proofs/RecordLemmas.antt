@@ -1,5 +1,5 @@
 -- Paths of modules.
-use Rattle.std.proofs.Common.{◌≡◌, ◌≢◌, ℕ, zero, suc, ◌-◌, List, [], ◌∷◌, ◌++◌, Option, Some, None, Result, Ok, Err, arith, arith, refl, sym, ap, ◌∙◌, eqb, false, append_assoc}
+use Rattle.std.proofs.Common.{◌≡◌, ◌≢◌, ℕ, zero, suc, ◌-◌, List, [], ◌∷◌, ◌++◌, Some, Result, Ok, Err, arith, arith, refl, sym, ap, ◌∙◌, eqb, false, append_assoc}
 use Rattle.std.specs.Result.{OnOk}
 use Rattle.model_answers.specs.declared.record.Record.{Record}
 use Rattle.model_answers.specs.Records.{record_at, own_name, path_by, path_up}

@@ -11,10 +11,12 @@ use ini_config::entries::{network_entry, time_limit_entry};
 use ini_config::lines::IniText;
 use ini_config::speaks::last_name;
 use ned_syntax::ast::{TypeDeclaration, TypeKind};
-use ned_types::flat::submodule_named;
 use ned_types::table::TypeTable;
 use sim_values::text::Text;
 use sqlite_items::Items;
+
+/// The id of the network's first submodule: the others follow it in the order of their declaration.
+const FIRST_SUBMODULE: usize = 2;
 
 /// What a run is made of: the declared types, the ini text, the selected configuration, and the injections.
 #[derive(Debug, Drop)]
@@ -56,15 +58,18 @@ impl Model {
         if record.parent == 0 {
             return self.network();
         }
-        self.inner_type(record.name.as_bytes())
+        self.inner_type(
+            record.name.as_bytes(),
+            (id as usize).saturating_sub(FIRST_SUBMODULE),
+        )
     }
 
-    /// The type of the network's submodule of that name.
-    fn inner_type(&self, name: &[u8]) -> Option<&TypeDeclaration>
+    /// The type of the network's submodule of that name, which is looked for at that place first.
+    fn inner_type(&self, name: &[u8], place: usize) -> Option<&TypeDeclaration>
         ensures { option_copied result ≡ inner_type self.now (network_of self.now) name.now }
     {
         let network = self.network()?;
-        let submodule = submodule_named(name, network.submodules.as_slice())?;
+        let submodule = self.types.submodule_near(network, place, name)?;
         self.types.find(submodule.type_name.as_bytes())
     }
 }

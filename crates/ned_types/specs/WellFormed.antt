@@ -32,6 +32,10 @@ pub record IsSoundSection (lines : List SectionLine) : Type 0 where
   -- behind a fixed value a parameter is given no other.
   pub fixed : (l k : SectionLine) → StandsBefore l k lines → is_fixed (value_in l) ≡ true → is_some (value_in k) ≡ true → name_in k ≢ name_in l
 
+-- no two submodules have one name
+abbrev pub HaveOwnNames : List Submodule → Type 0
+HaveOwnNames submodules = (s r : Submodule) → StandsBefore s r submodules → s.name ≢ r.name
+
 -- one of the types is a simple type of that name
 abbrev pub IsSimpleType : List ℕ → List TypeDeclaration → Type 0
 IsSimpleType name types = (u : TypeDeclaration) × IsAmong u types × (u.name ≡ name) × (u.kind ≡ Simple)
@@ -45,6 +49,6 @@ pub record IsWellFormed (types : List TypeDeclaration) : Type 0 where
   -- the parameter section of each is sound;
   pub parameters : (t : TypeDeclaration) → IsAmong t types → IsSoundSection t.lines
   -- no two submodules of a type have one name;
-  pub submodules : (t : TypeDeclaration) → IsAmong t types → (s r : Submodule) → StandsBefore s r t.submodules → s.name ≢ r.name
+  pub submodules : (t : TypeDeclaration) → IsAmong t types → HaveOwnNames t.submodules
   -- and the type of each is a simple type among these.
   pub simple : (t : TypeDeclaration) → IsAmong t types → (s : Submodule) → IsAmong s t.submodules → IsSimpleType s.type_name types

@@ -1,12 +1,14 @@
 //! The table of types.
 
-ghost use Rattle.std.specs.Prelude.{◌≡◌, IfOk};
+ghost use Rattle.std.specs.Prelude.{◌≡◌, IfOk, slice_get};
 ghost use Rattle.std.specs.Option.{option_copied};
 ghost use Rattle.ned_types.specs.Types.{type_named, types_of, AnswersTable, Builds};
-ghost use Rattle.ned_types.specs.WellFormed.{IsWellFormed};
+ghost use Rattle.ned_types.specs.Flat.{submodule_named};
+ghost use Rattle.ned_types.specs.WellFormed.{HaveOwnNames, IsAmong, IsWellFormed};
 
 use crate::faults;
-use ned_syntax::ast::{NedFile, TypeDeclaration};
+use crate::flat::submodule_named;
+use ned_syntax::ast::{NedFile, Submodule, TypeDeclaration};
 use sim_values::NoMemory;
 use sqlite_items::Items;
 use std::alloc::{AllocError, Global};
@@ -42,7 +44,7 @@ impl From<AllocError> for TypeFault {
     }
 }
 
-/// All declared types, in the order of the files and within them, which contracts see as their list.
+/// All declared types, in the order of the files and within them, which contracts see as their list. They keep the rules of types.
 #[derive(Debug, Drop)]
 pub struct TypeTable {
     types: Items<TypeDeclaration>,
@@ -50,11 +52,14 @@ pub struct TypeTable {
 
 impl Model for TypeTable {
     ghost use Rattle.std.specs.Prelude.{List};
+    ghost use Rattle.ned_types.specs.WellFormed.{IsWellFormed};
     ghost use Rattle.ned_syntax.specs.declared.ast.TypeDeclaration.{TypeDeclaration};
 
     ghost Value = { List TypeDeclaration };
 
     ghost view = { λ t. t.types };
+
+    ghost invariant = { λ t. IsWellFormed t.types };
 }
 
 impl TypeTable {
@@ -75,9 +80,10 @@ impl TypeTable {
         }
     }
 
-    /// The types, in order.
+    /// The types, in order, which keep the rules of types.
     pub fn types(&self) -> &[TypeDeclaration]
-        ensures { result.now ≡ self.now }
+        ensures types { result.now ≡ self.now }
+        ensures rules { IsWellFormed self.now }
     {
         self.types.as_slice()
     }
@@ -87,6 +93,31 @@ impl TypeTable {
         ensures { option_copied result ≡ type_named name.now self.now }
     {
         find_type(self.types.as_slice(), name)
+    }
+
+    /// The submodule of that name of one of the types. It is looked for at that place first.
+    pub fn submodule_near<'a>(
+        &'a self,
+        declared: &'a TypeDeclaration,
+        place: usize,
+        name: &[u8],
+    ) -> Option<&'a Submodule>
+        requires { IsAmong declared.now self.now }
+        ensures { option_copied result ≡ submodule_named name.now declared.now.submodules }
+    {
+        let _types = self.types();
+        found_near(declared.submodules.as_slice(), place, name)
+    }
+}
+
+/// The submodule of that name, looked for at that place first.
+fn found_near<'a>(submodules: &'a [Submodule], place: usize, name: &[u8]) -> Option<&'a Submodule>
+    requires { HaveOwnNames submodules.now }
+    ensures { option_copied result ≡ submodule_named name.now submodules.now }
+{
+    match submodule_at(submodules, place) {
+        Some(found) if found.name.is(name) => Some(found),
+        _ => submodule_named(name, submodules),
     }
 }
 
@@ -111,4 +142,11 @@ pub fn find_type<'a>(types: &'a [TypeDeclaration], name: &[u8]) -> Option<&'a Ty
         }
     }
     None
+}
+
+/// The submodule at that place.
+fn submodule_at(submodules: &[Submodule], place: usize) -> Option<&Submodule>
+    ensures { option_copied result ≡ slice_get submodules.now place }
+{
+    submodules.get(place)
 }
