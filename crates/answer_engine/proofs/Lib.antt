@@ -1,0 +1,4 @@
+pub mod Entries
+pub mod Noting
+pub mod Going
+pub mod Order

@@ -1,0 +1,5 @@
+pub mod Turns
+pub mod Tables
+pub mod Working
+pub mod Steps
+pub mod Edits

@@ -1,0 +1,19 @@
+//! Where an evaluation has come to.
+
+/// Where an evaluation has come to.
+#[derive(Debug, Drop)]
+pub enum Turn<K, V, F> {
+    /// It needs the value of a key.
+    Ask(K),
+    Done(V),
+    Fault(F),
+}
+
+/// What a step of a question leads to.
+#[derive(Debug, Drop)]
+pub(crate) enum Step<K, V, F> {
+    /// The key that is being evaluated has come to this.
+    Goes(Turn<K, V, F>),
+    /// The place of the value in the table, or the fault.
+    Ended(Result<usize, F>),
+}
