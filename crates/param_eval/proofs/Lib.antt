@@ -1,0 +1,3 @@
+mod Powers
+mod Quotients
+mod Shifts
