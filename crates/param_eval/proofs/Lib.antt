@@ -1,3 +1,5 @@
 mod Powers
 mod Quotients
 mod Shifts
+mod Tasks
+mod Answering

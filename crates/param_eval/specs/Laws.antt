@@ -1,5 +1,10 @@
 -- Words of the laws.
-use Rattle.std.specs.Prelude.{◌≡◌, ◌≢◌, ◌<◌, ℤ, pos, ◌+ℤ◌, ◌*ℤ◌, ◌≤ℤ◌, ◌<ℤ◌, ◌^◌, unsigned_abs, Ok}
+use Rattle.std.specs.Prelude.{◌≡◌, ◌≢◌, ◌<◌, ℤ, pos, ◌+ℤ◌, ◌*ℤ◌, ◌≤ℤ◌, ◌<ℤ◌, ◌^◌, unsigned_abs, Some, Ok}
+use Rattle.asking.specs.Asking.{outcome}
+use Rattle.ned_expressions.specs.declared.ast.Expression.{Expression}
+use Rattle.param_eval.specs.Operators.{Evaluated}
+use Rattle.param_eval.specs.References.{Reference}
+use Rattle.param_eval.specs.Values.{valued, value_in}
 use Rattle.param_eval.specs.Wholes.{bounded, quotient, remainder, shift_right}
 
 -- a quotient, times what was divided by, is what was divided
@@ -20,3 +25,7 @@ IsLeft = (a b r : ℤ) → remainder a b ≡ Ok r →
 abbrev pub IsRoundedDown : Type 0
 IsRoundedDown = (a b q : ℤ) → shift_right a b ≡ Ok q →
     let power = pos (2 ^ unsigned_abs b) in ((q *ℤ power) ≤ℤ a) × (a <ℤ (q *ℤ power +ℤ power))
+
+-- what an expression's asking comes to where each reference has an answer is always there: its value or its fault
+abbrev pub IsOutcome : Type 0
+IsOutcome = (meaning : Reference → Evaluated) (e : Expression) → outcome (λ r. Some (meaning r)) (valued e) ≡ Some (value_in meaning e)

@@ -1,6 +1,6 @@
 //! What holds of the definitions themselves.
 
-ghost use Rattle.param_eval.specs.Laws.{IsExact, IsFound, IsLeft, IsRoundedDown};
+ghost use Rattle.param_eval.specs.Laws.{IsExact, IsFound, IsLeft, IsOutcome, IsRoundedDown};
 
 /// A quotient, times what was divided by, is what was divided.
 pub fn is_exact()
@@ -20,4 +20,9 @@ pub fn is_left()
 /// A shift to the right rounds down.
 pub fn is_rounded_down()
     ensures { IsRoundedDown }
+{}
+
+/// The value of an expression is what its asking comes to where each reference has an answer: one is always there.
+pub fn is_outcome()
+    ensures { IsOutcome }
 {}

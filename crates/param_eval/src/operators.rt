@@ -1,6 +1,7 @@
 //! What operators make of values.
 
 ghost use Rattle.std.specs.Prelude.{◌≡◌, ◌++◌, IfOk};
+ghost use Rattle.param_eval.specs.Combinations as combinations;
 ghost use Rattle.param_eval.specs.Operators as operators;
 
 use crate::fault::Fault;
@@ -245,5 +246,37 @@ pub fn chosen(choice: Choice, left: &Value, right: &Value) -> Result<Value, Faul
             }
         }
         _ => Err(Fault::Mismatch),
+    }
+}
+
+/// What makes a value of two.
+#[derive(Clone, Copy)]
+pub enum Combination {
+    Operator(Operator),
+    Choice(Choice),
+}
+
+/// What is made of two values.
+pub(crate) fn combined(
+    alloc: Global,
+    combination: Combination,
+    left: &Value,
+    right: &Value,
+) -> Result<Result<Value, Fault>, NoMemory>
+    ensures { IfOk result (λ found. found ≡ combinations.combined combination left.now right.now) }
+{
+    match combination {
+        Combination::Operator(operator) => applied(alloc, operator, left, right),
+        Combination::Choice(choice) => Ok(chosen(choice, left, right)),
+    }
+}
+
+/// What the left side alone decides.
+pub(crate) fn settled(combination: Combination, left: &Value) -> Option<Result<Value, Fault>>
+    ensures { result ≡ combinations.settled combination left.now }
+{
+    match combination {
+        Combination::Operator(operator) => decided(operator, left),
+        Combination::Choice(_) => None,
     }
 }
