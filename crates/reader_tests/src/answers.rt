@@ -4,7 +4,7 @@ use crate::chain_rows::tell_configuration;
 use crate::edit_rows::tell_edit;
 use crate::meaning_rows::{tell_entry_pattern, tell_meaning};
 use crate::pattern_rows::tell_pattern;
-use crate::{ini_rows, ned_rows, rows, time_rows, tree_rows};
+use crate::{ini_rows, ned_rows, rows, time_rows, tree_rows, value_rows};
 use std::alloc::{AllocError, Global};
 
 /// Tells what becomes of a row of several parts, by its first part and those behind it.
@@ -41,6 +41,7 @@ fn tell_row(alloc: Global, told: &mut String, file: &str, row: &str) -> Result<(
         "ned_models" => ned_rows::tell_model(alloc, told, row),
         "expressions" => ned_rows::tell_expression(alloc, told, row),
         "trees" => tree_rows::tell_expression(alloc, told, row),
+        "values" => value_rows::tell_expression(alloc, told, row),
         "depths" => tree_rows::tell_whether(alloc, told, row),
         "angles" => tree_rows::tell_angled(alloc, told, row),
         "ini_texts" => ini_rows::tell_text(alloc, told, row),

@@ -12,6 +12,7 @@ mod pattern_rows;
 mod rows;
 mod time_rows;
 mod tree_rows;
+mod value_rows;
 mod words;
 
 use answers::answer;

@@ -21,8 +21,8 @@ fn unit_of(dimension: Dimension) -> &'static str {
     }
 }
 
-/// Tells a literal.
-fn tell_literal(told: &mut String, value: &Value) -> Result<(), AllocError> {
+/// Tells a value.
+pub fn tell_literal(told: &mut String, value: &Value) -> Result<(), AllocError> {
     match value {
         Value::Whole(number) => write!(told, "{number}"),
         Value::Truth(truth) => write!(told, "{truth}"),
