@@ -3,6 +3,7 @@
 
 pub mod hearing;
 pub mod modes;
+pub mod places;
 pub mod scalar_line;
 pub mod scalars;
 pub mod selection;

@@ -2,11 +2,14 @@
 
 ghost use Rattle.std.specs.Prelude.{◌≡◌, ◌<◌, ◌^◌, ◌++◌, IfOk, OnOk, length};
 ghost use Rattle.model_answers.specs.Models.{entries_in};
-ghost use Rattle.recorders.specs.Scalars.{line_of, recorded_line, recorded_lines, line_of_value, mode_line, mode_lines, statistic_lines, lines_among, is_finished, statistics_at, scalars_at, scalars_of};
+ghost use Rattle.recorders.specs.ByPlaces.{lines_at_places, lines_of_type, lines_if_finished, scalars_by_places};
+ghost use Rattle.recorders.specs.Places.{of_place, places_at, heard_places};
+ghost use Rattle.recorders.specs.Scalars.{line_of, recorded_line, line_of_value, mode_line, mode_lines, statistic_lines, lines_among, scalars_of};
 
+use crate::places::{RunPlaces, places_at, run_places};
 use crate::scalar_line::ScalarLine;
 use crate::selection::{records_scalar_named, result_name, selected_modes};
-use crate::statistics::{value_in, values_heard};
+use crate::statistics::{value_in, values_at};
 use crate::vectors::vector_of;
 use model_answers::model::Model;
 use model_answers::record::{Record, path_of};
@@ -15,7 +18,7 @@ use ned_types::flat::statistics_of;
 use run_semantics::traces::{Emission, Scalar};
 use sim_values::NoMemory;
 use sim_values::text::Text;
-use sqlite_items::Items;
+use sqlite_items::{Items, at};
 use std::alloc::Global;
 
 /// Adds the line of a scalar of that name and value of the module of that path, where the option
@@ -65,7 +68,25 @@ fn push_recorded(
     )
 }
 
-/// Adds the lines of the scalars that the module of that id recorded, in the order in which it did.
+/// Adds the line of the scalar at that place, where the module of that id recorded it.
+fn push_recorded_at(
+    found: &mut Items<ScalarLine>,
+    alloc: Global,
+    model: &Model,
+    records: &[Record],
+    id: u32,
+    recorded: &[Scalar],
+    place: usize,
+) -> Result<(), NoMemory>
+    ensures { OnOk result (found.new ≡ found.old ++ of_place (recorded_line model.now records.now id) recorded.now place) }
+{
+    match at(recorded, place) {
+        Some(scalar) => push_recorded(found, alloc, model, records, id, scalar),
+        None => Ok(()),
+    }
+}
+
+/// Adds the lines of the scalars at these places that the module of that id recorded.
 fn push_all_recorded(
     found: &mut Items<ScalarLine>,
     alloc: Global,
@@ -73,11 +94,12 @@ fn push_all_recorded(
     records: &[Record],
     id: u32,
     recorded: &[Scalar],
+    places: &[usize],
 ) -> Result<(), NoMemory>
-    ensures { OnOk result (found.new ≡ found.old ++ recorded_lines model.now records.now id recorded.now) }
+    ensures { OnOk result (found.new ≡ found.old ++ lines_at_places model.now records.now id recorded.now places.now) }
 {
-    for scalar in recorded {
-        push_recorded(found, alloc, model, records, id, scalar)?;
+    for place in places {
+        push_recorded_at(found, alloc, model, records, id, recorded, *place)?;
     }
     Ok(())
 }
@@ -134,7 +156,6 @@ fn push_modes(
     Ok(())
 }
 
-#[tactic(auto, unfolding(crate::specs::Scalars::statistic_lines))]
 /// Adds the lines of a statistic of the module of that id, one for each mode in which the options
 /// let it be recorded.
 fn push_statistic(
@@ -143,15 +164,17 @@ fn push_statistic(
     model: &Model,
     records: &[Record],
     emissions: &[Emission],
+    heard: &[usize],
     id: u32,
     statistic: &Statistic,
 ) -> Result<(), NoMemory>
+    requires { heard.now ≡ heard_places records.now id emissions.now }
     ensures { OnOk result (found.new ≡ found.old ++ statistic_lines model.now records.now emissions.now id statistic.now) }
 {
-    let heard = vector_of(alloc, records, id, statistic)?;
-    let path = heard.path.as_bytes();
+    let vector = vector_of(alloc, records, id, statistic)?;
+    let path = vector.path.as_bytes();
     let modes = selected_modes(alloc, model, path, statistic)?;
-    let values = values_heard(alloc, records, emissions, &heard)?;
+    let values = values_at(alloc, emissions, heard, &vector)?;
     push_modes(
         found,
         alloc,
@@ -170,39 +193,34 @@ fn push_statistics(
     model: &Model,
     records: &[Record],
     emissions: &[Emission],
+    heard: &[usize],
     id: u32,
     statistics: &[Statistic],
 ) -> Result<(), NoMemory>
+    requires { heard.now ≡ heard_places records.now id emissions.now }
     ensures { OnOk result (found.new ≡ found.old ++ lines_among model.now records.now emissions.now id statistics.now) }
 {
     for statistic in statistics {
-        push_statistic(found, alloc, model, records, emissions, id, statistic)?;
+        push_statistic(
+            found, alloc, model, records, emissions, heard, id, statistic,
+        )?;
     }
     Ok(())
 }
 
-/// Whether the module of that id was finished.
-fn is_finished(finished: &[u32], id: u32) -> bool
-    ensures { result ≡ is_finished finished.now id }
-{
-    finished.iter().any(|module| *module == id)
-}
-
-/// Adds the lines of the statistics of the module of that id, where it was finished.
-fn push_statistics_at(
+/// Adds the lines of the statistics of the module of that id.
+fn push_type_lines(
     found: &mut Items<ScalarLine>,
     alloc: Global,
     model: &Model,
     records: &[Record],
-    finished: &[u32],
     emissions: &[Emission],
+    heard: &[usize],
     id: u32,
 ) -> Result<(), NoMemory>
-    ensures { OnOk result (found.new ≡ found.old ++ statistics_at model.now records.now finished.now emissions.now id) }
+    requires { heard.now ≡ heard_places records.now id emissions.now }
+    ensures { OnOk result (found.new ≡ found.old ++ lines_of_type model.now records.now emissions.now id) }
 {
-    if !is_finished(finished, id) {
-        return Ok(());
-    }
     let Some(declared) = model.type_at(records, id) else {
         return Ok(());
     };
@@ -213,9 +231,30 @@ fn push_statistics_at(
         model,
         records,
         emissions,
+        heard,
         id,
         statistics.as_slice(),
     )
+}
+
+/// Adds the lines of the statistics of the module of that id, where it was finished: there is a place at which it was.
+fn push_statistics_at(
+    found: &mut Items<ScalarLine>,
+    alloc: Global,
+    model: &Model,
+    records: &[Record],
+    finished: &[usize],
+    emissions: &[Emission],
+    heard: &[usize],
+    id: u32,
+) -> Result<(), NoMemory>
+    requires { heard.now ≡ heard_places records.now id emissions.now }
+    ensures { OnOk result (found.new ≡ found.old ++ lines_if_finished model.now records.now emissions.now id finished.now) }
+{
+    if finished.is_empty() {
+        return Ok(());
+    }
+    push_type_lines(found, alloc, model, records, emissions, heard, id)
 }
 
 /// Adds the lines of the module of that id: those of the scalars that it recorded, and behind them
@@ -225,15 +264,19 @@ fn push_scalars_at(
     alloc: Global,
     model: &Model,
     records: &[Record],
-    finished: &[u32],
     recorded: &[Scalar],
     emissions: &[Emission],
+    places: &RunPlaces,
     id: u32,
 ) -> Result<(), NoMemory>
-    ensures { OnOk result (found.new ≡ found.old ++ scalars_at model.now records.now finished.now recorded.now emissions.now id) }
+    requires { places_at places.now.heard.items id ≡ heard_places records.now id emissions.now }
+    ensures { OnOk result (found.new ≡ found.old ++ scalars_by_places model.now records.now recorded.now emissions.now places.now id) }
 {
-    push_all_recorded(found, alloc, model, records, id, recorded)?;
-    push_statistics_at(found, alloc, model, records, finished, emissions, id)
+    let by = places_at(&places.recorded, id);
+    push_all_recorded(found, alloc, model, records, id, recorded, by)?;
+    let finished = places_at(&places.finished, id);
+    let heard = places_at(&places.heard, id);
+    push_statistics_at(found, alloc, model, records, finished, emissions, heard, id)
 }
 
 /// The scalars that a run records, with the modules of these records, of which these were finished,
@@ -251,11 +294,12 @@ pub fn scalars(
     requires few { length records.now < 2 ^ 32 }
     ensures { IfOk result (λ found. found ≡ scalars_of model.now records.now finished.now recorded.now emissions.now) }
 {
+    let places = run_places(alloc, records, finished, recorded, emissions)?;
     let mut found = Items::new(alloc);
     for (index, _record) in records.iter().enumerate() {
         let id = index as u32 + 1;
         push_scalars_at(
-            &mut found, alloc, model, records, finished, recorded, emissions, id,
+            &mut found, alloc, model, records, recorded, emissions, &places, id,
         )?;
     }
     Ok(found)

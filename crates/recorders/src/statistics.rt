@@ -1,7 +1,9 @@
 //! What the statistics of a module make of the values that they hear.
 
-ghost use Rattle.std.specs.Prelude.{◌≡◌, IfOk};
+ghost use Rattle.std.specs.Prelude.{◌≡◌, ◌++◌, IfOk, OnOk};
+ghost use Rattle.std.specs.List.{flat_map};
 ghost use Rattle.std.specs.Option.{option_map};
+ghost use Rattle.recorders.specs.Places.{of_place, value_of};
 ghost use Rattle.recorders.specs.Statistics.{values_heard, count_of, sum_of, min_of, max_of, last_of, value_in};
 
 use crate::hearing::hears;
@@ -9,6 +11,7 @@ use crate::vector_line::VectorLine;
 use model_answers::record::Record;
 use ned_syntax::ast::Mode;
 use run_semantics::traces::Emission;
+use sqlite_items::at;
 use std::alloc::{AllocError, Global};
 
 /// The values of the emissions that a statistic hears, in their order.
@@ -27,6 +30,52 @@ pub fn values_heard(
         }
     }
     Ok(values)
+}
+
+/// The values of the emissions that a statistic hears, in their order, by the places of those that
+/// come from its module's subtree.
+pub fn values_at(
+    alloc: Global,
+    emissions: &[Emission],
+    places: &[usize],
+    vector: &VectorLine,
+) -> Result<Vec<i64>, AllocError>
+    ensures { IfOk result (λ values. values.items ≡ flat_map (of_place (value_of vector.now) emissions.now) places.now) }
+{
+    let mut values = Vec::new(alloc);
+    for place in places {
+        push_value_at(&mut values, emissions, *place, vector)?;
+    }
+    Ok(values)
+}
+
+/// Adds the value of an emission, where it is of the vector's signal.
+fn push_value(
+    values: &mut Vec<i64>,
+    emission: &Emission,
+    vector: &VectorLine,
+) -> Result<(), AllocError>
+    ensures { OnOk result (values.new.items ≡ values.old.items ++ value_of vector.now emission.now) }
+{
+    if emission.signal.is(vector.source.as_bytes()) {
+        values.push(emission.value)?;
+    }
+    Ok(())
+}
+
+/// Adds the value of the emission at that place, where it is of the vector's signal.
+fn push_value_at(
+    values: &mut Vec<i64>,
+    emissions: &[Emission],
+    place: usize,
+    vector: &VectorLine,
+) -> Result<(), AllocError>
+    ensures { OnOk result (values.new.items ≡ values.old.items ++ of_place (value_of vector.now) emissions.now place) }
+{
+    match at(emissions, place) {
+        Some(emission) => push_value(values, emission, vector),
+        None => Ok(()),
+    }
 }
 
 /// How many values there are.

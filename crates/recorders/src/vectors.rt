@@ -1,9 +1,10 @@
 //! Which vectors a run records.
 
-ghost use Rattle.std.specs.Prelude.{◌≡◌, ◌<◌, ◌^◌, [], ◌∷◌, ◌++◌, IfOk, OnOk, length};
-ghost use Rattle.recorders.specs.Vectors.{vector_of, hears_any, vectors_among, vectors_at, vectors_of};
+ghost use Rattle.std.specs.Prelude.{◌≡◌, ◌<◌, ◌^◌, [], ◌∷◌, ◌++◌, IfOk, OnOk, length, slice_get};
+ghost use Rattle.recorders.specs.Places.{heard_places, is_of, is_any_of};
+ghost use Rattle.recorders.specs.Vectors.{vector_of, vectors_among, vectors_at, vectors_of};
 
-use crate::hearing::hears;
+use crate::places::{heard_lists, places_at};
 use crate::selection::records_vector;
 use crate::vector_line::VectorLine;
 use model_answers::model::Model;
@@ -12,7 +13,7 @@ use ned_syntax::ast::Statistic;
 use ned_types::flat::statistics_of;
 use run_semantics::traces::Emission;
 use sim_values::NoMemory;
-use sqlite_items::Items;
+use sqlite_items::{Items, at};
 use std::alloc::{AllocError, Global};
 
 /// The vector of a statistic of the module of that id.
@@ -32,13 +33,21 @@ pub fn vector_of(
     })
 }
 
-/// Whether the vector hears one of the emissions.
-fn hears_any(records: &[Record], emissions: &[Emission], vector: &VectorLine) -> bool
-    ensures { result ≡ hears_any records.now emissions.now vector.now }
+/// Whether the emission at that place is of the vector's signal.
+fn is_of(vector: &VectorLine, emissions: &[Emission], place: usize) -> bool
+    ensures { result ≡ is_of vector.now (slice_get emissions.now place) }
 {
-    emissions
-        .iter()
-        .any(|emission| hears(records, vector, emission))
+    match at(emissions, place) {
+        Some(emission) => emission.signal.is(vector.source.as_bytes()),
+        None => false,
+    }
+}
+
+/// Whether one of the emissions at these places is of the vector's signal.
+fn is_any_of(vector: &VectorLine, emissions: &[Emission], places: &[usize]) -> bool
+    ensures { result ≡ is_any_of vector.now emissions.now places.now }
+{
+    places.iter().any(|place| is_of(vector, emissions, *place))
 }
 
 /// Adds the vector of a statistic, where it is recorded and has a value.
@@ -48,16 +57,18 @@ fn push_vector(
     model: &Model,
     records: &[Record],
     emissions: &[Emission],
+    heard: &[usize],
     id: u32,
     statistic: &Statistic,
 ) -> Result<(), NoMemory>
+    requires { heard.now ≡ heard_places records.now id emissions.now }
     ensures { OnOk result (found.new ≡ found.old ++ vectors_among model.now records.now emissions.now id (statistic.now ∷ [])) }
 {
     let vector = vector_of(alloc, records, id, statistic)?;
     if !records_vector(alloc, model, vector.path.as_bytes(), statistic)? {
         return Ok(());
     }
-    if hears_any(records, emissions, &vector) {
+    if is_any_of(&vector, emissions, heard) {
         found.push(vector)?;
     }
     Ok(())
@@ -70,13 +81,17 @@ fn push_vectors(
     model: &Model,
     records: &[Record],
     emissions: &[Emission],
+    heard: &[usize],
     id: u32,
     statistics: &[Statistic],
 ) -> Result<(), NoMemory>
+    requires { heard.now ≡ heard_places records.now id emissions.now }
     ensures { OnOk result (found.new ≡ found.old ++ vectors_among model.now records.now emissions.now id statistics.now) }
 {
     for statistic in statistics {
-        push_vector(found, alloc, model, records, emissions, id, statistic)?;
+        push_vector(
+            found, alloc, model, records, emissions, heard, id, statistic,
+        )?;
     }
     Ok(())
 }
@@ -88,8 +103,10 @@ fn push_vectors_at(
     model: &Model,
     records: &[Record],
     emissions: &[Emission],
+    heard: &[usize],
     id: u32,
 ) -> Result<(), NoMemory>
+    requires { heard.now ≡ heard_places records.now id emissions.now }
     ensures { OnOk result (found.new ≡ found.old ++ vectors_at model.now records.now emissions.now id) }
 {
     let Some(declared) = model.type_at(records, id) else {
@@ -102,6 +119,7 @@ fn push_vectors_at(
         model,
         records,
         emissions,
+        heard,
         id,
         statistics.as_slice(),
     )
@@ -119,10 +137,12 @@ pub fn vectors(
     requires few { length records.now < 2 ^ 32 }
     ensures { IfOk result (λ found. found ≡ vectors_of model.now records.now emissions.now) }
 {
+    let places = heard_lists(alloc, records, emissions)?;
     let mut found = Items::new(alloc);
     for (index, _record) in records.iter().enumerate() {
         let id = index as u32 + 1;
-        push_vectors_at(&mut found, alloc, model, records, emissions, id)?;
+        let heard = places_at(&places, id);
+        push_vectors_at(&mut found, alloc, model, records, emissions, heard, id)?;
     }
     Ok(found)
 }

@@ -1,8 +1,8 @@
 use Rattle.std.proofs.Common.{◌≡◌, ◌++◌, drop}
-use Rattle.recorders.specs.Scalars.{recorded_lines}
+use Rattle.recorders.specs.ByPlaces.{lines_at_places}
 use Rattle.recorders.proofs.scalars.push_all_recorded.Given as goal
 
-abbrev pub invariant-loop-scalar : goal.invariant-loop-scalar
-invariant-loop-scalar l =
-    l.found ++ recorded_lines l.model l.records l.id (drop l.scalar-index l.recorded)
-    ≡ l.fn.found ++ recorded_lines l.model l.records l.id l.recorded
+abbrev pub invariant-loop-place : goal.invariant-loop-place
+invariant-loop-place l =
+    l.found ++ lines_at_places l.model l.records l.id l.recorded (drop l.place-index l.places)
+    ≡ l.fn.found ++ lines_at_places l.model l.records l.id l.recorded l.places
