@@ -2,6 +2,7 @@ pub mod Apart
 pub mod Behind
 pub mod Calling
 pub mod Ending
+pub mod Lookups
 pub mod Rising
 pub mod Seating
 pub mod Starting

@@ -1,11 +1,12 @@
 //! A world but for the modules and their states.
 
 ghost use Rattle.std.specs.Prelude.{◌≡◌, ◌+◌, ◌^◌, ◌<◌, OnOk, IfOk, Some, [], ◌∷◌, ◌++◌, length, slice_get, ◌≤◌};
-ghost use Rattle.model_answers.specs.Answering.{answer_of};
+ghost use Rattle.model_answers.specs.Answering.{answer_of, parameters_of};
 ghost use Rattle.run_semantics.specs.World.{empty, asked};
 ghost use Rattle.run_semantics.specs.Perform.{flow_of, perform, perform_all, scheduled, scheduled_at, ask_all, question_of, fault_of_read, parameter_fault, read_fault, acted, answered, broken};
 ghost use Rattle.run_semantics.specs.Ending.{is_last_action, perform_last, perform_last_all, acted_last, answered_last, with_finished};
 ghost use Rattle.run_semantics.specs.Event.{call_of};
+ghost use Rattle.kernel.specs.Lookups.{was_told};
 ghost use Rattle.kernel.specs.Upcoming.{first_is_after_limit, injection_asked, looked, with_injection_asked, upcoming_of, Begins};
 ghost use Rattle.run_semantics.specs.Upcoming.{Comes, first_due, first_of};
 ghost use Rattle.model_answers.specs.Injections.{turn_of};
@@ -20,7 +21,7 @@ use model_answers::answering::{answer, is_beyond, parameters_of};
 use model_answers::injection::{Due, Injection, Turn as InjectionTurn, injection_before};
 use model_answers::model::Model as NetworkModel;
 use model_answers::record::{Record, index_of, path_of, submodule_path};
-use module_api::call::{Call, Prompt};
+use module_api::call::{Call, Parameter, Prompt, find_value};
 use module_api::names::is_scalar_name;
 use module_api::reply::{Action, Read, Reply, Schedule};
 use run_semantics::outcome::{Fault, Outcome, Turn, fault_of};
@@ -328,19 +329,23 @@ impl Core {
         Ok(())
     }
 
-    /// The fault of a read, if it has one.
+    /// The fault of a read, if it has one. A parameter that the call had has none, and is not looked up again.
     fn fault_at(
         &self,
         alloc: Global,
         model: &NetworkModel,
-        id: u32,
+        call: &Call,
         read: &Read,
     ) -> Result<Option<Fault>, NoMemory>
-        ensures { let asks = question_of id read.now in
+        requires { call.now.parameters ≡ parameters_of model.now self.now.records call.now.id }
+        ensures { let asks = question_of call.now.id read.now in
             IfOk result (λ found.
             found ≡ fault_of_read read.now (answer_of model.now self.now.records asks)) }
     {
-        let question = question_of(alloc, id, read)?;
+        if was_told(call.parameters.as_slice(), read) {
+            return Ok(None);
+        }
+        let question = question_of(alloc, call.id, read)?;
         let answer = answer(alloc, model, self.records.as_slice(), &question)?;
         Ok(fault_of_read(read, &answer))
     }
@@ -350,14 +355,15 @@ impl Core {
         &self,
         alloc: Global,
         model: &NetworkModel,
-        id: u32,
+        call: &Call,
         reads: &[Read],
     ) -> Result<Option<Fault>, NoMemory>
+        requires { call.now.parameters ≡ parameters_of model.now self.now.records call.now.id }
         ensures { IfOk result (λ found.
-            found ≡ read_fault model.now self.now.records id reads.now) }
+            found ≡ read_fault model.now self.now.records call.now.id reads.now) }
     {
         for read in reads {
-            if let Some(fault) = self.fault_at(alloc, model, id, read)? {
+            if let Some(fault) = self.fault_at(alloc, model, call, read)? {
                 return Ok(Some(fault));
             }
         }
@@ -377,23 +383,25 @@ impl Core {
         self.perform_all(alloc, id, actions)
     }
 
-    /// Carries out a reply.
+    /// Carries out the reply to a call.
     pub fn follow(
         &mut self,
         alloc: Global,
         model: &NetworkModel,
-        id: u32,
+        call: &Call,
         reply: &Reply,
     ) -> Result<Turn, NoMemory>
-        requires { self.old.next + 1000 < 2 ^ 128 }
+        requires next { self.old.next + 1000 < 2 ^ 128 }
+        requires told { call.now.parameters
+            ≡ parameters_of model.now self.old.records call.now.id }
         ensures { IfOk result (λ turn. flow_of turn self.new
-            ≡ answered model.now id reply.now self.old) }
+            ≡ answered model.now call.now.id reply.now self.old) }
     {
-        let fault = self.read_fault(alloc, model, id, reply.reads.as_slice())?;
-        self.ask_all(alloc, id, reply.reads.as_slice())?;
+        let fault = self.read_fault(alloc, model, call, reply.reads.as_slice())?;
+        self.ask_all(alloc, call.id, reply.reads.as_slice())?;
         match fault {
-            Some(fault) => self.broken(alloc, id, fault),
-            None => self.act(alloc, id, reply.actions.as_slice()),
+            Some(fault) => self.broken(alloc, call.id, fault),
+            None => self.act(alloc, call.id, reply.actions.as_slice()),
         }
     }
 
@@ -441,21 +449,23 @@ impl Core {
         self.perform_last_all(alloc, id, actions)
     }
 
-    /// Carries out a reply to the end.
+    /// Carries out the reply to a call for the end.
     pub fn follow_last(
         &mut self,
         alloc: Global,
         model: &NetworkModel,
-        id: u32,
+        call: &Call,
         reply: &Reply,
     ) -> Result<Turn, NoMemory>
-        requires { self.old.next + 1000 < 2 ^ 128 }
+        requires next { self.old.next + 1000 < 2 ^ 128 }
+        requires told { call.now.parameters
+            ≡ parameters_of model.now self.old.records call.now.id }
         ensures { IfOk result (λ turn. flow_of turn self.new
-            ≡ answered_last model.now id reply.now self.old) }
+            ≡ answered_last model.now call.now.id reply.now self.old) }
     {
-        match self.read_fault(alloc, model, id, reply.reads.as_slice())? {
-            Some(fault) => self.broken(alloc, id, fault),
-            None => self.act_last(alloc, id, reply.actions.as_slice()),
+        match self.read_fault(alloc, model, call, reply.reads.as_slice())? {
+            Some(fault) => self.broken(alloc, call.id, fault),
+            None => self.act_last(alloc, call.id, reply.actions.as_slice()),
         }
     }
 
@@ -736,6 +746,16 @@ fn question_of(alloc: Global, id: u32, read: &Read) -> Result<Question, AllocErr
     match read {
         Read::Parameter(name) => Ok(Question::Param(id, name.copy(alloc)?)),
         Read::Gate(name) => Ok(Question::GateSize(id, name.copy(alloc)?)),
+    }
+}
+
+/// Whether what was read is a parameter that the call had.
+fn was_told(parameters: &[Parameter], read: &Read) -> bool
+    ensures { result ≡ was_told parameters.now read.now }
+{
+    match read {
+        Read::Parameter(name) => find_value(parameters, name.as_bytes()).is_some(),
+        Read::Gate(_) => false,
     }
 }
 

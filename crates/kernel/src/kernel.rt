@@ -188,24 +188,17 @@ impl<C: Catalogue> Kernel<C> {
 
     // ---- calls
 
-    /// What the module of that id replies, where it has a box. The box is taken out for the call, and put back behind it.
-    fn reply_of(
-        &mut self,
-        alloc: Global,
-        model: &Model,
-        id: u32,
-        prompt: Prompt,
-    ) -> Option<Result<Reply, NoMemory>>
+    /// What the module that is called replies, where it has a box. The box is taken out for the call, and put back behind it.
+    fn reply_of(&mut self, alloc: Global, call: &Call) -> Option<Result<Reply, NoMemory>>
         ensures core { self.new.core ≡ self.old.core }
-        ensures served { IsServed id (seats_in SimpleModule-box self.old)
-            (seats_in SimpleModule-box self.new)
-            (call_of model.now id prompt self.old.core) result }
+        ensures served { IsServed call.now.id (seats_in SimpleModule-box self.old)
+            (seats_in SimpleModule-box self.new) call.now result }
     {
-        let Some(mut held) = self.boxes.take(id) else {
+        let Some(mut held) = self.boxes.take(call.id) else {
             return None;
         };
-        let reply = reply_by(&self.core, &mut held, alloc, model, id, prompt);
-        self.boxes.put_back(id, held);
+        let reply = serve(&mut held, alloc, call);
+        self.boxes.put_back(call.id, held);
         Some(reply)
     }
 
@@ -222,11 +215,12 @@ impl<C: Catalogue> Kernel<C> {
         ensures step { IfOk result (λ turn. flow_of turn (world_in SimpleModule-box self.new)
             ≡ call_module C.behaviour model.now id prompt (world_in SimpleModule-box self.old)) }
     {
-        let Some(reply) = self.reply_of(alloc, model, id, prompt) else {
+        let call = self.core.call(alloc, model, id, prompt)?;
+        let Some(reply) = self.reply_of(alloc, &call) else {
             return Ok(Turn::GoOn);
         };
         let reply = reply?;
-        self.core.follow(alloc, model, id, &reply)
+        self.core.follow(alloc, model, &call, &reply)
     }
 
     // ---- event zero
@@ -443,11 +437,12 @@ impl<C: Catalogue> Kernel<C> {
             IfOk result (λ turn. flow_of turn (world_in SimpleModule-box self.new)
             ≡ call_last C.behaviour model.now id before) }
     {
-        let Some(reply) = self.reply_of(alloc, model, id, Prompt::Finish) else {
+        let call = self.core.call(alloc, model, id, Prompt::Finish)?;
+        let Some(reply) = self.reply_of(alloc, &call) else {
             return Ok(Turn::GoOn);
         };
         let reply = reply?;
-        self.core.follow_last(alloc, model, id, &reply)
+        self.core.follow_last(alloc, model, &call, &reply)
     }
 
     /// Finishes the module of that id, where it has a box.
@@ -531,22 +526,6 @@ fn part_behind(records: &[Record], id: u32) -> Option<(u32, &[u8])>
         }
     }
     None
-}
-
-/// What a box replies to a call of the module of that id.
-fn reply_by(
-    core: &Core,
-    held: &mut Box<dyn SimpleModule>,
-    alloc: Global,
-    model: &Model,
-    id: u32,
-    prompt: Prompt,
-) -> Result<Reply, NoMemory>
-    ensures answered { Answered (meaning held.old) (call_of model.now id prompt core.now) result (meaning held.new) }
-    ensures same { IsSameModule (meaning held.old) (meaning held.new) }
-{
-    let call = core.call(alloc, model, id, prompt)?;
-    serve(held, alloc, &call)
 }
 
 /// Calls a box for what the call names.

@@ -166,3 +166,21 @@ value_answered m records id name =
 -- models that answer alike show the same value
 pub same_value : (m n : Model) (records : List Record) (id : ℕ) (name : List ℕ) → answer_of m records (question.Param id name) ≡ answer_of n records (question.Param id name) → value_of name (parameters_of m records id) ≡ value_of name (parameters_of n records id)
 same_value m n records id name e = value_answered m records id name ∙ (ap value_in e ∙ sym (value_answered n records id name))
+
+-- ---- the parameters of a call
+
+told_by : (found : Option Declaration) (a : Answer) (v : Value) → given found a ≡ Some v → a ≡ answer.Value v
+told_by None a v e = cc
+told_by (Some d) (answer.Value u) v e = let same : u ≡ v = cc in ap (λ (x : Value). answer.Value x) same
+told_by (Some d) (answer.Root n) v e = cc
+told_by (Some d) (answer.Inside bs) v e = cc
+told_by (Some d) (answer.Fault path f) v e = cc
+told_by (Some d) (answer.Beyond beyond) v e = cc
+told_by (Some d) (answer.Injection found) v e = cc
+told_by (Some d) answer.Absent v e = cc
+
+-- a value that a call shows is the model's answer
+pub told_value : (m : Model) (records : List Record) (id : ℕ) (name : List ℕ) (v : Value) → value_of name (parameters_of m records id) ≡ Some v → answer_for m records id name ≡ answer.Value v
+told_value m records id name v h =
+    let ls : List SectionLine = lines_of (type_at m records id) in
+    told_by (declaration_named name ls) (answer_for m records id name) v (sym (shown (answer_for m records id) name ls) ∙ h)
