@@ -1,12 +1,15 @@
 //! Questions to a model, and their answers.
 
+ghost use Rattle.std.specs.Prelude.{◌≡◌, IfOk};
+
 use crate::injection::{Due, Injection, Turn};
 use sim_values::text::Text;
 use sim_values::value::Value;
 use sqlite_items::Items;
+use std::alloc::{AllocError, Global};
 
 /// What a run asks of its model. All that it takes from the model is an answer to one of these.
-#[derive(Debug, Drop)]
+#[derive(Debug, PartialEq, Eq, Hash, Drop)]
 pub enum Question {
     /// Which network is run.
     Root,
@@ -21,6 +24,22 @@ pub enum Question {
     /// The injection that goes before an event that is due then, or that goes where no event is left;
     /// of those behind this one, which was delivered last.
     InjectionBefore(Option<Due>, Option<Turn>),
+}
+
+impl Question {
+    /// An equal question.
+    pub fn copy(&self, alloc: Global) -> Result<Question, AllocError>
+        ensures { IfOk result (λ copy. copy ≡ self.now) }
+    {
+        match self {
+            Question::Root => Ok(Question::Root),
+            Question::Build(id) => Ok(Question::Build(*id)),
+            Question::Param(id, name) => Ok(Question::Param(*id, name.copy(alloc)?)),
+            Question::GateSize(id, name) => Ok(Question::GateSize(*id, name.copy(alloc)?)),
+            Question::BeyondLimit(time) => Ok(Question::BeyondLimit(*time)),
+            Question::InjectionBefore(due, last) => Ok(Question::InjectionBefore(*due, *last)),
+        }
+    }
 }
 
 /// A question, with the number of the event in which it was asked.

@@ -11,14 +11,14 @@ use std::alloc::Global;
 
 /// When an event or an injection is due: of two the one with the smaller time comes first, and of
 /// those of one time the one with the smaller priority.
-#[derive(Clone, Copy, Debug, PartialEq, Eq)]
+#[derive(Clone, Copy, Debug, PartialEq, Eq, Hash)]
 pub struct Due {
     pub time: SimTime,
     pub priority: i16,
 }
 
 /// Where an injection stands in the order in which injections go: by when they are due, then by number.
-#[derive(Clone, Copy, Debug, PartialEq, Eq)]
+#[derive(Clone, Copy, Debug, PartialEq, Eq, Hash)]
 pub struct Turn {
     pub due: Due,
     pub number: u32,
