@@ -1,6 +1,7 @@
 -- What comes next in a run, step by step.
-use Rattle.std.specs.Prelude.{◌≡◌, ℕ, suc, Bool, true, false, List, [], ◌∷◌, ◌++◌, Option, Some, None, Result, Ok, Err}
+use Rattle.std.specs.Prelude.{◌≡◌, ℕ, ◌+◌, suc, map, Bool, true, false, List, [], ◌∷◌, ◌++◌, Option, Some, None, Result, Ok, Err}
 use Rattle.model_answers.specs.declared.answer.Answer.{Answer}
+use Rattle.model_answers.specs.declared.answer.Asked.{Asked}
 use Rattle.model_answers.specs.declared.answer.Question.TheVariants.{InjectionBefore}
 use Rattle.model_answers.specs.declared.model.Model.{Model}
 use Rattle.model_answers.specs.declared.record.Record.{Record}
@@ -13,12 +14,17 @@ use Rattle.run_semantics.specs.Event.{begun}
 use Rattle.run_semantics.specs.Upcoming.{Upcoming, Comes, Nothing, first_due, first_of, upcoming_in}
 use Rattle.run_semantics.specs.Run.{is_after_limit}
 use Rattle.kernel.specs.declared.core_part.Look.{Look}
+use Rattle.kernel.specs.declared.core_part.LookedAt.{LookedAt}
 use Rattle.kernel.specs.declared.core_part.Next.{Next}
 use Rattle.kernel.specs.declared.core_part.Next.TheVariants as next
 
+-- the questions that these looks ask, in that event
+abbrev pub asked_in : ℕ → List LookedAt → List Asked
+asked_in event looks = map (λ (l : LookedAt). record { event = event; question = InjectionBefore l.due l.last }) looks
+
 -- the world in which all is noted that was asked to know what comes next
 abbrev pub looked : World → Look → World
-looked w look = record w { delivered = look.delivered; questions = w.questions ++ look.asked }
+looked w look = record w { delivered = look.delivered; questions = w.questions ++ asked_in (w.count + 1) look.asked }
 
 -- what comes next of a world, in code
 abbrev pub upcoming_of : Next → World → Upcoming

@@ -1,13 +1,14 @@
 //! A world but for the modules and their states.
 
-ghost use Rattle.std.specs.Prelude.{◌≡◌, ◌+◌, ◌^◌, ◌<◌, OnOk, IfOk, Some, [], ◌∷◌, ◌++◌, length, slice_get, ◌≤◌};
+ghost use Rattle.std.specs.Prelude.{◌≡◌, ◌+◌, ◌^◌, ◌<◌, OnOk, IfOk, Some, true, [], ◌∷◌, ◌++◌, length, slice_get, ◌≤◌};
 ghost use Rattle.model_answers.specs.Answering.{answer_of, parameters_of};
-ghost use Rattle.run_semantics.specs.World.{empty, asked};
+ghost use Rattle.model_answers.specs.Questions.{is_of_modules};
+ghost use Rattle.run_semantics.specs.World.{empty, asked, timed};
 ghost use Rattle.run_semantics.specs.Perform.{flow_of, perform, perform_all, scheduled, scheduled_at, ask_all, question_of, fault_of_read, parameter_fault, read_fault, acted, answered, broken};
 ghost use Rattle.run_semantics.specs.Ending.{is_last_action, perform_last, perform_last_all, acted_last, answered_last, with_finished};
 ghost use Rattle.run_semantics.specs.Event.{call_of};
 ghost use Rattle.kernel.specs.Lookups.{was_told};
-ghost use Rattle.kernel.specs.Upcoming.{first_is_after_limit, injection_asked, looked, with_injection_asked, upcoming_of, Begins};
+ghost use Rattle.kernel.specs.Upcoming.{asked_in, first_is_after_limit, injection_asked, looked, with_injection_asked, upcoming_of, Begins};
 ghost use Rattle.run_semantics.specs.Upcoming.{Comes, first_due, first_of};
 ghost use Rattle.model_answers.specs.Injections.{turn_of};
 ghost use Rattle.model_answers.specs.declared.answer.Answer.TheVariants as answers;
@@ -16,7 +17,7 @@ ghost use Rattle.run_semantics.specs.Run.{rooted, built, unless_many, with_submo
 
 use event_set::pending::{Happening, Pending};
 use event_set::set::EventSet;
-use model_answers::answer::{Answer, Asked, Built, Question};
+use model_answers::answer::{Answer, Built, Question};
 use model_answers::answering::{answer, is_beyond, parameters_of};
 use model_answers::injection::{Due, Injection, Turn as InjectionTurn, injection_before};
 use model_answers::model::Model as NetworkModel;
@@ -24,6 +25,7 @@ use model_answers::record::{Record, index_of, path_of, submodule_path};
 use module_api::call::{Call, Parameter, Prompt, find_value};
 use module_api::names::is_scalar_name;
 use module_api::reply::{Action, Read, Reply, Schedule};
+use question_log::log::QuestionLog;
 use run_semantics::outcome::{Fault, Outcome, Turn, fault_of};
 use run_semantics::traces::{Emission, Scalar};
 use sim_time::SimTime;
@@ -47,11 +49,19 @@ pub enum Next {
     Nothing,
 }
 
-/// What was asked to know what comes next, and which injection counts as delivered since. Nothing of it is noted in a world before an event begins.
+/// A look at the injections: when the first event to come is due, where there is one, and which injection was delivered last.
+#[derive(Clone, Copy)]
+pub struct LookedAt {
+    pub due: Option<Due>,
+    pub last: Option<InjectionTurn>,
+}
+
+/// The looks that were taken to know what comes next, and which injection counts as delivered since. Nothing of it is noted in a world before an
+/// event begins.
 #[derive(Drop)]
 pub struct Look {
     pub delivered: Option<InjectionTurn>,
-    pub asked: Items<Asked>,
+    pub asked: Items<LookedAt>,
 }
 
 impl Look {
@@ -78,7 +88,7 @@ pub struct Core {
     delivered: Option<InjectionTurn>,
     emissions: Items<Emission>,
     scalars: Items<Scalar>,
-    questions: Items<Asked>,
+    questions: QuestionLog,
 }
 
 impl Model for Core {
@@ -125,7 +135,7 @@ impl Core {
             delivered: None,
             emissions: Items::new(alloc),
             scalars: Items::new(alloc),
-            questions: Items::new(alloc),
+            questions: QuestionLog::new(alloc),
         }
     }
 
@@ -308,15 +318,12 @@ impl Core {
 
     // ---- reads
 
-    /// Notes a question.
-    pub fn ask(&mut self, question: Question) -> Result<(), NoMemory>
+    /// Notes a question about modules, unless it was asked before.
+    pub fn ask(&mut self, alloc: Global, question: Question) -> Result<(), NoMemory>
+        requires { is_of_modules question ≡ true }
         ensures { OnOk result (self.new ≡ asked question self.old) }
     {
-        self.questions.push(Asked {
-            event: self.count,
-            question,
-        })?;
-        Ok(())
+        self.questions.note(alloc, self.count, question)
     }
 
     /// Notes the questions of all values that a reply used.
@@ -324,7 +331,7 @@ impl Core {
         ensures { OnOk result (self.new ≡ ask_all id reads.now self.old) }
     {
         for read in reads {
-            self.ask(question_of(alloc, id, read)?)?;
+            self.ask(alloc, question_of(alloc, id, read)?)?;
         }
         Ok(())
     }
@@ -517,10 +524,7 @@ impl Core {
     {
         let due = self.first_due();
         let last = look.delivered;
-        look.asked.push(Asked {
-            event: self.count + 1,
-            question: Question::InjectionBefore(due, last),
-        })?;
+        look.asked.push(LookedAt { due, last })?;
         match injection_before(model.injections.as_slice(), due, last) {
             Some(injection) => Ok(Some(injection.copy(alloc)?)),
             None => Ok(None),
@@ -531,14 +535,37 @@ impl Core {
     fn begin_event(&mut self, look: Look, time: SimTime) -> Result<(), NoMemory>
         requires { self.old.count + 1 < 2 ^ 64 }
         ensures { let world = looked self.old look in
-            OnOk result (self.new ≡ asked (BeyondLimit time) (record world { clock = time; count = world.count + 1 })) }
+            OnOk result (self.new ≡ timed (BeyondLimit time) (record world { clock = time; count = world.count + 1 })) }
     {
         let Look { delivered, asked } = look;
-        self.questions.append(asked)?;
+        self.note_looks(asked.as_slice())?;
         self.delivered = delivered;
         self.clock = time;
         self.count += 1;
-        self.ask(Question::BeyondLimit(time.ps()))
+        self.questions
+            .note_time(self.count, Question::BeyondLimit(time.ps()))
+    }
+
+    /// Notes the questions of these looks, which are of the event behind.
+    fn note_looks(&mut self, looks: &[LookedAt]) -> Result<(), NoMemory>
+        requires { self.old.count + 1 < 2 ^ 64 }
+        ensures { OnOk result (self.new
+            ≡ record self.old { questions = self.old.questions ++ asked_in (self.old.count + 1) looks.now }) }
+    {
+        for look in looks {
+            self.note_look(look)?;
+        }
+        Ok(())
+    }
+
+    /// Notes the question of a look, which is of the event behind.
+    fn note_look(&mut self, look: &LookedAt) -> Result<(), NoMemory>
+        requires { self.old.count + 1 < 2 ^ 64 }
+        ensures { OnOk result (self.new
+            ≡ record self.old { questions = self.old.questions ++ asked_in (self.old.count + 1) (look.now ∷ []) }) }
+    {
+        let question = Question::InjectionBefore(look.due, look.last);
+        self.questions.note_time(self.count + 1, question)
     }
 
     /// Begins an event that is none of those to come, or tells that it is too late.
@@ -635,7 +662,7 @@ impl Core {
         ensures flow { IfOk result (λ turn. flow_of turn self.new ≡ root_asked model.now) }
         ensures few { OnOk result (length self.new.records ≤ 1) }
     {
-        self.ask(Question::Root)?;
+        self.ask(alloc, Question::Root)?;
         let found = answer(alloc, model, &[], &Question::Root)?;
         self.root(alloc, found)
     }
@@ -646,7 +673,7 @@ impl Core {
         ensures { IfOk result (λ turn. flow_of turn self.new ≡ inside_asked model.now self.old) }
     {
         let found = answer(alloc, model, self.records.as_slice(), &Question::Build(1))?;
-        self.ask(Question::Build(1))?;
+        self.ask(alloc, Question::Build(1))?;
         self.build(alloc, 1, found)
     }
 
@@ -739,9 +766,10 @@ fn copy_class(alloc: Global, class: &Option<Text>) -> Result<Option<Text>, Alloc
     }
 }
 
-/// The question that a read asks.
+/// The question that a read asks. It is about modules.
 fn question_of(alloc: Global, id: u32, read: &Read) -> Result<Question, AllocError>
-    ensures { IfOk result (λ question. question ≡ question_of id read.now) }
+    ensures question { IfOk result (λ question. question ≡ question_of id read.now) }
+    ensures modules { IfOk result (λ question. is_of_modules question ≡ true) }
 {
     match read {
         Read::Parameter(name) => Ok(Question::Param(id, name.copy(alloc)?)),

@@ -4,3 +4,4 @@ pub mod Parameters
 pub mod Injections
 pub mod Inside
 pub mod Answering
+pub mod Questions

@@ -21,7 +21,7 @@ use Rattle.model_answers.specs.declared.record.Record.{Record}
 use Rattle.model_answers.specs.Answering.{answer_of}
 use Rattle.run_semantics.specs.declared.outcome.Fault.{Fault}
 use Rattle.run_semantics.specs.declared.traces.Instance.{Instance}
-use Rattle.run_semantics.specs.World.{World, empty, asked}
+use Rattle.run_semantics.specs.World.{World, empty, asked, is_asked, timed}
 use Rattle.event_set.specs.Timers.{has_timer}
 use Rattle.run_semantics.specs.Perform.{Flow, On, Stopped, Broken, ◌>>=◌, asking, scheduled, perform, perform_all, ask_all, question_of, acted, read_fault, unless_fault}
 use Rattle.run_semantics.specs.Event.{call_of, instance_in, with_state, changed, replied, called, call_module, event}
@@ -185,9 +185,9 @@ acted_grows id actions w f = either_grows w (nat_lt 1000 (length actions)) _ _ (
 
 -- ---- questions
 
--- one question about a module that is there
-pub asked_grows : (q : Question) (w : World) → Fits w → about q ≤ length w.records → IsGrown w (asked q w)
-asked_grows q w f l = record {
+-- one more question about a module that is there
+more_grows : (q : Question) (w : World) → Fits w → about q ≤ length w.records → IsGrown w (timed q w)
+more_grows q w f l = record {
   rest = record { event = w.count; question = q } ∷ [];
   joined = refl;
   present = (refl, tt);
@@ -200,6 +200,18 @@ asked_grows q w f l = record {
     questions = AllAbout-append (length w.records) w.questions (record { event = w.count; question = q } ∷ []) f.questions (l, tt);
   };
 }
+
+-- what is asked of the time of an event
+pub timed_grows : (q : Question) (w : World) → Fits w → about q ≤ length w.records → IsGrown w (timed q w)
+timed_grows q w f l = more_grows q w f l
+
+-- one question, unless it was asked before
+pub asked_grows : (q : Question) (w : World) → Fits w → about q ≤ length w.records → IsGrown w (asked q w)
+asked_grows q w f l = by (is_asked q w.questions)
+  where
+    by : (t : Bool) → IsGrown w (record w { questions = if t then w.questions else w.questions ++ record { event = w.count; question = q } ∷ [] })
+    by true = grown_same w f
+    by false = more_grows q w f l
 
 -- a question, and what follows it
 pub asking_grows : (m : Model) (q : Question) (next : Answer → World → Flow) (w : World) → Fits w → about q ≤ length w.records → ((a : Answer) → Fits (asked q w) → IsGrown (asked q w) (in_flow (next a (asked q w)))) → IsGrown w (in_flow (asking m q next w))

@@ -1,6 +1,6 @@
 -- A run takes nothing from its model but answers to the questions that it notes: models that answer them alike have the
 -- same run.
-use Rattle.std.proofs.Common.{◌≡◌, ℕ, zero, suc, ◌+◌, ◌≤◌, ◌<◌, Bool, true, false, List, [], ◌∷◌, ◌++◌, Option, Some, None, refl, sym, ap, ◌∙◌, arith, subst, append_assoc, append-nil, slice_get, length, if◌then◌else◌, nat_lt, ⊎_elim}
+use Rattle.std.proofs.Common.{◌≡◌, ℕ, zero, suc, ◌+◌, ◌≤◌, ◌<◌, Bool, true, false, List, [], ◌∷◌, ◌++◌, ◌||◌, Option, Some, None, refl, sym, ap, ◌∙◌, arith, subst, append_assoc, append-nil, slice_get, length, if◌then◌else◌, nat_lt, ⊎_elim}
 use Rattle.std.proofs.Math.Nat.{eq-or-lt_of_le}
 use Rattle.module_api.specs.Behaviour.{Behaviour, Replied}
 use Rattle.module_api.specs.Laws.{AgreesOn, IsLawful}
@@ -17,14 +17,16 @@ use Rattle.model_answers.specs.declared.injection.Injection.{Injection}
 use Rattle.model_answers.specs.declared.model.Model.{Model}
 use Rattle.model_answers.specs.declared.record.Record.{Record}
 use Rattle.model_answers.specs.Answering.{answer_of, parameters_of}
+use Rattle.model_answers.specs.Questions.{same_question}
 use Rattle.model_answers.proofs.AnswerLemmas.{AreNested, about, answer_more, same_value}
+use Rattle.model_answers.proofs.QuestionLemmas.{same_is}
 use Rattle.run_semantics.specs.declared.outcome.Outcome.{Outcome}
 use Rattle.run_semantics.specs.declared.outcome.Outcome.TheVariants.{Ended, EventLimit, NoMoreEvents, TimeLimit, Fault}
 use Rattle.event_set.specs.declared.pending.Pending.{Pending}
 use Rattle.run_semantics.specs.declared.traces.Instance.{Instance}
 use Rattle.run_semantics.specs.Agreement.{Agrees, AgreesUpTo, tried, questions_of}
 use Rattle.run_semantics.specs.Laws.{Each, GoesOn}
-use Rattle.run_semantics.specs.World.{World, empty, asked, asked_next}
+use Rattle.run_semantics.specs.World.{World, empty, asked, asked_next, is_asked, noted}
 use Rattle.run_semantics.specs.Perform.{Flow, On, Stopped, Broken, ◌>>=◌, asking, ask_all, question_of, acted, first_fault, fault_of_read, read_fault, unless_fault}
 use Rattle.run_semantics.specs.Event.{call_of, instance_in, changed, replied, called, call_module, counted, begun, event, message_of}
 use Rattle.run_semantics.specs.Run.{rooted, built, root_asked, inside_asked, prepared, Part, place_parts, ready, standing, most_stages, initialize, one_stage, stages_from, initialize_all, with_started, Stage, Running, Over, world_at, settled, start, says_beyond, is_after_limit, went, next_stage, after, IsReached}
@@ -33,7 +35,7 @@ use Rattle.run_semantics.proofs.Looking.{beside, HasLooked, looked_same, looked_
 use Rattle.run_semantics.proofs.Sound.{in_flow}
 use Rattle.run_semantics.proofs.Counts.{RunsOn, runs_on}
 use Rattle.run_semantics.proofs.Ends.{over_stays}
-use Rattle.run_semantics.proofs.Growth.{AllOfEvent, AllAbout, AllOfEvent-append, AllAbout-append, AllAbout-more, Fits, IsGrown, grown_same, grown_on, fits_empty, rooted_grows, built_grows, then_grows, asked_grows, asked_read_grows, ask_all_grows, answered_on, fits_changed, replied_grows, within_of_found, call_grows, place_parts_grows, initialize_all_grows}
+use Rattle.run_semantics.proofs.Growth.{AllOfEvent, AllAbout, AllOfEvent-append, AllAbout-append, AllAbout-more, Fits, IsGrown, grown_same, grown_on, fits_empty, rooted_grows, built_grows, then_grows, asked_grows, timed_grows, asked_read_grows, ask_all_grows, answered_on, fits_changed, replied_grows, within_of_found, call_grows, place_parts_grows, initialize_all_grows}
 
 -- ---- agreement on fewer questions
 
@@ -50,6 +52,23 @@ Agrees-front m n rs (x ∷ xs) ys h = (h.0, Agrees-front m n rs xs ys h.1)
 Agrees-last : (m n : Model) (rs : List Record) (xs : List Asked) (a : Asked) → Agrees m n rs (xs ++ a ∷ []) → answer_of m rs a.question ≡ answer_of n rs a.question
 Agrees-last m n rs [] a h = h.0
 Agrees-last m n rs (x ∷ xs) a h = Agrees-last m n rs xs a h.1
+
+-- on one of them
+Agrees-asked : (m n : Model) (rs : List Record) (q : Question) (xs : List Asked) → is_asked q xs ≡ true → Agrees m n rs xs → answer_of m rs q ≡ answer_of n rs q
+Agrees-asked m n rs q [] e h = cc
+Agrees-asked m n rs q (x ∷ xs) e h = by (same_question q x.question) refl e (λ later. Agrees-asked m n rs q xs later h.1)
+  where
+    by : (t : Bool) → same_question q x.question ≡ t → (t || is_asked q xs) ≡ true → (is_asked q xs ≡ true → answer_of m rs q ≡ answer_of n rs q) → answer_of m rs q ≡ answer_of n rs q
+    by true t e later = let same = same_is q x.question t in ap (answer_of m rs) same ∙ h.0 ∙ sym (ap (answer_of n rs) same)
+    by false t e later = later e
+
+-- on one more, whether it was asked before or not
+Agrees-noted : (m n : Model) (rs : List Record) (event : ℕ) (q : Question) (xs : List Asked) → Agrees m n rs (noted event q xs) → answer_of m rs q ≡ answer_of n rs q
+Agrees-noted m n rs event q xs h = by (is_asked q xs) refl h
+  where
+    by : (t : Bool) → is_asked q xs ≡ t → Agrees m n rs (if t then xs else xs ++ record { event = event; question = q } ∷ []) → answer_of m rs q ≡ answer_of n rs q
+    by true t h = Agrees-asked m n rs q xs t h
+    by false t h = Agrees-last m n rs xs (record { event = event; question = q }) h
 
 -- with the modules that were there before
 Agrees-fewer : (m n : Model) (rs more : List Record) → AreNested 0 rs → (xs : List Asked) → AllAbout (length rs) xs → Agrees m n (rs ++ more) xs → Agrees m n rs xs
@@ -131,7 +150,7 @@ asking_same m n q next other w f l h =
       grows = grown_on g d.grows;
       same = λ agreed.
           let here : AgreesIn m n v = Agrees-before m n v (in_flow (asking m q next w)) g.fits d.grows agreed in
-          d.same agreed ∙ ap (λ (a : Answer). other a v) (Agrees-last m n w.records w.questions (record { event = w.count; question = q }) here);
+          d.same agreed ∙ ap (λ (a : Answer). other a v) (Agrees-noted m n w.records w.count q w.questions here);
     }
 
 -- ---- replies and calls
@@ -148,7 +167,7 @@ alike_asked m n id (r ∷ rs) w f l h =
     let v : World = asked (question_of id r) w in
     let g = asked_read_grows id r w f l in
     let here : AgreesIn m n v = Agrees-before m n v (ask_all id rs v) g.fits (ask_all_grows id rs v g.fits l) h in
-    (Agrees-last m n w.records w.questions (record { event = w.count; question = question_of id r }) here, alike_asked m n id rs v g.fits l h)
+    (Agrees-noted m n w.records w.count (question_of id r) w.questions here, alike_asked m n id rs v g.fits l h)
 
 -- so they have the same fault of a read
 fault_alike : (m n : Model) (records : List Record) (id : ℕ) (reads : List Read) → AnswerAlike m n records id reads → read_fault m records id reads ≡ read_fault n records id reads
@@ -303,7 +322,7 @@ later_same event w f = record { rest = []; joined = append-nil w.questions; late
 
 -- an event that begins asks its first question
 begun_grows : (p : Pending) (rest : List Pending) (w : World) → Fits w → IsGrown (counted p rest w) (begun p rest w)
-begun_grows p rest w f = asked_grows (BeyondLimit p.time) (counted p rest w) (record { nested = f.nested; modules = f.modules; questions = f.questions }) (omega arith)
+begun_grows p rest w f = timed_grows (BeyondLimit p.time) (counted p rest w) (record { nested = f.nested; modules = f.modules; questions = f.questions }) (omega arith)
 
 -- one event asks questions of its own number
 event_later : (b : Behaviour) (m : Model) (p : Pending) (rest : List Pending) (w : World) → Fits w → IsLater (w.count + 1) w (world_at (settled (event b m p rest w)))
@@ -558,7 +577,7 @@ Agrees-up_to v m n rs [] f a = tt
 Agrees-up_to v m n rs (x ∷ xs) f a = (a.0 f.0, Agrees-up_to v m n rs xs f.1 a.1)
 
 -- on the first questions of a list
-AgreesUpTo-front : (v : ℕ) (m n : Model) (rs : List Record) (xs ys : List Asked) → AgreesUpTo v m n rs (xs ++ ys) → AgreesUpTo v m n rs xs
+pub AgreesUpTo-front : (v : ℕ) (m n : Model) (rs : List Record) (xs ys : List Asked) → AgreesUpTo v m n rs (xs ++ ys) → AgreesUpTo v m n rs xs
 AgreesUpTo-front v m n rs [] ys h = tt
 AgreesUpTo-front v m n rs (x ∷ xs) ys h = (h.0, AgreesUpTo-front v m n rs xs ys h.1)
 
@@ -592,7 +611,7 @@ past_after b m v (suc k) h =
     (eq-or-lt_of_le h)
 
 -- more modules change no answer about those that were there
-noted_stay : (m : Model) (rs more : List Record) → AreNested 0 rs → (qs : List Asked) → AllAbout (length rs) qs → Each (λ a. answer_of m (rs ++ more) a.question ≡ answer_of m rs a.question) qs
+pub noted_stay : (m : Model) (rs more : List Record) → AreNested 0 rs → (qs : List Asked) → AllAbout (length rs) qs → Each (λ a. answer_of m (rs ++ more) a.question ≡ answer_of m rs a.question) qs
 noted_stay m rs more h [] f = tt
 noted_stay m rs more h (a ∷ qs) f = (answer_more m rs more h a.question f.0, noted_stay m rs more h qs f.1)
 

@@ -14,7 +14,7 @@ use Rattle.event_set.specs.declared.pending.Happening.{Happening}
 use Rattle.event_set.specs.declared.pending.Happening.TheVariants.{Arrival, Timer}
 use Rattle.event_set.specs.declared.pending.Pending.{Pending}
 use Rattle.run_semantics.specs.declared.traces.Instance.{Instance}
-use Rattle.run_semantics.specs.World.{World, asked}
+use Rattle.run_semantics.specs.World.{World, timed}
 use Rattle.run_semantics.specs.Perform.{Flow, On, answered}
 
 -- ---- calls
@@ -73,7 +73,7 @@ counted p rest w = record w { clock = p.time; count = w.count + 1; pending = res
 
 -- it begins: it is asked whether the time limit allows it
 abbrev pub begun : Pending → List Pending → World → World
-begun p rest w = asked (BeyondLimit p.time) (counted p rest w)
+begun p rest w = timed (BeyondLimit p.time) (counted p rest w)
 
 -- ONE EVENT, with those that are left to come behind it
 abbrev pub event : Behaviour → Model → Pending → List Pending → World → Flow

@@ -1,9 +1,11 @@
 -- What a run is at a moment.
-use Rattle.std.specs.Prelude.{ℕ, ◌+◌, ◌*◌, ◌^◌, ◌≤◌, Bool, false, List, [], ◌∷◌, ◌++◌, Option, None}
+use Rattle.std.specs.Prelude.{ℕ, ◌+◌, ◌*◌, ◌^◌, ◌≤◌, Bool, false, List, [], ◌∷◌, ◌++◌, Option, None, if◌then◌else◌}
+use Rattle.std.specs.List.{list_any}
 use Rattle.model_answers.specs.declared.answer.Asked.{Asked}
 use Rattle.model_answers.specs.declared.answer.Question.{Question}
 use Rattle.model_answers.specs.declared.injection.Turn.{Turn}
 use Rattle.model_answers.specs.declared.record.Record.{Record}
+use Rattle.model_answers.specs.Questions.{same_question}
 use Rattle.event_set.specs.declared.pending.Pending.{Pending}
 use Rattle.run_semantics.specs.declared.traces.Emission.{Emission}
 use Rattle.run_semantics.specs.declared.traces.Instance.{Instance}
@@ -13,7 +15,7 @@ use Rattle.run_semantics.specs.declared.traces.Scalar.{Scalar}
 -- that live; the simple modules with their states, by rising id; the ids of the modules that were started, and of those
 -- that were finished; the events to come, in order, and the number of the next one that is inserted; whether the end was
 -- asked for; which injection was delivered last, and with it all that go before it; what was emitted; the scalars that modules
--- recorded; what was asked of the model, each question with its event.
+-- recorded; what was asked of the model, each question with the first event that asked it.
 pub record World : Type 0 where
   pub clock : ℕ
   pub count : ℕ
@@ -49,11 +51,23 @@ empty = record {
   questions = [];
 }
 
--- a question is asked in the event that is executed
-abbrev pub asked : Question → World → World
-asked q w = record w { questions = w.questions ++ record { event = w.count; question = q } ∷ [] }
+-- whether a question was asked before
+abbrev pub is_asked : Question → List Asked → Bool
+is_asked q qs = list_any (λ (a : Asked). same_question q a.question) qs
 
--- a question is asked for the event behind it, which may not come
+-- with a question of that event: one that was asked before is not noted again, as nothing new rests on it
+abbrev pub noted : ℕ → Question → List Asked → List Asked
+noted event q qs = if is_asked q qs then qs else qs ++ record { event = event; question = q } ∷ []
+
+-- A QUESTION is asked in the event that is executed
+abbrev pub asked : Question → World → World
+asked q w = record w { questions = noted w.count q w.questions }
+
+-- a question about the time of the event that is executed, which is noted of each event
+abbrev pub timed : Question → World → World
+timed q w = record w { questions = w.questions ++ record { event = w.count; question = q } ∷ [] }
+
+-- a question about times is asked for the event behind it, which may not come
 abbrev pub asked_next : Question → World → World
 asked_next q w = record w { questions = w.questions ++ record { event = w.count + 1; question = q } ∷ [] }
 

@@ -1,0 +1,4 @@
+//! What a run has asked of its model.
+#![tactic(auto)]
+
+pub mod log;

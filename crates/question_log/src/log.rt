@@ -1,0 +1,82 @@
+//! The questions of a run, in the order in which they were asked.
+
+ghost use Rattle.std.specs.Prelude.{◌≡◌, [], ◌∷◌, ◌++◌, true, false, OnOk, OnErr};
+ghost use Rattle.model_answers.specs.Questions.{is_of_modules};
+ghost use Rattle.run_semantics.specs.World.{noted};
+
+use indexmap::IndexSet;
+use model_answers::answer::{Asked, Question};
+use sim_values::NoMemory;
+use sqlite_items::Items;
+use std::alloc::Global;
+use std::marker::Model;
+
+/// The questions that were asked, each with its event. A question about modules stands in it once, with the first event that
+/// asked it; it is looked for in time that doesn't grow with their number. Contracts see the list.
+#[derive(Drop)]
+pub struct QuestionLog {
+    asked: Items<Asked>,
+    /// The questions about modules among them.
+    about_modules: IndexSet<Question>,
+}
+
+impl Model for QuestionLog {
+    ghost use Rattle.std.specs.Prelude.{List};
+    ghost use Rattle.model_answers.specs.declared.answer.Asked.{Asked};
+    ghost use Rattle.question_log.specs.Keys.{AreKeysOf};
+
+    ghost Value = { List Asked };
+
+    ghost view = { λ l. l.asked };
+
+    ghost invariant = { λ l. AreKeysOf l.asked l.about_modules.keys };
+}
+
+impl QuestionLog {
+    /// Nothing was asked.
+    pub fn new(alloc: Global) -> QuestionLog
+        ensures { result ≡ [] }
+    {
+        QuestionLog {
+            asked: Items::new(alloc),
+            about_modules: IndexSet::new(alloc),
+        }
+    }
+
+    /// The questions.
+    pub fn as_slice(&self) -> &[Asked]
+        ensures { result.now ≡ self.now }
+    {
+        self.asked.as_slice()
+    }
+
+    /// Notes that a question about modules is asked in that event. One that was asked before is not noted again.
+    pub fn note(&mut self, alloc: Global, event: u64, question: Question) -> Result<(), NoMemory>
+        requires { is_of_modules question ≡ true }
+        ensures ok { OnOk result (self.new ≡ noted event question self.old) }
+        ensures err { OnErr result (self.new ≡ self.old) }
+    {
+        if self.about_modules.contains(&question) {
+            return Ok(());
+        }
+        let key = question.copy(alloc)?;
+        self.asked.push(Asked { event, question })?;
+        match self.about_modules.insert(key) {
+            Ok(_) => Ok(()),
+            Err(failed) => {
+                self.asked.pop();
+                Err(failed.into())
+            }
+        }
+    }
+
+    /// Notes what is asked of the time of that event.
+    pub fn note_time(&mut self, event: u64, question: Question) -> Result<(), NoMemory>
+        requires { is_of_modules question ≡ false }
+        ensures ok { OnOk result (self.new ≡ self.old ++ record { event = event; question = question } ∷ []) }
+        ensures err { OnErr result (self.new ≡ self.old) }
+    {
+        self.asked.push(Asked { event, question })?;
+        Ok(())
+    }
+}
