@@ -113,7 +113,7 @@ went_count b m w (Nothing u) e = omega arith
 went_count b m w (Comes u p rest) e =
     either_at_most (w.count + 1) (is_after_limit m u.records p) (Over w TimeLimit) (settled (event b m p rest u)) (omega arith) (omega (arith, e, settled_count (event b m p rest u), event_count b m p rest u))
 
-next_count : (b : Behaviour) (m : Model) (s : Stage) → (world_at (next_stage b m s)).count ≤ (world_at s).count + 1
+pub next_count : (b : Behaviour) (m : Model) (s : Stage) → (world_at (next_stage b m s)).count ≤ (world_at s).count + 1
 next_count b m (Running w) = either_at_most (w.count + 1) w.ended _ _ (omega arith) (went_count b m w (upcoming m w) (upcoming_count m w))
 next_count b m (Over w outcome) = omega arith
 

@@ -1,10 +1,13 @@
 pub mod Ahead
+pub mod Agreeing
+pub mod Closing
 pub mod Counts
 pub mod Ends
 pub mod Grown
 pub mod Growth
 pub mod Looking
 pub mod Orderly
+pub mod Reached
 pub mod Reuse
 pub mod Setup
 pub mod Sound

@@ -1,5 +1,5 @@
 -- Where two models agree.
-use Rattle.std.specs.Prelude.{◌≡◌, ℕ, ◌≤◌, List, [], ◌∷◌}
+use Rattle.std.specs.Prelude.{◌≡◌, ℕ, ◌≤◌, ◌<◌, List, [], ◌∷◌, Option, Some, None}
 use Rattle.model_answers.specs.declared.answer.Asked.{Asked}
 use Rattle.model_answers.specs.declared.answer.Question.TheVariants.{BeyondLimit}
 use Rattle.model_answers.specs.declared.model.Model.{Model}
@@ -38,3 +38,10 @@ abbrev pub AgreesUpTo : ℕ → Model → Model → List Record → List Asked �
 AgreesUpTo v m n records [] = Unit {0}
 AgreesUpTo v m n records (a ∷ rest) =
     (a.event ≤ v → answer_of m records a.question ≡ answer_of n records a.question) × AgreesUpTo v m n records rest
+
+-- THE AGREEMENT of two models on a run of k events: the greatest event up to k such that all questions up to it have equal answers; none where
+-- a question of event zero has not
+abbrev pub IsAgreement : Model → Model → List Record → ℕ → List Asked → Option ℕ → Type 0
+IsAgreement m n records k asked None = AgreesUpTo 0 m n records asked → ⊥
+IsAgreement m n records k asked (Some v) =
+    (v ≤ k) × AgreesUpTo v m n records asked × ((u : ℕ) → v < u → u ≤ k → AgreesUpTo u m n records asked → ⊥)

@@ -1,16 +1,17 @@
 //! Laws of runs. The functions do nothing: their contracts are the laws.
 
-ghost use Rattle.std.specs.Prelude.{◌≡◌, ℕ, suc, ◌+◌, ◌≤◌, ◌<◌, IsSome};
+ghost use Rattle.std.specs.Prelude.{◌≡◌, ◌↔◌, ℕ, suc, ◌+◌, ◌≤◌, ◌<◌, IsSome};
 ghost use Rattle.module_api.specs.Behaviour.{Behaviour};
 ghost use Rattle.module_api.specs.Laws.{IsLawful};
 ghost use Rattle.model_answers.specs.declared.model.Model.{Model};
 ghost use Rattle.model_answers.specs.Answering.{answer_of};
 ghost use Rattle.run_semantics.specs.declared.outcome.Outcome.{Outcome};
 ghost use Rattle.run_semantics.specs.Agreement.{Agrees, AgreesUpTo, questions_of};
+ghost use Rattle.run_semantics.specs.Ending.{ending};
 ghost use Rattle.run_semantics.specs.Event.{instance_in};
 ghost use Rattle.run_semantics.specs.Laws.{Each, AreInOrder, AreInTurn, HaveOwnNumbers, HasGrown, CanBeCalled, gone_on};
 ghost use Rattle.run_semantics.specs.World.{World};
-ghost use Rattle.run_semantics.specs.Run.{Running, Over, IsReached, next_stage, after, stopped, run_to, world_at, standing, parts_of};
+ghost use Rattle.run_semantics.specs.Run.{Ran, Running, Over, IsReached, next_stage, after, stopped, run_to, world_at, standing, parts_of};
 
 /// After n events at most n are counted.
 pub fn at_most_n_are_counted()
@@ -134,4 +135,25 @@ pub fn events_are_for_started_modules()
 pub fn created_modules_stand()
     ensures { (b : Behaviour) (m : Model) (n : ℕ) (w : World) → after b m n ≡ Running w
         → standing w.modules ≡ parts_of w }
+{}
+
+/// On which of its first events two models agree is the same by what a run asked up to there and by what a longer one asked.
+pub fn longer_runs_agree_alike()
+    ensures { (b : Behaviour) (m p q : Model) (u v k : ℕ) → u ≤ v → v ≤ k
+        → AgreesUpTo u p q (world_at (after b m k)).records (world_at (after b m k)).questions
+        ↔ AgreesUpTo u p q (world_at (after b m v)).records (world_at (after b m v)).questions }
+{}
+
+/// A run stands where it stood after the last event that it executed, whatever its limit was; and one that got as far as an event got as far as
+/// each one before.
+pub fn runs_stand_at_their_last_event()
+    ensures stands { (b : Behaviour) (m : Model) (n : ℕ) → world_at (after b m (world_at (after b m n)).count) ≡ world_at (after b m n) }
+    ensures reached { (b : Behaviour) (m : Model) (v k : ℕ) → v ≤ k → IsReached (after b m k) k → IsReached (after b m v) v }
+{}
+
+/// The end of a run asks nothing that is noted, creates no module, and counts no event.
+pub fn the_end_asks_nothing()
+    ensures questions { (b : Behaviour) (m : Model) (ran : Ran) → (ending b m ran).world.questions ≡ ran.world.questions }
+    ensures records { (b : Behaviour) (m : Model) (ran : Ran) → (ending b m ran).world.records ≡ ran.world.records }
+    ensures count { (b : Behaviour) (m : Model) (ran : Ran) → (ending b m ran).world.count ≡ ran.world.count }
 {}

@@ -1,0 +1,88 @@
+-- The end of a run asks nothing, creates no module, and counts no event.
+use Rattle.std.proofs.Common.{◌≡◌, ℕ, Bool, true, false, List, [], ◌∷◌, Option, Some, None, refl, ◌∙◌, length, nat_lt, if◌then◌else◌}
+use Rattle.module_api.specs.declared.reply.Action.{Action}
+use Rattle.module_api.specs.declared.reply.Action.TheVariants.{Emit, RecordScalar, ScheduleAfter, Fail}
+use Rattle.module_api.specs.declared.reply.Reply.{Reply}
+use Rattle.module_api.specs.declared.call.Prompt.TheVariants as prompt
+use Rattle.module_api.specs.Behaviour.{Behaviour}
+use Rattle.module_api.specs.Names.{is_scalar_name}
+use Rattle.model_answers.specs.declared.model.Model.{Model}
+use Rattle.run_semantics.specs.declared.outcome.Fault.{Fault}
+use Rattle.run_semantics.specs.declared.outcome.Fault.TheVariants as fault
+use Rattle.run_semantics.specs.declared.outcome.Outcome.{Outcome}
+use Rattle.run_semantics.specs.declared.traces.Instance.{Instance}
+use Rattle.run_semantics.specs.World.{World}
+use Rattle.run_semantics.specs.Perform.{Flow, On, Stopped, Broken, ◌>>=◌, broken, read_fault, unless_fault, with_scalar}
+use Rattle.run_semantics.specs.Event.{call_of, instance_in, changed}
+use Rattle.run_semantics.specs.Run.{Part, standing, Ran, is_fault}
+use Rattle.run_semantics.specs.Ending.{perform_last, perform_last_all, acted_last, answered_last, called_last, call_last, finish, finish_all, concluded, ending}
+use Rattle.run_semantics.proofs.Sound.{in_flow}
+
+pub record IsClosed (old new : World) : Type 0 where
+  pub questions : new.questions ≡ old.questions
+  pub records : new.records ≡ old.records
+  pub count : new.count ≡ old.count
+
+closed_same : (w : World) → IsClosed w w
+closed_same w = record { questions = refl; records = refl; count = refl }
+
+closed_on : (u v w : World) → IsClosed u v → IsClosed v w → IsClosed u w
+closed_on u v w f g = record { questions = g.questions ∙ f.questions; records = g.records ∙ f.records; count = g.count ∙ f.count }
+
+closed_then : (w : World) (fl : Flow) (k : World → Flow) → IsClosed w (in_flow fl) → ((u : World) → IsClosed u (in_flow (k u))) → IsClosed w (in_flow (fl >>= k))
+closed_then w (On u) k f h = closed_on w u (in_flow (k u)) f (h u)
+closed_then w (Stopped u) k f h = f
+closed_then w (Broken u path e) k f h = f
+
+either_closed : (c : Bool) (f g : Flow) (w : World) → IsClosed w (in_flow f) → IsClosed w (in_flow g) → IsClosed w (in_flow (if c then f else g))
+either_closed true f g w x y = x
+either_closed false f g w x y = y
+
+perform_closed : (id : ℕ) (action : Action) (w : World) → IsClosed w (in_flow (perform_last id action w))
+perform_closed id (Emit signal value) w = record { questions = refl; records = refl; count = refl }
+perform_closed id (RecordScalar name value) w =
+    either_closed (is_scalar_name name) (On (with_scalar id name value w)) (broken id fault.BadName w) w (record { questions = refl; records = refl; count = refl }) (closed_same w)
+perform_closed id (ScheduleAfter s) w = closed_same w
+perform_closed id (Fail text) w = closed_same w
+
+perform_all_closed : (id : ℕ) (actions : List Action) (w : World) → IsClosed w (in_flow (perform_last_all id actions w))
+perform_all_closed id [] w = closed_same w
+perform_all_closed id (action ∷ actions) w = closed_then w (perform_last id action w) (perform_last_all id actions) (perform_closed id action w) (perform_all_closed id actions)
+
+acted_closed : (id : ℕ) (actions : List Action) (w : World) → IsClosed w (in_flow (acted_last id actions w))
+acted_closed id actions w = either_closed (nat_lt 1000 (length actions)) (broken id fault.TooManyActions w) (perform_last_all id actions w) w (closed_same w) (perform_all_closed id actions w)
+
+unless_closed : (id : ℕ) (found : Option Fault) (go : World → Flow) (w : World) → IsClosed w (in_flow (go w)) → IsClosed w (in_flow (unless_fault id found go w))
+unless_closed id (Some f) go w h = closed_same w
+unless_closed id None go w h = h
+
+answered_closed : (m : Model) (id : ℕ) (reply : Reply) (w : World) → IsClosed w (in_flow (answered_last m id reply w))
+answered_closed m id reply w = unless_closed id (read_fault m w.records id reply.reads) (acted_last id reply.actions) w (acted_closed id reply.actions w)
+
+called_closed : (b : Behaviour) (m : Model) (id : ℕ) (w : World) (found : Option Instance) → IsClosed w (in_flow (called_last b m id w found))
+called_closed b m id w None = closed_same w
+called_closed b m id w (Some i) =
+    let r = (b.naming i.kind).reply i.state (call_of m id prompt.Finish w) in
+    closed_on w (changed id r.state w) (in_flow (answered_last m id r.reply (changed id r.state w)))
+    (record { questions = refl; records = refl; count = refl }) (answered_closed m id r.reply (changed id r.state w))
+
+finish_closed : (b : Behaviour) (m : Model) (p : Part) (w : World) → IsClosed w (in_flow (finish b m p w))
+finish_closed b m p w = closed_then w (call_last b m p.id w) _ (called_closed b m p.id w (instance_in p.id w.modules)) (λ u. record { questions = refl; records = refl; count = refl })
+
+finish_all_closed : (b : Behaviour) (m : Model) (ps : List Part) (w : World) → IsClosed w (in_flow (finish_all b m ps w))
+finish_all_closed b m [] w = record { questions = refl; records = refl; count = refl }
+finish_all_closed b m (p ∷ ps) w = closed_then w (finish b m p w) (finish_all b m ps) (finish_closed b m p w) (finish_all_closed b m ps)
+
+concluded_closed : (outcome : Outcome) (fl : Flow) (w : World) → IsClosed w (in_flow fl) → IsClosed w (concluded outcome fl).world
+concluded_closed outcome (On u) w h = h
+concluded_closed outcome (Stopped u) w h = h
+concluded_closed outcome (Broken u path f) w h = h
+
+either_ran : (c : Bool) (x y : Ran) (w : World) → IsClosed w x.world → IsClosed w y.world → IsClosed w (if c then x else y).world
+either_ran true x y w f g = f
+either_ran false x y w f g = g
+
+pub ending_closed : (b : Behaviour) (m : Model) (ran : Ran) → IsClosed ran.world (ending b m ran).world
+ending_closed b m ran =
+    either_ran (is_fault ran.outcome) ran (concluded ran.outcome (finish_all b m (standing ran.world.modules) ran.world)) ran.world (closed_same ran.world)
+    (concluded_closed ran.outcome (finish_all b m (standing ran.world.modules) ran.world) ran.world (finish_all_closed b m (standing ran.world.modules) ran.world))
