@@ -1,3 +1,4 @@
 pub mod Writing
 pub mod LineLemmas
 pub mod TextLemmas
+pub mod Rising

@@ -4,4 +4,5 @@ pub mod Header
 pub mod Fields
 pub mod ScalarText
 pub mod VectorText
+pub mod Rising
 pub mod Files
