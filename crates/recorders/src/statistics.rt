@@ -4,33 +4,13 @@ ghost use Rattle.std.specs.Prelude.{◌≡◌, ◌++◌, IfOk, OnOk};
 ghost use Rattle.std.specs.List.{flat_map};
 ghost use Rattle.std.specs.Option.{option_map};
 ghost use Rattle.recorders.specs.Places.{of_place, value_of};
-ghost use Rattle.recorders.specs.Statistics.{values_heard, count_of, sum_of, min_of, max_of, last_of, value_in};
+ghost use Rattle.recorders.specs.Statistics.{count_of, sum_of, min_of, max_of, last_of, value_in};
 
-use crate::hearing::hears;
 use crate::vector_line::VectorLine;
-use model_answers::record::Record;
 use ned_syntax::ast::Mode;
 use run_semantics::traces::Emission;
 use sqlite_items::at;
 use std::alloc::{AllocError, Global};
-
-/// The values of the emissions that a statistic hears, in their order.
-pub fn values_heard(
-    alloc: Global,
-    records: &[Record],
-    emissions: &[Emission],
-    vector: &VectorLine,
-) -> Result<Vec<i64>, AllocError>
-    ensures { IfOk result (λ values. values.items ≡ values_heard records.now emissions.now vector.now) }
-{
-    let mut values = Vec::new(alloc);
-    for emission in emissions {
-        if hears(records, vector, emission) {
-            values.push(emission.value)?;
-        }
-    }
-    Ok(values)
-}
 
 /// The values of the emissions that a statistic hears, in their order, by the places of those that
 /// come from its module's subtree.
