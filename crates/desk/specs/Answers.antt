@@ -14,6 +14,8 @@ use Rattle.run_semantics.specs.declared.outcome.Outcome.TheVariants as outcome
 abbrev pub fault_name : Fault → List ℕ
 fault_name fault.UnknownType = codes "UnknownType"
 fault_name fault.Unassigned = codes "Unassigned"
+fault_name fault.Overflow = codes "Overflow"
+fault_name fault.Inexact = codes "Inexact"
 fault_name fault.Mismatch = codes "Mismatch"
 fault_name fault.TooManyModules = codes "TooManyModules"
 fault_name fault.UnknownClass = codes "UnknownClass"

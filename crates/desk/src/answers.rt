@@ -21,6 +21,8 @@ fn fault_name(fault: &Fault) -> &'static [u8]
     match fault {
         Fault::UnknownType => b"UnknownType",
         Fault::Unassigned => b"Unassigned",
+        Fault::Overflow => b"Overflow",
+        Fault::Inexact => b"Inexact",
         Fault::Mismatch => b"Mismatch",
         Fault::TooManyModules => b"TooManyModules",
         Fault::UnknownClass => b"UnknownClass",

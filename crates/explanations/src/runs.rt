@@ -73,7 +73,47 @@ fn blamed<'a>(
     Ok(None)
 }
 
-/// Adds which parameter has no value, or one of another kind.
+/// The fault of a parameter that has this name.
+fn parameter_fault(name: &str) -> Option<ModelFault> {
+    match name {
+        "Unassigned" => Some(ModelFault::Unassigned),
+        "Overflow" => Some(ModelFault::Overflow),
+        "Inexact" => Some(ModelFault::Inexact),
+        "Mismatch" => Some(ModelFault::Mismatch),
+        _ => None,
+    }
+}
+
+/// Adds what is wrong with the value of a parameter of that name, which takes values of that kind.
+fn tell_wrong(
+    told: &mut String,
+    path: &str,
+    name: &str,
+    kind: &str,
+    fault: ModelFault,
+) -> Result<(), NoMemory> {
+    match fault {
+        ModelFault::Overflow => write!(
+            told,
+            "a number in the value of '{path}.{name}' is outside -9223372036854775808 to 9223372036854775807, or something is shifted by less than 0 or more than 63"
+        )?,
+        ModelFault::Inexact => write!(
+            told,
+            "in the value of '{path}.{name}' a division leaves a remainder or is by zero, or an exponent is negative"
+        )?,
+        ModelFault::Mismatch => write!(
+            told,
+            "'{path}.{name}' takes {kind}, and its value is of another kind, or an operator in it has operands of a wrong kind"
+        )?,
+        _ => write!(
+            told,
+            "'{path}.{name}' has no value: write '{path}.{name} = VALUE' with {kind}, or a default in the NED file"
+        )?,
+    }
+    Ok(())
+}
+
+/// Adds which parameter has no value, or one with that fault.
 fn tell_parameter(
     alloc: Global,
     told: &mut String,
@@ -81,31 +121,14 @@ fn tell_parameter(
     model: &Model,
     fault: &Told<'_>,
     of: &TypeDeclaration,
+    found: ModelFault,
 ) -> Result<(), NoMemory> {
-    let kind = if fault.name == "Mismatch" {
-        ModelFault::Mismatch
-    } else {
-        ModelFault::Unassigned
-    };
-    let Some(declaration) = blamed(alloc, model, fault.path, of, kind)? else {
+    let Some(declaration) = blamed(alloc, model, fault.path, of, found)? else {
         return Ok(());
     };
-    let (path, name) = (fault.path, shown(declaration.name.as_bytes()));
-    let kind = kind_of(declaration);
-    if fault.name == "Mismatch" {
-        write!(
-            told,
-            "{}: '{path}.{name}' takes {kind}, and its value is of another kind",
-            sources.ini_path
-        )?;
-    } else {
-        write!(
-            told,
-            "{}: '{path}.{name}' has no value: write '{path}.{name} = VALUE' with {kind}, or a default in the NED file",
-            sources.ini_path
-        )?;
-    }
-    Ok(())
+    write!(told, "{}: ", sources.ini_path)?;
+    let name = shown(declaration.name.as_bytes());
+    tell_wrong(told, fault.path, name, kind_of(declaration), found)
 }
 
 /// Adds which parameters a type declares, of which the module reads another.
@@ -140,8 +163,10 @@ fn tell_fault(
     of: &TypeDeclaration,
     classes: &[&[u8]],
 ) -> Result<(), NoMemory> {
+    if let Some(found) = parameter_fault(fault.name) {
+        return tell_parameter(alloc, told, sources, model, fault, of, found);
+    }
     match fault.name {
-        "Unassigned" | "Mismatch" => tell_parameter(alloc, told, sources, model, fault, of),
         "NoParameter" => tell_declared(alloc, told, fault.path, of),
         "UnknownClass" => {
             write!(

@@ -38,9 +38,13 @@ pub struct IniText {
 
 impl Model for IniText {
     ghost use Rattle.std.specs.Prelude.{List};
+    ghost use Rattle.std.specs.Coded.{coded_list};
+    ghost use Rattle.ini_config.specs.contracts.lines.IniLine.{the_row};
     ghost use Rattle.ini_config.specs.declared.lines.IniLine.{IniLine};
 
     ghost Value = { List IniLine };
+
+    ghost coded = { coded_list the_row.coded };
 
     ghost view = { λ t. t.lines };
 }

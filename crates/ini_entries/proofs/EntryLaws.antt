@@ -7,7 +7,12 @@ use Rattle.std.proofs.lemmas.Bool.{eqb-false, false≢true, true≢false}
 use Rattle.std.proofs.lemmas.Slice.Eq.{bytes_eq-Decides}
 use Rattle.ini_pattern.specs.declared.piece.Piece.{Piece}
 use Rattle.ini_pattern.specs.PatternOf.{pattern_of}
-use Rattle.ned_values.proofs.OneExpression.{one_expression}
+use Rattle.ned_tokens.specs.Lines.{tokens_of}
+use Rattle.ned_tokens.proofs.Whole as whole
+use Rattle.ned_expressions.proofs.ExpressionLaws.{expression-lawful}
+use Rattle.ned_expressions.specs.declared.ast.Expression.{Expression}
+use Rattle.ned_expressions.specs.ExpressionText as value_text
+use Rattle.ned_expressions.specs.Grammar as grammar
 use Rattle.ned_values.specs.ExpressionText.{IsExpressionText}
 use Rattle.ini_entries.specs.declared.entry.EntryMeaning.{EntryMeaning}
 use Rattle.ini_entries.specs.declared.entry.EntryMeaning.TheVariants as meaning
@@ -80,6 +85,10 @@ numbered key bytes (meaning.Type p) h = let e = kinds key TypeKey h.0 (λ x. abs
 numbered key bytes (meaning.Parameter p) h = let e = kinds key ParameterKey h.0 (λ x. absurd cc) in rw e.0 (rw e.1 (rw e.2 (rw h.0 refl)))
 
 -- ---- meanings of one kind
+
+-- a text is at most one expression
+one_expression : (text : Bytes) (e f : Expression) → value_text.IsExpressionText text e → value_text.IsExpressionText text f → e ≡ f
+one_expression text e f p q = whole.one_meaning grammar.expression expression-lawful (tokens_of text) e f p.spells q.spells
 
 pub value_same : (text : Bytes) (v w : EntryValue) → IsEntryValue text v → IsEntryValue text w → v ≡ w
 value_same text value.Default value.Default p q = refl

@@ -1,3 +1,4 @@
+pub mod Constants
 pub mod Keys
 pub mod Meaning
 pub mod Names

@@ -4,12 +4,14 @@ use Rattle.std.specs.Prelude.{◌≡◌, ◌≢◌, ℕ, Bool, true, false, ◌&
 use Rattle.std.specs.List.{list_all}
 use Rattle.std.specs.Str.{chars}
 use Rattle.ini_pattern.specs.PatternOf.{pattern_of}
-use Rattle.ned_values.specs.ExpressionText.{IsExpressionText}
+use Rattle.ned_expressions.specs.ExpressionText.{IsExpressionText}
+use Rattle.ned_values.specs.ExpressionText.{IsExpressionText as IsLiteralText}
 use Rattle.ini_entries.specs.declared.entry.EntryMeaning.{EntryMeaning}
 use Rattle.ini_entries.specs.declared.entry.EntryMeaning.TheVariants as meaning
 use Rattle.ini_entries.specs.declared.entry.EntryValue.{EntryValue}
 use Rattle.ini_entries.specs.declared.entry.EntryValue.TheVariants as value
 use Rattle.ini_entries.specs.declared.entry.ParameterEntry.{ParameterEntry}
+use Rattle.ini_entries.specs.Constants.{is_constant}
 use Rattle.ini_entries.specs.Keys.{OptionKey, ObjectKey, TypeKey, ParameterKey, kind_of}
 use Rattle.ini_entries.specs.Names.{is_dotted_name, is_config_name}
 use Rattle.ini_entries.specs.Options.{word_network, word_extends, word_time_limit, is_other_option, time_literal, IsObjectOption}
@@ -26,10 +28,10 @@ abbrev pub is_key : Bytes → Bool
 is_key [] = false
 is_key (b ∷ bs) = list_all is_key_byte (b ∷ bs)
 
--- The value of a parameter: the word `default`, or what NED reads as an expression.
+-- The value of a parameter: the word `default`, or what NED reads as an expression, where that is constant.
 abbrev pub IsEntryValue : Bytes → EntryValue → Type 0
 IsEntryValue bytes value.Default = bytes ≡ word_default
-IsEntryValue bytes (value.Given e) = (bytes ≢ word_default) × IsExpressionText bytes e
+IsEntryValue bytes (value.Given e) = (bytes ≢ word_default) × IsExpressionText bytes e × (is_constant e ≡ true)
 
 -- the pattern of a key, and a value
 abbrev pub IsPatternAndValue : Bytes → Bytes → ParameterEntry → Type 0
@@ -41,7 +43,7 @@ abbrev pub IsEntryMeaning : Bytes → Bytes → EntryMeaning → Type 0
 IsEntryMeaning key bytes (meaning.Network name) = (key ≡ word_network) × (name ≡ bytes) × (is_dotted_name bytes ≡ true)
 IsEntryMeaning key bytes (meaning.Extends names) =
     (key ≡ word_extends) × (names ≡ items_of bytes) × (list_all is_config_name names ≡ true)
-IsEntryMeaning key bytes (meaning.TimeLimit ps) = (key ≡ word_time_limit) × IsExpressionText bytes (time_literal ps)
+IsEntryMeaning key bytes (meaning.TimeLimit ps) = (key ≡ word_time_limit) × IsLiteralText bytes (time_literal ps)
 IsEntryMeaning key bytes meaning.Other =
     (kind_of key ≡ OptionKey) × (is_other_option key bytes ≡ true) × IsSome (pattern_of (chars key))
 -- Per-object options.

@@ -3,19 +3,9 @@
 ghost use Rattle.std.specs.Prelude.{◌≡◌, IfOk};
 
 use crate::entry::{EntryMeaning, EntryValue, ModeItem, ObjectEntry, ObjectOption, ParameterEntry};
-use ned_values::ast::Expression;
 use sim_values::text::Text;
 use sqlite_items::Items;
 use std::alloc::{AllocError, Global};
-
-/// An equal expression.
-fn copy_expression(alloc: Global, expression: &Expression) -> Result<Expression, AllocError>
-    ensures { IfOk result (λ copy. copy ≡ expression.now) }
-{
-    match expression {
-        Expression::Literal(value) => Ok(Expression::Literal(value.copy(alloc)?)),
-    }
-}
 
 /// An equal value of an entry.
 fn copy_value(alloc: Global, value: &EntryValue) -> Result<EntryValue, AllocError>
@@ -23,9 +13,7 @@ fn copy_value(alloc: Global, value: &EntryValue) -> Result<EntryValue, AllocErro
 {
     match value {
         EntryValue::Default => Ok(EntryValue::Default),
-        EntryValue::Given(expression) => {
-            Ok(EntryValue::Given(copy_expression(alloc, expression)?))
-        }
+        EntryValue::Given(expression) => Ok(EntryValue::Given(expression.copy(alloc)?)),
     }
 }
 

@@ -1,7 +1,8 @@
 //! What entries say.
 
 use ini_pattern::Pattern;
-use ned_values::ast::{Expression, Mode};
+use ned_expressions::ast::Expression;
+use ned_values::ast::Mode;
 use sim_values::text::Text;
 use sqlite_items::Items;
 
@@ -10,6 +11,7 @@ use sqlite_items::Items;
 pub enum EntryValue {
     /// The word `default`: the value is the one of the NED text.
     Default,
+    /// A constant expression.
     Given(Expression),
 }
 

@@ -4,6 +4,7 @@
 #![tactic(auto)]
 
 pub mod blanks;
+pub mod constants;
 pub mod copies;
 pub mod entry;
 pub mod keys;

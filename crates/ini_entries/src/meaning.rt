@@ -8,13 +8,14 @@ ghost use Rattle.ini_entries.specs.Meaning.{IsEntryMeaning, IsEntryValue, IsPatt
 ghost use Rattle.ini_entries.specs.Options as options;
 ghost use Rattle.ini_entries.specs.Texts.{is_among};
 
+use crate::constants::is_constant;
 use crate::entry::{EntryMeaning, EntryValue, ObjectEntry, ParameterEntry};
 use crate::keys::{has_hyphen, last_part};
 use crate::names::is_dotted_name;
 use crate::options::{config_names, is_other_option, object_option, time_limit};
 use ini_pattern::{Pattern, PatternFault};
+use ned_expressions::parse::parse_expression;
 use ned_values::error::NedError;
-use ned_values::parse::parse_expression;
 use sim_values::text::Text;
 use std::alloc::{AllocError, Global};
 use std::str::from_utf8;
@@ -42,7 +43,7 @@ fn is_pattern(alloc: Global, key: &[u8]) -> Result<bool, AllocError>
     Ok(key_pattern(alloc, key)?.is_some())
 }
 
-/// The value that an entry gives a parameter.
+/// The value that an entry gives a parameter: `default`, or a constant expression.
 fn entry_value(alloc: Global, bytes: &[u8]) -> Result<Option<EntryValue>, AllocError>
     ensures { IfOk result (λ found. Tells (IsEntryValue bytes.now) found) }
 {
@@ -50,7 +51,8 @@ fn entry_value(alloc: Global, bytes: &[u8]) -> Result<Option<EntryValue>, AllocE
         return Ok(Some(EntryValue::Default));
     }
     match parse_expression(alloc, bytes) {
-        Ok(expression) => Ok(Some(EntryValue::Given(expression))),
+        Ok(expression) if is_constant(&expression) => Ok(Some(EntryValue::Given(expression))),
+        Ok(_) => Ok(None),
         Err(NedError::NoMemory(error)) => Err(error.error()),
         Err(_) => Ok(None),
     }

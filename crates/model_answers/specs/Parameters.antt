@@ -10,6 +10,8 @@ use Rattle.ini_entries.specs.declared.entry.EntryValue.{EntryValue}
 use Rattle.ini_entries.specs.declared.entry.EntryValue.TheVariants as entry
 use Rattle.ini_config.specs.Entries.{value_for}
 use Rattle.ned_syntax.specs.declared.ast.Declaration.{Declaration}
+use Rattle.ned_expressions.specs.declared.ast.Expression as ini
+use Rattle.ned_expressions.specs.declared.ast.Expression.TheVariants as ini_expression
 use Rattle.ned_values.specs.declared.ast.Expression.{Expression}
 use Rattle.ned_values.specs.declared.ast.Expression.TheVariants.{Literal}
 use Rattle.ned_syntax.specs.declared.ast.ParameterValue.{ParameterValue}
@@ -18,24 +20,57 @@ use Rattle.ned_syntax.specs.declared.ast.ParameterWord.{ParameterWord}
 use Rattle.ned_syntax.specs.declared.ast.ParameterWord.TheVariants as word
 use Rattle.ned_syntax.specs.declared.ast.SectionLine.{SectionLine}
 use Rattle.ned_types.specs.Flat.{last_value}
+use Rattle.param_eval.specs.declared.fault.Fault.{Fault}
+use Rattle.param_eval.specs.declared.fault.Fault.TheVariants as eval_fault
+use Rattle.param_eval.specs.Operators.{Evaluated}
+use Rattle.param_eval.specs.Values.{value_in}
 use Rattle.model_answers.specs.declared.answer.ModelFault.{ModelFault}
-use Rattle.model_answers.specs.declared.answer.ModelFault.TheVariants.{Unassigned, Mismatch}
+use Rattle.model_answers.specs.declared.answer.ModelFault.TheVariants.{Unassigned, Overflow, Inexact, Mismatch}
 use Rattle.model_answers.specs.Records.{path_under}
 
--- the expression that gives a parameter its value, the first that exists of: the fixed one of the type; that of the
--- first matching entry, where `default` means the next case; the default of the type
-abbrev pub chosen : Option ParameterValue → Option EntryValue → Option Expression
-chosen (Some (given.Fixed e)) entry = Some e
-chosen (Some (given.Default e)) (Some (entry.Given f)) = Some f
-chosen (Some (given.Default e)) (Some entry.Default) = Some e
-chosen (Some (given.Default e)) None = Some e
-chosen None (Some (entry.Given f)) = Some f
-chosen None (Some entry.Default) = None
-chosen None None = None
-
--- the value of an expression
+-- the value of an expression of a NED text
 abbrev pub literal_of : Expression → Value
 literal_of (Literal v) = v
+
+-- why an expression has no value; where no reference has one there are no other faults
+abbrev pub fault_of : Fault → ModelFault
+fault_of eval_fault.Overflow = Overflow
+fault_of eval_fault.Inexact = Inexact
+fault_of eval_fault.Mismatch = Mismatch
+fault_of _ = Unassigned
+
+abbrev pub told : Evaluated → Result Value ModelFault
+told (Ok v) = Ok v
+told (Err f) = Err (fault_of f)
+
+-- the literal that an expression of the ini text is
+abbrev pub literal_in : ini.Expression → Option Value
+literal_in (ini_expression.Literal v) = Some v
+literal_in _ = None
+
+-- the value of an expression, or its first fault in the order of its evaluation, where no reference has a value
+abbrev pub evaluated : ini.Expression → Result Value ModelFault
+evaluated e = told (value_in (λ reference. Err eval_fault.Unassigned) e)
+
+abbrev pub literal_or : Option Value → Result Value ModelFault → Result Value ModelFault
+literal_or (Some v) found = Ok v
+literal_or None found = found
+
+-- the value of an expression of the ini text: a literal is its own, any other is evaluated. It is constant (`is_constant` of
+-- ini_entries), and so asks for no reference.
+unfoldable pub value_of_ini : ini.Expression → Result Value ModelFault
+value_of_ini e = literal_or (literal_in e) (evaluated e)
+
+-- what gives a parameter its value, the first that exists of: the fixed value of the type; the expression of the first matching entry,
+-- where `default` means the next case; the default of the type
+abbrev pub chosen : Option ParameterValue → Option EntryValue → Result Value ModelFault
+chosen (Some (given.Fixed e)) entry = Ok (literal_of e)
+chosen (Some (given.Default e)) (Some (entry.Given f)) = value_of_ini f
+chosen (Some (given.Default e)) (Some entry.Default) = Ok (literal_of e)
+chosen (Some (given.Default e)) None = Ok (literal_of e)
+chosen None (Some (entry.Given f)) = value_of_ini f
+chosen None (Some entry.Default) = Err Unassigned
+chosen None None = Err Unassigned
 
 abbrev pub same_dimension : Dimension → Dimension → Bool
 same_dimension = sameb dimension_kind.the_type
@@ -70,9 +105,10 @@ is_of_kind word.Double (Some d) v = is_quantity d v
 abbrev pub checked_value : Declaration → Value → Result Value ModelFault
 checked_value d v = if is_of_kind d.word d.unit v then Ok v else Err Mismatch
 
-abbrev pub checked : Declaration → Option Expression → Result Value ModelFault
-checked d None = Err Unassigned
-checked d (Some e) = checked_value d (literal_of e)
+-- a fault comes before the kind of a value is looked at
+abbrev pub checked : Declaration → Result Value ModelFault → Result Value ModelFault
+checked d (Ok v) = checked_value d v
+checked d (Err fault) = Err fault
 
 -- the value of a parameter that a section of these lines declares, of the module of that path, with these entries
 abbrev pub parameter_value : List Entry → List ℕ → List SectionLine → Declaration → Result Value ModelFault

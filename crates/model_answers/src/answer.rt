@@ -56,7 +56,12 @@ pub enum ModelFault {
     UnknownType,
     /// A parameter has no value.
     Unassigned,
-    /// A value is of another kind than its parameter.
+    /// A number of the expression that gives a parameter its value is outside -2^63 to 2^63 - 1, or an amount to shift by is
+    /// outside 0 to 63.
+    Overflow,
+    /// A quotient in that expression is no whole number, something is divided by zero, or an exponent is below zero.
+    Inexact,
+    /// A value is of another kind than its parameter, or than its operator wants.
     Mismatch,
 }
 

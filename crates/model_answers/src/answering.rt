@@ -146,7 +146,7 @@ fn typed_answer(
         return Ok(Answer::Absent);
     };
     match parameter_value(alloc, model, path, lines, declaration)? {
-        Ok(value) => Ok(Answer::Value(value.copy(alloc)?)),
+        Ok(value) => Ok(Answer::Value(value)),
         Err(fault) => Ok(Answer::Fault(Text::from_bytes(alloc, path)?, fault)),
     }
 }

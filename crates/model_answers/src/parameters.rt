@@ -1,10 +1,10 @@
 //! Values of parameters.
 
-ghost use Rattle.std.specs.Prelude.{◌≡◌, Some, Ok, Err, IfOk, MatchResult};
+ghost use Rattle.std.specs.Prelude.{◌≡◌, IfOk};
 ghost use Rattle.std.specs.Option.{option_copied};
 ghost use Rattle.ini_config.specs.Entries.{value_for};
 ghost use Rattle.model_answers.specs.Models.{entries_in};
-ghost use Rattle.model_answers.specs.Parameters.{literal_of, chosen, parameter_value, is_of_kind, checked};
+ghost use Rattle.model_answers.specs.Parameters.{literal_of, fault_of, literal_in, evaluated, value_of_ini, chosen, parameter_value, is_of_kind, checked};
 ghost use Rattle.model_answers.specs.Records.{path_under};
 
 use crate::answer::ModelFault;
@@ -12,25 +12,87 @@ use crate::model::Model;
 use crate::record::path_under;
 use ini_config::entries::value_for;
 use ini_entries::entry::EntryValue;
-use ned_syntax::ast::{Declaration, Expression, ParameterValue, ParameterWord, SectionLine};
+use ned_expressions::ast::Expression;
+use ned_syntax::ast::{
+    Declaration, Expression as NedExpression, ParameterValue, ParameterWord, SectionLine,
+};
 use ned_types::flat::last_value;
+use param_eval::evaluation::evaluate;
+use param_eval::fault::Fault;
+use param_eval::names::NoNames;
 use sim_values::NoMemory;
 use sim_values::value::{Dimension, Value};
-use std::alloc::Global;
+use std::alloc::{AllocError, Global};
 
-/// The expression that gives a parameter its value: the first that exists of the fixed one of the
-/// type, the one of the ini text, and the default of the type.
-fn chosen<'a>(
-    declared: Option<&'a ParameterValue>,
-    entry: Option<&'a EntryValue>,
-) -> Option<&'a Expression>
-    ensures { option_copied result ≡ chosen (option_copied declared.entry) (option_copied entry.entry) }
+/// The model's fault where an expression has no value.
+fn fault_of(fault: Fault) -> ModelFault
+    ensures { result ≡ fault_of fault }
+{
+    match fault {
+        Fault::Overflow => ModelFault::Overflow,
+        Fault::Inexact => ModelFault::Inexact,
+        Fault::Mismatch => ModelFault::Mismatch,
+        Fault::Unassigned | Fault::Circle | Fault::TooDeep => ModelFault::Unassigned,
+    }
+}
+
+/// The value of an expression, or its first fault, where no reference has a value.
+fn evaluated(alloc: Global, expression: &Expression) -> Result<Result<Value, ModelFault>, NoMemory>
+    ensures { IfOk result (λ found. found ≡ evaluated expression.now) }
+{
+    match evaluate(alloc, expression, &NoNames)? {
+        Ok(value) => Ok(Ok(value)),
+        Err(fault) => Ok(Err(fault_of(fault))),
+    }
+}
+
+/// The literal that an expression of the ini text is.
+fn literal_in(expression: &Expression) -> Option<&Value>
+    ensures { option_copied result ≡ literal_in expression.now }
+{
+    match expression {
+        Expression::Literal(value) => Some(value),
+        _ => None,
+    }
+}
+
+/// The value of an expression of the ini text, or its first fault. A literal is not evaluated.
+#[tactic(auto, unfolding(crate::specs::Parameters::value_of_ini))]
+fn value_of_ini(
+    alloc: Global,
+    expression: &Expression,
+) -> Result<Result<Value, ModelFault>, NoMemory>
+    ensures { IfOk result (λ found. found ≡ value_of_ini expression.now) }
+{
+    match literal_in(expression) {
+        Some(value) => Ok(Ok(value.copy(alloc)?)),
+        None => evaluated(alloc, expression),
+    }
+}
+
+/// The value of an expression of a NED text.
+fn value_of_ned(alloc: Global, expression: &NedExpression) -> Result<Value, AllocError>
+    ensures { IfOk result (λ value. value ≡ literal_of expression.now) }
+{
+    match expression {
+        NedExpression::Literal(value) => value.copy(alloc),
+    }
+}
+
+/// The value that is given to a parameter, by the first that exists of the fixed one of the type, the
+/// one of the ini text, and the default of the type.
+fn chosen(
+    alloc: Global,
+    declared: Option<&ParameterValue>,
+    entry: Option<&EntryValue>,
+) -> Result<Result<Value, ModelFault>, NoMemory>
+    ensures { IfOk result (λ found. found ≡ chosen (option_copied declared.entry) (option_copied entry.entry)) }
 {
     match (declared, entry) {
-        (Some(ParameterValue::Fixed(expression)), _) => Some(expression),
-        (_, Some(EntryValue::Given(expression))) => Some(expression),
-        (Some(ParameterValue::Default(expression)), _) => Some(expression),
-        (None, _) => None,
+        (Some(ParameterValue::Fixed(expression)), _) => Ok(Ok(value_of_ned(alloc, expression)?)),
+        (_, Some(EntryValue::Given(expression))) => value_of_ini(alloc, expression),
+        (Some(ParameterValue::Default(expression)), _) => Ok(Ok(value_of_ned(alloc, expression)?)),
+        (None, _) => Ok(Err(ModelFault::Unassigned)),
     }
 }
 
@@ -47,50 +109,32 @@ fn entry_for<'a>(
     Ok(value_for(model.ini.lines(), model.chain.as_slice(), path.as_bytes()))
 }
 
-/// The value of a parameter that a section of these lines declares, of the module of that path.
-pub fn parameter_value<'a>(
+/// The value of a parameter that a section of these lines declares, of the module of that path, or why it has none: the
+/// first fault of the expression that gives it, then `Mismatch` where the value is of another kind than is declared.
+pub fn parameter_value(
     alloc: Global,
-    model: &'a Model,
+    model: &Model,
     path: &[u8],
-    lines: &'a [SectionLine],
+    lines: &[SectionLine],
     declaration: &Declaration,
-) -> Result<Result<&'a Value, ModelFault>, NoMemory>
-    ensures { IfOk result (λ found. MatchResult found
-        (λ v. parameter_value (entries_in model.now) path.now lines.now declaration.now ≡ Ok v.now)
-        (λ e. parameter_value (entries_in model.now) path.now lines.now declaration.now ≡ Err e)) }
+) -> Result<Result<Value, ModelFault>, NoMemory>
+    ensures { IfOk result (λ found. found ≡ parameter_value (entries_in model.now) path.now lines.now declaration.now) }
 {
     let name = declaration.name.as_bytes();
     let declared = last_value(name, lines);
     let entry = entry_for(alloc, model, path, name)?;
-    Ok(checked(declaration, chosen(declared, entry)))
+    Ok(checked(declaration, chosen(alloc, declared, entry)?))
 }
 
-/// The value of the expression, where it is of the parameter's kind.
-fn checked<'a>(
-    declaration: &Declaration,
-    expression: Option<&'a Expression>,
-) -> Result<&'a Value, ModelFault>
-    ensures { MatchResult result
-        (λ v. checked declaration.now (option_copied expression.entry) ≡ Ok v.now)
-        (λ e. checked declaration.now (option_copied expression.entry) ≡ Err e) }
+/// The value, where it is of the parameter's kind.
+fn checked(declaration: &Declaration, found: Result<Value, ModelFault>) -> Result<Value, ModelFault>
+    ensures { result ≡ checked declaration.now found }
 {
-    let Some(expression) = expression else {
-        return Err(ModelFault::Unassigned);
-    };
-    let value = literal_of(expression);
-    if is_of_kind(declaration.word, declaration.unit, value) {
-        Ok(value)
-    } else {
-        Err(ModelFault::Mismatch)
-    }
-}
-
-/// The value of an expression.
-fn literal_of(expression: &Expression) -> &Value
-    ensures { result.now ≡ literal_of expression.now }
-{
-    match expression {
-        Expression::Literal(value) => value,
+    match found {
+        Ok(value) if !is_of_kind(declaration.word, declaration.unit, &value) => {
+            Err(ModelFault::Mismatch)
+        }
+        found => found,
     }
 }
 

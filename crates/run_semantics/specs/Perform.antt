@@ -58,6 +58,8 @@ broken id f w = Broken w (path_of w.records id) f
 abbrev pub model_fault : ModelFault → Fault
 model_fault model_fault_kind.UnknownType = fault.UnknownType
 model_fault model_fault_kind.Unassigned = fault.Unassigned
+model_fault model_fault_kind.Overflow = fault.Overflow
+model_fault model_fault_kind.Inexact = fault.Inexact
 model_fault model_fault_kind.Mismatch = fault.Mismatch
 
 -- ---- actions

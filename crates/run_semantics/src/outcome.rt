@@ -15,7 +15,12 @@ pub enum Fault {
     UnknownType,
     /// A parameter has no value.
     Unassigned,
-    /// A parameter's value is of another kind than its declaration.
+    /// A number of the expression that gives a parameter its value is outside -2^63 to 2^63 - 1, or an amount to shift by is
+    /// outside 0 to 63.
+    Overflow,
+    /// A quotient in that expression is no whole number, something is divided by zero, or an exponent is below zero.
+    Inexact,
+    /// A parameter's value is of another kind than its declaration, or one in its expression than its operator wants.
     Mismatch,
     /// More than 65,536 modules would live.
     TooManyModules,
@@ -71,6 +76,8 @@ pub fn fault_of(fault: ModelFault) -> Fault
     match fault {
         ModelFault::UnknownType => Fault::UnknownType,
         ModelFault::Unassigned => Fault::Unassigned,
+        ModelFault::Overflow => Fault::Overflow,
+        ModelFault::Inexact => Fault::Inexact,
         ModelFault::Mismatch => Fault::Mismatch,
     }
 }
@@ -83,6 +90,8 @@ impl Fault {
         Ok(match self {
             Fault::UnknownType => Fault::UnknownType,
             Fault::Unassigned => Fault::Unassigned,
+            Fault::Overflow => Fault::Overflow,
+            Fault::Inexact => Fault::Inexact,
             Fault::Mismatch => Fault::Mismatch,
             Fault::TooManyModules => Fault::TooManyModules,
             Fault::UnknownClass => Fault::UnknownClass,

@@ -67,9 +67,11 @@ fn tell_dotted(alloc: Global, told: &mut String, key: &str, value: &str) -> Resu
     } else {
         write!(
             told,
-            "the value '{value}' is no literal: a whole number, a quantity as 5s, true, false, a text in quotes, or the word default; "
+            "the value '{value}' is neither the word default nor an expression of literals (a whole number, a quantity as 5s, true, false, a text in quotes), "
         )?;
-        told.push_str("expressions, functions and random numbers are not supported")?;
+        told.push_str(
+            "operators, min and max; names, other functions and random numbers are not supported",
+        )?;
     }
     Ok(())
 }
