@@ -1,6 +1,9 @@
 //! Calls of boxed modules, with their replies as texts.
 
+ghost use Rattle.std.specs.Prelude.{◌≡◌, IsTrue, IfOk};
 ghost use Rattle.module_api.specs.Meaning.{IsFresh};
+ghost use Rattle.run_tests.specs.Pulse.{is_pulse_state};
+ghost use Rattle.stock_modules.specs.Tick.{is_tick_state, state_of};
 
 mod pulse;
 mod rows;
@@ -19,6 +22,7 @@ use std::process::Abort;
 use std::test::Fail;
 use stock_modules::modules::StockModule;
 use stock_modules::stock::{Stock, stock_reads_decide, stock_states_are_kept, tick_is_known};
+use stock_modules::tick::Tick;
 
 /// A box of a fresh Tick, as a program makes one.
 fn boxed_tick(alloc: Global) -> Result<Box<dyn SimpleModule>, Fail> {
@@ -173,6 +177,49 @@ fn tick_refuses(rt: HostRuntime) -> Result<(), Fail> {
     let alloc = rt.alloc();
     replies_of_tick(&rt, alloc, WRONG.as_slice(), REFUSED.as_slice())?;
     replies_of_tick(&rt, alloc, MISSING.as_slice(), IN_VAIN.as_slice())
+}
+
+/// A Tick with these bytes as its state.
+#[tactic(auto, unfolding(stock_modules::specs::Tick::tick_naming))]
+fn tick_in(alloc: Global, state: &[u8]) -> Result<Tick, NoMemory>
+    requires { IsTrue (is_tick_state state.now) }
+    ensures { IfOk result (λ tick. state_of tick ≡ state.now) }
+{
+    let mut tick = Tick::new();
+    tick.load(alloc, state)?;
+    Ok(tick)
+}
+
+#[test]
+#[tactic(auto, unfolding(stock_modules::specs::Tick::number_of))]
+fn tick_goes_on_from_a_state(rt: HostRuntime) -> Result<(), Fail> {
+    let alloc = rt.alloc();
+    let made = tick_in(alloc, [0, 0, 0, 0, 0, 0, 0, 2].as_slice())?;
+    let mut held: Box<dyn SimpleModule> = Box::new(alloc, made)?;
+    let timer = message_from(alloc, Origin::Timer(0));
+    let last = told(alloc, &mut held, COUNTING.as_slice(), timer)?;
+    assert_eq!(rt; last.as_str(), COUNTED[3]);
+    let state = held.save(alloc)?;
+    assert_eq!(rt; state.as_bytes(), [0, 0, 0, 0, 0, 0, 0, 3].as_slice());
+    Ok(())
+}
+
+#[test]
+fn pulse_keeps_its_state(rt: HostRuntime) -> Result<(), Fail> {
+    let alloc = rt.alloc();
+    let mut pulse = Pulse(true);
+    assert_eq!(rt; pulse.save(alloc)?.as_bytes(), [1].as_slice());
+    load_pulse(&mut pulse, alloc, [0].as_slice())?;
+    assert_eq!(rt; pulse.save(alloc)?.as_bytes(), [0].as_slice());
+    Ok(())
+}
+
+/// Loads a state into a Pulse.
+#[tactic(auto, unfolding(crate::specs::Pulse::pulse_naming))]
+fn load_pulse(pulse: &mut Pulse, alloc: Global, state: &[u8]) -> Result<(), NoMemory>
+    requires { IsTrue (is_pulse_state state.now) }
+{
+    pulse.load(alloc, state)
 }
 
 #[test]

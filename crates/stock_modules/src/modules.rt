@@ -10,6 +10,7 @@ use module_api::call::Call;
 use module_api::reply::Reply;
 use module_api::simple_module::SimpleModule;
 use sim_values::NoMemory;
+use sim_values::text::Text;
 use std::alloc::Global;
 
 /// A module that comes with the program.
@@ -63,6 +64,18 @@ impl SimpleModule for StockModule {
     fn finish(&mut self, alloc: Global, call: &Call) -> Result<Reply, NoMemory> {
         match self {
             StockModule::Tick(tick) => tick.finish(alloc, call),
+        }
+    }
+
+    fn save(&self, alloc: Global) -> Result<Text, NoMemory> {
+        match self {
+            StockModule::Tick(tick) => tick.save(alloc),
+        }
+    }
+
+    fn load(&mut self, alloc: Global, state: &[u8]) -> Result<(), NoMemory> {
+        match self {
+            StockModule::Tick(tick) => tick.load(alloc, state),
         }
     }
 }

@@ -1,9 +1,9 @@
 //! A module that fires at equal gaps.
 
-ghost use Rattle.std.specs.Prelude.{◌≡◌, ◌∷◌, ◌++◌, ◌<◌, ◌^◌, IfOk, OnOk};
+ghost use Rattle.std.specs.Prelude.{◌≡◌, ◌∷◌, ◌++◌, ◌<◌, ◌^◌, length, IfOk, OnOk};
 ghost use Rattle.stock_modules.specs.Found.{given, whole_found, found_map};
 ghost use Rattle.stock_modules.specs.Replies.{actions_of, state_after};
-ghost use Rattle.stock_modules.specs.Tick.{next_number, pace_in, is_late, extra_found, firing_found, pace_reads, timer_reads, scheduled, fired, state_of};
+ghost use Rattle.stock_modules.specs.Tick.{next_number, pace_in, is_late, extra_found, firing_found, pace_reads, timer_reads, scheduled, fired, number_of, state_of};
 
 use crate::found::{Found, priority, time, whole};
 use crate::names::ParameterName;
@@ -14,6 +14,7 @@ use module_api::reply::{Action, Read, Reply};
 use module_api::simple_module::SimpleModule;
 use sim_time::SimTime;
 use sim_values::NoMemory;
+use sim_values::text::Text;
 use sqlite_items::Items;
 use std::alloc::Global;
 use std::marker::Model;
@@ -187,6 +188,23 @@ fn next_number(n: u64) -> u64
     (n + 1).min(0x7fff_ffff_ffff_ffff)
 }
 
+/// The number that 8 bytes spell, the highest first.
+#[tactic(auto, unfolding(crate::specs::Tick::number_of))]
+fn number_in(bytes: &[u8]) -> u64
+    requires { length bytes.now ≡ 8 }
+    ensures { result ≡ number_of bytes.now }
+{
+    u64::from_be_bytes(*bytes.as_array::<8>().unwrap())
+}
+
+/// The 8 bytes of a number, the highest first.
+#[tactic(auto, unfolding(crate::specs::Tick::state_of))]
+fn bytes_of(alloc: Global, n: u64) -> Result<Text, NoMemory>
+    ensures { IfOk result (λ bytes. bytes ≡ state_of n) }
+{
+    Ok(Text::from_bytes(alloc, n.to_be_bytes().as_slice())?)
+}
+
 /// A module that fires `count` times, `gap` apart, and emits at each firing how often it has fired. Contracts see it as
 /// that number.
 #[derive(Debug, Drop)]
@@ -239,6 +257,16 @@ impl SimpleModule for Tick {
 
     fn finish(&mut self, alloc: Global, call: &Call) -> Result<Reply, NoMemory> {
         self.answer(alloc, call)
+    }
+
+    fn save(&self, alloc: Global) -> Result<Text, NoMemory> {
+        bytes_of(alloc, self.n)
+    }
+
+    #[tactic(auto, unfolding(crate::specs::Tick::tick_naming))]
+    fn load(&mut self, _alloc: Global, state: &[u8]) -> Result<(), NoMemory> {
+        self.n = number_in(state);
+        Ok(())
     }
 }
 

@@ -6,6 +6,7 @@ use module_api::reply::Reply;
 use module_api::simple_module::SimpleModule;
 use sim_time::SimTime;
 use sim_values::NoMemory;
+use sim_values::text::Text;
 use std::alloc::Global;
 use stock_modules::replies::{emit, nothing, set_timer};
 use stock_modules::timed::Told;
@@ -62,6 +63,17 @@ impl SimpleModule for Pulse {
 
     fn finish(&mut self, alloc: Global, call: &Call) -> Result<Reply, NoMemory> {
         self.answer(alloc, call)
+    }
+
+    fn save(&self, alloc: Global) -> Result<Text, NoMemory> {
+        let state: &[u8] = if self.0 { &[1] } else { &[0] };
+        Ok(Text::from_bytes(alloc, state)?)
+    }
+
+    #[tactic(auto, unfolding(crate::specs::Pulse::pulse_naming))]
+    fn load(&mut self, _alloc: Global, state: &[u8]) -> Result<(), NoMemory> {
+        self.0 = state == [1].as_slice();
+        Ok(())
     }
 }
 
