@@ -25,7 +25,7 @@ ok_step (Err e) p step = tt
 
 -- ---- what a call leaves
 
-kind_same : (b : Behaviour) (old new : Module) → IsSameModule old new → IsOfKind b old → IsOfKind b new
+pub kind_same : (b : Behaviour) (old new : Module) → IsSameModule old new → IsOfKind b old → IsOfKind b new
 kind_same b old new s k = record {
   known = rw (s.kind) k.known;
   named = s.naming ∙ k.named ∙ ap b.naming (sym s.kind);
@@ -41,7 +41,7 @@ kind_in b id (s ∷ ss) box e h = by (s.id == id) (kind_in b id ss box) e
     by false later e = later e h.1
 
 -- another of its kind stands in its place
-kinds_with : (b : Behaviour) (id : ℕ) (box : Module) (ss : List Seat) → IsOfKind b box → AreOfKinds b ss → AreOfKinds b (with_module id box ss)
+pub kinds_with : (b : Behaviour) (id : ℕ) (box : Module) (ss : List Seat) → IsOfKind b box → AreOfKinds b ss → AreOfKinds b (with_module id box ss)
 kinds_with b id box [] k h = tt
 kinds_with b id box (s ∷ ss) k h = by (s.id == id) (kinds_with b id box ss k h.1)
   where
@@ -53,7 +53,7 @@ abbrev part_of_seat : Seat → Part
 part_of_seat s = part_of (instance_of s)
 
 -- the same modules stand
-standing_with : (id : ℕ) (ss : List Seat) (before after : Module) → module_in id ss ≡ Some before → after.kind ≡ before.kind → standing (map instance_of (with_module id after ss)) ≡ standing (map instance_of ss)
+pub standing_with : (id : ℕ) (ss : List Seat) (before after : Module) → module_in id ss ≡ Some before → after.kind ≡ before.kind → standing (map instance_of (with_module id after ss)) ≡ standing (map instance_of ss)
 standing_with id [] before after e k = refl
 standing_with id (s ∷ ss) before after e k = by (s.id == id) (λ h. standing_with id ss before after h k) e
   where
@@ -80,7 +80,7 @@ still_kept first second = record { kinds = second.kinds; standing_is = second.st
 -- ---- what a call does
 
 -- the state that is left stands where the old one stood
-states_with : (id : ℕ) (ss : List Seat) (before after : Module) (state : List ℕ) → module_in id ss ≡ Some before → after.kind ≡ before.kind → after.state ≡ state → map instance_of (with_module id after ss) ≡ with_state id state (map instance_of ss)
+pub states_with : (id : ℕ) (ss : List Seat) (before after : Module) (state : List ℕ) → module_in id ss ≡ Some before → after.kind ≡ before.kind → after.state ≡ state → map instance_of (with_module id after ss) ≡ with_state id state (map instance_of ss)
 states_with id [] before after state e k t = refl
 states_with id (s ∷ ss) before after state e k t = by (s.id == id) (λ h. states_with id ss before after state h k t) e
   where

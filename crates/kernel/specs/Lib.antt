@@ -1,5 +1,6 @@
 pub mod Seats
 pub mod Parts
 pub mod Kernels
+pub mod Saved
 pub mod Lookups
 pub mod Upcoming

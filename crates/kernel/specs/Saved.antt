@@ -1,0 +1,50 @@
+-- The states of boxes.
+use Rattle.std.specs.Prelude.{◌≡◌, ℕ, IsTrue, List, [], ◌∷◌, Option, Some, None, option_map, map}
+use Rattle.std.proofs.Common.{Global}
+use Rattle.std.specs.declared.dyn_box.DynBox.{DynBox}
+use Rattle.module_api.specs.Behaviour.{State}
+use Rattle.module_api.specs.Meaning.{Module, IsSameModule}
+use Rattle.module_tree.specs.Boxes.{Held}
+use Rattle.run_semantics.specs.declared.traces.Instance.{Instance}
+use Rattle.kernel.specs.declared.boxes_saved.SavedState.{SavedState}
+use Rattle.kernel.specs.Seats.{Seat, instance_of, module_in, with_module}
+use Rattle.kernel.specs.Kernels.{Members, seat_of}
+
+module _ {X : Type 0} {Y : X → Type 0} where
+  -- what the boxes of a tree are, by rising ids
+  abbrev pub seats_held : Members X Y → Held (DynBox X Global Y) → List Seat
+  seats_held members tree = map (seat_of members) tree.seats
+
+  -- what a world holds of them
+  abbrev pub instances_held : Members X Y → Held (DynBox X Global Y) → List Instance
+  instances_held members tree = map instance_of (seats_held members tree)
+
+-- the state of the box of the module of that id, where it has one
+abbrev pub state_in : ℕ → List Seat → Option State
+state_in id ss = option_map (λ (box : Module). box.state) (module_in id ss)
+
+-- the state of a module, with its id
+abbrev pub saved_of : Instance → SavedState
+saved_of i = record { id = i.id; state = i.state }
+
+-- the states of all, in their order
+abbrev pub states_of : List Instance → List SavedState
+states_of is = map saved_of is
+
+-- that state with this id, where there is one
+abbrev pub state_for : ℕ → Option State → List SavedState
+state_for id None = []
+state_for id (Some state) = record { id = id; state = state } ∷ []
+
+-- there is a box, and the bytes are a state of its kind
+abbrev pub Takes : State → Option Module → Type 0
+Takes state None = ⊥
+Takes state (Some box) = IsTrue (box.naming.is_state state)
+
+-- The box of that id is still of its kind and naming, whatever its state, and no other changed.
+pub record IsLoaded (id : ℕ) (old new : List Seat) : Type 0 where
+  pub before : Module
+  pub after : Module
+  pub found : module_in id old ≡ Some before
+  pub same : IsSameModule before after
+  pub seats : new ≡ with_module id after old
