@@ -1,0 +1,151 @@
+-- What is the same by what it holds is one.
+use Rattle.std.proofs.Common.{◌≡◌, ℕ, ℤ, ◌==◌, int_eq, Bool, true, false, ◌&&◌, List, [], ◌∷◌, Option, Some, None, refl, sym, ap, ◌∙◌, subst, eqb-true, bytes_eq, length, rules}
+use Rattle.std.specs.Bool.{Decides}
+use Rattle.std.specs.Cmp.{booleans_Decides}
+use Rattle.std.proofs.lemmas.Bool.Decides.{Decides-int_eq, Decides-eqb}
+use Rattle.std.proofs.lemmas.Slice.Eq.{bytes_eq-Decides}
+use denote.Enum.Bare.{sameb, same_true, true_same}
+use Rattle.sim_values.specs.contracts.value.Dimension as dimension_kind
+use Rattle.sim_values.specs.declared.value.Value.{Value}
+use Rattle.sim_values.specs.declared.value.Value.TheVariants as value
+use Rattle.model_answers.specs.contracts.answer.ModelFault as fault_kind
+use Rattle.model_answers.specs.declared.answer.Answer.{Answer}
+use Rattle.model_answers.specs.declared.answer.Answer.TheVariants as answer
+use Rattle.model_answers.specs.declared.answer.Built.{Built}
+use Rattle.model_answers.specs.declared.injection.Injection.{Injection}
+use Rattle.agreement.specs.Same.{same_value, same_class, same_index, same_built, same_inside, same_due, same_message, same_injection, same_next, same_answer}
+
+both : (a b : Bool) → (a && b) ≡ true → (a ≡ true) × (b ≡ true)
+both true b e = (refl, e)
+both false b e = cc
+
+join : (a b : Bool) → a ≡ true → b ≡ true → (a && b) ≡ true
+join a b e f = ap (λ x. x && b) e ∙ f
+
+not_true : (b : Bool) → (b ≡ true → ⊥) → b ≡ false
+not_true true h = absurd (h refl)
+not_true false h = refl
+
+-- ---- what is the same is one
+
+value_is : (a b : Value) → same_value a b ≡ true → a ≡ b
+value_is (value.Whole a) (value.Whole b) e = ap value.Whole ((Decides-int_eq a b).0 e)
+value_is (value.Truth a) (value.Truth b) e = ap value.Truth ((booleans_Decides a b).0 e)
+value_is (value.Text a) (value.Text b) e = ap value.Text ((bytes_eq-Decides a b).0 e)
+value_is (value.Quantity d a) (value.Quantity f b) e =
+    let h = both (sameb dimension_kind.the_type d f) (int_eq a b) e in
+    ap (λ x. value.Quantity x a) (same_true dimension_kind.the_type (search rules) d f h.0) ∙ ap (value.Quantity f) ((Decides-int_eq a b).0 h.1)
+value_is _ _ e = cc
+
+class_is : (a b : Option (List ℕ)) → same_class a b ≡ true → a ≡ b
+class_is None None e = refl
+class_is (Some a) (Some b) e = ap Some ((bytes_eq-Decides a b).0 e)
+class_is _ _ e = cc
+
+index_is : (a b : Option ℕ) → same_index a b ≡ true → a ≡ b
+index_is None None e = refl
+index_is (Some a) (Some b) e = ap Some (eqb-true a b e)
+index_is _ _ e = cc
+
+built_is : (a b : Built) → same_built a b ≡ true → a ≡ b
+built_is a b e =
+    let h = both (bytes_eq a.name b.name) (same_index a.index b.index && same_class a.class b.class) e in
+    let k = both (same_index a.index b.index) (same_class a.class b.class) h.1 in
+    ap (λ x. record { name = x; index = a.index; class = a.class }) ((bytes_eq-Decides a.name b.name).0 h.0)
+    ∙ (ap (λ x. record { name = b.name; index = x; class = a.class }) (index_is a.index b.index k.0)
+    ∙ ap (λ x. record { name = b.name; index = b.index; class = x }) (class_is a.class b.class k.1))
+
+inside_is : (a b : List Built) → same_inside a b ≡ true → a ≡ b
+inside_is [] [] e = refl
+inside_is (a ∷ xs) (b ∷ ys) e =
+    let h = both (same_built a b) (same_inside xs ys) e in
+    ap (λ x. x ∷ xs) (built_is a b h.0) ∙ ap (λ zs. b ∷ zs) (inside_is xs ys h.1)
+inside_is _ _ e = cc
+
+injection_is : (a b : Injection) → same_injection a b ≡ true → a ≡ b
+injection_is a b e =
+    let h = both (a.number == b.number) (bytes_eq a.path b.path && (same_due a b && same_message a b)) e in
+    let k = both (bytes_eq a.path b.path) (same_due a b && same_message a b) h.1 in
+    let l = both (same_due a b) (same_message a b) k.1 in
+    let d = both (a.due.time == b.due.time) (int_eq a.due.priority b.due.priority) l.0 in
+    let n = both (int_eq a.kind b.kind) ((a.bits == b.bits) && bytes_eq a.payload b.payload) l.1 in
+    let p = both (a.bits == b.bits) (bytes_eq a.payload b.payload) n.1 in
+    ap (λ x. record a { number = x }) (eqb-true a.number b.number h.0)
+    ∙ (ap (λ x. record a { number = b.number; path = x }) ((bytes_eq-Decides a.path b.path).0 k.0)
+    ∙ (ap (λ x. record a { number = b.number; path = b.path; due = record { time = x; priority = a.due.priority } }) (eqb-true a.due.time b.due.time d.0)
+    ∙ (ap (λ x. record a { number = b.number; path = b.path; due = record { time = b.due.time; priority = x } }) ((Decides-int_eq a.due.priority b.due.priority).0 d.1)
+    ∙ (ap (λ x. record a { number = b.number; path = b.path; due = b.due; kind = x }) ((Decides-int_eq a.kind b.kind).0 n.0)
+    ∙ (ap (λ x. record a { number = b.number; path = b.path; due = b.due; kind = b.kind; bits = x }) (eqb-true a.bits b.bits p.0)
+    ∙ ap (λ x. record b { payload = x }) ((bytes_eq-Decides a.payload b.payload).0 p.1))))))
+
+next_is : (a b : Option Injection) → same_next a b ≡ true → a ≡ b
+next_is None None e = refl
+next_is (Some a) (Some b) e = ap Some (injection_is a b e)
+next_is _ _ e = cc
+
+answer_is : (a b : Answer) → same_answer a b ≡ true → a ≡ b
+answer_is (answer.Root a) (answer.Root b) e = ap answer.Root ((bytes_eq-Decides a b).0 e)
+answer_is (answer.Inside a) (answer.Inside b) e = ap answer.Inside (inside_is a b e)
+answer_is (answer.Value a) (answer.Value b) e = ap answer.Value (value_is a b e)
+answer_is (answer.Fault a f) (answer.Fault b g) e =
+    let h = both (bytes_eq a b) (sameb fault_kind.the_type f g) e in
+    ap (λ x. answer.Fault x f) ((bytes_eq-Decides a b).0 h.0) ∙ ap (answer.Fault b) (same_true fault_kind.the_type (search rules) f g h.1)
+answer_is (answer.Beyond a) (answer.Beyond b) e = ap answer.Beyond ((booleans_Decides a b).0 e)
+answer_is (answer.Injection a) (answer.Injection b) e = ap answer.Injection (next_is a b e)
+answer_is answer.Absent answer.Absent e = refl
+answer_is _ _ e = cc
+
+-- ---- each is the same as itself
+
+value_same : (a : Value) → same_value a a ≡ true
+value_same (value.Whole a) = (Decides-int_eq a a).1 refl
+value_same (value.Truth a) = (booleans_Decides a a).1 refl
+value_same (value.Text a) = (bytes_eq-Decides a a).1 refl
+value_same (value.Quantity d a) = join (sameb dimension_kind.the_type d d) (int_eq a a) (true_same dimension_kind.the_type d d refl) ((Decides-int_eq a a).1 refl)
+
+class_same : (a : Option (List ℕ)) → same_class a a ≡ true
+class_same None = refl
+class_same (Some a) = (bytes_eq-Decides a a).1 refl
+
+index_same : (a : Option ℕ) → same_index a a ≡ true
+index_same None = refl
+index_same (Some a) = (Decides-eqb a a).1 refl
+
+built_same : (a : Built) → same_built a a ≡ true
+built_same a =
+    join (bytes_eq a.name a.name) (same_index a.index a.index && same_class a.class a.class) ((bytes_eq-Decides a.name a.name).1 refl)
+    (join (same_index a.index a.index) (same_class a.class a.class) (index_same a.index) (class_same a.class))
+
+inside_same : (a : List Built) → same_inside a a ≡ true
+inside_same [] = refl
+inside_same (a ∷ xs) = join (same_built a a) (same_inside xs xs) (built_same a) (inside_same xs)
+
+injection_same : (a : Injection) → same_injection a a ≡ true
+injection_same a =
+    join (a.number == a.number) (bytes_eq a.path a.path && (same_due a a && same_message a a)) ((Decides-eqb a.number a.number).1 refl)
+    (join (bytes_eq a.path a.path) (same_due a a && same_message a a) ((bytes_eq-Decides a.path a.path).1 refl)
+    (join (same_due a a) (same_message a a)
+    (join (a.due.time == a.due.time) (int_eq a.due.priority a.due.priority) ((Decides-eqb a.due.time a.due.time).1 refl) ((Decides-int_eq a.due.priority a.due.priority).1 refl))
+    (join (int_eq a.kind a.kind) ((a.bits == a.bits) && bytes_eq a.payload a.payload) ((Decides-int_eq a.kind a.kind).1 refl)
+    (join (a.bits == a.bits) (bytes_eq a.payload a.payload) ((Decides-eqb a.bits a.bits).1 refl) ((bytes_eq-Decides a.payload a.payload).1 refl)))))
+
+next_same : (a : Option Injection) → same_next a a ≡ true
+next_same None = refl
+next_same (Some a) = injection_same a
+
+answer_same : (a : Answer) → same_answer a a ≡ true
+answer_same (answer.Root a) = (bytes_eq-Decides a a).1 refl
+answer_same (answer.Inside a) = inside_same a
+answer_same (answer.Value a) = value_same a
+answer_same (answer.Fault a f) = join (bytes_eq a a) (sameb fault_kind.the_type f f) ((bytes_eq-Decides a a).1 refl) (true_same fault_kind.the_type f f refl)
+answer_same (answer.Beyond a) = (booleans_Decides a a).1 refl
+answer_same (answer.Injection a) = next_same a
+answer_same answer.Absent = refl
+
+-- so the test tells whether two answers are one
+pub answers_decided : (a b : Answer) → Decides (same_answer a b) (a ≡ b)
+answers_decided a b = (answer_is a b, λ (e : a ≡ b). subst (λ x. same_answer a x ≡ true) e (answer_same a))
+
+-- lists of different lengths are not the same
+pub lengths_differ : (a b : List Built) → (length a ≡ length b → ⊥) → false ≡ same_inside a b
+lengths_differ a b h = sym (not_true (same_inside a b) (λ e. h (ap length (inside_is a b e))))

@@ -1,0 +1,63 @@
+-- Answers that are the same, by what they hold.
+use Rattle.std.specs.Prelude.{ℕ, ℤ, ◌==◌, Bool, true, false, ◌&&◌, bytes_eq, List, [], ◌∷◌, Option, Some, None}
+use Rattle.std.specs.Bool.{beq}
+use Rattle.std.specs.Ordering.{int_eq}
+use denote.Enum.Bare.{sameb}
+use Rattle.sim_values.specs.contracts.value.Dimension as dimension_kind
+use Rattle.sim_values.specs.declared.value.Value.{Value}
+use Rattle.sim_values.specs.declared.value.Value.TheVariants as value
+use Rattle.model_answers.specs.contracts.answer.ModelFault as fault_kind
+use Rattle.model_answers.specs.declared.answer.Answer.{Answer}
+use Rattle.model_answers.specs.declared.answer.Answer.TheVariants as answer
+use Rattle.model_answers.specs.declared.answer.Built.{Built}
+use Rattle.model_answers.specs.declared.injection.Injection.{Injection}
+
+abbrev pub same_value : Value → Value → Bool
+same_value (value.Whole a) (value.Whole b) = int_eq a b
+same_value (value.Truth a) (value.Truth b) = beq a b
+same_value (value.Text a) (value.Text b) = bytes_eq a b
+same_value (value.Quantity d a) (value.Quantity e b) = sameb dimension_kind.the_type d e && int_eq a b
+same_value _ _ = false
+
+abbrev pub same_class : Option (List ℕ) → Option (List ℕ) → Bool
+same_class None None = true
+same_class (Some a) (Some b) = bytes_eq a b
+same_class _ _ = false
+
+abbrev pub same_index : Option ℕ → Option ℕ → Bool
+same_index None None = true
+same_index (Some a) (Some b) = a == b
+same_index _ _ = false
+
+abbrev pub same_built : Built → Built → Bool
+same_built a b = bytes_eq a.name b.name && (same_index a.index b.index && same_class a.class b.class)
+
+abbrev pub same_inside : List Built → List Built → Bool
+same_inside [] [] = true
+same_inside (a ∷ xs) (b ∷ ys) = same_built a b && same_inside xs ys
+same_inside _ _ = false
+
+abbrev pub same_due : Injection → Injection → Bool
+same_due a b = (a.due.time == b.due.time) && int_eq a.due.priority b.due.priority
+
+abbrev pub same_message : Injection → Injection → Bool
+same_message a b = int_eq a.kind b.kind && ((a.bits == b.bits) && bytes_eq a.payload b.payload)
+
+abbrev pub same_injection : Injection → Injection → Bool
+same_injection a b = (a.number == b.number) && (bytes_eq a.path b.path && (same_due a b && same_message a b))
+
+abbrev pub same_next : Option Injection → Option Injection → Bool
+same_next None None = true
+same_next (Some a) (Some b) = same_injection a b
+same_next _ _ = false
+
+-- whether two answers are the same
+abbrev pub same_answer : Answer → Answer → Bool
+same_answer (answer.Root a) (answer.Root b) = bytes_eq a b
+same_answer (answer.Inside a) (answer.Inside b) = same_inside a b
+same_answer (answer.Value a) (answer.Value b) = same_value a b
+same_answer (answer.Fault a f) (answer.Fault b g) = bytes_eq a b && sameb fault_kind.the_type f g
+same_answer (answer.Beyond a) (answer.Beyond b) = beq a b
+same_answer (answer.Injection a) (answer.Injection b) = same_next a b
+same_answer answer.Absent answer.Absent = true
+same_answer _ _ = false

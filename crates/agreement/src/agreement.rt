@@ -1,0 +1,76 @@
+//! Up to which event of a run two models agree.
+
+ghost use Rattle.std.specs.Prelude.{◌≡◌, IfOk};
+ghost use Rattle.std.specs.Bool.{Decides};
+ghost use Rattle.model_answers.specs.Answering.{answer_of};
+ghost use Rattle.run_semantics.specs.Agreement.{IsAgreement};
+ghost use Rattle.agreement.specs.Narrowing.{Narrows};
+
+use crate::same::same_answer;
+use model_answers::answer::{Asked, Question};
+use model_answers::answering::answer;
+use model_answers::model::Model;
+use model_answers::record::Record;
+use sim_values::NoMemory;
+use std::alloc::Global;
+
+/// Whether two models give a question the same answer, with the modules of these records.
+fn agrees(
+    alloc: Global,
+    one: &Model,
+    other: &Model,
+    records: &[Record],
+    question: &Question,
+) -> Result<bool, NoMemory>
+    ensures { IfOk result (λ same. Decides same
+        (answer_of one.now records.now question.now ≡ answer_of other.now records.now question.now)) }
+{
+    let first = answer(alloc, one, records, question)?;
+    let second = answer(alloc, other, records, question)?;
+    Ok(same_answer(&first, &second))
+}
+
+/// What a question leaves of the events up to this one on which two models agree: those before its own, where they give it different answers.
+fn narrowed(
+    alloc: Global,
+    one: &Model,
+    other: &Model,
+    records: &[Record],
+    asked: &Asked,
+    valid: u64,
+) -> Result<Option<u64>, NoMemory>
+    ensures { IfOk result (λ left. Narrows one.now other.now records.now asked.now valid left) }
+{
+    if asked.event > valid {
+        return Ok(Some(valid));
+    }
+    if agrees(alloc, one, other, records, &asked.question)? {
+        return Ok(Some(valid));
+    }
+    if asked.event == 0 {
+        return Ok(None);
+    }
+    Ok(Some(asked.event - 1))
+}
+
+/// The greatest event, up to the last one, such that both models give all questions up to it the same answers, with the modules of these records.
+/// None where they differ on a question of event zero.
+pub fn agreement(
+    alloc: Global,
+    one: &Model,
+    other: &Model,
+    records: &[Record],
+    asked: &[Asked],
+    last: u64,
+) -> Result<Option<u64>, NoMemory>
+    ensures { IfOk result (λ valid. IsAgreement one.now other.now records.now last asked.now valid) }
+{
+    let mut valid = last;
+    for entry in asked {
+        match narrowed(alloc, one, other, records, entry, valid)? {
+            Some(left) => valid = left,
+            None => return Ok(None),
+        }
+    }
+    Ok(Some(valid))
+}

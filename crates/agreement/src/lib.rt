@@ -1,0 +1,5 @@
+//! Up to which event two models agree on a run.
+#![tactic(auto)]
+
+pub mod agreement;
+pub mod same;
