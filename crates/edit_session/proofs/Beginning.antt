@@ -1,0 +1,19 @@
+-- A session without a run has no boxes.
+use Rattle.std.proofs.Common.{◌≡◌, ℕ, List, [], ◌∷◌, None, refl, ap, length, map}
+use Rattle.model_answers.specs.declared.model.Model.{Model}
+use Rattle.run_semantics.specs.World.{World, empty}
+use Rattle.run_semantics.specs.declared.traces.Instance.{Instance}
+use Rattle.kernel.specs.Seats.{Seat, instance_of, world_of}
+use Rattle.edit_session.specs.declared.running.Phase.TheVariants.{Idle}
+use Rattle.edit_session.specs.Editing.{Editing, fresh_editing}
+
+-- a session without a run, with so many boxes
+abbrev begun_with : Model → ℕ → Editing
+begun_with m held = record { model = m; done = None; phase = Idle; held = held }
+
+no_seat : (s : Seat) (ss : List Seat) → map instance_of (s ∷ ss) ≡ [] → ⊥
+no_seat s ss e = cc
+
+pub begins_fresh : (m : Model) (core : World) (seats : List Seat) → world_of core seats ≡ empty → begun_with m (length seats) ≡ fresh_editing m
+begins_fresh m core [] e = refl
+begins_fresh m core (s ∷ ss) e = absurd (no_seat s ss (ap (λ (w : World). w.modules) e))
