@@ -6,7 +6,7 @@ use sqlite_items::Items;
 use std::marker::Model;
 
 /// An entry, with its key and its value as they are written.
-#[derive(Debug, Drop)]
+#[derive(Drop)]
 pub struct Entry {
     pub key: Text,
     pub value: Text,
@@ -14,7 +14,7 @@ pub struct Entry {
 }
 
 /// What a line is.
-#[derive(Debug, Drop)]
+#[derive(Drop)]
 pub enum LineMeaning {
     Blank,
     Comment,
@@ -24,14 +24,14 @@ pub enum LineMeaning {
 }
 
 /// A line, without its end.
-#[derive(Debug, Drop)]
+#[derive(Drop)]
 pub struct IniLine {
     pub text: Text,
     pub meaning: LineMeaning,
 }
 
 /// An ini text, which contracts see as the list of its lines.
-#[derive(Debug, Drop)]
+#[derive(Drop)]
 pub struct IniText {
     lines: Items<IniLine>,
 }

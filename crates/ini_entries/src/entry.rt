@@ -7,7 +7,7 @@ use sim_values::text::Text;
 use sqlite_items::Items;
 
 /// The value of a parameter entry.
-#[derive(Debug, Drop)]
+#[derive(Drop)]
 pub enum EntryValue {
     /// The word `default`: the value is the one of the NED text.
     Default,
@@ -16,7 +16,7 @@ pub enum EntryValue {
 }
 
 /// A value for the parameters, or the submodule types, whose path the pattern matches.
-#[derive(Debug, Drop)]
+#[derive(Drop)]
 pub struct ParameterEntry {
     /// The whole key.
     pub pattern: Pattern,
@@ -60,7 +60,7 @@ pub struct ObjectEntry {
 }
 
 /// What an entry says.
-#[derive(Debug, Drop)]
+#[derive(Drop)]
 pub enum EntryMeaning {
     /// The option `network`: the name of the network to be run, with its package or without.
     Network(Text),

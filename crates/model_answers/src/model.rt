@@ -19,7 +19,7 @@ use sqlite_items::Items;
 const FIRST_SUBMODULE: usize = 2;
 
 /// What a run is made of: the declared types, the ini text, the selected configuration, and the injections.
-#[derive(Debug, Drop)]
+#[derive(Drop)]
 pub struct Model {
     pub types: TypeTable,
     pub ini: IniText,

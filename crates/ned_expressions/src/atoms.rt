@@ -1,6 +1,6 @@
 //! Operands without depth: literals, names, `this.x` and `parent.x`, `sub.x`, `index`.
 
-ghost use Rattle.std.specs.Prelude.{◌≡◌, IfOk};
+ghost use Rattle.std.specs.Prelude.{◌≡◌};
 ghost use Rattle.ned_tokens.specs.Rule.{Reads, begins, optional};
 ghost use Rattle.ned_expressions.specs.Grammar as grammar;
 
@@ -11,7 +11,7 @@ use ned_values::leaves::{begins_mark, mark, name, word};
 use ned_values::literals::plain_literal;
 use sim_values::text::Text;
 use sqlite_items::Boxed;
-use std::alloc::{AllocError, Global};
+use std::alloc::Global;
 
 /// What an operand is, by its first token.
 #[derive(Clone, Copy, PartialEq, Eq)]
@@ -39,11 +39,11 @@ pub(crate) enum Tail {
     /// `.x`.
     Member(Text),
     /// `[e].x`.
-    Element(Expression, Text),
+    Element(Boxed<Expression>, Text),
 }
 
-/// A refusal, behind which what was read before is dropped.
-pub(crate) fn refused<T: Drop>(_held: T, refusal: Refusal) -> Refusal
+/// A refusal, behind which what was made before it is dropped.
+pub(crate) fn refused<T: Drop, E>(_held: T, refusal: E) -> E
     ensures { result ≡ refusal }
 {
     refusal
@@ -153,19 +153,13 @@ fn optional_member(alloc: Global, tokens: &[Token]) -> Result<(Option<Tail>, &[T
 }
 
 /// A name and what stands behind it.
-pub(crate) fn with_tail(
-    alloc: Global,
-    text: Text,
-    tail: Option<Tail>,
-) -> Result<Expression, AllocError>
-    ensures { IfOk result (λ e. e ≡ grammar.with_tail text tail) }
+pub(crate) fn with_tail(text: Text, tail: Option<Tail>) -> Expression
+    ensures { result ≡ grammar.with_tail text tail }
 {
     match tail {
-        None => Ok(Expression::Name(text)),
-        Some(Tail::Member(found)) => Ok(Expression::Member(text, found)),
-        Some(Tail::Element(index, found)) => {
-            Ok(Expression::Element(text, Boxed::new(alloc, index)?, found))
-        }
+        None => Expression::Name(text),
+        Some(Tail::Member(found)) => Expression::Member(text, found),
+        Some(Tail::Element(index, found)) => Expression::Element(text, index, found),
     }
 }
 
@@ -176,7 +170,7 @@ fn flat_named(alloc: Global, tokens: &[Token]) -> Result<(Expression, &[Token]),
 {
     let (text, rest) = read!(name(alloc, tokens));
     let (tail, rest) = read_behind!(text, optional_member(alloc, rest));
-    Ok((with_tail(alloc, text, tail)?, rest))
+    Ok((with_tail(text, tail), rest))
 }
 
 /// `flat_index = "index"`.

@@ -19,26 +19,26 @@ const MAX_DEPTH: u32 = 64;
 /// What stands behind an operand: an operator and its right operand, or `? a : b`.
 #[derive(Drop)]
 pub(crate) enum Step {
-    Binary(Operator, Expression),
-    Conditional(Expression, Expression),
+    Binary(Operator, Boxed<Expression>),
+    Conditional(Boxed<Expression>, Boxed<Expression>),
+}
+
+/// The expression that a step makes of what stands before it, in a box.
+fn joined(left: Boxed<Expression>, step: Step) -> Expression
+    ensures { result ≡ grammar.put left step }
+{
+    match step {
+        Step::Binary(operator, right) => Expression::Binary(operator, left, right),
+        Step::Conditional(a, b) => Expression::Conditional(left, a, b),
+    }
 }
 
 /// The expression that a step makes of what stands before it.
 fn put(alloc: Global, left: Expression, step: Step) -> Result<Expression, AllocError>
     ensures { IfOk result (λ e. e ≡ grammar.put left step) }
 {
-    match step {
-        Step::Binary(operator, right) => Ok(Expression::Binary(
-            operator,
-            Boxed::new(alloc, left)?,
-            Boxed::new(alloc, right)?,
-        )),
-        Step::Conditional(a, b) => Ok(Expression::Conditional(
-            Boxed::new(alloc, left)?,
-            Boxed::new(alloc, a)?,
-            Boxed::new(alloc, b)?,
-        )),
-    }
+    let left = Boxed::new(alloc, left)?;
+    Ok(joined(left, step))
 }
 
 /// The operator of this level that a token is at this place.
@@ -80,9 +80,9 @@ fn conditional_step(
     ensures { Reads (grammar.conditional_step (grammar.expression_within depth) place) tokens.now result }
 {
     let rest = read!(mark(Mark::Question, tokens));
-    let (a, rest) = read!(within(alloc, depth, place, 0, rest));
+    let (a, rest) = read!(boxed_within(alloc, depth, place, 0, rest));
     let rest = read_behind!(a, mark(Mark::Colon, rest));
-    let (b, rest) = read_behind!(a, within(alloc, depth, place, 1, rest));
+    let (b, rest) = read_behind!(a, boxed_within(alloc, depth, place, 1, rest));
     Ok((Step::Conditional(a, b), rest))
 }
 
@@ -101,7 +101,7 @@ fn binary_step(
     ensures { Reads (grammar.binary_step (grammar.expression_within depth) place level) tokens.now result }
 {
     let (operator, rest) = read!(operator(place, level, tokens));
-    let (right, rest) = read!(within(alloc, depth, place, right_level(level), rest));
+    let (right, rest) = read!(boxed_within(alloc, depth, place, right_level(level), rest));
     Ok((Step::Binary(operator, right), rest))
 }
 
@@ -165,6 +165,22 @@ pub(crate) fn within(
     chain(alloc, depth - 1, place, least, tokens)
 }
 
+/// The same, in a box, so that no reader has a box to make beside what it holds.
+#[cycle(exprs)]
+pub(crate) fn boxed_within(
+    alloc: Global,
+    depth: u32,
+    place: Place,
+    least: u32,
+    tokens: &[Token],
+) -> Result<(Boxed<Expression>, &[Token]), Refusal>
+    requires { depth ≤ 64 }
+    ensures { Reads (grammar.expression_within depth place least) tokens.now result }
+{
+    let (expression, rest) = read!(within(alloc, depth, place, least, tokens));
+    Ok((Boxed::new(alloc, expression)?, rest))
+}
+
 /// An expression.
 #[tactic(auto, unfolding(crate::specs::Grammar::expression))]
 pub fn expression(alloc: Global, tokens: &[Token]) -> Result<(Expression, &[Token]), Refusal>
@@ -199,6 +215,6 @@ pub(crate) fn whole_expression(alloc: Global, tokens: &[Token]) -> Result<Expres
     let (expression, rest) = read!(expression(alloc, tokens));
     match rest {
         [] => Ok(expression),
-        _ => Err(Refusal::At(rest.len())),
+        _ => Err(refused(expression, Refusal::At(rest.len()))),
     }
 }

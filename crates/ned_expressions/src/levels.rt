@@ -8,7 +8,7 @@ use crate::ast::{Expression, Operator};
 use ned_tokens::token::{Mark, Token};
 
 /// Where an expression stands.
-#[derive(Clone, Copy, Debug, PartialEq, Eq)]
+#[derive(Clone, Copy, PartialEq, Eq)]
 pub enum Place {
     /// Where a comparison may stand.
     Anywhere,

@@ -8,7 +8,7 @@ use crate::ast::{Choice, Expression, Sign};
 use crate::atoms::{
     Kind, Tail, begins_member, choice_named, kind_of, literal, member, refused, scoped, with_tail,
 };
-use crate::chains::within;
+use crate::chains::boxed_within;
 use crate::levels::Place;
 use ned_tokens::refusal::Refusal;
 use ned_tokens::token::{Keyword, Mark, Token};
@@ -21,7 +21,7 @@ use std::alloc::{AllocError, Global};
 #[derive(Drop)]
 pub(crate) enum ChoiceTail {
     /// `(a, b)`.
-    Pair(Expression, Expression),
+    Pair(Boxed<Expression>, Boxed<Expression>),
     Plain(Tail),
 }
 
@@ -35,12 +35,12 @@ fn brackets(
     depth: u32,
     place: Place,
     tokens: &[Token],
-) -> Result<(Expression, &[Token]), Refusal>
+) -> Result<(Boxed<Expression>, &[Token]), Refusal>
     requires { depth < 64 }
     ensures { Reads (grammar.brackets (grammar.expression_within depth place 0)) tokens.now result }
 {
     let rest = read!(mark(Mark::LeftBracket, tokens));
-    let (index, rest) = read!(within(alloc, depth, place, 0, rest));
+    let (index, rest) = read!(boxed_within(alloc, depth, place, 0, rest));
     let rest = read_behind!(index, mark(Mark::RightBracket, rest));
     Ok((index, rest))
 }
@@ -133,7 +133,7 @@ fn named(
 {
     let (text, rest) = read!(plain_name(alloc, tokens));
     let (tail, rest) = read_behind!(text, optional_tail(alloc, depth, place, rest));
-    Ok((with_tail(alloc, text, tail)?, rest))
+    Ok((with_tail(text, tail), rest))
 }
 
 // ---- `min` and `max`
@@ -146,9 +146,9 @@ fn pair(alloc: Global, depth: u32, tokens: &[Token]) -> Result<(ChoiceTail, &[To
     ensures { Reads (grammar.pair (grammar.expression_within depth Place.Anywhere 0)) tokens.now result }
 {
     let rest = read!(mark(Mark::LeftParen, tokens));
-    let (a, rest) = read!(within(alloc, depth, Place::Anywhere, 0, rest));
+    let (a, rest) = read!(boxed_within(alloc, depth, Place::Anywhere, 0, rest));
     let rest = read_behind!(a, mark(Mark::Comma, rest));
-    let (b, rest) = read_behind!(a, within(alloc, depth, Place::Anywhere, 0, rest));
+    let (b, rest) = read_behind!(a, boxed_within(alloc, depth, Place::Anywhere, 0, rest));
     let tail = ChoiceTail::Pair(a, b);
     let rest = read_behind!(tail, mark(Mark::RightParen, rest));
     Ok((tail, rest))
@@ -231,12 +231,8 @@ fn with_choice_tail(
 {
     match tail {
         None => Ok(Expression::Name(choice_text(alloc, choice)?)),
-        Some(ChoiceTail::Plain(tail)) => with_tail(alloc, choice_text(alloc, choice)?, Some(tail)),
-        Some(ChoiceTail::Pair(a, b)) => Ok(Expression::Chosen(
-            choice,
-            Boxed::new(alloc, a)?,
-            Boxed::new(alloc, b)?,
-        )),
+        Some(ChoiceTail::Plain(tail)) => Ok(with_tail(choice_text(alloc, choice)?, Some(tail))),
+        Some(ChoiceTail::Pair(a, b)) => Ok(Expression::Chosen(choice, a, b)),
     }
 }
 
@@ -321,7 +317,7 @@ fn optional_index(
     alloc: Global,
     depth: u32,
     tokens: &[Token],
-) -> Result<(Option<Expression>, &[Token]), Refusal>
+) -> Result<(Option<Boxed<Expression>>, &[Token]), Refusal>
     requires { depth < 64 }
     ensures { Reads (optional (grammar.element_index depth)) tokens.now result }
 {
@@ -338,7 +334,7 @@ fn any_index(
     alloc: Global,
     depth: u32,
     tokens: &[Token],
-) -> Result<(Option<Expression>, &[Token]), Refusal>
+) -> Result<(Option<Boxed<Expression>>, &[Token]), Refusal>
     requires { depth < 64 }
     ensures { Reads (optional (grammar.brackets (grammar.expression_within depth Place.Anywhere 0))) tokens.now result }
 {
@@ -349,16 +345,12 @@ fn any_index(
     Ok((Some(found), rest))
 }
 
-fn exists_or_at(
-    alloc: Global,
-    text: Text,
-    index: Option<Expression>,
-) -> Result<Expression, AllocError>
-    ensures { IfOk result (λ e. e ≡ grammar.exists_or_at text index) }
+fn exists_or_at(text: Text, index: Option<Boxed<Expression>>) -> Expression
+    ensures { result ≡ grammar.exists_or_at text index }
 {
     match index {
-        None => Ok(Expression::Exists(text)),
-        Some(index) => Ok(Expression::ExistsAt(text, Boxed::new(alloc, index)?)),
+        None => Expression::Exists(text),
+        Some(index) => Expression::ExistsAt(text, index),
     }
 }
 
@@ -373,7 +365,7 @@ fn exists(alloc: Global, depth: u32, tokens: &[Token]) -> Result<(Expression, &[
     let rest = read!(mark(Mark::LeftParen, rest));
     let (found, rest) = read!(name(alloc, rest));
     let (index, rest) = read_behind!(found, optional_index(alloc, depth, rest));
-    let made = exists_or_at(alloc, found, index)?;
+    let made = exists_or_at(found, index);
     let rest = read_behind!(made, mark(Mark::RightParen, rest));
     Ok((made, rest))
 }
@@ -388,9 +380,9 @@ fn group(alloc: Global, depth: u32, tokens: &[Token]) -> Result<(Expression, &[T
     ensures { Reads (grammar.group (grammar.expression_within depth)) tokens.now result }
 {
     let rest = read!(mark(Mark::LeftParen, tokens));
-    let (inner, rest) = read!(within(alloc, depth, Place::Anywhere, 0, rest));
+    let (inner, rest) = read!(boxed_within(alloc, depth, Place::Anywhere, 0, rest));
     let rest = read_behind!(inner, mark(Mark::RightParen, rest));
-    Ok((Expression::Group(Boxed::new(alloc, inner)?), rest))
+    Ok((Expression::Group(inner), rest))
 }
 
 fn sign_of(token: &Token) -> Option<Sign>
@@ -422,8 +414,8 @@ fn signed(
     let Some(sign) = sign_of(token) else {
         return Err(Refusal::At(tokens.len()));
     };
-    let (inner, rest) = read!(within(alloc, depth, place, 12, rest));
-    Ok((Expression::Signed(sign, Boxed::new(alloc, inner)?), rest))
+    let (inner, rest) = read!(boxed_within(alloc, depth, place, 12, rest));
+    Ok((Expression::Signed(sign, inner), rest))
 }
 
 /// All that is no operator between operands.

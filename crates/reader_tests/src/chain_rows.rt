@@ -2,6 +2,7 @@
 
 use crate::escapes::{parted, unescaped};
 use crate::ini_rows::ini_text;
+use crate::meaning_rows::tell_given;
 use crate::words::{tell_names, text_of, written};
 use ini_config::entries::{first_match, network_entry, time_limit_entry, value_for};
 use ini_config::lines::{IniLine, IniText};
@@ -32,7 +33,14 @@ fn tell_value(
     path: &str,
 ) -> Result<(), AllocError> {
     let path = unescaped(alloc, path)?;
-    write!(told, "{:?}", value_for(lines, chain, path.as_slice()))
+    match value_for(lines, chain, path.as_slice()) {
+        None => told.push_str("None"),
+        Some(value) => {
+            told.push_str("Some(")?;
+            tell_given(told, value)?;
+            told.push(')')
+        }
+    }
 }
 
 /// Tells the first match for a path along a chain, if there is one.

@@ -2,10 +2,12 @@
 
 use crate::ini_rows::ini_text;
 use crate::pattern_rows::tell_matching;
+use crate::tree_rows::tell_tree;
 use crate::words::{tell_names, written};
 use ini_config::lines::{Entry, IniLine, LineMeaning};
-use ini_entries::entry::EntryMeaning;
+use ini_entries::entry::{EntryMeaning, EntryValue};
 use ini_pattern::Pattern;
+use ned_expressions::ast::Expression;
 use sim_values::text::Text;
 use std::alloc::{AllocError, Global};
 use std::fmt::Write;
@@ -16,15 +18,31 @@ fn tell_extends(told: &mut String, names: &[Text]) -> Result<(), AllocError> {
     tell_names(told, names)
 }
 
+/// Tells the value of an entry.
+pub fn tell_given(told: &mut String, value: &EntryValue) -> Result<(), AllocError> {
+    match value {
+        EntryValue::Default => told.push_str("Default"),
+        EntryValue::Given(Expression::Literal(value)) => write!(told, "Given(Literal({value:?}))"),
+        EntryValue::Given(expression) => tell_tree(told, expression),
+    }
+}
+
+/// Tells the value of an entry, and what it is for.
+fn tell_entry_value(told: &mut String, word: &str, value: &EntryValue) -> Result<(), AllocError> {
+    write!(told, "{word} ")?;
+    tell_given(told, value)
+}
+
 /// Tells what an entry says.
 fn tell_said(told: &mut String, meaning: &EntryMeaning) -> Result<(), AllocError> {
     match meaning {
         EntryMeaning::Network(name) => write!(told, "network {}", written(name)),
         EntryMeaning::Extends(names) => tell_extends(told, names.as_slice()),
         EntryMeaning::Object(it) => write!(told, "{} {:?}", written(&it.option), it.says),
-        EntryMeaning::Type(it) => write!(told, "type {:?}", it.value),
-        EntryMeaning::Parameter(it) => write!(told, "parameter {:?}", it.value),
-        other => write!(told, "{other:?}"),
+        EntryMeaning::Type(it) => tell_entry_value(told, "type", &it.value),
+        EntryMeaning::Parameter(it) => tell_entry_value(told, "parameter", &it.value),
+        EntryMeaning::TimeLimit(ps) => write!(told, "TimeLimit({ps})"),
+        EntryMeaning::Other => told.push_str("Other"),
     }
 }
 

@@ -79,7 +79,7 @@ fn operator_mark(operator: Operator) -> &'static str {
 }
 
 /// Tells the tree of an expression: each operator with its operands in parentheses, the text's own parentheses as braces.
-fn tell_tree(told: &mut String, expression: &Expression) -> Result<(), AllocError> {
+pub fn tell_tree(told: &mut String, expression: &Expression) -> Result<(), AllocError> {
     match expression {
         Expression::Literal(value) => tell_literal(told, value),
         Expression::Name(x) => told.push_str(written(x)),

@@ -18,6 +18,9 @@ decreases-chains::next_step l = 20 * l.depth + 18
 abbrev pub decreases-chains::within : goal.decreases-chains::within
 decreases-chains::within l = 20 * l.depth
 
+abbrev pub decreases-chains::boxed_within : goal.decreases-chains::boxed_within
+decreases-chains::boxed_within l = 20 * l.depth + 1
+
 abbrev pub decreases-operands::any_index : goal.decreases-operands::any_index
 decreases-operands::any_index l = 20 * l.depth + 12
 
