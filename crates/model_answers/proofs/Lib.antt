@@ -2,3 +2,4 @@ pub mod AnswerLemmas
 pub mod Networks
 pub mod RecordLemmas
 pub mod QuestionLemmas
+pub mod Referring

@@ -5,3 +5,5 @@ pub mod Injections
 pub mod Inside
 pub mod Answering
 pub mod Questions
+pub mod Referring
+pub mod ReferringLaws

@@ -5,6 +5,7 @@ pub mod answer;
 pub mod answering;
 pub mod injection;
 pub mod inside;
+pub mod laws;
 pub mod model;
 pub mod parameters;
 pub mod record;
