@@ -94,7 +94,7 @@ about_joined_one : (a : Asked) (c : Bool) (xs zs ws : List Question) → zs ≡ 
 about_joined_one a true xs zs ws h = ap (λ ks. a.question ∷ ks) h
 about_joined_one a false xs zs ws h = h
 
-about_joined : (xs ys : List Asked) → about_modules (xs ++ ys) ≡ about_modules xs ++ about_modules ys
+pub about_joined : (xs ys : List Asked) → about_modules (xs ++ ys) ≡ about_modules xs ++ about_modules ys
 about_joined [] ys = refl
 about_joined (a ∷ xs) ys = about_joined_one a (is_of_modules a.question) (about_modules xs) (about_modules (xs ++ ys)) (about_modules ys) (about_joined xs ys)
 

@@ -1,4 +1,5 @@
 //! What a run has asked of its model.
 #![tactic(auto)]
 
+pub mod cutting;
 pub mod log;

@@ -1,9 +1,11 @@
 //! The questions of a run, in the order in which they were asked.
 
-ghost use Rattle.std.specs.Prelude.{◌≡◌, [], ◌∷◌, ◌++◌, true, false, OnOk, OnErr};
+ghost use Rattle.std.specs.Prelude.{◌≡◌, [], ◌∷◌, ◌++◌, true, false, OnOk, OnErr, drop, length, take};
 ghost use Rattle.model_answers.specs.Questions.{is_of_modules};
 ghost use Rattle.run_semantics.specs.World.{noted};
+ghost use Rattle.question_log.specs.Keys.{about_modules};
 
+use crate::cutting::cut_items;
 use indexmap::IndexSet;
 use model_answers::answer::{Asked, Question};
 use sim_values::NoMemory;
@@ -78,5 +80,50 @@ impl QuestionLog {
     {
         self.asked.push(Asked { event, question })?;
         Ok(())
+    }
+
+    /// Forgets the last questions, so that as many are left, the first ones. A log that has no more stays as it is.
+    pub fn cut(&mut self, left: usize)
+        ensures { self.new ≡ take left self.old }
+    {
+        let forgotten = count_behind(self.asked.as_slice(), left);
+        let kept = self.about_modules.len() - forgotten;
+        self.about_modules.truncate(kept);
+        cut_items(&mut self.asked, left);
+    }
+}
+
+/// How many questions about modules stand behind the first ones, of which there are so many.
+fn count_behind(asked: &[Asked], first: usize) -> usize
+    ensures { result ≡ length (about_modules (drop first asked.now)) }
+{
+    if first >= asked.len() {
+        return 0;
+    }
+    let (_, behind) = asked.split_at(first);
+    count_about(behind)
+}
+
+/// How many questions are about modules.
+fn count_about(asked: &[Asked]) -> usize
+    ensures { result ≡ length (about_modules asked.now) }
+{
+    let mut count = 0;
+    for a in asked {
+        if is_about_modules(&a.question) {
+            count += 1;
+        }
+    }
+    count
+}
+
+/// Whether a question is about modules.
+fn is_about_modules(question: &Question) -> bool
+    ensures { result ≡ is_of_modules question.now }
+{
+    match question {
+        Question::Root | Question::Build(_) | Question::Param(_, _) | Question::GateSize(_, _) =>
+            true,
+        Question::BeyondLimit(_) | Question::InjectionBefore(_, _) => false,
     }
 }
