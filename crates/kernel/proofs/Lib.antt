@@ -9,3 +9,5 @@ pub mod Seating
 pub mod Starting
 pub mod Targets
 pub mod Upcoming
+pub mod Positions
+pub mod Loading

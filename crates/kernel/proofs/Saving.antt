@@ -7,20 +7,15 @@ use Rattle.module_tree.specs.Boxes.{Seated, AreRising, box_of}
 use Rattle.run_semantics.specs.declared.traces.Instance.{Instance}
 use Rattle.run_semantics.specs.Event.{with_state}
 use Rattle.run_semantics.specs.Run.{standing}
-use Rattle.kernel.specs.declared.boxes_saved.SavedState.{SavedState}
 use Rattle.kernel.specs.Seats.{Seat, instance_of, module_in, with_module, AreOfKinds, AreKept}
-use Rattle.kernel.specs.Saved.{saved_of, states_of, state_in, state_for, Takes, IsLoaded}
+use Rattle.kernel.specs.Saved.{instance_at, listed, Takes, IsLoaded}
 use Rattle.kernel.proofs.Calling.{kind_in, kind_same, kinds_with, standing_with, states_with}
 use Rattle.kernel.proofs.Seating.{seat}
 
--- the states of all seats
-abbrev pub all_states : List Seat → List SavedState
-all_states ss = states_of (map instance_of ss)
-
 -- those that are left from an id on
-abbrev pub states_left : ℕ → List Seat → List SavedState
-states_left n [] = []
-states_left n (s ∷ ss) = if nat_lt s.id n then states_left n ss else saved_of (instance_of s) ∷ all_states ss
+abbrev pub instances_left : ℕ → List Seat → List Instance
+instances_left n [] = []
+instances_left n (s ∷ ss) = if nat_lt s.id n then instances_left n ss else instance_of s ∷ map instance_of ss
 
 -- the ids rise, from this number on, and all are below that one
 abbrev pub Rise : ℕ → ℕ → List Seat → Type 0
@@ -38,17 +33,17 @@ less : (m n : ℕ) → m < n → nat_lt m n ≡ true
 less m n h = grind (arith, nat_tests)
 
 -- all, at first
-pub all_left : (ss : List Seat) → states_left 0 ss ≡ all_states ss
+pub all_left : (ss : List Seat) → instances_left 0 ss ≡ map instance_of ss
 all_left [] = refl
 all_left (s ∷ ss) = rw (not_less s.id 0 (omega arith)) refl
 
 -- none, at last
-pub none_left : (from below : ℕ) (ss : List Seat) → Rise from below ss → states_left below ss ≡ []
+pub none_left : (from below : ℕ) (ss : List Seat) → Rise from below ss → instances_left below ss ≡ []
 none_left from below [] r = refl
 none_left from below (s ∷ ss) r = rw (less s.id below r.1) (none_left (suc s.id) below ss r.2)
 
 -- all are left that are greater
-greater_left : (n from below : ℕ) (ss : List Seat) → Rise from below ss → n ≤ from → states_left n ss ≡ all_states ss
+greater_left : (n from below : ℕ) (ss : List Seat) → Rise from below ss → n ≤ from → instances_left n ss ≡ map instance_of ss
 greater_left n from below [] r h = refl
 greater_left n from below (s ∷ ss) r h = rw (not_less s.id n (omega (arith, r.0))) refl
 
@@ -61,7 +56,7 @@ smaller_none n from below (s ∷ ss) r h = rw (other s.id n (omega (arith, r.0))
     other m n h = grind (arith, nat_tests)
 
 -- one id more
-left_step : (n from below : ℕ) (ss : List Seat) → Rise from below ss → states_left n ss ≡ state_for n (state_in n ss) ++ states_left (n + 1) ss
+left_step : (n from below : ℕ) (ss : List Seat) → Rise from below ss → instances_left n ss ≡ listed (instance_at n (module_in n ss)) ++ instances_left (n + 1) ss
 left_step n from below [] r = refl
 left_step n from below (s ∷ ss) r = by (nat_lt s.id n) (s.id == n) refl refl (left_step n (suc s.id) below ss r.2)
   where
@@ -74,30 +69,30 @@ left_step n from below (s ∷ ss) r = by (nat_lt s.id n) (s.id == n) refl refl (
     is_other : (s.id == n) ≡ false → n ≤ s.id → n < s.id
     is_other t h = grind (arith, nat_tests)
 
-    by : (t e : Bool) → nat_lt s.id n ≡ t → (s.id == n) ≡ e → states_left n ss ≡ state_for n (state_in n ss) ++ states_left (n + 1) ss
-        → cond t (states_left n ss) (saved_of (instance_of s) ∷ all_states ss) ≡ state_for n (option_map (λ (box : Module). box.state) (cond e (Some s.box) (module_in n ss))) ++ cond (nat_lt s.id (n + 1)) (states_left (n + 1) ss) (saved_of (instance_of s) ∷ all_states ss)
+    by : (t e : Bool) → nat_lt s.id n ≡ t → (s.id == n) ≡ e → instances_left n ss ≡ listed (instance_at n (module_in n ss)) ++ instances_left (n + 1) ss
+        → cond t (instances_left n ss) (instance_of s ∷ map instance_of ss) ≡ listed (instance_at n (cond e (Some s.box) (module_in n ss))) ++ cond (nat_lt s.id (n + 1)) (instances_left (n + 1) ss) (instance_of s ∷ map instance_of ss)
     by true true t e later = let h = is_below t in let q = eqb-true s.id n e in absurd (omega (arith, h, q))
     by true false t e later = let h = is_below t in rw (less s.id (n + 1) (omega (arith, h))) later
     by false true t e later =
         let q = eqb-true s.id n e in
         rw (less s.id (n + 1) (omega (arith, q)))
-        (ap (λ i. record { id = i; state = s.box.state } ∷ all_states ss) q
-        ∙ ap (λ (xs : List SavedState). record { id = n; state = s.box.state } ∷ xs) (sym (greater_left (n + 1) (suc s.id) below ss r.2 (omega (arith, q)))))
+        (ap (λ i. record { id = i; kind = s.box.kind; state = s.box.state } ∷ map instance_of ss) q
+        ∙ ap (λ (xs : List Instance). record { id = n; kind = s.box.kind; state = s.box.state } ∷ xs) (sym (greater_left (n + 1) (suc s.id) below ss r.2 (omega (arith, q)))))
     by false false t e later =
         let h = is_other e (is_not_below t) in
         rw (not_less s.id (n + 1) (omega (arith, h)), smaller_none n (suc s.id) below ss r.2 (omega (arith, h))) refl
 
 -- a loop over the ids: what is saved, and what is left, are all
-pub saved_more : (n below : ℕ) (ss : List Seat) (saved more whole : List SavedState) → Rise 0 below ss → more ≡ saved ++ state_for n (state_in n ss) → saved ++ states_left n ss ≡ whole → more ++ states_left (n + 1) ss ≡ whole
+pub saved_more : (n below : ℕ) (ss : List Seat) (saved more whole : List Instance) → Rise 0 below ss → more ≡ saved ++ listed (instance_at n (module_in n ss)) → saved ++ instances_left n ss ≡ whole → more ++ instances_left (n + 1) ss ≡ whole
 saved_more n below ss saved more whole r e h =
-    ap (λ (xs : List SavedState). xs ++ states_left (n + 1) ss) e
-    ∙ append_assoc saved (state_for n (state_in n ss)) (states_left (n + 1) ss)
-    ∙ sym (ap (λ (xs : List SavedState). saved ++ xs) (left_step n 0 below ss r))
+    ap (λ (xs : List Instance). xs ++ instances_left (n + 1) ss) e
+    ∙ append_assoc saved (listed (instance_at n (module_in n ss))) (instances_left (n + 1) ss)
+    ∙ sym (ap (λ (xs : List Instance). saved ++ xs) (left_step n 0 below ss r))
     ∙ h
 
-pub saved_last : (n below : ℕ) (ss : List Seat) (saved whole : List SavedState) → n ≡ below → Rise 0 below ss → saved ++ states_left n ss ≡ whole → saved ≡ whole
+pub saved_last : (n below : ℕ) (ss : List Seat) (saved whole : List Instance) → n ≡ below → Rise 0 below ss → saved ++ instances_left n ss ≡ whole → saved ≡ whole
 saved_last n below ss saved whole e r h =
-    sym (append-nil saved) ∙ sym (ap (λ (xs : List SavedState). saved ++ xs) (ap (λ k. states_left k ss) e ∙ none_left 0 below ss r)) ∙ h
+    sym (append-nil saved) ∙ sym (ap (λ (xs : List Instance). saved ++ xs) (ap (λ k. instances_left k ss) e ∙ none_left 0 below ss r)) ∙ h
 
 -- ---- a state that is loaded
 

@@ -4,3 +4,4 @@ pub mod Kernels
 pub mod Saved
 pub mod Lookups
 pub mod Upcoming
+pub mod Positions

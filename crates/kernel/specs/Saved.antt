@@ -1,4 +1,4 @@
--- The states of boxes.
+-- Boxes as the kinds and states of their modules.
 use Rattle.std.specs.Prelude.{◌≡◌, ℕ, IsTrue, List, [], ◌∷◌, Option, Some, None, option_map, map}
 use Rattle.std.proofs.Common.{Global}
 use Rattle.std.specs.declared.dyn_box.DynBox.{DynBox}
@@ -6,7 +6,6 @@ use Rattle.module_api.specs.Behaviour.{State}
 use Rattle.module_api.specs.Meaning.{Module, IsSameModule}
 use Rattle.module_tree.specs.Boxes.{Held}
 use Rattle.run_semantics.specs.declared.traces.Instance.{Instance}
-use Rattle.kernel.specs.declared.boxes_saved.SavedState.{SavedState}
 use Rattle.kernel.specs.Seats.{Seat, instance_of, module_in, with_module}
 use Rattle.kernel.specs.Kernels.{Members, seat_of}
 
@@ -19,22 +18,15 @@ module _ {X : Type 0} {Y : X → Type 0} where
   abbrev pub instances_held : Members X Y → Held (DynBox X Global Y) → List Instance
   instances_held members tree = map instance_of (seats_held members tree)
 
--- the state of the box of the module of that id, where it has one
-abbrev pub state_in : ℕ → List Seat → Option State
-state_in id ss = option_map (λ (box : Module). box.state) (module_in id ss)
+-- the module of that id, with its box, where it has one
+abbrev pub instance_at : ℕ → Option Module → Option Instance
+instance_at id None = None
+instance_at id (Some box) = Some (record { id = id; kind = box.kind; state = box.state })
 
--- the state of a module, with its id
-abbrev pub saved_of : Instance → SavedState
-saved_of i = record { id = i.id; state = i.state }
-
--- the states of all, in their order
-abbrev pub states_of : List Instance → List SavedState
-states_of is = map saved_of is
-
--- that state with this id, where there is one
-abbrev pub state_for : ℕ → Option State → List SavedState
-state_for id None = []
-state_for id (Some state) = record { id = id; state = state } ∷ []
+-- it alone, where it is
+abbrev pub listed : Option Instance → List Instance
+listed None = []
+listed (Some i) = i ∷ []
 
 -- there is a box, and the bytes are a state of its kind
 abbrev pub Takes : State → Option Module → Type 0

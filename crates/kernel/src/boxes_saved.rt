@@ -1,67 +1,60 @@
-//! The states of boxes as bytes: saved, and loaded again.
+//! Boxes as the kinds and states of their modules: saved, and loaded again.
 
-ghost use Rattle.std.specs.Prelude.{◌≡◌, ◌++◌, IsTrue, IfOk, OnOk, map};
+ghost use Rattle.std.specs.Prelude.{◌≡◌, ◌++◌, IsTrue, IfOk, OnOk, Some, map};
 ghost use Rattle.module_api.specs.Behaviour.{Behaviour};
 ghost use Rattle.module_api.specs.Meaning.{IsSameModule};
 ghost use Rattle.run_semantics.specs.Event.{with_state};
 ghost use Rattle.kernel.specs.Seats.{module_in, AreOfKinds, AreKept};
-ghost use Rattle.kernel.specs.Saved.{seats_held, instances_held, state_in, states_of, state_for, Takes, IsLoaded};
+ghost use Rattle.kernel.specs.Saved.{seats_held, instances_held, instance_at, listed, Takes, IsLoaded};
 
 use module_api::simple_module::SimpleModule;
 use module_tree::Tree;
+use run_semantics::traces::Instance;
 use sim_values::NoMemory;
 use sim_values::text::Text;
 use sqlite_items::Items;
 use std::alloc::Global;
 
-/// The state of the box of a module.
-#[derive(Debug, Drop)]
-pub struct SavedState {
-    /// The id of the module.
-    pub id: u32,
-    pub state: Text,
-}
-
-/// The state of the box of the module of that id, where it has one. No box changes.
+/// The module of that id, with its kind and the state of its box, where it has one. No box changes.
 pub fn save_one(
     boxes: &Tree<Box<dyn SimpleModule>>,
     alloc: Global,
     id: u32,
-) -> Result<Option<Text>, NoMemory>
-    ensures { IfOk result (λ saved. saved ≡ state_in id (seats_held SimpleModule-box boxes.now)) }
+) -> Result<Option<Instance>, NoMemory>
+    ensures { IfOk result (λ saved. saved ≡ instance_at id (module_in id (seats_held SimpleModule-box boxes.now))) }
 {
     match boxes.get(id) {
-        Some(held) => Ok(Some(save(held, alloc)?)),
+        Some(held) => Ok(Some(instance_of(held, alloc, id)?)),
         None => Ok(None),
     }
 }
 
-/// The states of all boxes, by the rising ids of their modules. No box changes.
+/// The modules that have boxes, by rising ids, with the states of the boxes. No box changes.
 pub fn save_all(
     boxes: &Tree<Box<dyn SimpleModule>>,
     alloc: Global,
-) -> Result<Items<SavedState>, NoMemory>
-    ensures { IfOk result (λ saved. saved ≡ states_of (instances_held SimpleModule-box boxes.now)) }
+) -> Result<Items<Instance>, NoMemory>
+    ensures { IfOk result (λ saved. saved ≡ instances_held SimpleModule-box boxes.now) }
 {
     let mut saved = Items::new(alloc);
     for index in 0..boxes.room() {
-        add_state(boxes, alloc, index as u32, &mut saved)?;
+        add_one(boxes, alloc, index as u32, &mut saved)?;
     }
     Ok(saved)
 }
 
-/// Adds the state of the box of the module of that id, where it has one.
-fn add_state(
+/// Adds the module of that id, where it has a box.
+fn add_one(
     boxes: &Tree<Box<dyn SimpleModule>>,
     alloc: Global,
     id: u32,
-    saved: &mut Items<SavedState>,
+    saved: &mut Items<Instance>,
 ) -> Result<(), NoMemory>
     ensures { OnOk result (saved.new
-        ≡ saved.old ++ state_for id (state_in id (seats_held SimpleModule-box boxes.now))) }
+        ≡ saved.old ++ listed (instance_at id (module_in id (seats_held SimpleModule-box boxes.now)))) }
 {
-    if let Some(state) = save_one(boxes, alloc, id)? {
-        saved.push(SavedState { id, state })?;
+    if let Some(instance) = save_one(boxes, alloc, id)? {
+        saved.push(instance)?;
     }
     Ok(())
 }
@@ -86,6 +79,24 @@ pub fn load_one(
     let loaded = load(&mut held, alloc, state);
     boxes.put_back(id, held);
     loaded
+}
+
+/// The module of that id, which has this box.
+fn instance_of(held: &Box<dyn SimpleModule>, alloc: Global, id: u32) -> Result<Instance, NoMemory>
+    ensures { IfOk result (λ instance. Some instance ≡ instance_at id (Some (meaning held.now))) }
+{
+    Ok(Instance {
+        id,
+        kind: kind_of(held, alloc)?,
+        state: save(held, alloc)?,
+    })
+}
+
+/// The kind of a box.
+fn kind_of(held: &Box<dyn SimpleModule>, alloc: Global) -> Result<Text, NoMemory>
+    ensures { IfOk result (λ kind. kind ≡ (meaning held.now).kind) }
+{
+    Ok(Text::from_str(alloc, held.kind())?)
 }
 
 /// The state of a box.

@@ -14,7 +14,9 @@ ghost use Rattle.model_answers.specs.Injections.{turn_of};
 ghost use Rattle.model_answers.specs.declared.answer.Answer.TheVariants as answers;
 ghost use Rattle.model_answers.specs.declared.answer.Question.TheVariants.{BeyondLimit};
 ghost use Rattle.run_semantics.specs.Run.{rooted, built, unless_many, with_submodules, with_started, root_asked, inside_asked, prepared};
+ghost use Rattle.kernel.specs.Positions.{lengths_of, position_of, cut_to, core_back};
 
+use crate::position::{Lengths, Position};
 use event_set::pending::{Happening, Pending};
 use event_set::set::EventSet;
 use model_answers::answer::{Answer, Built, Question};
@@ -25,9 +27,10 @@ use model_answers::record::{Record, index_of, path_of, submodule_path};
 use module_api::call::{Call, Parameter, Prompt, find_value};
 use module_api::names::is_scalar_name;
 use module_api::reply::{Action, Read, Reply, Schedule};
+use question_log::cutting::cut_items;
 use question_log::log::QuestionLog;
 use run_semantics::outcome::{Fault, Outcome, Turn, fault_of};
-use run_semantics::traces::{Emission, Scalar};
+use run_semantics::traces::{Emission, Instance, Scalar};
 use sim_time::SimTime;
 use sim_values::NoMemory;
 use sim_values::text::Text;
@@ -750,6 +753,65 @@ impl Core {
     {
         self.started = Items::from_slice(alloc, self.live.as_slice())?;
         Ok(())
+    }
+
+    // ---- positions
+
+    /// How long the lists are that only grow while a run goes on.
+    fn lengths(&self) -> Lengths
+        ensures { result ≡ lengths_of self.now }
+    {
+        Lengths {
+            records: self.records.len(),
+            live: self.live.len(),
+            started: self.started.len(),
+            finished: self.finished.len(),
+            emissions: self.emissions.len(),
+            scalars: self.scalars.len(),
+            questions: self.questions.as_slice().len(),
+        }
+    }
+
+    /// The position of the world that it makes with these modules.
+    pub fn position(&self, alloc: Global, modules: Items<Instance>) -> Result<Position, NoMemory>
+        ensures { IfOk result (λ position. position ≡ position_of (record self.now { modules = modules })) }
+    {
+        let coming = self.pending.copy(alloc)?;
+        Ok(Position {
+            clock: self.clock,
+            count: self.count,
+            lengths: self.lengths(),
+            coming,
+            ended: self.ended,
+            delivered: self.delivered,
+            modules,
+        })
+    }
+
+    /// Cuts the lists that only grow while a run goes on.
+    fn cut_to(&mut self, lengths: Lengths)
+        ensures { self.new ≡ cut_to lengths self.old }
+    {
+        cut_items(&mut self.records, lengths.records);
+        cut_items(&mut self.live, lengths.live);
+        cut_items(&mut self.started, lengths.started);
+        cut_items(&mut self.finished, lengths.finished);
+        cut_items(&mut self.emissions, lengths.emissions);
+        cut_items(&mut self.scalars, lengths.scalars);
+        self.questions.cut(lengths.questions);
+    }
+
+    /// Goes back to a position, which has these events to come.
+    pub fn go_back(&mut self, position: &Position, coming: EventSet)
+        requires { coming ≡ position.now.coming }
+        ensures { self.new ≡ core_back position.now self.old }
+    {
+        self.cut_to(position.lengths);
+        self.clock = position.clock;
+        self.count = position.count;
+        self.pending = coming;
+        self.ended = position.ended;
+        self.delivered = position.delivered;
     }
 }
 

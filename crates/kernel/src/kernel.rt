@@ -5,16 +5,20 @@ ghost use Rattle.module_api.specs.Meaning.{IsOfKind, Answered, IsSameModule};
 ghost use Rattle.module_tree.specs.Boxes.{nothing};
 ghost use Rattle.run_semantics.specs.World.{empty, HasRoom};
 ghost use Rattle.run_semantics.specs.Perform.{flow_of, On};
-ghost use Rattle.run_semantics.specs.Event.{call_module, call_of, message_of};
+ghost use Rattle.run_semantics.specs.Event.{call_module, call_of, message_of, with_state};
 ghost use Rattle.run_semantics.specs.Upcoming.{arrival, target_of, upcoming};
 ghost use Rattle.kernel.specs.Upcoming.{looked, upcoming_of, LooksOn};
 ghost use Rattle.run_semantics.specs.Run.{Running, Part, stage_of, settled, prepared, ready, placed, standing, parts_from, most_stages, one_stage, stages_from, initialize_all, start, next_stage, stopped};
 ghost use Rattle.run_semantics.specs.Ending.{call_last, finish_all, ending};
 ghost use Rattle.kernel.specs.Seats.{module_in, stages_of, stands_at, AreBelow, AreFirst, IsServed, missing_of, missing_part};
 ghost use Rattle.kernel.specs.Parts.{part_in, initialize_at, finish_at};
+ghost use Rattle.kernel.specs.Positions.{position_of, world_back, CanTake, IsSameBesideModules, with_states};
+ghost use Rattle.kernel.specs.Saved.{Takes};
 ghost use Rattle.kernel.specs.Kernels.{seats_in, world_in, ran_in, HasKinds, IsCallable, KeepsBoxes};
 
+use crate::boxes_saved::{load_one, save_all};
 use crate::core_part::{Core, Look, Next};
+use crate::position::Position;
 use crate::request::Request;
 use event_set::pending::{Happening, Pending};
 use model_answers::injection::Injection;
@@ -27,7 +31,7 @@ use module_api::reply::Reply;
 use module_api::simple_module::SimpleModule;
 use module_tree::Tree;
 use run_semantics::outcome::{Fault, Outcome, Turn};
-use run_semantics::traces::{Emission, Scalar};
+use run_semantics::traces::{Emission, Instance, Scalar};
 use sim_values::NoMemory;
 use sim_values::text::Text;
 use std::alloc::{AllocFailed, Global};
@@ -506,6 +510,63 @@ impl<C: Catalogue> Kernel<C> {
             Turn::GoOn | Turn::Stop => Ok(outcome),
             Turn::Break(path, fault) => Ok(Outcome::Fault(self.core.count(), path, fault)),
         }
+    }
+
+    // ---- positions
+
+    /// The position of its world. The kernel stays as it is.
+    pub fn position(&self, alloc: Global) -> Result<Position, NoMemory>
+        ensures position { IfOk result (λ position. position ≡ position_of (world_in SimpleModule-box self.now)) }
+        ensures back { let world = world_in SimpleModule-box self.now in
+            IfOk result (λ position. world_back position world ≡ world) }
+    {
+        let modules = save_all(&self.boxes, alloc)?;
+        self.core.position(alloc, modules)
+    }
+
+    /// Goes back to a position. Its modules are those that have boxes, and each box takes its state. After NoMemory the states of
+    /// the boxes are not known, and all else is as it was: it can go back again, to this position or another one.
+    pub fn go_back(&mut self, alloc: Global, position: &Position) -> Result<(), NoMemory>
+        requires { CanTake C.behaviour position.now.modules (seats_in SimpleModule-box self.old) }
+        ensures kept { KeepsBoxes C.behaviour SimpleModule-box self.old self.new }
+        ensures ok { OnOk result (world_in SimpleModule-box self.new
+            ≡ world_back position.now (world_in SimpleModule-box self.old)) }
+        ensures err { OnErr result (IsSameBesideModules (world_in SimpleModule-box self.new)
+            (world_in SimpleModule-box self.old)) }
+        ensures again { CanTake C.behaviour position.now.modules (seats_in SimpleModule-box self.new) }
+        ensures same { world_back position.now (world_in SimpleModule-box self.new)
+            ≡ world_back position.now (world_in SimpleModule-box self.old) }
+    {
+        let coming = position.coming.copy(alloc)?;
+        self.load_all(alloc, position.modules.as_slice())?;
+        self.core.go_back(position, coming);
+        Ok(())
+    }
+
+    /// Each box takes its state.
+    fn load_all(&mut self, alloc: Global, saved: &[Instance]) -> Result<(), NoMemory>
+        requires { CanTake C.behaviour saved.now (seats_in SimpleModule-box self.old) }
+        ensures core { self.new.core ≡ self.old.core }
+        ensures kept { KeepsBoxes C.behaviour SimpleModule-box self.old self.new }
+        ensures ok { OnOk result ((world_in SimpleModule-box self.new).modules ≡ saved.now) }
+    {
+        let _ids_rise = self.boxes.room();
+        for instance in saved {
+            self.load(alloc, instance)?;
+        }
+        Ok(())
+    }
+
+    /// The box of that module takes its state.
+    fn load(&mut self, alloc: Global, saved: &Instance) -> Result<(), NoMemory>
+        requires kinds { HasKinds C.behaviour SimpleModule-box self.old }
+        requires takes { Takes saved.now.state (module_in saved.now.id (seats_in SimpleModule-box self.old)) }
+        ensures core { self.new.core ≡ self.old.core }
+        ensures kept { KeepsBoxes C.behaviour SimpleModule-box self.old self.new }
+        ensures ok { OnOk result ((world_in SimpleModule-box self.new).modules
+            ≡ with_state saved.now.id saved.now.state (world_in SimpleModule-box self.old).modules) }
+    {
+        load_one(&mut self.boxes, alloc, saved.id, saved.state.as_bytes())
     }
 }
 

@@ -4,4 +4,6 @@
 pub mod boxes_saved;
 pub mod core_part;
 pub mod kernel;
+pub mod laws;
+pub mod position;
 pub mod request;

@@ -1,0 +1,20 @@
+//! Laws of positions. The functions do nothing: their contracts are the laws.
+
+ghost use Rattle.std.specs.Prelude.{◌≡◌};
+ghost use Rattle.run_semantics.specs.World.{World};
+ghost use Rattle.kernel.specs.declared.position.Position.{Position};
+ghost use Rattle.kernel.specs.Positions.{position_of, world_back, IsGrownFrom, AreWithin};
+
+/// A position stays good while a run goes on: going back from any world whose lists have grown since gives the world of which it
+/// was taken.
+#[tactic(auto, using(crate::proofs::Positions::back_when_grown))]
+pub fn positions_stay_good()
+    ensures { (before after : World) → IsGrownFrom before after → world_back (position_of before) after ≡ before }
+{}
+
+/// A world that went back can go back farther: it is as if it had not gone back before.
+#[tactic(auto, using(crate::proofs::Positions::back_after_back))]
+pub fn positions_before_stay_good()
+    ensures { (p q : Position) (w : World) → AreWithin p.lengths q.lengths
+        → world_back p (world_back q w) ≡ world_back p w }
+{}
