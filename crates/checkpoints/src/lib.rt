@@ -1,0 +1,4 @@
+//! Stored positions of a run.
+#![tactic(auto)]
+
+pub mod positions;
