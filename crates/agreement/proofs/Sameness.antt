@@ -13,7 +13,7 @@ use Rattle.model_answers.specs.declared.answer.Answer.{Answer}
 use Rattle.model_answers.specs.declared.answer.Answer.TheVariants as answer
 use Rattle.model_answers.specs.declared.answer.Built.{Built}
 use Rattle.model_answers.specs.declared.injection.Injection.{Injection}
-use Rattle.agreement.specs.Same.{same_value, same_class, same_index, same_built, same_inside, same_due, same_message, same_injection, same_next, same_answer}
+use Rattle.agreement.specs.Same.{same_value, same_class, same_index, same_built, same_inside, same_due, same_message, same_injection, same_injections, same_next, same_answer}
 
 both : (a b : Bool) → (a && b) ≡ true → (a ≡ true) × (b ≡ true)
 both true b e = (refl, e)
@@ -94,6 +94,13 @@ answer_is (answer.Beyond a) (answer.Beyond b) e = ap answer.Beyond ((booleans_De
 answer_is (answer.Injection a) (answer.Injection b) e = ap answer.Injection (next_is a b e)
 answer_is answer.Absent answer.Absent e = refl
 answer_is _ _ e = cc
+
+pub injections_are : (a b : List Injection) → same_injections a b ≡ true → a ≡ b
+injections_are [] [] e = refl
+injections_are (a ∷ xs) (b ∷ ys) e =
+    let h = both (same_injection a b) (same_injections xs ys) e in
+    ap (λ x. x ∷ xs) (injection_is a b h.0) ∙ ap (λ zs. b ∷ zs) (injections_are xs ys h.1)
+injections_are _ _ e = cc
 
 -- ---- each is the same as itself
 

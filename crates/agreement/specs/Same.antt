@@ -51,6 +51,11 @@ same_next None None = true
 same_next (Some a) (Some b) = same_injection a b
 same_next _ _ = false
 
+abbrev pub same_injections : List Injection → List Injection → Bool
+same_injections [] [] = true
+same_injections (a ∷ xs) (b ∷ ys) = same_injection a b && same_injections xs ys
+same_injections _ _ = false
+
 -- whether two answers are the same
 abbrev pub same_answer : Answer → Answer → Bool
 same_answer (answer.Root a) (answer.Root b) = bytes_eq a b

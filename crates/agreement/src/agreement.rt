@@ -4,8 +4,10 @@ ghost use Rattle.std.specs.Prelude.{◌≡◌, IfOk};
 ghost use Rattle.std.specs.Bool.{Decides};
 ghost use Rattle.model_answers.specs.Answering.{answer_of};
 ghost use Rattle.run_semantics.specs.Agreement.{IsAgreement};
+ghost use Rattle.agreement.specs.Common.{IsCommon};
 ghost use Rattle.agreement.specs.Narrowing.{Narrows};
 
+use crate::common::{Common, common_of};
 use crate::same::same_answer;
 use model_answers::answer::{Asked, Question};
 use model_answers::answering::answer;
@@ -17,14 +19,19 @@ use std::alloc::Global;
 /// Whether two models give a question the same answer, with the modules of these records.
 fn agrees(
     alloc: Global,
+    common: Common,
     one: &Model,
     other: &Model,
     records: &[Record],
     question: &Question,
 ) -> Result<bool, NoMemory>
+    requires { IsCommon one.now other.now common }
     ensures { IfOk result (λ same. Decides same
         (answer_of one.now records.now question.now ≡ answer_of other.now records.now question.now)) }
 {
+    if common.is_about(question) {
+        return Ok(true);
+    }
     let first = answer(alloc, one, records, question)?;
     let second = answer(alloc, other, records, question)?;
     Ok(same_answer(&first, &second))
@@ -33,18 +40,20 @@ fn agrees(
 /// What a question leaves of the events up to this one on which two models agree: those before its own, where they give it different answers.
 fn narrowed(
     alloc: Global,
+    common: Common,
     one: &Model,
     other: &Model,
     records: &[Record],
     asked: &Asked,
     valid: u64,
 ) -> Result<Option<u64>, NoMemory>
+    requires { IsCommon one.now other.now common }
     ensures { IfOk result (λ left. Narrows one.now other.now records.now asked.now valid left) }
 {
     if asked.event > valid {
         return Ok(Some(valid));
     }
-    if agrees(alloc, one, other, records, &asked.question)? {
+    if agrees(alloc, common, one, other, records, &asked.question)? {
         return Ok(Some(valid));
     }
     if asked.event == 0 {
@@ -65,9 +74,10 @@ pub fn agreement(
 ) -> Result<Option<u64>, NoMemory>
     ensures { IfOk result (λ valid. IsAgreement one.now other.now records.now last asked.now valid) }
 {
+    let common = common_of(one, other);
     let mut valid = last;
     for entry in asked {
-        match narrowed(alloc, one, other, records, entry, valid)? {
+        match narrowed(alloc, common, one, other, records, entry, valid)? {
             Some(left) => valid = left,
             None => return Ok(None),
         }

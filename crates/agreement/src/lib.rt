@@ -2,4 +2,5 @@
 #![tactic(auto)]
 
 pub mod agreement;
+pub mod common;
 pub mod same;

@@ -1,9 +1,9 @@
 //! Answers that are the same.
 
-ghost use Rattle.std.specs.Prelude.{◌≡◌, length};
+ghost use Rattle.std.specs.Prelude.{◌≡◌, length, true};
 ghost use Rattle.std.specs.Bool.{Decides};
 ghost use Rattle.std.specs.Option.{option_copied};
-ghost use Rattle.agreement.specs.Same.{same_value, same_class, same_index, same_built, same_inside, same_due, same_message, same_injection, same_next, same_answer};
+ghost use Rattle.agreement.specs.Same.{same_value, same_class, same_index, same_built, same_inside, same_due, same_message, same_injection, same_injections, same_next, same_answer};
 
 use model_answers::answer::{Answer, Built};
 use model_answers::injection::Injection;
@@ -104,6 +104,32 @@ fn same_next(one: &Option<Injection>, other: &Option<Injection>) -> bool
         (Some(a), Some(b)) => same_injection(a, b),
         _ => false,
     }
+}
+
+/// Whether two lists of messages of equal length are the same.
+fn same_listed(one: &[Injection], other: &[Injection]) -> bool
+    requires { length one.now ≡ length other.now }
+    ensures { result ≡ same_injections one.now other.now }
+{
+    for (index, injection) in one.iter().enumerate() {
+        let Some(second) = other.get(index) else {
+            return false;
+        };
+        if !same_injection(injection, second) {
+            return false;
+        }
+    }
+    true
+}
+
+/// Whether two lists of messages from outside are the same.
+pub fn same_injections(one: &[Injection], other: &[Injection]) -> bool
+    ensures { result ≡ true → one.now ≡ other.now }
+{
+    if one.len() != other.len() {
+        return false;
+    }
+    same_listed(one, other)
 }
 
 fn compared(one: &Answer, other: &Answer) -> bool

@@ -1,0 +1,21 @@
+-- Questions about what two models have in common.
+use Rattle.std.proofs.Common.{◌≡◌, true, List, ap}
+use Rattle.model_answers.specs.declared.answer.Answer.TheVariants as answer
+use Rattle.model_answers.specs.declared.answer.Question.{Question}
+use Rattle.model_answers.specs.declared.answer.Question.TheVariants.{Root, Build, Param, GateSize, BeyondLimit, InjectionBefore}
+use Rattle.model_answers.specs.declared.injection.Injection.{Injection}
+use Rattle.model_answers.specs.declared.model.Model.{Model}
+use Rattle.model_answers.specs.declared.record.Record.{Record}
+use Rattle.model_answers.specs.Answering.{answer_of, is_beyond}
+use Rattle.model_answers.specs.Injections.{injection_before}
+use Rattle.agreement.specs.declared.common.Common.{Common}
+use Rattle.agreement.specs.Common.{is_about, IsCommon}
+
+-- both give them the same answers
+pub alike : (m n : Model) (c : Common) (rs : List Record) (q : Question) → IsCommon m n c → is_about c q ≡ true → answer_of m rs q ≡ answer_of n rs q
+alike m n c rs Root h e = cc
+alike m n c rs (Build id) h e = cc
+alike m n c rs (Param id name) h e = cc
+alike m n c rs (GateSize id name) h e = cc
+alike m n c rs (BeyondLimit time) h e = ap (λ limit. answer.Beyond (is_beyond limit time)) (h.limit_is e)
+alike m n c rs (InjectionBefore due last) h e = ap (λ (is : List Injection). answer.Injection (injection_before due last is)) (h.injections_are e)

@@ -1,0 +1,21 @@
+-- What two models have in common.
+use Rattle.std.specs.Prelude.{◌≡◌, Bool, true, false}
+use Rattle.model_answers.specs.declared.answer.Question.{Question}
+use Rattle.model_answers.specs.declared.answer.Question.TheVariants.{Root, Build, Param, GateSize, BeyondLimit, InjectionBefore}
+use Rattle.model_answers.specs.declared.model.Model.{Model}
+use Rattle.model_answers.specs.Models.{time_limit_of}
+use Rattle.agreement.specs.declared.common.Common.{Common}
+
+-- What is said to be common to two models is.
+pub record IsCommon (m n : Model) (c : Common) : Type 0 where
+  pub limit_is : c.limit ≡ true → time_limit_of m ≡ time_limit_of n
+  pub injections_are : c.injections ≡ true → m.injections ≡ n.injections
+
+-- whether a question is about what is common alone
+abbrev pub is_about : Common → Question → Bool
+is_about c Root = false
+is_about c (Build id) = false
+is_about c (Param id name) = false
+is_about c (GateSize id name) = false
+is_about c (BeyondLimit time) = c.limit
+is_about c (InjectionBefore due last) = c.injections

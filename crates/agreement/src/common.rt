@@ -1,0 +1,51 @@
+//! What two models have in common.
+
+ghost use Rattle.std.specs.Prelude.{◌≡◌, true};
+ghost use Rattle.agreement.specs.Common.{is_about, IsCommon};
+
+use crate::same::same_injections;
+use model_answers::answer::Question;
+use model_answers::model::Model;
+
+/// What two models have in common. A run asks about it for each event, and such a question needs no look at the models.
+#[derive(Clone, Copy)]
+pub struct Common {
+    /// Whether both have the same time limit.
+    pub limit: bool,
+    /// Whether both have the same messages from outside.
+    pub injections: bool,
+}
+
+impl Common {
+    /// Whether a question is about that alone.
+    pub fn is_about(self, question: &Question) -> bool
+        ensures { result ≡ is_about self question.now }
+    {
+        match question {
+            Question::BeyondLimit(_) => self.limit,
+            Question::InjectionBefore(_, _) => self.injections,
+            _ => false,
+        }
+    }
+}
+
+/// Whether two time limits, in picoseconds, are the same.
+fn same_limit(one: Option<u64>, other: Option<u64>) -> bool
+    ensures { result ≡ true → one ≡ other }
+{
+    match (one, other) {
+        (None, None) => true,
+        (Some(a), Some(b)) => a == b,
+        _ => false,
+    }
+}
+
+/// What two models have in common.
+pub fn common_of(one: &Model, other: &Model) -> Common
+    ensures { IsCommon one.now other.now result }
+{
+    Common {
+        limit: same_limit(one.time_limit(), other.time_limit()),
+        injections: same_injections(one.injections.as_slice(), other.injections.as_slice()),
+    }
+}
