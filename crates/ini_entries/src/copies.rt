@@ -61,7 +61,7 @@ fn copy_object(alloc: Global, entry: &ObjectEntry) -> Result<ObjectEntry, AllocE
 }
 
 /// Equal names.
-fn copy_names(alloc: Global, names: &[Text]) -> Result<Items<Text>, AllocError>
+pub fn copy_names(alloc: Global, names: &[Text]) -> Result<Items<Text>, AllocError>
     ensures { IfOk result (λ copy. copy ≡ names.now) }
 {
     let mut copy = Items::new(alloc);

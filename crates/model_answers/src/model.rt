@@ -1,6 +1,6 @@
 //! The model of a run.
 
-ghost use Rattle.std.specs.Prelude.{◌≡◌};
+ghost use Rattle.std.specs.Prelude.{◌≡◌, IfOk};
 ghost use Rattle.std.specs.Option.{option_copied};
 ghost use Rattle.model_answers.specs.Models.{network_of, type_at, type_of_record, inner_type, as_network, type_by_last_name, time_limit_of};
 ghost use Rattle.model_answers.specs.Records.{record_at};
@@ -10,10 +10,13 @@ use crate::record::{Record, record_at};
 use ini_config::entries::{network_entry, time_limit_entry};
 use ini_config::lines::IniText;
 use ini_config::speaks::last_name;
+use ini_entries::copies::copy_names;
 use ned_syntax::ast::{TypeDeclaration, TypeKind};
 use ned_types::table::TypeTable;
+use sim_values::NoMemory;
 use sim_values::text::Text;
 use sqlite_items::Items;
+use std::alloc::Global;
 
 /// The id of the network's first submodule: the others follow it in the order of their declaration.
 const FIRST_SUBMODULE: usize = 2;
@@ -33,6 +36,20 @@ pub struct Model {
 }
 
 impl Model {
+    /// An equal model.
+    pub fn copy(&self, alloc: Global) -> Result<Model, NoMemory>
+        ensures { IfOk result (λ copy. copy ≡ self.now) }
+    {
+        Ok(Model {
+            types: self.types.copy()?,
+            ini: self.ini.copy(alloc)?,
+            config: self.config.copy(alloc)?,
+            chain: copy_names(alloc, self.chain.as_slice())?,
+            injections: copy_injections(alloc, self.injections.as_slice())?,
+            last_injection: self.last_injection,
+        })
+    }
+
     /// The network that is to be run, where the option `network` names one.
     pub fn network(&self) -> Option<&TypeDeclaration>
         ensures { option_copied result ≡ network_of self.now }
@@ -82,4 +99,15 @@ fn as_network(declared: &TypeDeclaration) -> Option<&TypeDeclaration>
         TypeKind::Network => Some(declared),
         TypeKind::Simple => None,
     }
+}
+
+/// Equal injections.
+fn copy_injections(alloc: Global, injections: &[Injection]) -> Result<Items<Injection>, NoMemory>
+    ensures { IfOk result (λ copy. copy ≡ injections.now) }
+{
+    let mut copy = Items::new(alloc);
+    for injection in injections {
+        copy.push(injection.copy(alloc)?)?;
+    }
+    Ok(copy)
 }

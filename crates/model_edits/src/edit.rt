@@ -284,3 +284,22 @@ pub fn apply(alloc: Global, model: &mut Model, edit: Edit) -> Result<(), Refusal
 {
     change(alloc, model, edit)
 }
+
+/// The model that the edit makes, or why it makes none.
+pub fn edited(alloc: Global, model: &Model, edit: Edit) -> Result<Model, Refusal>
+    // What is made is the model that the edit makes,
+    ensures accepted { IfOk result (λ made. IsEditOf model.now edit made) }
+    // and the edit makes no other.
+    ensures only { IfOk result (λ made. IsOnlyEditOf model.now edit made) }
+    // A refusal has its reason, in its order;
+    ensures refused { IfErr result (λ r. Refuses model.now edit r) }
+    // none comes where the edit makes a model, unless memory runs out.
+    ensures complete { IfErr result (λ r. IsRuledOut model.now edit r) }
+{
+    let mut made = match model.copy(alloc) {
+        Ok(copy) => copy,
+        Err(error) => return Err(Refusal::NoMemory(error)),
+    };
+    apply(alloc, &mut made, edit)?;
+    Ok(made)
+}

@@ -13,6 +13,7 @@ use sim_values::NoMemory;
 use sqlite_items::Items;
 use std::alloc::{AllocError, Global};
 use std::marker::Model;
+use std::rc::Rc;
 use thiserror::Error;
 
 /// Why declared types make no model. Of several reasons the first in this order is told.
@@ -44,10 +45,11 @@ impl From<AllocError> for TypeFault {
     }
 }
 
-/// All declared types, in the order of the files and within them, which contracts see as their list. They keep the rules of types.
+/// All declared types, in the order of the files and within them, which contracts see as their list. They keep the rules of types. A copy shares
+/// them.
 #[derive(Debug, Drop)]
 pub struct TypeTable {
-    types: Items<TypeDeclaration>,
+    types: Rc<Items<TypeDeclaration>>,
 }
 
 impl Model for TypeTable {
@@ -57,9 +59,9 @@ impl Model for TypeTable {
 
     ghost Value = { List TypeDeclaration };
 
-    ghost view = { λ t. t.types };
+    ghost view = { λ t. t.types.value };
 
-    ghost invariant = { λ t. IsWellFormed t.types };
+    ghost invariant = { λ t. IsWellFormed t.types.value };
 }
 
 impl TypeTable {
@@ -76,8 +78,20 @@ impl TypeTable {
         let types = joined(alloc, files)?;
         match faults::fault_of(alloc, types.as_slice())? {
             Some(fault) => Err(fault),
-            None => Ok(TypeTable { types }),
+            None => match Rc::new(alloc, types) {
+                Ok(types) => Ok(TypeTable { types }),
+                Err(failed) => Err(TypeFault::NoMemory(failed.into())),
+            },
         }
+    }
+
+    /// An equal table, which shares the types. It takes no memory, and fails only where there are too many copies to be counted.
+    pub fn copy(&self) -> Result<TypeTable, AllocError>
+        ensures { IfOk result (λ copy. copy ≡ self.now) }
+    {
+        Ok(TypeTable {
+            types: self.types.clone()?,
+        })
     }
 
     /// The types, in order, which keep the rules of types.
