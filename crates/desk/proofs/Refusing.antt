@@ -1,6 +1,7 @@
 -- What is told of an edit that is refused.
 use Rattle.std.proofs.Common.{◌≡◌, ℕ, List, Option, Some, None, Result, Ok, Err, IfOk, ap, inr}
 use Rattle.sim_values.specs.declared.NoMemory.{NoMemory}
+use Rattle.module_api.specs.Behaviour.{Behaviour}
 use Rattle.model_answers.specs.declared.model.Model.{Model}
 use Rattle.model_edits.specs.declared.edit.Edit.{Edit}
 use Rattle.model_edits.specs.declared.edit.Refusal.{Refusal}
@@ -17,9 +18,9 @@ some_apart (Some other) text p q = cc
 no_model : (m : Model) (e : Edit) (r : Refusal) (text : List ℕ) → IsRuledOut m e r → Some text ≡ edit_refusal_text r → (new : Model) → IsEditOf m e new → ⊥
 no_model m e r text ruled is new made = some_apart (edit_refusal_text r) text is (ap edit_refusal_text (ruled new made))
 
-pub refusing : (before after : Editing) (e : Edit) (r : Refusal) (told : Result (List ℕ) NoMemory) → after ≡ before
+pub refusing : (b : Behaviour) (before after : Editing) (e : Edit) (r : Refusal) (told : Result (List ℕ) NoMemory) → after ≡ before
     → Refuses before.model e r → IsRuledOut before.model e r → IfOk told (λ text. Some text ≡ edit_refusal_text r)
-    → IfOk told (λ text. AnswersEdit before e text after)
-refusing before after e r (Err error) same due ruled is = tt
-refusing before after e r (Ok text) same due ruled is =
+    → IfOk told (λ text. AnswersEdit b before e text after)
+refusing b before after e r (Err error) same due ruled is = tt
+refusing b before after e r (Ok text) same due ruled is =
     inr (record { why = r; text_is = is; due = due; none = no_model before.model e r text ruled is }, same)

@@ -1,5 +1,5 @@
 -- What the desk answers, and what it keeps.
-use Rattle.std.specs.Prelude.{◌≡◌, ◌⊎◌, ℕ, List, Some, None, codes}
+use Rattle.std.specs.Prelude.{◌≡◌, ◌⊎◌, ℕ, List, Option, Some, None, codes}
 use Rattle.module_api.specs.Behaviour.{Behaviour}
 use Rattle.model_answers.specs.declared.model.Model.{Model}
 use Rattle.model_edits.specs.declared.edit.Edit.{Edit}
@@ -11,6 +11,7 @@ use Rattle.command_lines.specs.declared.commands.Command.TheVariants as command
 use Rattle.kernel.specs.Kernels.{Members}
 use Rattle.edit_session.specs.Editing.{Editing, boxes_left, completed, fresh_run, WaitsFor}
 use Rattle.edit_session.specs.declared.running.Phase.TheVariants.{Idle}
+use Rattle.edit_session.specs.Reuse.{IsValidTo}
 use Rattle.edit_session.specs.Sessions.{editing_of, IsSound, KeepsModel}
 use Rattle.desk.specs.Answers.{done_text, edit_refusal_text, edited_text, held_text}
 use Rattle.desk.specs.declared.desk.Desk.{Desk}
@@ -47,6 +48,7 @@ pub record HasRun (b : Behaviour) (e : Editing) (limit : ℕ) (text : List ℕ) 
   pub answer : text ≡ run_answer b e.model limit
   pub done : e.done ≡ Some (completed b e.model limit)
   pub held : e.held ≡ boxes_left b e.model limit
+  pub known : e.known ≡ Some (fresh_run b e.model limit).world.count
 
 -- WHAT A RUN COMES TO: it is done, and its answer is that of a fresh run; or it waits for a box
 abbrev pub IsRunTurn : Behaviour → Editing → ℕ → DeskTurn → Editing → Type 0
@@ -55,13 +57,17 @@ IsRunTurn b before limit (turn.Want request) after = WaitsFor before request aft
 
 -- What want of memory leaves behind a run to that limit: no run is done, or this one is.
 abbrev pub MayBeDone : Behaviour → Editing → ℕ → Type 0
-MayBeDone b e limit = (e.done ≡ None) ⊎ (e.done ≡ Some (completed b e.model limit))
+MayBeDone b e limit =
+    ((e.done ≡ None) × (e.known ≡ None))
+    ⊎ ((e.done ≡ Some (completed b e.model limit)) × (e.known ≡ Some (fresh_run b e.model limit).world.count))
 
 -- ---- edits
 
--- The edit is made: the model is the one that it makes, and it makes no other.
-pub record IsMade (m : Model) (e : Edit) (text : List ℕ) (new : Model) : Type 0 where
-  pub text_is : text ≡ edited_text None (number_given e m)
+-- The edit is made: the model is the one that it makes, and it makes no other. It is told up to which event a run of the old model, of which so many
+-- events are known, is one of the new model.
+pub record IsMade (b : Behaviour) (m : Model) (known : Option ℕ) (e : Edit) (text : List ℕ) (new : Model) (valid : Option ℕ) : Type 0 where
+  pub text_is : text ≡ edited_text valid (number_given e m)
+  pub valid_to : IsValidTo b m new known valid
   pub edited : IsEditOf m e new
   pub only : IsOnlyEditOf m e new
 
@@ -72,14 +78,11 @@ pub record IsRefused (m : Model) (e : Edit) (text : List ℕ) : Type 0 where
   pub due : Refuses m e why
   pub none : (new : Model) → IsEditOf m e new → ⊥
 
--- WHAT AN EDIT OF A MODEL COMES TO: the answer, and the model behind it
-abbrev pub LeadsTo : Model → Edit → List ℕ → Model → Type 0
-LeadsTo m e text new = IsMade m e text new ⊎ (IsRefused m e text × (new ≡ m))
-
 -- The edit is made, and no run waits or is done; or it is refused, and nothing changed.
-abbrev pub AnswersEdit : Editing → Edit → List ℕ → Editing → Type 0
-AnswersEdit before e text after =
-    (IsMade before.model e text after.model × (after ≡ record { model = after.model; done = None; phase = Idle; held = before.held }))
+abbrev pub AnswersEdit : Behaviour → Editing → Edit → List ℕ → Editing → Type 0
+AnswersEdit b before e text after =
+    ((valid : Option ℕ) × IsMade b before.model before.known e text after.model valid
+    × (after ≡ record { model = after.model; done = None; phase = Idle; held = before.held; known = valid }))
     ⊎ (IsRefused before.model e text × (after ≡ before))
 
 -- ---- lines
@@ -92,7 +95,7 @@ IsTextOf (turn.Want request) P = ⊥
 -- WHAT A COMMAND IS ANSWERED, and what it leaves
 abbrev pub AnswersCommand : Behaviour → Editing → Command → DeskTurn → Editing → Type 0
 AnswersCommand b before (command.Run limit) answer after = IsRunTurn b before limit answer after × (after.model ≡ before.model)
-AnswersCommand b before (command.Edit e) answer after = IsTextOf answer (λ text. AnswersEdit before e text after)
+AnswersCommand b before (command.Edit e) answer after = IsTextOf answer (λ text. AnswersEdit b before e text after)
 AnswersCommand b before command.Held answer after = (answer ≡ turn.Text (held_text before.held)) × (after ≡ before)
 AnswersCommand b before command.Write answer after = (answer ≡ turn.Text (codes "refused Command")) × (after ≡ before)
 AnswersCommand b before command.Unknown answer after = (answer ≡ turn.Text (codes "refused Command")) × (after ≡ before)

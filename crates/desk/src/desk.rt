@@ -88,15 +88,18 @@ impl<C: Catalogue> Desk<C> {
         ensures sound { IsSettled C.behaviour SimpleModule-box self.new }
         ensures answer { let before = editing_at SimpleModule-box self.old in
             let after = editing_at SimpleModule-box self.new in
-            IfOk result (λ text. AnswersEdit before edit text after) }
+            IfOk result (λ text. AnswersEdit C.behaviour before edit text after) }
         ensures limit { limit_at self.new ≡ limit_at self.old }
         ensures memory { OnErr result (self.new ≡ self.old) }
     {
-        // The answer is made before the edit: so where it has no room the edit isn't made.
         let number = self.session.number_given(&edit);
-        let accepted = edited_text(self.alloc, None, number)?;
-        match self.session.edit(edit) {
-            Ok(_) => Ok(accepted),
+        match self.session.change(edit) {
+            Ok(change) => {
+                // The answer is made before the change: so where it has no room nothing is changed.
+                let text = edited_text(self.alloc, change.edited.valid_to, number)?;
+                self.session.accept(change);
+                Ok(text)
+            }
             Err(refusal) => edit_refusal_text(self.alloc, refusal),
         }
     }

@@ -9,7 +9,7 @@ use Rattle.edit_session.specs.Editing.{Editing, fresh_editing}
 
 -- a session without a run, with so many boxes
 abbrev begun_with : Model → ℕ → Editing
-begun_with m held = record { model = m; done = None; phase = Idle; held = held }
+begun_with m held = record { model = m; done = None; phase = Idle; held = held; known = None }
 
 no_seat : (s : Seat) (ss : List Seat) → map instance_of (s ∷ ss) ≡ [] → ⊥
 no_seat s ss e = cc

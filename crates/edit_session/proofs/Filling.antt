@@ -23,6 +23,7 @@ use Rattle.kernel.specs.declared.request.Request.{Request}
 use Rattle.kernel.specs.Seats.{Seat, AreBelow, AreOfKinds, instance_of, request_for, missing_part, missing_of}
 use Rattle.edit_session.specs.declared.running.Phase.{Phase}
 use Rattle.edit_session.specs.declared.running.Phase.TheVariants.{Idle, Waiting, Declined}
+use Rattle.edit_session.proofs.Valid.{known_same}
 use Rattle.edit_session.specs.Editing.{Completed, IsKept, IsLeft, IsFor, IsUnknown, waited_for, wanted_after, wanted_by, IsFilled, IsDeclined, whole_run}
 
 -- ---- setup goes on, or ends in a fault
@@ -274,35 +275,37 @@ waited b m w ss r e filled wanted =
 request_of : (o : Option Request) (id : ℕ) → option_map (λ (r : Request). r.id) o ≡ Some id → (r : Request) × (o ≡ Some r) × (id ≡ r.id)
 request_of o id e = some_part (λ (r : Request). r.id) o id e
 
-pub kept_declined : (b : Behaviour) (ss : List Seat) (w : World) (m : Model) (phase : Phase) (done : Option Completed) (id : ℕ) → w.modules ≡ map instance_of ss → IsKept b ss w m phase done → option_map (λ (r : Request). r.id) (waited_for phase m (length ss)) ≡ Some id → IsUnknown b (waited_for phase m (length ss)) → IsKept b ss w m Declined done
-kept_declined b ss w m Waiting last id e kept some unknown =
+pub kept_declined : (b : Behaviour) (ss : List Seat) (w : World) (m : Model) (phase : Phase) (done : Option Completed) (known : Option ℕ) (id : ℕ) → w.modules ≡ map instance_of ss → IsKept b ss w m phase done known → option_map (λ (r : Request). r.id) (waited_for phase m (length ss)) ≡ Some id → IsUnknown b (waited_for phase m (length ss)) → IsKept b ss w m Declined done known
+kept_declined b ss w m Waiting last known id e kept some unknown =
     let q = request_of (wanted_by m (length ss)) id some in
     record {
       kinds = kept.kinds;
       live = filled_declined b m w q.0 kept.live (waited b m w ss q.0 e kept.live q.1) (subst (IsUnknown b) q.1 unknown);
       left = kept.left;
       undone = kept.undone;
+      asked = kept.asked;
     }
-kept_declined b ss w m Idle last id e kept some unknown = cc
-kept_declined b ss w m Declined last id e kept some unknown = cc
+kept_declined b ss w m Idle last known id e kept some unknown = cc
+kept_declined b ss w m Declined last known id e kept some unknown = cc
 
 -- the box that is supplied is of a greater id than all that are there
-pub supply_above : (b : Behaviour) (ss : List Seat) (w : World) (m : Model) (phase : Phase) (done : Option Completed) (id : ℕ) → w.modules ≡ map instance_of ss → IsKept b ss w m phase done → option_map (λ (r : Request). r.id) (waited_for phase m (length ss)) ≡ Some id → AreBelow id w.modules
-supply_above b ss w m Waiting last id e kept some =
+pub supply_above : (b : Behaviour) (ss : List Seat) (w : World) (m : Model) (phase : Phase) (done : Option Completed) (known : Option ℕ) (id : ℕ) → w.modules ≡ map instance_of ss → IsKept b ss w m phase done known → option_map (λ (r : Request). r.id) (waited_for phase m (length ss)) ≡ Some id → AreBelow id w.modules
+supply_above b ss w m Waiting last known id e kept some =
     let q = request_of (wanted_by m (length ss)) id some in
     subst (λ i. AreBelow i w.modules) (sym q.2) (filled_above b m w q.0 kept.live (waited b m w ss q.0 e kept.live q.1))
-supply_above b ss w m Idle last id e kept some = cc
-supply_above b ss w m Declined last id e kept some = cc
+supply_above b ss w m Idle last known id e kept some = cc
+supply_above b ss w m Declined last known id e kept some = cc
 
-pub kept_supplied : (b : Behaviour) (ss ts : List Seat) (w u : World) (m : Model) (phase : Phase) (done : Option Completed) (id : ℕ) (box : Module) → w.modules ≡ map instance_of ss → IsKept b ss w m phase done → option_map (λ (r : Request). r.id) (waited_for phase m (length ss)) ≡ Some id → IsFor b (waited_for phase m (length ss)) box → AreOfKinds b ts → u ≡ placed (record { id = id; kind = box.kind }) box.state w → IsKept b ts u m phase done
-kept_supplied b ss ts w u m Waiting last id box e kept some for_it kinds now =
+pub kept_supplied : (b : Behaviour) (ss ts : List Seat) (w u : World) (m : Model) (phase : Phase) (done : Option Completed) (known : Option ℕ) (id : ℕ) (box : Module) → w.modules ≡ map instance_of ss → IsKept b ss w m phase done known → option_map (λ (r : Request). r.id) (waited_for phase m (length ss)) ≡ Some id → IsFor b (waited_for phase m (length ss)) box → AreOfKinds b ts → u ≡ placed (record { id = id; kind = box.kind }) box.state w → IsKept b ts u m phase done known
+kept_supplied b ss ts w u m Waiting last known id box e kept some for_it kinds now =
     let q = request_of (wanted_by m (length ss)) id some in
     let placed_is : u ≡ placed (record { id = q.0.id; kind = box.kind }) box.state w = now ∙ ap (λ i. placed (record { id = i; kind = box.kind }) box.state w) q.2 in
     record {
       kinds = kinds;
       live = filled_next b m w u q.0 box kept.live (waited b m w ss q.0 e kept.live q.1) (subst (λ o. IsFor b o box) q.1 for_it) placed_is;
-      left = subst (IsLeft b m u) (sym kept.undone) tt;
+      left = subst (IsLeft b m u) (sym kept.undone.0) tt;
       undone = kept.undone;
+      asked = known_same b m w u known (ap (λ (x : World). x.records) now) (ap (λ (x : World). x.questions) now) kept.asked;
     }
-kept_supplied b ss ts w u m Idle last id box e kept some for_it kinds now = cc
-kept_supplied b ss ts w u m Declined last id box e kept some for_it kinds now = cc
+kept_supplied b ss ts w u m Idle last known id box e kept some for_it kinds now = cc
+kept_supplied b ss ts w u m Declined last known id box e kept some for_it kinds now = cc

@@ -1,3 +1,4 @@
 pub mod Beginning
 pub mod Filling
 pub mod Giving
+pub mod Valid

@@ -22,10 +22,12 @@ use Rattle.edit_session.specs.declared.running.Advance.{Advance}
 use Rattle.edit_session.specs.declared.running.Advance.TheVariants as advance
 use Rattle.edit_session.specs.declared.running.Standing.{Standing}
 use Rattle.edit_session.specs.declared.running.Standing.TheVariants as stands
+use Rattle.edit_session.specs.declared.session.Change.{Change}
 use Rattle.edit_session.specs.declared.session.Edited.{Edited}
 use Rattle.edit_session.specs.declared.session.Progress.{Progress}
 use Rattle.edit_session.specs.declared.session.Progress.TheVariants as progress
 use Rattle.edit_session.specs.declared.session.Report.{Report}
+use Rattle.edit_session.specs.Reuse.{IsKnown, IsValidTo}
 
 -- a run that is done: its limit, its outcome, and what is known of its result files before they are written
 pub record Completed : Type 0 where
@@ -51,13 +53,14 @@ completed b m limit =
 abbrev pub boxes_left : Behaviour → Model → ℕ → ℕ
 boxes_left b m limit = length (fresh_run b m limit).world.modules
 
--- what callers see of a session: the model; the last run, where it is done; where a run stands that isn't, and how many
--- boxes it holds
+-- what callers see of a session: the model; the last run, where it is done; where a run stands that isn't; how many boxes it holds; and the last
+-- event of a run of the model whose questions are known, where there is one
 pub record Editing : Type 0 where
   pub model : Model
   pub done : Option Completed
   pub phase : Phase
   pub held : ℕ
+  pub known : Option ℕ
 
 -- ---- boxes that a run needs
 
@@ -131,18 +134,19 @@ IsLeft b m w None = Unit {0}
 IsLeft b m w (Some done) =
     whole_run b m done.limit w done.outcome × (done.files ≡ files_in m w)
 
--- while a run waits, none is done
-abbrev pub IsUndone : Phase → Option Completed → Type 0
-IsUndone Idle last = Unit {0}
-IsUndone Waiting last = last ≡ None
-IsUndone Declined last = last ≡ None
+-- while a run waits, none is done, and nothing is known of one
+abbrev pub IsUndone : Phase → Option Completed → Option ℕ → Type 0
+IsUndone Idle last known = Unit {0}
+IsUndone Waiting last known = (last ≡ None) × (known ≡ None)
+IsUndone Declined last known = (last ≡ None) × (known ≡ None)
 
 -- all that a session keeps
-pub record IsKept (b : Behaviour) (seats : List Seat) (w : World) (m : Model) (phase : Phase) (done : Option Completed) : Type 0 where
+pub record IsKept (b : Behaviour) (seats : List Seat) (w : World) (m : Model) (phase : Phase) (done : Option Completed) (known : Option ℕ) : Type 0 where
   pub kinds : AreOfKinds b seats
   pub live : IsLive b m w phase
   pub left : IsLeft b m w done
-  pub undone : IsUndone phase done
+  pub undone : IsUndone phase done known
+  pub asked : IsKnown b m w known
 
 -- ---- how a run gets on
 
@@ -183,36 +187,45 @@ pub record IsFreshRun (b : Behaviour) (before : Editing) (limit : ℕ) (report :
   pub executed : report.executed ≡ (fresh_run b before.model limit).world.count
   pub done : after.done ≡ Some (completed b before.model limit)
   pub held : after.held ≡ boxes_left b before.model limit
+  pub known : after.known ≡ Some (fresh_run b before.model limit).world.count
   pub needs_none : (before.phase ≡ Declined) ⊎ (wanted_by before.model (kept_boxes before.phase before.held) ≡ None)
 
 -- It waits for the box that its model wants next, with those that it kept, and none is done. No box was declined before.
 pub record WaitsFor (before : Editing) (request : Request) (after : Editing) : Type 0 where
   pub undeclined : IsUndeclined before.phase
   pub wanted : wanted_by before.model (kept_boxes before.phase before.held) ≡ Some request
-  pub waits : after ≡ record { model = before.model; done = None; phase = Waiting; held = kept_boxes before.phase before.held }
+  pub waits : after ≡ record { model = before.model; done = None; phase = Waiting; held = kept_boxes before.phase before.held; known = None }
 
 -- the last number that was used, where one was given
 abbrev pub last_used : ℕ → Option ℕ → Option ℕ
 last_used last None = None
 last_used last (Some number) = Some last
 
--- WHAT AN ACCEPTED EDIT LEAVES: the model that the edit makes, and it makes no other. No run waits and none is done; boxes stay
--- until the next run. Nothing of the last run is kept, so the next one begins with setup.
-pub record IsAccepted (before : Editing) (e : Edit) (edited : Edited) (after : Editing) : Type 0 where
-  pub model : IsEditOf before.model e after.model
-  pub only : IsOnlyEditOf before.model e after.model
-  pub left : after ≡ record { model = after.model; done = None; phase = Idle; held = before.held }
-  pub valid_to : edited.valid_to ≡ None
-  pub injection : edited.injection ≡ number_given e before.model
+-- WHAT AN EDIT CHANGES: the model is then the one that the edit makes, and it makes no other; the last run stays that of the model up to the event
+-- that is told
+pub record IsChangeBy (b : Behaviour) (before : Editing) (e : Edit) (change : Change) : Type 0 where
+  pub model : IsEditOf before.model e change.model
+  pub only : IsOnlyEditOf before.model e change.model
+  pub valid_to : IsValidTo b before.model change.model before.known change.edited.valid_to
+  pub injection : change.edited.injection ≡ number_given e before.model
+
+-- WHAT AN ACCEPTED EDIT LEAVES. No run waits and none is done; boxes stay until the next run, which begins with setup. Of the last run those events are
+-- known that stay valid.
+pub record IsAccepted (b : Behaviour) (before : Editing) (e : Edit) (edited : Edited) (after : Editing) : Type 0 where
+  pub change : Change
+  pub by : IsChangeBy b before e change
+  pub told : edited ≡ change.edited
+  pub left : after ≡ record { model = change.model; done = None; phase = Idle; held = before.held; known = change.edited.valid_to }
 
 -- no run waits, and none is done
 pub record IsIdle (e : Editing) : Type 0 where
   pub done : e.done ≡ None
   pub idle : e.phase ≡ Idle
+  pub known : e.known ≡ None
 
 -- a session of that model, without a run
 abbrev pub fresh_editing : Model → Editing
-fresh_editing m = record { model = m; done = None; phase = Idle; held = 0 }
+fresh_editing m = record { model = m; done = None; phase = Idle; held = 0; known = None }
 
 abbrev pub IfDone : Progress → (Report → Type 0) → Type 0
 IfDone (progress.Want request) P = Unit {0}

@@ -1,8 +1,11 @@
 -- A session, by what its boxes mean.
 use Rattle.std.specs.Prelude.{◌≡◌, option_map, length}
 use Rattle.module_api.specs.Behaviour.{Behaviour}
+use Rattle.model_edits.specs.declared.edit.Edit.{Edit}
 use Rattle.kernel.specs.Kernels.{Members, seats_in, world_in}
-use Rattle.edit_session.specs.Editing.{Completed, Editing, IsKept}
+use Rattle.edit_session.specs.Editing.{Completed, Editing, IsChangeBy, IsKept}
+use Rattle.edit_session.specs.Reuse.{IsKnown}
+use Rattle.edit_session.specs.declared.session.Change.{Change}
 use Rattle.edit_session.specs.declared.session.Done.{Done}
 use Rattle.edit_session.specs.declared.session.Session.{Session}
 
@@ -17,14 +20,20 @@ module _ {C X : Type 0} {Y : X → Type 0} where
     done = option_map completed_of s.done;
     phase = s.phase;
     held = length (seats_in members s.runner.kernel);
+    known = s.known;
   }
 
   -- what it keeps
   abbrev pub IsSound : Behaviour → Members X Y → Session C X Y → Type 0
   IsSound b members s =
-      IsKept b (seats_in members s.runner.kernel) (world_in members s.runner.kernel) s.model s.phase (option_map completed_of s.done)
+      IsKept b (seats_in members s.runner.kernel) (world_in members s.runner.kernel) s.model s.phase (option_map completed_of s.done) s.known
 
   -- It is sound, and of the same model as before.
   pub record KeepsModel (b : Behaviour) (members : Members X Y) (before after : Session C X Y) : Type 0 where
     pub sound : IsSound b members after
     pub model : (editing_of members after).model ≡ (editing_of members before).model
+
+  -- The change is what the edit makes of this session, and its questions stay known up to where the change says.
+  pub record IsChangeOf (b : Behaviour) (members : Members X Y) (s : Session C X Y) (e : Edit) (change : Change) : Type 0 where
+    pub by : IsChangeBy b (editing_of members s) e change
+    pub known : IsKnown b change.model (world_in members s.runner.kernel) change.edited.valid_to

@@ -10,14 +10,18 @@ ghost use Rattle.model_edits.specs.Edited.{number_given, IsRuledOut as IsEditRul
 ghost use Rattle.edit_session.specs.Files.{scalars_of_run, vectors_of_run, FileWritten, TextWritten};
 ghost use Rattle.edit_session.specs.Editing.{Completed, fresh_editing, last_used, wanted_of, IfDone, IfWant, IsAccepted, IsFor, IsFreshRun, IsIdle, IsUnknown, WaitsFor};
 ghost use Rattle.kernel.specs.declared.request.Request.{Request};
-ghost use Rattle.edit_session.specs.Sessions.{editing_of, IsSound, KeepsModel};
+ghost use Rattle.edit_session.specs.Reuse.{IsKnown, IsValidTo};
+ghost use Rattle.edit_session.specs.Sessions.{editing_of, IsChangeOf, IsSound, KeepsModel};
+ghost use Rattle.kernel.specs.Kernels.{world_in};
+ghost use Rattle.model_edits.specs.declared.edit.Edit.{Edit};
 
 use crate::running::{Advance, Phase, Runner};
+use agreement::agreement::agreement;
 use kernel::kernel::Kernel;
 use kernel::request::Request;
 use model_answers::model::Model;
 use model_answers::record::Record;
-use model_edits::edit::{Edit, Refusal, apply, number_given};
+use model_edits::edit::{Edit, Refusal, edited, number_given};
 use model_texts::begin::{BeginFault, model_of};
 use module_api::catalogue::Catalogue;
 use module_api::simple_module::SimpleModule;
@@ -67,6 +71,13 @@ pub struct Edited {
     pub injection: Option<u32>,
 }
 
+/// What an edit changes: the model, and what is told of it.
+#[derive(Drop)]
+pub struct Change {
+    pub model: Model,
+    pub edited: Edited,
+}
+
 /// No box is waited for.
 #[derive(Clone, Copy, Debug, PartialEq, Eq, Error)]
 #[error("NotWanted")]
@@ -109,6 +120,8 @@ pub struct Session<C: Catalogue> {
     model: Model,
     phase: Phase,
     done: Option<Done>,
+    /// The last event of a run of the model whose questions the kernel has, where there is one.
+    known: Option<u64>,
 }
 
 impl<C: Catalogue> Session<C> {
@@ -142,6 +155,7 @@ impl<C: Catalogue> Session<C> {
             model,
             phase: Phase::Idle,
             done: None,
+            known: None,
         }
     }
 
@@ -151,10 +165,10 @@ impl<C: Catalogue> Session<C> {
         requires sound { IsSound C.behaviour SimpleModule-box self.old }
         ensures sound { IsSound C.behaviour SimpleModule-box self.new }
 
-        // The session's model is then the one that the edit makes.
+        // The session's model is then the one that the edit makes; it is told up to which event the last run stays valid.
         ensures accepted { let before = editing_of SimpleModule-box self.old in
             let after = editing_of SimpleModule-box self.new in
-            IfOk result (λ edited. IsAccepted before edit edited after) }
+            IfOk result (λ edited. IsAccepted C.behaviour before edit edited after) }
 
         // A refusal has its reason, in its order; none comes where the edit makes a model, unless memory runs out.
         ensures refused { let before = editing_of SimpleModule-box self.old in
@@ -165,13 +179,76 @@ impl<C: Catalogue> Session<C> {
         // A REFUSED EDIT CHANGES NOTHING.
         ensures unchanged { OnErr result (self.new ≡ self.old) }
     {
+        let change = self.change(edit)?;
+        Ok(self.accept(change))
+    }
+
+    /// What the edit changes, or why it is refused. Nothing is changed yet.
+    pub fn change(&self, edit: Edit) -> Result<Change, Refusal>
+        requires sound { IsSound C.behaviour SimpleModule-box self.now }
+
+        // The model of the change is the one that the edit makes; it tells up to which event the last run stays valid.
+        ensures changed { IfOk result (λ change. IsChangeOf C.behaviour SimpleModule-box self.now edit change) }
+
+        // A refusal has its reason, in its order; none comes where the edit makes a model, unless memory runs out.
+        ensures refused { let before = editing_of SimpleModule-box self.now in
+            IfErr result (λ r. RefusesEdit before.model edit r) }
+        ensures complete { let before = editing_of SimpleModule-box self.now in
+            IfErr result (λ r. IsEditRuledOut before.model edit r) }
+    {
         let given = self.number_given(&edit);
-        apply(self.alloc, &mut self.model, edit)?;
+        let model = edited(self.alloc, &self.model, edit)?;
+        match self.valid_to(&model) {
+            Ok(valid_to) => {
+                let injection = last_used(model.last_injection, given);
+                Ok(Change {
+                    model,
+                    edited: Edited {
+                        valid_to,
+                        injection,
+                    },
+                })
+            }
+            Err(error) => Err(Refusal::NoMemory(error)),
+        }
+    }
+
+    /// Up to which event the last run is that of this model too.
+    fn valid_to(&self, model: &Model) -> Result<Option<u64>, NoMemory>
+        requires sound { IsSound C.behaviour SimpleModule-box self.now }
+        ensures valid { let before = editing_of SimpleModule-box self.now in
+            IfOk result (λ valid. IsValidTo C.behaviour before.model model.now before.known valid) }
+        ensures known { IfOk result (λ valid.
+            IsKnown C.behaviour model.now (world_in SimpleModule-box self.now.runner.kernel) valid) }
+    {
+        let Some(last) = self.known else {
+            return Ok(None);
+        };
+        let kernel = &self.runner.kernel;
+        agreement(
+            self.alloc,
+            &self.model,
+            model,
+            kernel.records(),
+            kernel.questions(),
+            last,
+        )
+    }
+
+    /// Makes a change, which takes no memory. A run that waits is given up, and no run is done until the next one.
+    pub fn accept(&mut self, change: Change) -> Edited
+        requires sound { IsSound C.behaviour SimpleModule-box self.old }
+        requires changed { (edit : Edit) × IsChangeOf C.behaviour SimpleModule-box self.old edit change }
+        ensures sound { IsSound C.behaviour SimpleModule-box self.new }
+        ensures told { result ≡ change.edited }
+        ensures left { let before = editing_of SimpleModule-box self.old in editing_of SimpleModule-box self.new
+            ≡ record { model = change.model; done = None; phase = Phase.Idle; held = before.held; known = change.edited.valid_to } }
+    {
+        let Change { model, edited } = change;
+        self.model = model;
         self.give_up();
-        Ok(Edited {
-            valid_to: None,
-            injection: last_used(self.model.last_injection, given),
-        })
+        self.known = edited.valid_to;
+        edited
     }
 
     /// The number that this edit would give to the injection that it adds, where it adds one. No number is given twice.
@@ -184,10 +261,11 @@ impl<C: Catalogue> Session<C> {
 
     /// Gives up a run that waits, and what is kept of the last one that is done.
     fn give_up(&mut self)
-        ensures { self.new ≡ record self.old { phase = Phase.Idle; done = None } }
+        ensures { self.new ≡ record self.old { phase = Phase.Idle; done = None; known = None } }
     {
         self.phase = Phase::Idle;
         self.done = None;
+        self.known = None;
     }
 
     /// The name of the configuration that is selected.
@@ -225,7 +303,8 @@ impl<C: Catalogue> Session<C> {
                 Ok(Progress::Want(request))
             }
             Advance::Ends(outcome) => {
-                let report = report_of(self.alloc, &outcome, self.runner.kernel.count())?;
+                let executed = self.runner.kernel.count();
+                let report = report_of(self.alloc, &outcome, executed)?;
                 let files = prepare(
                     self.alloc,
                     &self.model,
@@ -234,6 +313,7 @@ impl<C: Catalogue> Session<C> {
                     self.runner.kernel.scalars(),
                     self.runner.kernel.emissions(),
                 )?;
+                self.known = Some(executed);
                 self.done = Some(Done {
                     limit,
                     outcome,

@@ -19,7 +19,7 @@ ghost use Rattle.kernel.specs.Positions.{lengths_of, position_of, cut_to, core_b
 use crate::position::{Lengths, Position};
 use event_set::pending::{Happening, Pending};
 use event_set::set::EventSet;
-use model_answers::answer::{Answer, Built, Question};
+use model_answers::answer::{Answer, Asked, Built, Question};
 use model_answers::answering::{answer, is_beyond, parameters_of};
 use model_answers::injection::{Due, Injection, Turn as InjectionTurn, injection_before};
 use model_answers::model::Model as NetworkModel;
@@ -168,6 +168,12 @@ impl Core {
         ensures few { length result.now < 2 ^ 32 }
     {
         self.records.as_slice()
+    }
+
+    pub fn questions(&self) -> &[Asked]
+        ensures { result.now ≡ self.now.questions }
+    {
+        self.questions.as_slice()
     }
 
     pub fn emissions(&self) -> &[Emission]

@@ -21,6 +21,7 @@ use crate::core_part::{Core, Look, Next};
 use crate::position::Position;
 use crate::request::Request;
 use event_set::pending::{Happening, Pending};
+use model_answers::answer::Asked;
 use model_answers::injection::Injection;
 use model_answers::model::Model;
 use model_answers::record::{Record, path_of};
@@ -77,6 +78,13 @@ impl<C: Catalogue> Kernel<C> {
         ensures few { length result.now < 2 ^ 32 }
     {
         self.core.records()
+    }
+
+    /// What was asked of the model.
+    pub fn questions(&self) -> &[Asked]
+        ensures { result.now ≡ (world_in SimpleModule-box self.now).questions }
+    {
+        self.core.questions()
     }
 
     /// What was emitted.

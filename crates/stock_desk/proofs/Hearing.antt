@@ -11,7 +11,7 @@ use Rattle.model_edits.specs.declared.edit.Edit.{Edit}
 use Rattle.command_lines.specs.Commands.{IsEdit}
 use Rattle.command_lines.specs.declared.commands.Command.{Command}
 use Rattle.command_lines.specs.declared.commands.Command.TheVariants as command
-use Rattle.stock_desk.specs.Served.{Machine, AreHeard, Hears, HearsFiles, command_asked}
+use Rattle.stock_desk.specs.Served.{Machine, AreHeard, Hears, HearsFiles, command_asked, events_of}
 use Rattle.transcripts.specs.Heard.{Answer, Files, Heard}
 use Rattle.transcripts.specs.declared.asked.Asked.{Asked}
 use Rattle.stock_desk.specs.Serving.{Seen, AreFilled, ComesTo, HearsAnswer, HearsNext, IsAt, IsCutOff, IsRunIn}
@@ -71,26 +71,32 @@ pub tells_run : (b : Behaviour) (limit : ℕ) (before after : Seen) (text : List
     → after.running ≡ None → after.editing.model ≡ before.editing.model → HasRun b after.editing limit text → HearsAnswer text before.heard after.heard n
     → IsRunIn b limit before after (turn.Over n)
 tells_run b limit before after text n asked may running model ran heard = tells_going b limit before after text n asked may running heard (λ s same. (
-  record { model = s.model; last = Some limit; held = boxes_left b s.model limit },
+  record { model = s.model; last = Some limit; held = boxes_left b s.model limit; known = Some (events_of b s.model limit) },
   inl (ap (λ (t : List ℕ). Answer t ∷ []) (ran.answer ∙ ap (λ (m : Model). run_answer b m limit) (model ∙ same)), refl),
   record {
     model = model ∙ same;
     done = ran.done ∙ ap (λ (m : Model). Some (completed b m limit)) (model ∙ same);
     held = ran.held ∙ ap (λ (m : Model). boxes_left b m limit) (model ∙ same);
+    known = ran.known ∙ ap (λ (m : Model). Some (events_of b m limit)) (model ∙ same);
   },
 ))
 
 -- memory ran out for a run: none is done, or this one is
 after_memory : (b : Behaviour) (limit : ℕ) (s : Machine) (e : Editing) → e.model ≡ s.model → MayBeDone b e limit → Told b (command.Run limit) (codes "refused NoMemory") s e
 after_memory b limit s e model (inl none) = (
-  record { model = s.model; last = None; held = e.held },
-  inr (refl, refl, inl refl),
-  record { model = model; done = none; held = refl },
+  record { model = s.model; last = None; held = e.held; known = None },
+  inr (refl, refl, inl (refl, refl)),
+  record { model = model; done = none.0; held = refl; known = none.1 },
 )
 after_memory b limit s e model (inr done) = (
-  record { model = s.model; last = Some limit; held = e.held },
-  inr (refl, refl, inr refl),
-  record { model = model; done = done ∙ ap (λ (m : Model). Some (completed b m limit)) model; held = refl },
+  record { model = s.model; last = Some limit; held = e.held; known = Some (events_of b s.model limit) },
+  inr (refl, refl, inr (refl, refl)),
+  record {
+    model = model;
+    done = done.0 ∙ ap (λ (m : Model). Some (completed b m limit)) model;
+    held = refl;
+    known = done.1 ∙ ap (λ (m : Model). Some (events_of b m limit)) model;
+  },
 )
 
 -- and that is told
@@ -103,12 +109,12 @@ tells_memory b limit before after n asked may running model is heard =
 
 -- ---- edits
 
-edited : (b : Behaviour) (e : Edit) (before after : Editing) (text : List ℕ) → AnswersEdit before e text after → (s : Machine) → IsAt b before s
+edited : (b : Behaviour) (e : Edit) (before after : Editing) (text : List ℕ) → AnswersEdit b before e text after → (s : Machine) → IsAt b before s
     → Told b (command.Edit e) text s after
 edited b e before after text (inl made) s at = (
-  record { model = after.model; last = None; held = s.held },
-  inl (text, refl, inl (subst (λ m. IsMade m e text after.model) at.model made.0, refl, refl)),
-  record { model = refl; done = ap (λ (x : Editing). x.done) made.1; held = ap (λ (x : Editing). x.held) made.1 ∙ at.held },
+  record { model = after.model; last = None; held = s.held; known = made.0 },
+  inl (text, refl, inl (subst (λ k. IsMade b s.model k e text after.model made.0) at.known (subst (λ m. IsMade b m before.known e text after.model made.0) at.model made.1), refl, refl)),
+  record { model = refl; done = ap (λ (x : Editing). x.done) made.2; held = ap (λ (x : Editing). x.held) made.2 ∙ at.held; known = ap (λ (x : Editing). x.known) made.2 },
 )
 edited b e before after text (inr refused) s at = (
   s,
@@ -118,7 +124,7 @@ edited b e before after text (inr refused) s at = (
 
 -- what is told of an edit
 pub tells_edit : (b : Behaviour) (e : Edit) (before after : Seen) (text : List ℕ) (n : Next) → after.asked ≡ before.asked → after.may ≡ before.may
-    → after.running ≡ None → AnswersEdit before.editing e text after.editing → HearsAnswer text before.heard after.heard n
+    → after.running ≡ None → AnswersEdit b before.editing e text after.editing → HearsAnswer text before.heard after.heard n
     → HearsNext b (command.Edit e) before after n
 tells_edit b e before after text n asked may running is heard =
     tells b (command.Edit e) before after text n asked may running heard (edited b e before.editing after.editing text is)

@@ -156,7 +156,7 @@ by_command b s a command.Unknown before mid after (turn.Need made) is asks hears
 by_command b s a command.TooLarge before mid after (turn.Need made) is asks hears = absurd hears
 
 pub asked_turn : (b : Behaviour) (a : Asked) (before mid after : Seen) (t : Turn) → AsksNow before mid a → ComesTo b (command_asked a) mid after t → IsServingTurn b before after t
-asked_turn b a before mid after t asks comes = by_command b (record { model = before.editing.model; last = None; held = 0 }) a (command_asked a) before mid after t refl asks comes
+asked_turn b a before mid after t asks comes = by_command b (record { model = before.editing.model; last = None; held = 0; known = None }) a (command_asked a) before mid after t refl asks comes
 
 -- ---- memory runs out for a box
 
@@ -164,19 +164,21 @@ some_limit : (o : Option ℕ) → IsSome o → (limit : ℕ) × (o ≡ Some limi
 some_limit None is = absurd cc
 some_limit (Some limit) is = (limit, refl)
 
-undone : (phase : Phase) (m : Model) (held : ℕ) (done : Option Completed) → IsSome (waited_for phase m held) → IsUndone phase done → done ≡ None
-undone Idle m held d is none = absurd cc
-undone Waiting m held d is none = none
-undone Declined m held d is none = absurd cc
+undone : (phase : Phase) (m : Model) (held : ℕ) (done : Option Completed) (known : Option ℕ) → IsSome (waited_for phase m held) → IsUndone phase done known
+    → (done ≡ None) × (known ≡ None)
+undone Idle m held d k is none = absurd cc
+undone Waiting m held d k is none = none
+undone Declined m held d k is none = absurd cc
 
-pub memory_turn : (b : Behaviour) (before after : Seen) (n : Next) → IsSome before.running → IsSome (wanted_of before.editing) → IsUndone before.editing.phase before.editing.done
+pub memory_turn : (b : Behaviour) (before after : Seen) (n : Next) → IsSome before.running → IsSome (wanted_of before.editing) → IsUndone before.editing.phase before.editing.done before.editing.known
     → after.editing ≡ before.editing → after.asked ≡ before.asked → after.may ≡ before.may → after.running ≡ None
     → HearsAnswer (codes "refused NoMemory") before.heard after.heard n → IsNextServing b before after n
 memory_turn b before after n going waits none same asked may running heard =
     let at = some_limit before.running going in
+    let left = undone before.editing.phase before.editing.model before.editing.held before.editing.done before.editing.known waits none in
     run_turn b at.0 before after (turn.Over n) at.1
     (tells_memory b at.0 before after n asked may running (ap (λ (e : Editing). e.model) same)
-    (inl (ap (λ (e : Editing). e.done) same ∙ undone before.editing.phase before.editing.model before.editing.held before.editing.done waits none)) heard)
+    (inl (ap (λ (e : Editing). e.done) same ∙ left.0, ap (λ (e : Editing). e.known) same ∙ left.1)) heard)
 
 -- a box is placed, or it isn't, and the turn goes on
 pub went_serving : (b : Behaviour) (before mid after : Seen) (made : StockModule) (n : Next) → NeedsBox b before mid made → IsNextServing b mid after n → IsNextServing b before after n
@@ -196,6 +198,6 @@ ends_served b s v (stop.Device page written) is = is
 pub served_first : (b : Behaviour) (m : Model) (v : Seen) → v.editing ≡ fresh_editing m → v.asked ≡ [] → v.heard ≡ [] → IsServed b (fresh_machine m) v
 served_first b m v fresh asked heard = record {
   machine = fresh_machine m;
-  at = record { model = ap (λ (e : Editing). e.model) fresh; done = ap (λ (e : Editing). e.done) fresh; held = ap (λ (e : Editing). e.held) fresh };
+  at = record { model = ap (λ (e : Editing). e.model) fresh; done = ap (λ (e : Editing). e.done) fresh; held = ap (λ (e : Editing). e.held) fresh; known = ap (λ (e : Editing). e.known) fresh };
   heard = rw (asked, heard) (refl, refl);
 }

@@ -6,7 +6,7 @@ use Rattle.model_edits.specs.declared.edit.Edit.{Edit}
 use Rattle.command_lines.specs.Commands.{command_of}
 use Rattle.command_lines.specs.declared.commands.Command.{Command}
 use Rattle.command_lines.specs.declared.commands.Command.TheVariants as command
-use Rattle.edit_session.specs.Editing.{boxes_left}
+use Rattle.edit_session.specs.Editing.{boxes_left, fresh_run}
 use Rattle.edit_session.specs.Files.{scalars_of_run, vectors_of_run}
 use Rattle.desk.specs.Answers.{held_text}
 use Rattle.desk.specs.Turns.{run_answer, IsMade, IsRefused}
@@ -14,11 +14,17 @@ use Rattle.transcripts.specs.Heard.{Answer, Files, Heard}
 use Rattle.transcripts.specs.declared.asked.Asked.{Asked}
 use Rattle.transcripts.specs.declared.asked.Asked.TheVariants as asked
 
--- THE PLAIN MACHINE holds a model, the limit of the last run that is done, if there is one, and how many boxes there are. It keeps nothing else of a run.
+-- THE PLAIN MACHINE holds a model, the limit of the last run that is done, if there is one, how many boxes there are, and of how many events of a run of
+-- the model the questions are known. It keeps nothing else of a run.
 pub record Machine : Type 0 where
   pub model : Model
   pub last : Option ℕ
   pub held : ℕ
+  pub known : Option ℕ
+
+-- how many events a run of the model has, up to that limit
+abbrev pub events_of : Behaviour → Model → ℕ → ℕ
+events_of b m limit = (fresh_run b m limit).world.count
 
 -- the command that is asked for; a line that is too long to be kept is too large
 abbrev pub command_asked : Asked → Command
@@ -32,14 +38,15 @@ out_of_memory = Answer (codes "refused NoMemory")
 -- nothing is said of the boxes.
 abbrev pub HearsRun : Behaviour → Machine → ℕ → List Heard → Machine → Type 0
 HearsRun b s limit heard s' =
-    ((heard ≡ Answer (run_answer b s.model limit) ∷ []) × (s' ≡ record { model = s.model; last = Some limit; held = boxes_left b s.model limit }))
-    ⊎ ((heard ≡ out_of_memory ∷ []) × (s'.model ≡ s.model) × ((s'.last ≡ None) ⊎ (s'.last ≡ Some limit)))
+    ((heard ≡ Answer (run_answer b s.model limit) ∷ []) × (s' ≡ record { model = s.model; last = Some limit; held = boxes_left b s.model limit; known = Some (events_of b s.model limit) }))
+    ⊎ ((heard ≡ out_of_memory ∷ []) × (s'.model ≡ s.model)
+    × (((s'.last ≡ None) × (s'.known ≡ None)) ⊎ ((s'.last ≡ Some limit) × (s'.known ≡ Some (events_of b s.model limit)))))
 
 -- AN EDIT is made, and then no run is done, and the boxes stay; or it is refused, or memory ran out, and then nothing changed.
-abbrev pub HearsEdit : Machine → Edit → List Heard → Machine → Type 0
-HearsEdit s e heard s' =
+abbrev pub HearsEdit : Behaviour → Machine → Edit → List Heard → Machine → Type 0
+HearsEdit b s e heard s' =
     ((text : List ℕ) × (heard ≡ Answer text ∷ [])
-    × ((IsMade s.model e text s'.model × (s'.last ≡ None) × (s'.held ≡ s.held)) ⊎ (IsRefused s.model e text × (s' ≡ s))))
+    × ((IsMade b s.model s.known e text s'.model s'.known × (s'.last ≡ None) × (s'.held ≡ s.held)) ⊎ (IsRefused s.model e text × (s' ≡ s))))
     ⊎ ((heard ≡ out_of_memory ∷ []) × (s' ≡ s))
 
 -- HOW MANY BOXES there are is told, or memory ran out.
@@ -55,7 +62,7 @@ HearsFiles b m (Some limit) heard = heard ≡ Files m.config (scalars_of_run b m
 -- WHAT IS HEARD OF A COMMAND, and what the machine holds behind it
 abbrev pub Hears : Behaviour → Machine → Command → List Heard → Machine → Type 0
 Hears b s (command.Run limit) heard s' = HearsRun b s limit heard s'
-Hears b s (command.Edit e) heard s' = HearsEdit s e heard s'
+Hears b s (command.Edit e) heard s' = HearsEdit b s e heard s'
 Hears b s command.Held heard s' = HearsHeld s.held heard × (s' ≡ s)
 Hears b s command.Write heard s' = HearsFiles b s.model s.last heard × (s' ≡ s)
 Hears b s command.Unknown heard s' = (heard ≡ Answer (codes "refused Command") ∷ []) × (s' ≡ s)
@@ -69,7 +76,7 @@ AreHeard b s (a ∷ more) heard s' = (front rest : List Heard) × (mid : Machine
 
 -- a machine that has run nothing has no boxes
 abbrev pub fresh_machine : Model → Machine
-fresh_machine m = record { model = m; last = None; held = 0 }
+fresh_machine m = record { model = m; last = None; held = 0; known = None }
 
 -- THE FIRST PART of what a command is answered is heard, or nothing; what comes next is missed.
 pub record BeginsToHear (b : Behaviour) (s : Machine) (c : Command) (heard : List Heard) : Type 0 where

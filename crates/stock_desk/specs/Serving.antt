@@ -42,6 +42,7 @@ pub record IsAt (b : Behaviour) (e : Editing) (s : Machine) : Type 0 where
   pub model : e.model ≡ s.model
   pub done : e.done ≡ option_map (completed b s.model) s.last
   pub held : e.held ≡ s.held
+  pub known : e.known ≡ s.known
 
 -- All that was asked is heard.
 pub record IsServed (b : Behaviour) (s : Machine) (v : Seen) : Type 0 where

@@ -203,7 +203,7 @@ fn lines_of_stock(alloc: Global) -> Result<Lines, Fail> {
 fn edits_at_a_desk(rt: HostRuntime) -> Result<(), Fail> {
     let lines = lines_of_stock(rt.alloc())?;
     let wanted =
-        "done no-more-events from start executed 0\nrefused NoSuchLine\nedited valid none\nrefused Command\n";
+        "done no-more-events from start executed 0\nrefused NoSuchLine\nedited valid 0\nrefused Command\n";
     assert_eq!(rt; lines.told.as_slice(), wanted.as_bytes());
     assert!(rt;
         lines.done == Some((true, false)),

@@ -1,0 +1,13 @@
+use Rattle.kernel.specs.Kernels.{world_in}
+use Rattle.edit_session.proofs.Valid.{valid_of, known_of}
+use Rattle.edit_session.proofs.session.Session.valid_to.Goals as goal
+
+pub returns-clause-valid : goal.returns-clause-valid
+returns-clause-valid g c =
+    valid_of g.C.Catalogue.behaviour g.C.Catalogue.lawful c.args.self.now.model c.args.model.now (world_in (λ b. (g.dyn-1.0.entry b.vtable).1) c.args.self.now.runner.kernel)
+    c.args.self.now.known c.in-Some.last c.agreement.result c.in-Some.is c.requires.sound.asked (rw (c.records.ensures.records, c.questions.ensures) at c.agreement.ensures)
+
+pub returns-clause-known : goal.returns-clause-known
+returns-clause-known g c =
+    known_of g.C.Catalogue.behaviour c.args.self.now.model c.args.model.now (world_in (λ b. (g.dyn-1.0.entry b.vtable).1) c.args.self.now.runner.kernel)
+    c.args.self.now.known c.in-Some.last c.agreement.result c.in-Some.is c.requires.sound.asked (rw (c.records.ensures.records, c.questions.ensures) at c.agreement.ensures)
