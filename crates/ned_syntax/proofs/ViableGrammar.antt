@@ -30,7 +30,7 @@ use Rattle.ned_syntax.specs.declared.properties.Effect.{Effect}
 use Rattle.ned_syntax.specs.declared.properties.Effect.TheVariants as effects
 use Rattle.ned_syntax.specs.declared.statistics.Except.{Except}
 use Rattle.ned_syntax.specs.declared.statistics.Except.TheVariants as except_is
-use Rattle.ned_syntax.specs.Grammar.{word, mark, name, in_parens, plain_literal, number, negative_literal, literal, expression, default_value, value_rule, property_name, bracketed, index, body, property, mode_word, question, mode_rule, next_mode, modes, group, loose_token, piece, pieces, loose_text, no_value, source_value, record_value, source_tail, record_tail, source_word, record_word, source_part, record_part, other_part, record_or_other, any_part, part, next_part, statistic_body, optional_body, indexed_statistic, unnamed_statistic, named_or_not, statistic_tail, statistic_word, statistic, plain_name, plain_line, property_text, property_line, valued, tail, parameter_word, volatile, any_declaration, declaration, assignment, assigned_or_said, any_line, section_line, heading, section, simple, submodule, submodules, network, type_rule, file, is_word, is_mark, name_of, turn_of, literal_of, number_of, property_name_of, mode_of, loose_of, source_of, record_of, statistic_of, plain_name_of, parameter_word_of, is_measured, first_unit, unit_behind, declared}
+use Rattle.ned_syntax.specs.Grammar.{word, mark, name, in_parens, plain_literal, number, negative_literal, literal, expression, default_value, value_rule, property_name, bracketed, index, body, property, mode_word, question, mode_rule, next_mode, modes, group, loose_token, piece, pieces, loose_text, no_value, source_value, record_value, source_tail, record_tail, source_word, record_word, source_part, record_part, other_part, record_or_other, any_part, part, next_part, statistic_body, optional_body, indexed_statistic, unnamed_statistic, named_or_not, statistic_tail, statistic_word, statistic, plain_name, plain_line, property_text, property_line, valued, tail, parameter_word, volatile, any_declaration, declaration, assignment, assigned_or_said, any_line, section_line, heading, section, base_name, optional_base, simple, submodule, submodules, network, type_rule, file, is_word, is_mark, name_of, turn_of, literal_of, number_of, property_name_of, mode_of, loose_of, source_of, record_of, statistic_of, plain_name_of, parameter_word_of, is_measured, first_unit, unit_behind, declared}
 use Rattle.ned_tokens.proofs.ViableLaws.{Viable, token-viable, such_that-viable, either-viable, optional-viable, many-viable, balanced-viable, then_on, before_on, after_on, mapped_on}
 use Rattle.ned_tokens.proofs.Laws.{mapped}
 use Rattle.ned_tokens.proofs.BalancedLaws.{balanced-lawful}
@@ -352,9 +352,17 @@ section_on : Viable section
 unfolding section
 section_on = before_on laws.heading-lawful heading_on (many-viable section_line laws.section_line-lawful laws.section_line-full section_line_on)
 
+base_name_on : Viable base_name
+unfolding base_name
+base_name_on = before_on (laws.word-lawful k.Extends) (word_on k.Extends refl) name_on
+
+base_on : Viable optional_base
+unfolding optional_base
+base_on = optional-viable base_name base_name_on
+
 simple_on : Viable simple
 unfolding simple
-simple_on = mapped_on (before_on (laws.word-lawful k.Simple) (word_on k.Simple refl) (then_on laws.name-lawful name_on (before_on (laws.mark-lawful m.Open) (mark_on m.Open refl) (after_on laws.section-lawful section_on (mark_on m.Close refl)))))
+simple_on = mapped_on (before_on (laws.word-lawful k.Simple) (word_on k.Simple refl) (then_on laws.name-lawful name_on (then_on laws.base-lawful base_on (before_on (laws.mark-lawful m.Open) (mark_on m.Open refl) (after_on laws.section-lawful section_on (mark_on m.Close refl))))))
 
 submodule_on : Viable submodule
 unfolding submodule

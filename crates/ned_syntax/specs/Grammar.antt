@@ -460,9 +460,17 @@ section = heading ▷ many section_line
 abbrev pub section_block : Rule (List SectionLine)
 section_block = mark m.Open ▷ (section ◁ mark m.Close)
 
--- "simple" name "{" [params] "}"
+-- "extends" name
+unfoldable pub base_name : Rule Bytes
+base_name = word k.Extends ▷ name
+
+-- ["extends" name]
+unfoldable pub optional_base : Rule (Option Bytes)
+optional_base = optional base_name
+
+-- "simple" name ["extends" name] "{" [params] "}"
 unfoldable pub simple : Rule TypeDeclaration
-simple = made (λ p. record { kind = kinds.Simple; name = p.0; lines = p.1; submodules = [] }) (word k.Simple ▷ (name ⊗ section_block))
+simple = made (λ p. record { kind = kinds.Simple; name = p.0; base = p.1.0; lines = p.1.1; submodules = [] }) (word k.Simple ▷ (name ⊗ (optional_base ⊗ section_block)))
 
 -- ":" name ";"
 abbrev pub submodule_type : Rule Bytes
@@ -486,7 +494,7 @@ submodules_block = mark m.Open ▷ (submodules ◁ mark m.Close)
 
 -- "network" name "{" [submodules] "}"
 unfoldable pub network : Rule TypeDeclaration
-network = made (λ p. record { kind = kinds.Network; name = p.0; lines = []; submodules = p.1 }) (word k.Network ▷ (name ⊗ submodules_block))
+network = made (λ p. record { kind = kinds.Network; name = p.0; base = None; lines = []; submodules = p.1 }) (word k.Network ▷ (name ⊗ submodules_block))
 
 unfoldable pub type_rule : Rule TypeDeclaration
 type_rule = either simple network

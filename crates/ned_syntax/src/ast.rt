@@ -89,6 +89,8 @@ pub enum TypeKind {
 pub struct TypeDeclaration {
     pub kind: TypeKind,
     pub name: Text,
+    /// The type that it extends.
+    pub base: Option<Text>,
     pub lines: Items<SectionLine>,
     pub submodules: Items<Submodule>,
 }

@@ -22,18 +22,41 @@ fn section_block(alloc: Global, tokens: &[Token]) -> Result<(Items<SectionLine>,
     ended(lines, Mark::Close, rest)
 }
 
-/// `simple = "simple" name section_block`.
+/// `base_name = "extends" name`.
+#[tactic(auto, unfolding(crate::specs::Grammar::base_name))]
+fn base_name(alloc: Global, tokens: &[Token]) -> Result<(Text, &[Token]), Refusal>
+    ensures { Reads grammar.base_name tokens.now result }
+{
+    let rest = read!(word(Keyword::Extends, tokens));
+    name(alloc, rest)
+}
+
+/// `optional_base = [ base_name ]`.
+#[tactic(auto, unfolding(crate::specs::Grammar::optional_base, crate::specs::Grammar::base_name, crate::specs::Grammar::word))]
+fn optional_base(alloc: Global, tokens: &[Token]) -> Result<(Option<Text>, &[Token]), Refusal>
+    ensures { Reads grammar.optional_base tokens.now result }
+{
+    if !begins_word(Keyword::Extends, tokens) {
+        return Ok((None, tokens));
+    }
+    let (base, rest) = read!(base_name(alloc, tokens));
+    Ok((Some(base), rest))
+}
+
+/// `simple = "simple" name optional_base section_block`.
 #[tactic(auto, unfolding(crate::specs::Grammar::simple))]
 fn simple(alloc: Global, tokens: &[Token]) -> Result<(TypeDeclaration, &[Token]), Refusal>
     ensures { Reads grammar.simple tokens.now result }
 {
     let rest = read!(word(Keyword::Simple, tokens));
     let (name, rest) = read!(name(alloc, rest));
+    let (base, rest) = read!(optional_base(alloc, rest));
     let (lines, rest) = read!(section_block(alloc, rest));
     Ok((
         TypeDeclaration {
             kind: TypeKind::Simple,
             name,
+            base,
             lines,
             submodules: Items::new(alloc),
         },
@@ -124,6 +147,7 @@ fn network(alloc: Global, tokens: &[Token]) -> Result<(TypeDeclaration, &[Token]
         TypeDeclaration {
             kind: TypeKind::Network,
             name,
+            base: None,
             lines: Items::new(alloc),
             submodules,
         },
