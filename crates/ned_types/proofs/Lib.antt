@@ -1,3 +1,5 @@
 pub mod WellFormedLaws
+pub mod BuildingLaws
+pub mod InheritanceLaws
 pub mod Near
 pub mod Repeats

@@ -1,4 +1,4 @@
--- Types have no fault exactly where they are well formed.
+-- Types have no clash exactly where they are well formed.
 use Rattle.std.proofs.Common.{◌≡◌, ◌≢◌, inl, inr, ℕ, Bool, true, false, not, ◌||◌, ◌&&◌, List, [], ◌∷◌, Option, Some, None, refl, sym, ap, subst, ◌∙◌, if◌then◌else◌}
 use Rattle.std.specs.Prelude.{is_some, ◌↔◌}
 use Rattle.std.specs.List.{list_any}
@@ -12,8 +12,6 @@ use Rattle.ned_syntax.specs.declared.ast.Submodule.{Submodule}
 use Rattle.ned_syntax.specs.declared.ast.TypeDeclaration.{TypeDeclaration}
 use Rattle.ned_syntax.specs.declared.ast.TypeKind.{TypeKind}
 use Rattle.ned_syntax.specs.declared.ast.TypeKind.TheVariants.{Simple, Network}
-use Rattle.ned_types.specs.declared.table.TypeFault.{TypeFault}
-use Rattle.ned_types.specs.declared.table.TypeFault.TheVariants.{DuplicateType, UnknownType, KindClash}
 use Rattle.ned_types.specs.Types as t
 use Rattle.ned_types.specs.WellFormed.{IsAmong, StandsBefore, IsParameter, IsSoundSection, IsSimpleType, IsWellFormed}
 
@@ -23,20 +21,20 @@ is_true : (b : Bool) → (b ≡ false → ⊥) → b ≡ true
 is_true true h = refl
 is_true false h = absurd (h refl)
 
-not_false : (b : Bool) → not b ≡ false → b ≡ true
+pub not_false : (b : Bool) → not b ≡ false → b ≡ true
 not_false true h = refl
 not_false false h = absurd (false≢true (sym h))
 
-false_not : (b : Bool) → b ≡ true → not b ≡ false
+pub false_not : (b : Bool) → b ≡ true → not b ≡ false
 false_not true h = refl
 false_not false h = absurd (false≢true h)
 
-or_false : (x y : Bool) → x ≡ false → y ≡ false → (x || y) ≡ false
+pub or_false : (x y : Bool) → x ≡ false → y ≡ false → (x || y) ≡ false
 or_false false y e f = f
 or_false true y e f = absurd (false≢true (sym e))
 
 -- a test that is false behind one that is true
-and_told : (x y : Bool) → (x && y) ≡ false → x ≡ true → y ≡ false
+pub and_told : (x y : Bool) → (x && y) ≡ false → x ≡ true → y ≡ false
 and_told true y h e = h
 and_told false y h e = absurd (false≢true e)
 
@@ -54,20 +52,20 @@ apart_names a b h =
       | inr other ↦ other
     ]
 
-same_names : (a b : List ℕ) → bytes_eq a b ≡ true → a ≡ b
+pub same_names : (a b : List ℕ) → bytes_eq a b ≡ true → a ≡ b
 same_names a b h = (bytes_eq-Decides a b).0 h
 
-names_same : (a b : List ℕ) → a ≡ b → bytes_eq a b ≡ true
+pub names_same : (a b : List ℕ) → a ≡ b → bytes_eq a b ≡ true
 names_same a b e = (bytes_eq-Decides a b).1 e
 
 -- ---- members
 
-any_told : {X : Type 0} (test : X → Bool) (xs : List X) → list_any test xs ≡ false → (x : X) → IsAmong x xs → test x ≡ false
+pub any_told : {X : Type 0} (test : X → Bool) (xs : List X) → list_any test xs ≡ false → (x : X) → IsAmong x xs → test x ≡ false
 any_told test [] h x is = absurd is
 any_told test (y ∷ ys) h x (inl e) = ap test e ∙ (or_parts (test y) (list_any test ys) h).0
 any_told test (y ∷ ys) h x (inr is) = any_told test ys (or_parts (test y) (list_any test ys) h).1 x is
 
-any_made : {X : Type 0} (test : X → Bool) (xs : List X) → ((x : X) → IsAmong x xs → test x ≡ false) → list_any test xs ≡ false
+pub any_made : {X : Type 0} (test : X → Bool) (xs : List X) → ((x : X) → IsAmong x xs → test x ≡ false) → list_any test xs ≡ false
 any_made test [] h = refl
 any_made test (y ∷ ys) h = or_false (test y) (list_any test ys) (h y (inl refl)) (any_made test ys (λ x is. h x (inr is)))
 
@@ -104,7 +102,7 @@ pairs_made Q R bad any none step one (z ∷ zs) q r =
 
 -- ---- two types of one name
 
-types_apart : (types : List TypeDeclaration) → t.has_duplicate types ≡ false → (a b : TypeDeclaration) → StandsBefore a b types → a.name ≢ b.name
+pub types_apart : (types : List TypeDeclaration) → t.has_duplicate types ≡ false → (a b : TypeDeclaration) → StandsBefore a b types → a.name ≢ b.name
 types_apart types h = pairs_told {X = TypeDeclaration} (λ a b. a.name ≢ b.name) (λ a behind. t.is_built_in a.name || t.is_type_named a.name behind) t.has_duplicate (λ a behind. refl) (λ a behind none b is. names_apart b.name a.name (any_told (λ u. bytes_eq u.name a.name) behind (or_parts (t.is_built_in a.name) _ none).1 b is)) types h
 
 types_own : (types : List TypeDeclaration) → t.has_duplicate types ≡ false → (a : TypeDeclaration) → IsAmong a types → t.is_built_in a.name ≡ false
@@ -114,7 +112,7 @@ types_own (b ∷ bs) h a (inl e) =
     ap (λ (x : TypeDeclaration). t.is_built_in x.name) e ∙ (or_parts (t.is_built_in b.name) (t.is_type_named b.name bs) parts.0).0
 types_own (b ∷ bs) h a (inr is) = types_own bs (or_parts (t.is_built_in b.name || t.is_type_named b.name bs) (t.has_duplicate bs) h).1 a is
 
-no_duplicate : (types : List TypeDeclaration) → IsWellFormed types → t.has_duplicate types ≡ false
+pub no_duplicate : (types : List TypeDeclaration) → IsWellFormed types → t.has_duplicate types ≡ false
 no_duplicate types w = pairs_made {X = TypeDeclaration} (λ a. t.is_built_in a.name ≡ false) (λ a b. a.name ≢ b.name) (λ a behind. t.is_built_in a.name || t.is_type_named a.name behind) t.has_duplicate refl (λ a behind. refl) (λ a behind own apart. or_false (t.is_built_in a.name) _ own (any_made (λ u. bytes_eq u.name a.name) behind (λ b is. apart_names b.name a.name (apart b is)))) types w.own w.names
 
 -- ---- submodules
@@ -130,7 +128,7 @@ simple_kind Simple h = refl
 simple_kind Network h = absurd (false≢true h)
 
 -- a simple type of that name is found
-simple_found : (types : List TypeDeclaration) (name : List ℕ) → t.is_simple (t.type_named name types) ≡ true → IsSimpleType name types
+pub simple_found : (types : List TypeDeclaration) (name : List ℕ) → t.is_simple (t.type_named name types) ≡ true → IsSimpleType name types
 simple_found [] name h = absurd (false≢true h)
 simple_found (a ∷ behind) name h = go (bytes_eq a.name name) refl h (simple_found behind name)
   where
@@ -146,21 +144,21 @@ type_is (a ∷ behind) u apart (inr is) =
     let other = apart_names a.name u.name (λ e. apart a u (inl (refl, is)) (sym e)) in
     rw other (type_is behind u (λ x y before. apart x y (inr before)) is)
 
-simple_is : (types : List TypeDeclaration) (name : List ℕ) → ((a b : TypeDeclaration) → StandsBefore a b types → a.name ≢ b.name) → IsSimpleType name types → t.is_simple (t.type_named name types) ≡ true
+pub simple_is : (types : List TypeDeclaration) (name : List ℕ) → ((a b : TypeDeclaration) → StandsBefore a b types → a.name ≢ b.name) → IsSimpleType name types → t.is_simple (t.type_named name types) ≡ true
 simple_is types name apart s =
     ap (λ (n : List ℕ). t.is_simple (t.type_named n types)) (sym s.2)
     ∙ ap t.is_simple (type_is types s.0 apart s.1)
     ∙ ap t.is_simple_kind s.3
 
 -- a type that is found has its name
-named_found : (types : List TypeDeclaration) (name : List ℕ) → IsSimpleType name types → t.is_type_named name types ≡ true
+pub named_found : (types : List TypeDeclaration) (name : List ℕ) → IsSimpleType name types → t.is_type_named name types ≡ true
 named_found types name s = any_is (λ u. bytes_eq u.name name) types s.0 s.1 (names_same s.0.name name s.2)
 
-or_second : (x y : Bool) → y ≡ true → (x || y) ≡ true
+pub or_second : (x y : Bool) → y ≡ true → (x || y) ≡ true
 or_second true y h = refl
 or_second false y h = h
 
-no_unknown : (types : List TypeDeclaration) → IsWellFormed types → t.has_unknown types ≡ false
+pub no_unknown : (types : List TypeDeclaration) → IsWellFormed types → t.has_unknown types ≡ false
 no_unknown types w = any_made (λ a. t.names_unknown types a.submodules) types (λ a is. any_made (λ s. not (t.is_submodule_known types s)) a.submodules (λ s in-a. false_not _ (or_second (t.is_built_in s.type_name) _ (named_found types s.type_name (w.simple a is s in-a)))))
 
 no_other_kind : (types : List TypeDeclaration) → IsWellFormed types → (a : TypeDeclaration) → IsAmong a types → t.has_other_kind types a.submodules ≡ false
@@ -241,13 +239,7 @@ sound_made lines s =
 
 -- ---- all rules
 
-fault_by : (duplicate unknown clash : Bool) → (if duplicate then Some DuplicateType else (if unknown then Some UnknownType else (if clash then Some KindClash else None))) ≡ None → (duplicate ≡ false) × (clash ≡ false)
-fault_by false false false h = (refl, refl)
-fault_by false false true h = absurd cc
-fault_by false true clash h = absurd cc
-fault_by true unknown clash h = absurd cc
-
-well_formed : (types : List TypeDeclaration) → t.has_duplicate types ≡ false → t.has_clash types ≡ false → IsWellFormed types
+pub well_formed : (types : List TypeDeclaration) → t.has_duplicate types ≡ false → t.has_clash types ≡ false → IsWellFormed types
 well_formed types duplicate clash = record {
   names = types_apart types duplicate;
   own = types_own types duplicate;
@@ -265,18 +257,5 @@ well_formed types duplicate clash = record {
     members : (a : TypeDeclaration) → IsAmong a types → t.submodules_clash types a.submodules ≡ false
     members a is = (parts a is).1
 
-no_clash : (types : List TypeDeclaration) → IsWellFormed types → t.has_clash types ≡ false
+pub no_clash : (types : List TypeDeclaration) → IsWellFormed types → t.has_clash types ≡ false
 no_clash types w = any_made (λ x. t.clashes types x) types (λ a is. or_false (t.section_clashes a.lines) _ (sound_made a.lines (w.parameters a is)) (or_false (t.repeats_submodule a.submodules) _ (no_repeat a.submodules (w.submodules a is)) (no_other_kind types w a is)))
-
-faultless : (types : List TypeDeclaration) → IsWellFormed types → t.fault_of types ≡ None
-faultless types w = let duplicate = no_duplicate types w in let unknown = no_unknown types w in let clash = no_clash types w in rw (duplicate, unknown, clash) refl
-
--- types without a fault are well formed, and well formed types have none
-pub fault_is : (types : List TypeDeclaration) (fault : Option TypeFault) → fault ≡ t.fault_of types → (fault ≡ None) ↔ IsWellFormed types
-fault_is types fault e = (forth, back)
-  where
-    forth : fault ≡ None → IsWellFormed types
-    forth none = let parts = fault_by (t.has_duplicate types) (t.has_unknown types) (t.has_clash types) (sym e ∙ none) in well_formed types parts.0 parts.1
-
-    back : IsWellFormed types → fault ≡ None
-    back w = e ∙ faultless types w

@@ -1,4 +1,4 @@
--- The types that files declare, and why they make no model.
+-- The types that files declare, and what may be wrong with those that extend nothing.
 use Rattle.std.specs.Prelude.{◌≡◌, ℕ, Bool, true, false, not, ◌||◌, ◌&&◌, List, [], ◌∷◌, ◌++◌, Option, Some, None, is_some, Result, Ok, Err, if◌then◌else◌, codes}
 use Rattle.std.specs.List.{list_any}
 use Rattle.std.specs.Str.{bytes_eq}
@@ -11,8 +11,6 @@ use Rattle.ned_syntax.specs.declared.ast.Submodule.{Submodule}
 use Rattle.ned_syntax.specs.declared.ast.TypeDeclaration.{TypeDeclaration}
 use Rattle.ned_syntax.specs.declared.ast.TypeKind.{TypeKind}
 use Rattle.ned_syntax.specs.declared.ast.TypeKind.TheVariants.{Simple, Network}
-use Rattle.ned_types.specs.declared.table.TypeFault.{TypeFault}
-use Rattle.ned_types.specs.declared.table.TypeFault.TheVariants.{DuplicateType, UnknownType, KindClash, NoMemory}
 
 -- the types of all files, one file after the other
 abbrev pub types_of : List NedFile → List TypeDeclaration
@@ -131,7 +129,7 @@ abbrev pub repeats_submodule : List Submodule → Bool
 repeats_submodule [] = false
 repeats_submodule (s ∷ ss) = is_submodule_named s.name ss || repeats_submodule ss
 
--- ---- the faults, in their order
+-- ---- clashes
 
 abbrev pub section_clashes : List SectionLine → Bool
 section_clashes lines = redeclares lines || (gives_undeclared lines || gives_again lines)
@@ -146,23 +144,3 @@ clashes types t = section_clashes t.lines || submodules_clash types t.submodules
 
 abbrev pub has_clash : List TypeDeclaration → Bool
 has_clash types = list_any (λ t. clashes types t) types
-
--- why the types make no model, where they don't
-abbrev pub fault_of : List TypeDeclaration → Option TypeFault
-fault_of types =
-    if has_duplicate types then Some DuplicateType
-    else (if has_unknown types then Some UnknownType else (if has_clash types then Some KindClash else None))
-
--- the answer to these types: all of them, or their first fault; or memory ran out
-abbrev pub Builds : List TypeDeclaration → Result (List TypeDeclaration) TypeFault → Type 0
-Builds types (Ok table) = (table ≡ types) × (fault_of types ≡ None)
-Builds types (Err (NoMemory _)) = Unit {0}
-Builds types (Err fault) = fault_of types ≡ Some fault
-
--- this table, or want of memory
-abbrev pub AnswersTable : List TypeDeclaration → Result (List TypeDeclaration) TypeFault → Type 0
-AnswersTable types (Ok table) = table ≡ types
-AnswersTable types (Err (NoMemory _)) = Unit {0}
-AnswersTable types (Err DuplicateType) = ⊥
-AnswersTable types (Err UnknownType) = ⊥
-AnswersTable types (Err KindClash) = ⊥

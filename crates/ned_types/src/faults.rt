@@ -1,40 +1,64 @@
 //! Why declared types make no model.
 
 ghost use Rattle.std.specs.Prelude.{◌≡◌, ◌||◌, ◌↔◌, None, IfOk};
-ghost use Rattle.ned_types.specs.Types.{fault_of, has_duplicate, has_unknown, has_clash, is_built_in, is_type_named, names_unknown, is_submodule_known, clashes, section_clashes, submodules_clash, is_submodule_simple, is_simple, repeats_submodule, has_other_kind, redeclares, declares, is_declaration, is_declared, is_undeclared, gives_undeclared, gives_again, gives, is_given, is_fixed, name_in, value_in};
+ghost use Rattle.ned_types.specs.Types.{has_duplicate, has_unknown, has_clash, is_built_in, is_type_named, names_unknown, is_submodule_known, clashes, section_clashes, submodules_clash, is_submodule_simple, is_simple, repeats_submodule, has_other_kind, redeclares, declares, is_declaration, is_declared, is_undeclared, gives_undeclared, gives_again, gives, is_given, is_fixed, name_in, value_in};
+ghost use Rattle.ned_types.specs.Inheritance.{flat_types};
+ghost use Rattle.ned_types.specs.Building.{base_fault, fault_of, Builds, AnswersTable, CanBuild};
 ghost use Rattle.ned_types.specs.WellFormed.{IsWellFormed};
 ghost use Rattle.std.specs.Option.{option_copied};
 ghost use Rattle.ned_types.specs.Seen.{is_one_named, names_in};
 
+use crate::inheritance::{flat_types, has_circle, has_other_base, has_unknown_base};
 use crate::table::{TypeFault, find_type};
 use indexmap::IndexSet;
 use ned_syntax::ast::{ParameterValue, SectionLine, Submodule, TypeDeclaration, TypeKind};
+use sqlite_items::Items;
 use std::alloc::{AllocError, Global};
 
-/// The first fault of these types, in the order of TypeFault.
-pub fn fault_of(alloc: Global, types: &[TypeDeclaration]) -> Result<Option<TypeFault>, AllocError>
-    ensures first { IfOk result (λ found. found ≡ fault_of types.now) }
-    // Exactly types that keep the rules have no fault.
-    ensures rules { IfOk result (λ found. (found ≡ None) ↔ IsWellFormed types.now) }
+/// The flat type of each of these types, or their first fault, in the order of TypeFault.
+pub(crate) fn flattened(
+    alloc: Global,
+    types: &[TypeDeclaration],
+) -> Result<Items<TypeDeclaration>, TypeFault>
+    ensures built { Builds types.now result }
+    // What is built keeps the rules of types.
+    ensures rules { IfOk result IsWellFormed }
+    // Types that keep the rules have no fault.
+    ensures complete { CanBuild types.now → AnswersTable (flat_types types.now) result }
 {
-    let found = found_fault(alloc, types)?;
-    Ok(found)
+    built(alloc, types)
 }
 
-/// The first of the three faults that the types have.
-fn found_fault(alloc: Global, types: &[TypeDeclaration]) -> Result<Option<TypeFault>, AllocError>
-    ensures { IfOk result (λ found. found ≡ fault_of types.now) }
+fn built(alloc: Global, types: &[TypeDeclaration]) -> Result<Items<TypeDeclaration>, TypeFault>
+    ensures { Builds types.now result }
+{
+    if let Some(fault) = base_fault(types) {
+        return Err(fault);
+    }
+    let flat = flat_types(alloc, types)?;
+    if has_clash(alloc, flat.as_slice())? {
+        return Err(TypeFault::KindClash);
+    }
+    Ok(flat)
+}
+
+/// The first fault of names and bases.
+fn base_fault(types: &[TypeDeclaration]) -> Option<TypeFault>
+    ensures { result ≡ base_fault types.now }
 {
     if has_duplicate(types) {
-        return Ok(Some(TypeFault::DuplicateType));
+        return Some(TypeFault::DuplicateType);
     }
-    if has_unknown(types) {
-        return Ok(Some(TypeFault::UnknownType));
+    if has_unknown(types) || has_unknown_base(types) {
+        return Some(TypeFault::UnknownType);
     }
-    if has_clash(alloc, types)? {
-        return Ok(Some(TypeFault::KindClash));
+    if has_circle(types) {
+        return Some(TypeFault::InheritanceCircle);
     }
-    Ok(None)
+    if has_other_base(types) {
+        return Some(TypeFault::KindClash);
+    }
+    None
 }
 
 /// Whether two types have one name, or one the name of a built-in channel.
@@ -52,7 +76,7 @@ fn has_duplicate(types: &[TypeDeclaration]) -> bool
 }
 
 /// Whether a built-in channel or one of the types has that name.
-fn is_taken(name: &[u8], types: &[TypeDeclaration]) -> bool
+pub(crate) fn is_taken(name: &[u8], types: &[TypeDeclaration]) -> bool
     ensures { result ≡ is_built_in name.now || is_type_named name.now types.now }
 {
     is_built_in(name) || is_type_named(name, types)

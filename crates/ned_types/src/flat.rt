@@ -4,6 +4,7 @@ ghost use Rattle.std.specs.Prelude.{◌≡◌, IfOk};
 ghost use Rattle.std.specs.Option.{option_copied, option_map};
 ghost use Rattle.ned_types.specs.Flat.{declares_statistic, last_value, declaration_named, class_in, class_of, submodule_named, is_statistic_declared, statistic_named, last_statistic, statistic_at, statistics_of};
 
+use crate::copies::copy_statistic;
 use crate::faults::{gives, value_in};
 use ned_syntax::ast::{
     Declaration, ParameterValue, SectionLine, Statistic, Submodule, TypeDeclaration,
@@ -39,7 +40,7 @@ pub fn declaration_named<'a>(name: &[u8], lines: &'a [SectionLine]) -> Option<&'
 }
 
 /// The class that the lines name.
-fn class_in(lines: &[SectionLine]) -> Option<&[u8]>
+pub(crate) fn class_in(lines: &[SectionLine]) -> Option<&[u8]>
     ensures { option_copied result ≡ class_in lines.now }
 {
     for line in lines {
@@ -140,17 +141,6 @@ fn statistic_at<'a>(
     }
 }
 
-/// An equal statistic.
-fn copy_of(alloc: Global, statistic: &Statistic) -> Result<Statistic, AllocError>
-    ensures { IfOk result (λ copy. copy ≡ statistic.now) }
-{
-    Ok(Statistic {
-        name: statistic.name.copy(alloc)?,
-        source: statistic.source.copy(alloc)?,
-        modes: Items::from_slice(alloc, statistic.modes.as_slice())?,
-    })
-}
-
 /// The statistics that the lines declare, in the order of the first line of each name, each as the
 /// last line of its name has it.
 pub fn statistics_of(alloc: Global, lines: &[SectionLine]) -> Result<Items<Statistic>, AllocError>
@@ -159,7 +149,7 @@ pub fn statistics_of(alloc: Global, lines: &[SectionLine]) -> Result<Items<Stati
     let mut statistics = Items::new(alloc);
     for (at, line) in lines.iter().enumerate() {
         if let Some(statistic) = statistic_at(&lines[..at], line, &lines[at + 1..]) {
-            statistics.push(copy_of(alloc, statistic)?)?;
+            statistics.push(copy_statistic(alloc, statistic)?)?;
         }
     }
     Ok(statistics)

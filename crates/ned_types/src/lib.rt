@@ -1,6 +1,9 @@
 //! The types of a model: the table of all declared types, and what each is when it stands alone.
 #![tactic(auto)]
 
+mod copies;
 pub mod faults;
 pub mod flat;
+mod inheritance;
+pub mod laws;
 pub mod table;

@@ -2,7 +2,9 @@
 
 ghost use Rattle.std.specs.Prelude.{◌≡◌, IfOk, slice_get};
 ghost use Rattle.std.specs.Option.{option_copied};
-ghost use Rattle.ned_types.specs.Types.{type_named, types_of, AnswersTable, Builds};
+ghost use Rattle.ned_types.specs.Types.{type_named, types_of};
+ghost use Rattle.ned_types.specs.Inheritance.{flat_types};
+ghost use Rattle.ned_types.specs.Building.{AnswersTable, Builds, CanBuild};
 ghost use Rattle.ned_types.specs.Flat.{submodule_named};
 ghost use Rattle.ned_types.specs.WellFormed.{HaveOwnNames, IsAmong, IsWellFormed};
 
@@ -22,10 +24,13 @@ pub enum TypeFault {
     /// Two types have one name, or one has that of a built-in channel.
     #[error("DuplicateType")]
     DuplicateType,
-    /// A submodule's type isn't declared.
+    /// A submodule's type, or what a type extends, isn't declared.
     #[error("UnknownType")]
     UnknownType,
-    /// A member is declared twice, a value is given to an undeclared parameter or after a fixed
+    /// A type extends itself, perhaps by way of others.
+    #[error("InheritanceCircle")]
+    InheritanceCircle,
+    /// What a type extends is no simple type, a member is declared twice, a value is given to an undeclared parameter or after a fixed
     /// one, or a submodule's type is no simple type.
     #[error("KindClash")]
     KindClash,
@@ -45,8 +50,8 @@ impl From<AllocError> for TypeFault {
     }
 }
 
-/// All declared types, in the order of the files and within them, which contracts see as their list. They keep the rules of types. A copy shares
-/// them.
+/// The flat types of all that are declared, in the order of the files and within them, which contracts see as their list. They
+/// keep the rules of types. A flat type has what its bases have, and extends nothing. A copy shares them.
 #[derive(Debug, Drop)]
 pub struct TypeTable {
     types: Rc<Items<TypeDeclaration>>,
@@ -67,21 +72,19 @@ impl Model for TypeTable {
 impl TypeTable {
     /// The table of the files' types, or the first reason why they make none.
     pub fn build(alloc: Global, files: Vec<NedFile>) -> Result<TypeTable, TypeFault>
-        // The table has the types of all files, or the first fault is told.
+        // The table has the flat types of all files, or the first fault is told.
         ensures built { Builds (types_of files.items) result }
         // What is built keeps the rules of types.
         ensures rules { IfOk result IsWellFormed }
         // Types that keep the rules are built, unless memory runs out.
-        ensures complete { IsWellFormed (types_of files.items)
-            → AnswersTable (types_of files.items) result }
+        ensures complete { CanBuild (types_of files.items)
+            → AnswersTable (flat_types (types_of files.items)) result }
     {
-        let types = joined(alloc, files)?;
-        match faults::fault_of(alloc, types.as_slice())? {
-            Some(fault) => Err(fault),
-            None => match Rc::new(alloc, types) {
-                Ok(types) => Ok(TypeTable { types }),
-                Err(failed) => Err(TypeFault::NoMemory(failed.into())),
-            },
+        let declared = joined(alloc, files)?;
+        let types = faults::flattened(alloc, declared.as_slice())?;
+        match Rc::new(alloc, types) {
+            Ok(types) => Ok(TypeTable { types }),
+            Err(failed) => Err(TypeFault::NoMemory(failed.into())),
         }
     }
 

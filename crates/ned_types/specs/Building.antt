@@ -1,0 +1,50 @@
+-- Why declared types make no model, and the table of those that do.
+use Rattle.std.specs.Prelude.{◌≡◌, ℕ, Bool, true, false, ◌||◌, List, [], ◌∷◌, length, Option, Some, None, Result, Ok, Err, if◌then◌else◌}
+use Rattle.ned_syntax.specs.declared.ast.TypeDeclaration.{TypeDeclaration}
+use Rattle.ned_syntax.specs.declared.ast.TypeKind.TheVariants.{Simple}
+use Rattle.ned_types.specs.declared.table.TypeFault.{TypeFault}
+use Rattle.ned_types.specs.declared.table.TypeFault.TheVariants.{DuplicateType, UnknownType, InheritanceCircle, KindClash, NoMemory}
+use Rattle.ned_types.specs.Types.{has_duplicate, has_unknown, has_clash}
+use Rattle.ned_types.specs.Flat.{or_else}
+use Rattle.ned_types.specs.Inheritance.{has_unknown_base, has_circle, has_other_base, goes_on, flat_types}
+use Rattle.ned_types.specs.WellFormed.{IsAmong, IsSimpleType, IsWellFormed}
+
+-- the faults of names and bases, in their order
+abbrev pub base_fault : List TypeDeclaration → Option TypeFault
+base_fault types =
+    if has_duplicate types then Some DuplicateType
+    else (if has_unknown types || has_unknown_base types then Some UnknownType
+    else (if has_circle types then Some InheritanceCircle
+    else (if has_other_base types then Some KindClash else None)))
+
+-- a clash in one of the flat types
+abbrev pub clash_fault : Bool → Option TypeFault
+clash_fault clash = if clash then Some KindClash else None
+
+-- why the types make no model, where they don't
+abbrev pub fault_of : List TypeDeclaration → Option TypeFault
+fault_of types = or_else (base_fault types) (clash_fault (has_clash (flat_types types)))
+
+-- the answer to these types: the flat type of each, or their first fault; or memory ran out
+abbrev pub Builds : List TypeDeclaration → Result (List TypeDeclaration) TypeFault → Type 0
+Builds types (Ok table) = (table ≡ flat_types types) × (fault_of types ≡ None)
+Builds types (Err (NoMemory _)) = Unit {0}
+Builds types (Err fault) = fault_of types ≡ Some fault
+
+-- this table, or want of memory
+abbrev pub AnswersTable : List TypeDeclaration → Result (List TypeDeclaration) TypeFault → Type 0
+AnswersTable types (Ok table) = table ≡ types
+AnswersTable types (Err (NoMemory _)) = Unit {0}
+AnswersTable types (Err DuplicateType) = ⊥
+AnswersTable types (Err UnknownType) = ⊥
+AnswersTable types (Err InheritanceCircle) = ⊥
+AnswersTable types (Err KindClash) = ⊥
+
+-- THE RULES of types that extend others:
+pub record CanBuild (types : List TypeDeclaration) : Type 0 where
+  -- what is extended is a simple type among these, and what extends it a simple type;
+  pub bases : (t : TypeDeclaration) → IsAmong t types → (name : List ℕ) → t.base ≡ Some name → (t.kind ≡ Simple) × IsSimpleType name types
+  -- the way from each type to what it extends comes to an end;
+  pub roots : (t : TypeDeclaration) → IsAmong t types → goes_on (length types) types (Some t) ≡ false
+  -- and the flat types keep the rules of types.
+  pub flat : IsWellFormed (flat_types types)

@@ -1,0 +1,95 @@
+-- Types that extend others: the bases of a type, and what it has with all that they have.
+-- OMNeT++ Simulation Manual, "Inheritance".
+use Rattle.std.specs.Prelude.{ℕ, zero, suc, Bool, true, false, not, ◌||◌, ◌&&◌, List, [], ◌∷◌, ◌++◌, length, map, Option, Some, None}
+use Rattle.std.specs.Borrow.{Bor}
+use Rattle.std.specs.List.{list_any}
+use Rattle.std.specs.Option.{option_and_then}
+use Rattle.ned_syntax.specs.declared.ast.SectionLine.{SectionLine}
+use Rattle.ned_syntax.specs.declared.ast.SectionLine.TheVariants as line
+use Rattle.ned_syntax.specs.declared.ast.TypeDeclaration.{TypeDeclaration}
+use Rattle.ned_syntax.specs.declared.ast.TypeKind.{TypeKind}
+use Rattle.ned_types.specs.Types.{type_named, is_built_in, is_type_named, is_simple_kind, is_simple}
+use Rattle.ned_types.specs.Flat.{class_in, class_of, named_or}
+
+-- ---- bases
+
+-- the type of the name that is extended
+abbrev pub base_of : List TypeDeclaration → Option (List ℕ) → Option TypeDeclaration
+base_of types base = option_and_then (λ name. type_named name types) base
+
+-- a type, what it extends, what that extends, and so on, so many of them
+abbrev pub line_within : ℕ → List TypeDeclaration → Option TypeDeclaration → List TypeDeclaration
+line_within n types None = []
+line_within zero types (Some t) = []
+line_within (suc n) types (Some t) = t ∷ line_within n types (base_of types t.base)
+
+-- the same up to the root, as no line without a circle has more types than there are
+abbrev pub line_of : List TypeDeclaration → TypeDeclaration → List TypeDeclaration
+line_of types t = line_within (length types) types (Some t)
+
+-- whether there is still a type after so many steps from a type to what it extends
+abbrev pub goes_on : ℕ → List TypeDeclaration → Option TypeDeclaration → Bool
+goes_on n types None = false
+goes_on zero types (Some t) = true
+goes_on (suc n) types (Some t) = goes_on n types (base_of types t.base)
+
+-- whether a type extends itself, perhaps by way of others: the way from some type goes on after as many steps as there
+-- are types
+abbrev pub has_circle : List TypeDeclaration → Bool
+has_circle types = list_any (λ t. goes_on (length types) types (Some t)) types
+
+-- whether what is extended isn't there
+abbrev pub extends_unknown : List TypeDeclaration → Option (List ℕ) → Bool
+extends_unknown types None = false
+extends_unknown types (Some name) = not (is_built_in name || is_type_named name types)
+
+abbrev pub has_unknown_base : List TypeDeclaration → Bool
+has_unknown_base types = list_any (λ t. extends_unknown types t.base) types
+
+-- whether what is extended, or what extends it, isn't a simple type
+abbrev pub extends_other : List TypeDeclaration → TypeKind → Option (List ℕ) → Bool
+extends_other types kind None = false
+extends_other types kind (Some name) = not (is_simple_kind kind && is_simple (type_named name types))
+
+abbrev pub has_other_base : List TypeDeclaration → Bool
+has_other_base types = list_any (λ t. extends_other types t.kind t.base) types
+
+-- ---- flat types
+
+-- the lines of a type and of its bases, those of the root first
+abbrev pub joined_lines : List TypeDeclaration → List SectionLine
+joined_lines [] = []
+joined_lines (t ∷ ts) = joined_lines ts ++ t.lines
+
+-- the class of a type: the one that it names, or else that of its base; of the root at last its own name
+abbrev pub class_along : List TypeDeclaration → List ℕ
+class_along [] = []
+class_along (t ∷ []) = class_of t
+class_along (t ∷ u ∷ ts) = named_or (class_in t.lines) (class_along (u ∷ ts))
+
+-- a type that extends another, with all that its bases have: its class stands before the lines, as the first class that
+-- lines name counts
+abbrev pub heir_of : List TypeDeclaration → TypeDeclaration → TypeDeclaration
+heir_of types t = record {
+  kind = t.kind;
+  name = t.name;
+  base = None;
+  lines = line.Class (class_along (line_of types t)) ∷ joined_lines (line_of types t);
+  submodules = t.submodules;
+}
+
+abbrev pub flat_by : List TypeDeclaration → TypeDeclaration → Option (List ℕ) → TypeDeclaration
+flat_by types t None = t
+flat_by types t (Some name) = heir_of types t
+
+-- THE FLAT TYPE: what the type has with all that its bases have, which extends nothing
+abbrev pub flat_type : List TypeDeclaration → TypeDeclaration → TypeDeclaration
+flat_type types t = flat_by types t t.base
+
+-- the flat type of each
+abbrev pub flat_types : List TypeDeclaration → List TypeDeclaration
+flat_types types = map (flat_type types) types
+
+-- the types that references lead to
+abbrev pub types_in : List (Bor TypeDeclaration) → List TypeDeclaration
+types_in refs = map (λ (r : Bor TypeDeclaration). r.now) refs
