@@ -1,9 +1,10 @@
 -- Each token of a standard spelling has a spelling.
-use Rattle.std.proofs.Common.{Bool, true, false, List, [], ◌∷◌, ◌++◌, Option, Some, None, pos, negsuc, refl}
+use Rattle.std.proofs.Common.{ℕ, Bool, true, false, List, [], ◌∷◌, ◌++◌, Option, Some, None, pos, negsuc, refl}
 use Rattle.sim_values.specs.declared.value.Value.{Value}
 use Rattle.sim_values.specs.declared.value.Value.TheVariants as values
 use Rattle.sim_values.specs.declared.value.Dimension.{Dimension}
 use Rattle.sim_values.specs.declared.value.Dimension.TheVariants as dimension
+use Rattle.ned_tokens.specs.declared.token.Keyword.TheVariants as k
 use Rattle.ned_tokens.specs.declared.token.Mark.TheVariants as m
 use Rattle.ned_tokens.specs.declared.token.Token.{Token}
 use Rattle.ned_tokens.specs.declared.token.Token.TheVariants as token
@@ -25,7 +26,7 @@ use Rattle.ned_syntax.specs.declared.ast.TypeKind.{TypeKind}
 use Rattle.ned_syntax.specs.declared.ast.TypeKind.TheVariants as kinds
 use Rattle.ned_syntax.specs.declared.ast.TypeDeclaration.{TypeDeclaration}
 use Rattle.ned_syntax.specs.declared.ast.NedFile.{NedFile}
-use Rattle.ned_spelling.specs.Declarations.{listed_tokens, value_tokens, expression_tokens, given_tokens, valued_tokens, unit_tokens, declaration_tokens, mode_name, question_tokens, mode_tokens, next_mode_tokens, record_tokens, statistic_tokens, line_tokens, section_line_tokens, submodule_tokens, kind_tokens, type_tokens, file_tokens}
+use Rattle.ned_spelling.specs.Declarations.{listed_tokens, value_tokens, expression_tokens, given_tokens, valued_tokens, unit_tokens, declaration_tokens, mode_name, question_tokens, mode_tokens, next_mode_tokens, record_tokens, statistic_tokens, line_tokens, section_line_tokens, submodule_tokens, base_tokens, kind_tokens, type_tokens, file_tokens}
 use Rattle.ned_spelling.proofs.Spellable.{Each, IfThere, CanBeValue, CanBeExpression, CanBeGiven, CanBeDeclaration, CanBeStatistic, CanBeLine, CanBeSubmodule, CanBeParts, CanBeType, CanBeFile}
 
 -- two lists in a row
@@ -133,9 +134,16 @@ have_section_line line h = have-append (line_tokens line) (token.Mark m.Semi ∷
 have_submodule : (s : Submodule) → CanBeSubmodule s → HaveSpelling (submodule_tokens s)
 have_submodule s h = (h.0, (tt, (h.1, (tt, tt))))
 
+-- what a type extends
+have_base : (base : Option (List ℕ)) → IfThere IsName base → HaveSpelling (base_tokens base)
+have_base None h = tt
+have_base (Some name) h = (tt, (h, tt))
+
 -- a type of each kind
 have_kind : (kind : TypeKind) (d : TypeDeclaration) → IsName d.name → CanBeParts kind d → HaveSpelling (kind_tokens kind d)
-have_kind kinds.Simple d h parts = (tt, (h, (tt, (tt, (tt, have-append (listed_tokens section_line_tokens d.lines) (token.Mark m.Close ∷ []) (have_listed section_line_tokens CanBeLine have_section_line d.lines parts.0) (tt, tt))))))
+have_kind kinds.Simple d h parts =
+    let section = have-append (listed_tokens section_line_tokens d.lines) (token.Mark m.Close ∷ []) (have_listed section_line_tokens CanBeLine have_section_line d.lines parts.1) (tt, tt) in
+    (tt, (h, have-append (base_tokens d.base) (token.Mark m.Open ∷ token.Word k.Parameters ∷ token.Mark m.Colon ∷ (listed_tokens section_line_tokens d.lines ++ token.Mark m.Close ∷ [])) (have_base d.base parts.0) (tt, (tt, (tt, section)))))
 have_kind kinds.Network d h parts = (tt, (h, (tt, (tt, (tt, have-append (listed_tokens submodule_tokens d.submodules) (token.Mark m.Close ∷ []) (have_listed submodule_tokens CanBeSubmodule have_submodule d.submodules parts.0) (tt, tt))))))
 
 -- a type

@@ -31,7 +31,7 @@ use Rattle.ned_syntax.specs.declared.statistics.Except.TheVariants as except_is
 use Rattle.ned_syntax.specs.declared.statistics.Said.{Said}
 use Rattle.ned_syntax.specs.declared.parameters.Valued.{Valued}
 use Rattle.ned_syntax.specs.declared.parameters.Tail.{Tail}
-use Rattle.ned_syntax.specs.Grammar.{word, mark, name, name_of, whole_value, quantity_value, literal_of, number_of, negated, plain_literal, number, negative_literal, literal, expression, default_value, value_rule, in_parens, turn_of, bracketed, index, body, unit_effect, said_by_word, said, effect_of, property, modes, loose_text, no_value, source_value, record_value, source_tail, record_tail, source_word, record_word, source_part, record_part, part_or_other, other_part, record_or_other, any_part, part, next_part, nothing_said, over, over_all, statistic_body, optional_body, statistic_line, indexed_statistic, unnamed_statistic, named_or_not, line_or_ignored, statistic_tail, statistic_word, statistic, plain_name, line_of, plain_line, property_text, property_line, valued, tail, value_in, unit_in, parameter_word, volatile, any_declaration, is_measured_word, declaration, assignment, assigned_or_said, any_line, section_line, heading, section, simple, submodule, listed, submodules, network, type_rule, file}
+use Rattle.ned_syntax.specs.Grammar.{word, mark, name, name_of, whole_value, quantity_value, literal_of, number_of, negated, plain_literal, number, negative_literal, literal, expression, default_value, value_rule, in_parens, turn_of, bracketed, index, body, unit_effect, said_by_word, said, effect_of, property, modes, loose_text, no_value, source_value, record_value, source_tail, record_tail, source_word, record_word, source_part, record_part, part_or_other, other_part, record_or_other, any_part, part, next_part, nothing_said, over, over_all, statistic_body, optional_body, statistic_line, indexed_statistic, unnamed_statistic, named_or_not, line_or_ignored, statistic_tail, statistic_word, statistic, plain_name, line_of, plain_line, property_text, property_line, valued, tail, value_in, unit_in, parameter_word, volatile, any_declaration, is_measured_word, declaration, assignment, assigned_or_said, any_line, section_line, heading, section, base_name, optional_base, simple, submodule, listed, submodules, network, type_rule, file}
 use Rattle.ned_spelling.proofs.Spellable.{Each, IfThere, IsSmall, CanBeValue, CanBeExpression, CanBeGiven, CanBeUnit, CanBeDeclaration, CanBeAssignment, CanBeLine, CanBeSubmodule, CanBeType, CanBeFile}
 
 -- what sound tokens spell by the rule is so
@@ -411,12 +411,17 @@ keeps_submodules : Keeps submodules (Each CanBeSubmodule)
 unfolding submodules
 keeps_submodules = mapped listed_can (perhaps (before (word k.Submodules) (before (mark m.Colon) (each keeps_submodule))))
 
+-- what it extends
+keeps_base : Keeps optional_base (IfThere IsName)
+unfolding optional_base base_name
+keeps_base = perhaps (before (word k.Extends) keeps_name)
+
 -- a type
 keeps_type : Keeps type_rule CanBeType
 unfolding type_rule simple network
 keeps_type = choice
-    (mapped (λ p h. (h.0, (h.1, refl))) (before (word k.Simple) (then keeps_name (before (mark m.Open) (after (mark m.Close) keeps_section)))))
-    (mapped (λ p h. (h.0, (h.1, refl))) (before (word k.Network) (then keeps_name (before (mark m.Open) (after (mark m.Close) keeps_submodules)))))
+    (mapped (λ p h. (h.0, (h.1.0, h.1.1, refl))) (before (word k.Simple) (then keeps_name (then keeps_base (before (mark m.Open) (after (mark m.Close) keeps_section))))))
+    (mapped (λ p h. (h.0, (h.1, refl, refl))) (before (word k.Network) (then keeps_name (before (mark m.Open) (after (mark m.Close) keeps_submodules)))))
 
 -- a file
 keeps_file : Keeps file CanBeFile

@@ -86,10 +86,10 @@ CanBeLine lines.Ignored = Unit {0}
 abbrev pub CanBeSubmodule : Submodule → Type 0
 CanBeSubmodule s = IsName s.name × IsName s.type_name
 
--- A simple module has no submodules, a network no lines.
+-- A simple module has no submodules, a network no lines and no base.
 abbrev pub CanBeParts : TypeKind → TypeDeclaration → Type 0
-CanBeParts kinds.Simple d = Each CanBeLine d.lines × (d.submodules ≡ [])
-CanBeParts kinds.Network d = Each CanBeSubmodule d.submodules × (d.lines ≡ [])
+CanBeParts kinds.Simple d = IfThere IsName d.base × Each CanBeLine d.lines × (d.submodules ≡ [])
+CanBeParts kinds.Network d = Each CanBeSubmodule d.submodules × (d.lines ≡ []) × (d.base ≡ None)
 
 -- a name, and the parts of the kind
 abbrev pub CanBeType : TypeDeclaration → Type 0

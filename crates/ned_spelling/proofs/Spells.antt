@@ -1,5 +1,5 @@
 -- The standard tokens of declarations say them.
-use Rattle.std.proofs.Common.{◌≡◌, ℕ, suc, Bool, true, false, List, [], ◌∷◌, ◌++◌, Option, Some, None, inl, inr, pos, negsuc, refl, sym, ap, subst, append-nil, codes}
+use Rattle.std.proofs.Common.{◌≡◌, ℕ, suc, Bool, true, false, List, [], ◌∷◌, ◌++◌, Option, Some, None, inl, inr, pos, negsuc, refl, sym, ap, ◌∙◌, subst, append-nil, codes}
 use Rattle.sim_values.specs.declared.value.Value.{Value}
 use Rattle.sim_values.specs.declared.value.Value.TheVariants as values
 use Rattle.sim_values.specs.declared.value.Dimension.{Dimension}
@@ -42,8 +42,8 @@ use Rattle.ned_syntax.specs.declared.statistics.Part.TheVariants as part_is
 use Rattle.ned_syntax.specs.declared.parameters.Valued.{Valued}
 use Rattle.ned_tokens.specs.Words.{or_else}
 use Rattle.ned_tokens.specs.Balanced.{balanced}
-use Rattle.ned_syntax.specs.Grammar.{turn_of, effect_of, said_in, statistic_line, other_part, first_unit, unit_behind, value_in, unit_in, is_measured_word, valued, tail, parameter_word, volatile, any_declaration, declaration, assignment, source_word, source_value, source_tail, source_part, record_word, record_value, record_tail, record_part, no_value, record_or_other, any_part, part, next_part, statistic_body, optional_body, indexed_statistic, unnamed_statistic, named_or_not, statistic_tail, statistic_word, statistic, plain_name, plain_line, property_text, property_line, assigned_or_said, any_line, section_line, heading, section, simple, submodule, submodules, network, type_rule, file, word, mark, name, is_word, is_mark, plain_literal, number, negative_literal, literal, expression, default_value, value_rule, in_parens, property_name, bracketed, index, body, property, mode_word, question, mode_rule, next_mode, modes}
-use Rattle.ned_spelling.specs.Declarations.{listed_tokens, value_tokens, expression_tokens, given_tokens, valued_tokens, unit_tokens, parameter_keyword, declaration_tokens, assignment_tokens, mode_name, question_tokens, mode_tokens, next_mode_tokens, record_tokens, statistic_tokens, line_tokens, section_line_tokens, submodule_tokens, kind_tokens, type_tokens, file_tokens}
+use Rattle.ned_syntax.specs.Grammar.{turn_of, effect_of, said_in, statistic_line, other_part, first_unit, unit_behind, value_in, unit_in, is_measured_word, valued, tail, parameter_word, volatile, any_declaration, declaration, assignment, source_word, source_value, source_tail, source_part, record_word, record_value, record_tail, record_part, no_value, record_or_other, any_part, part, next_part, statistic_body, optional_body, indexed_statistic, unnamed_statistic, named_or_not, statistic_tail, statistic_word, statistic, plain_name, plain_line, property_text, property_line, assigned_or_said, any_line, section_line, heading, section, base_name, optional_base, simple, submodule, submodules, network, type_rule, file, word, mark, name, is_word, is_mark, plain_literal, number, negative_literal, literal, expression, default_value, value_rule, in_parens, property_name, bracketed, index, body, property, mode_word, question, mode_rule, next_mode, modes}
+use Rattle.ned_spelling.specs.Declarations.{listed_tokens, value_tokens, expression_tokens, given_tokens, valued_tokens, unit_tokens, parameter_keyword, declaration_tokens, assignment_tokens, mode_name, question_tokens, mode_tokens, next_mode_tokens, record_tokens, statistic_tokens, line_tokens, section_line_tokens, submodule_tokens, base_tokens, kind_tokens, type_tokens, file_tokens}
 use Rattle.ned_spelling.proofs.Spellable.{Each, IfThere, IsSmall, CanBeValue, CanBeExpression, CanBeGiven, CanBeUnit, CanBeDeclaration, CanBeAssignment, CanBeLine, CanBeSubmodule, CanBeParts, CanBeType, CanBeFile}
 
 -- these tokens spell this value by the rule
@@ -432,19 +432,27 @@ the_submodules : (ss : List Submodule) → Each CanBeSubmodule ss → Spells sub
 unfolding submodules
 the_submodules ss h = mapped (some (before (a_word k.Submodules) (before (a_mark m.Colon) (each submodule submodule_tokens CanBeSubmodule a_submodule ss h))))
 
+-- what a type extends
+a_base : (base : Option (List ℕ)) → Spells optional_base (base_tokens base) base
+unfolding optional_base base_name
+a_base None = nothing base_name
+a_base (Some name) = some (before (a_word k.Extends) (a_name name))
+
 -- a type of these parts
-abbrev type_with : TypeKind → List ℕ → List SectionLine → List Submodule → TypeDeclaration
-type_with kind text ls ss = record { kind = kind; name = text; lines = ls; submodules = ss }
+abbrev type_with : TypeKind → List ℕ → Option (List ℕ) → List SectionLine → List Submodule → TypeDeclaration
+type_with kind text base ls ss = record { kind = kind; name = text; base = base; lines = ls; submodules = ss }
 
 -- a type of each kind
-kind_spells : (kind : TypeKind) (text : List ℕ) (ls : List SectionLine) (ss : List Submodule) → CanBeParts kind (type_with kind text ls ss) → Spells type_rule (kind_tokens kind (type_with kind text ls ss)) (type_with kind text ls ss)
+kind_spells : (kind : TypeKind) (text : List ℕ) (base : Option (List ℕ)) (ls : List SectionLine) (ss : List Submodule) → CanBeParts kind (type_with kind text base ls ss) → Spells type_rule (kind_tokens kind (type_with kind text base ls ss)) (type_with kind text base ls ss)
 unfolding type_rule simple network
-kind_spells kinds.Simple text ls ss h = this network (to (mapped (before (a_word k.Simple) (then (a_name text) (before (a_mark m.Open) (after (a_section ls h.0) (a_mark m.Close)))))) (ap (type_with kinds.Simple text ls) (sym h.1)))
-kind_spells kinds.Network text ls ss h = that simple (to (mapped (before (a_word k.Network) (then (a_name text) (before (a_mark m.Open) (after (the_submodules ss h.0) (a_mark m.Close)))))) (ap (λ (l : List SectionLine). type_with kinds.Network text l ss) (sym h.1)))
+kind_spells kinds.Simple text base ls ss h = this network (to (mapped (before (a_word k.Simple) (then (a_name text) (then (a_base base) (before (a_mark m.Open) (after (a_section ls h.1) (a_mark m.Close))))))) (ap (type_with kinds.Simple text base ls) (sym h.2)))
+kind_spells kinds.Network text base ls ss h =
+    let empty = ap (λ (b : Option (List ℕ)). type_with kinds.Network text b [] ss) (sym h.2) ∙ ap (λ (l : List SectionLine). type_with kinds.Network text base l ss) (sym h.1) in
+    that simple (to (mapped (before (a_word k.Network) (then (a_name text) (before (a_mark m.Open) (after (the_submodules ss h.0) (a_mark m.Close)))))) empty)
 
 -- a type
 a_type : (d : TypeDeclaration) → CanBeType d → Spells type_rule (type_tokens d) d
-a_type d h = kind_spells d.kind d.name d.lines d.submodules h.1
+a_type d h = kind_spells d.kind d.name d.base d.lines d.submodules h.1
 
 -- a file
 a_file : (f : NedFile) → CanBeFile f → Spells file (file_tokens f) f

@@ -11,13 +11,14 @@ use Rattle.ned_syntax.specs.declared.ast.TypeKind.TheVariants as kinds
 use Rattle.ned_syntax.specs.declared.ast.NedFile.{NedFile}
 use Rattle.ned_spelling.specs.Declarations.{spelled}
 
--- a simple module with a line of each kind, and a network
+-- a simple module with a line of each kind, one that extends it, and a network
 abbrev pub example : NedFile
 example = record {
   types =
       record {
         kind = kinds.Simple;
         name = codes "Source";
+        base = None;
         lines =
             lines.Declaration (record { name = codes "interval"; word = words.Double; unit = Some dimension.Time; value = Some (given.Default (expressions.Literal (values.Quantity dimension.Time (pos 1000000000000)))) })
             ∷ lines.Declaration (record { name = codes "offset"; word = words.Int; unit = None; value = Some (given.Fixed (expressions.Literal (values.Whole (negsuc 4)))) })
@@ -28,12 +29,13 @@ example = record {
             ∷ [];
         submodules = [];
       }
-      ∷ record { kind = kinds.Network; name = codes "Net"; lines = []; submodules = record { name = codes "a"; type_name = codes "Source" } ∷ [] }
+      ∷ record { kind = kinds.Simple; name = codes "Slow"; base = Some (codes "Source"); lines = []; submodules = [] }
+      ∷ record { kind = kinds.Network; name = codes "Net"; base = None; lines = []; submodules = record { name = codes "a"; type_name = codes "Source" } ∷ [] }
       ∷ [];
 }
 
 abbrev pub example_text : List ℕ
-example_text = codes "simple Source {\nparameters: double interval @unit(ps) = default(1000000000000ps);\nint offset = - 5;\nlabel = \"a\\tb\";\n@class(Src);\n@ignored;\n@statistic[sent](source = packetSent;\nrecord = count, sum?);\n}\nnetwork Net {\nsubmodules: a: Source;\n}\n"
+example_text = codes "simple Source {\nparameters: double interval @unit(ps) = default(1000000000000ps);\nint offset = - 5;\nlabel = \"a\\tb\";\n@class(Src);\n@ignored;\n@statistic[sent](source = packetSent;\nrecord = count, sum?);\n}\nsimple Slow extends Source {\nparameters: }\nnetwork Net {\nsubmodules: a: Source;\n}\n"
 
 -- The example is spelled so.
 abbrev pub ExampleIsSpelled : Type 0
