@@ -119,6 +119,7 @@ fn refusal_name(fault: BeginFault) -> &'static [u8]
         BeginFault::IniSyntax(_) => b"IniSyntax",
         BeginFault::DuplicateType => b"DuplicateType",
         BeginFault::UnknownType => b"UnknownType",
+        BeginFault::InheritanceCircle => b"InheritanceCircle",
         BeginFault::KindClash => b"KindClash",
         BeginFault::NoSuchConfig => b"NoSuchConfig",
         BeginFault::ChainFault => b"ChainFault",

@@ -51,9 +51,10 @@ pub fn refusal_line(
             write!(told, "{}:{line}: ", sources.ini_path)?;
             tell_ini_line(alloc, &mut told, line_at(sources.ini, line))?;
         }
-        BeginFault::DuplicateType | BeginFault::UnknownType | BeginFault::KindClash => {
-            tell_types(alloc, &mut told, sources)?
-        }
+        BeginFault::DuplicateType
+        | BeginFault::UnknownType
+        | BeginFault::InheritanceCircle
+        | BeginFault::KindClash => { tell_types(alloc, &mut told, sources)? }
         BeginFault::NoSuchConfig => tell_no_config(alloc, &mut told, sources)?,
         BeginFault::ChainFault => tell_no_chain(alloc, &mut told, sources)?,
         BeginFault::NoSuchNetwork => tell_no_network(alloc, &mut told, sources)?,

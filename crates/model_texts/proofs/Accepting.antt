@@ -9,7 +9,9 @@ use Rattle.ned_syntax.specs.NedText.{IsNedFile}
 use Rattle.ned_syntax.proofs.GrammarLaws.{file-lawful}
 use Rattle.ned_types.specs.declared.table.TypeFault.{TypeFault}
 use Rattle.ned_types.specs.declared.table.TypeFault.TheVariants as types
-use Rattle.ned_types.specs.Types.{types_of, fault_of}
+use Rattle.ned_types.specs.Types.{types_of}
+use Rattle.ned_types.specs.Inheritance.{flat_types}
+use Rattle.ned_types.specs.Building.{fault_of}
 use Rattle.ini_config.specs.declared.lines.IniLine.{IniLine}
 use Rattle.ini_config.specs.Sections.{IsChain, is_section}
 use Rattle.ini_config.proofs.ChainLaws.{one_chain_law}
@@ -57,7 +59,7 @@ one_model texts ini config m n p q =
     let lines = lines_same texts ini p.read q.read in
     let chained : IsChain q.read.lines config m.chain = subst (λ (l : List IniLine). IsChain l config m.chain) lines p.chained in
     model_same m.types n.types m.ini n.ini m.config n.config m.chain n.chain m.injections n.injections m.last_injection n.last_injection
-    (p.types ∙ ap types_of files ∙ sym q.types)
+    (p.types ∙ ap (λ (fs : List NedFile). flat_types (types_of fs)) files ∙ sym q.types)
     (p.lines ∙ lines ∙ sym q.lines)
     (p.selected ∙ sym q.selected)
     (one_chain_law q.read.lines config m.chain n.chain chained q.chained)
@@ -92,6 +94,7 @@ ruled_out texts ini config (fault.NedSyntax at line) why m is =
 ruled_out texts ini config (fault.IniSyntax line) why m is = absurd (bad_text line ini is.read.read.lines why.1.blamed is.read.read.said)
 ruled_out texts ini config fault.DuplicateType why m is = absurd (together texts ini types.DuplicateType is.read.read why.1)
 ruled_out texts ini config fault.UnknownType why m is = absurd (together texts ini types.UnknownType is.read.read why.1)
+ruled_out texts ini config fault.InheritanceCircle why m is = absurd (together texts ini types.InheritanceCircle is.read.read why.1)
 ruled_out texts ini config fault.KindClash why m is = absurd (together texts ini types.KindClash is.read.read why.1)
 ruled_out texts ini config fault.NoSuchConfig why m is =
     let lines = lines_same texts ini why.read is.read.read in

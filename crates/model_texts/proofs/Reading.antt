@@ -36,6 +36,7 @@ blames ts n t before (fault.NoMemory _) declared here is = tt
 blames ts n t before (fault.IniSyntax line) declared here is = absurd is
 blames ts n t before fault.DuplicateType declared here is = absurd is
 blames ts n t before fault.UnknownType declared here is = absurd is
+blames ts n t before fault.InheritanceCircle declared here is = absurd is
 blames ts n t before fault.KindClash declared here is = absurd is
 blames ts n t before fault.NoSuchConfig declared here is = absurd is
 blames ts n t before fault.ChainFault declared here is = absurd is
@@ -60,6 +61,7 @@ config_refused texts ini config read fault.TooLarge is = absurd is
 config_refused texts ini config read (fault.IniSyntax line) is = absurd is
 config_refused texts ini config read fault.DuplicateType is = absurd is
 config_refused texts ini config read fault.UnknownType is = absurd is
+config_refused texts ini config read fault.InheritanceCircle is = absurd is
 config_refused texts ini config read fault.KindClash is = absurd is
 config_refused texts ini config read fault.NoSuchNetwork is = absurd is
 

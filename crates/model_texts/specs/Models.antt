@@ -15,7 +15,9 @@ use Rattle.ned_syntax.specs.Grammar.{file}
 use Rattle.ned_syntax.specs.NedText.{IsNedFile}
 use Rattle.ned_types.specs.declared.table.TypeFault.{TypeFault}
 use Rattle.ned_types.specs.declared.table.TypeFault.TheVariants as types
-use Rattle.ned_types.specs.Types.{types_of, fault_of}
+use Rattle.ned_types.specs.Types.{types_of}
+use Rattle.ned_types.specs.Inheritance.{flat_types}
+use Rattle.ned_types.specs.Building.{fault_of}
 use Rattle.model_texts.specs.declared.begin.BeginFault.{BeginFault}
 use Rattle.model_texts.specs.declared.begin.BeginFault.TheVariants as fault
 
@@ -46,10 +48,10 @@ pub record AreRead (texts : List (List ℕ)) (ini : List ℕ) : Type 0 where
   pub said : IsIniText ini lines
   pub together : fault_of (types_of files) ≡ None
 
--- The model has what the texts say, and the chain of the configuration, whose section is there; and no injection.
+-- The model has the flat types of what the texts say, and the chain of the configuration, whose section is there; and no injection.
 pub record IsReadAs (texts : List (List ℕ)) (ini config : List ℕ) (m : Model) : Type 0 where
   pub read : AreRead texts ini
-  pub types : m.types ≡ types_of read.files
+  pub types : m.types ≡ flat_types (types_of read.files)
   pub lines : m.ini ≡ read.lines
   pub selected : m.config ≡ config
   pub exists : is_section config read.lines ≡ true
@@ -96,6 +98,7 @@ RefusesIni bytes _ = ⊥
 abbrev pub RefusesTypes : List TypeDeclaration → BeginFault → Type 0
 RefusesTypes declared fault.DuplicateType = fault_of declared ≡ Some types.DuplicateType
 RefusesTypes declared fault.UnknownType = fault_of declared ≡ Some types.UnknownType
+RefusesTypes declared fault.InheritanceCircle = fault_of declared ≡ Some types.InheritanceCircle
 RefusesTypes declared fault.KindClash = fault_of declared ≡ Some types.KindClash
 RefusesTypes declared (fault.NoMemory _) = Unit {0}
 RefusesTypes declared _ = ⊥
@@ -146,6 +149,7 @@ Refuses texts ini config (fault.NedSyntax at line) = (is_too_large texts ini ≡
 Refuses texts ini config (fault.IniSyntax line) = (is_too_large texts ini ≡ false) × IsIniBlamed texts ini line
 Refuses texts ini config fault.DuplicateType = (is_too_large texts ini ≡ false) × AreApart texts ini types.DuplicateType
 Refuses texts ini config fault.UnknownType = (is_too_large texts ini ≡ false) × AreApart texts ini types.UnknownType
+Refuses texts ini config fault.InheritanceCircle = (is_too_large texts ini ≡ false) × AreApart texts ini types.InheritanceCircle
 Refuses texts ini config fault.KindClash = (is_too_large texts ini ≡ false) × AreApart texts ini types.KindClash
 Refuses texts ini config fault.NoSuchConfig = IsNotSelected texts ini config
 Refuses texts ini config fault.ChainFault = HasNoChain texts ini config

@@ -6,7 +6,9 @@ ghost use Rattle.sim_values.specs.Memory.{no_memory};
 ghost use Rattle.ini_config.specs.Meaning.{IsIniText};
 ghost use Rattle.ini_config.specs.Sections.{IsChain, is_section};
 ghost use Rattle.ned_syntax.specs.NedText.{IsNedFile};
-ghost use Rattle.ned_types.specs.Types.{types_of, fault_of};
+ghost use Rattle.ned_types.specs.Types.{types_of};
+ghost use Rattle.ned_types.specs.Inheritance.{flat_types};
+ghost use Rattle.ned_types.specs.Building.{fault_of};
 ghost use Rattle.model_texts.specs.Models.{AreNedFiles, IsModelOf, IsOnlyModelOf, IsRuledOut, RefusesFile, RefusesFiles, RefusesIni, RefusesTypes, RefusesConfig, Refuses, is_large, is_too_large};
 
 use ini_config::error::{ChainError, IniError};
@@ -37,9 +39,11 @@ pub enum BeginFault {
     IniSyntax(usize),
     /// Two types have one name, or one has that of a built-in channel.
     DuplicateType,
-    /// A submodule's type isn't declared.
+    /// A submodule's type, or what a type extends, isn't declared.
     UnknownType,
-    /// A member is declared twice, a value is given to an undeclared parameter or after a fixed
+    /// A type extends itself, perhaps by way of others.
+    InheritanceCircle,
+    /// What a type extends is no simple type, a member is declared twice, a value is given to an undeclared parameter or after a fixed
     /// one, or a submodule's type is no simple type.
     KindClash,
     /// The configuration isn't in the ini text.
@@ -135,16 +139,17 @@ fn lines_of(alloc: Global, bytes: &[u8]) -> Result<IniText, BeginFault>
     }
 }
 
-/// The types that the files declare.
+/// The flat types that the files declare.
 fn table_of(alloc: Global, files: Vec<NedFile>) -> Result<TypeTable, BeginFault>
     ensures accepted { let types = types_of files.items in
-        IfOk result (λ table. (table ≡ types) × (fault_of types ≡ None)) }
+        IfOk result (λ table. (table ≡ flat_types types) × (fault_of types ≡ None)) }
     ensures refused { IfErr result (λ fault. RefusesTypes (types_of files.items) fault) }
 {
     match TypeTable::build(alloc, files) {
         Ok(table) => Ok(table),
         Err(TypeFault::DuplicateType) => Err(BeginFault::DuplicateType),
         Err(TypeFault::UnknownType) => Err(BeginFault::UnknownType),
+        Err(TypeFault::InheritanceCircle) => Err(BeginFault::InheritanceCircle),
         Err(TypeFault::KindClash) => Err(BeginFault::KindClash),
         Err(TypeFault::NoMemory(error)) => Err(BeginFault::NoMemory(error)),
     }
