@@ -26,6 +26,8 @@ pub enum Sign {
     Submodule,
     /// `int NAME`, or another word of a parameter.
     Parameter,
+    /// `extends NAME`.
+    Base,
     /// `NAME`.
     Name,
 }
@@ -45,6 +47,7 @@ fn begins_with(tokens: &[Token], sign: Sign, name: &[u8]) -> bool {
         (Sign::Parameter, [Token::Word(word), Token::Name(found), ..]) => {
             is_parameter_word(*word) && found.is(name)
         }
+        (Sign::Base, [Token::Word(Keyword::Extends), Token::Name(found), ..]) => found.is(name),
         (Sign::Name, [Token::Name(found), ..]) => found.is(name),
         _ => false,
     }
@@ -222,6 +225,11 @@ pub fn all_types(alloc: Global, files: &[ReadFile]) -> Result<Vec<Declared<'_>>,
     Ok(types)
 }
 
+/// The place of the type of that name.
+pub fn place_of(types: &[Declared<'_>], name: &[u8]) -> Option<usize> {
+    types.iter().position(|it| it.of.name.is(name))
+}
+
 /// The type of that name.
 pub fn type_named<'a>(types: &[Declared<'a>], name: &[u8]) -> Option<Declared<'a>> {
     for it in types {
@@ -245,4 +253,26 @@ pub fn names_of<'a>(
         }
     }
     Ok(names)
+}
+
+/// The line of a type.
+pub fn line_of_type(files: &[ReadFile], it: &Declared<'_>) -> usize {
+    match files.get(it.file) {
+        Some(read) => read.line_of_type(it.number),
+        None => 1,
+    }
+}
+
+/// The line where a type says something of a name.
+pub fn line_of(
+    files: &[ReadFile],
+    it: &Declared<'_>,
+    sign: Sign,
+    name: &[u8],
+    behind: usize,
+) -> usize {
+    match files.get(it.file) {
+        Some(read) => read.line_of(it.number, sign, name, behind),
+        None => 1,
+    }
 }

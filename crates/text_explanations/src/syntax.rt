@@ -10,7 +10,7 @@ use std::alloc::Global;
 use std::fmt::Write;
 
 /// What a text can go on with: how it is written, and how it is called where it isn't a word or a mark.
-const GOES_ON: [(&str, &str); 26] = [
+const GOES_ON: [(&str, &str); 27] = [
     (";", ""),
     ("}", ""),
     ("{", ""),
@@ -25,6 +25,7 @@ const GOES_ON: [(&str, &str); 26] = [
     ("submodules", ""),
     ("simple", ""),
     ("network", ""),
+    ("extends", ""),
     ("bool", ""),
     ("int", ""),
     ("string", ""),

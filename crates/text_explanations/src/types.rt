@@ -1,32 +1,19 @@
 //! Why the types of the files don't go together.
 
+use crate::bases::{bases_along, bases_of, tell_circle, tell_other_base, tell_unknown_base};
+use crate::members::tell_section;
 use crate::names::{shown, tell_near};
-use crate::ned_files::{Declared, ReadFile, Sign, all_types, names_of, read_files, type_named};
+use crate::ned_files::{
+    Declared, ReadFile, Sign, all_types, line_of, line_of_type, names_of, read_files, type_named,
+};
 use crate::sources::Sources;
-use ned_syntax::ast::{ParameterValue, SectionLine, TypeKind};
-use ned_types::faults::{name_in, value_in};
+use ned_syntax::ast::{Submodule, TypeKind};
 use sim_values::NoMemory;
 use std::alloc::Global;
 use std::fmt::Write;
 
 /// The channels that each network knows.
 const BUILT_IN: [&str; 3] = ["IdealChannel", "DelayChannel", "DatarateChannel"];
-
-/// The line of a type.
-fn line_of_type(files: &[ReadFile], it: &Declared<'_>) -> usize {
-    match files.get(it.file) {
-        Some(read) => read.line_of_type(it.number),
-        None => 1,
-    }
-}
-
-/// The line where a type says something of a name.
-fn line_of(files: &[ReadFile], it: &Declared<'_>, sign: Sign, name: &[u8], behind: usize) -> usize {
-    match files.get(it.file) {
-        Some(read) => read.line_of(it.number, sign, name, behind),
-        None => 1,
-    }
-}
 
 /// Whether a built-in channel has that name.
 fn is_built_in(name: &[u8]) -> bool {
@@ -89,12 +76,59 @@ fn tell_duplicate(
     Ok(false)
 }
 
-/// Whether a submodule may name that type.
+/// Whether a submodule or a type may name that type.
 fn is_known(types: &[Declared<'_>], name: &[u8]) -> bool {
     is_built_in(name) || type_named(types, name).is_some()
 }
 
-/// Adds that a submodule's type isn't declared. Answers whether there is such.
+/// Adds that a submodule's type isn't declared.
+fn tell_unknown_submodule(
+    alloc: Global,
+    told: &mut String,
+    sources: &Sources<'_>,
+    files: &[ReadFile],
+    types: &[Declared<'_>],
+    it: &Declared<'_>,
+    submodule: &Submodule,
+) -> Result<(), NoMemory> {
+    let (name, of) = (submodule.name.as_bytes(), submodule.type_name.as_bytes());
+    let line = line_of(files, it, Sign::Submodule, name, 0);
+    write!(
+        told,
+        "{}:{line}: the submodule '{}' is of the type '{}', which no file declares",
+        sources.path(it.file),
+        shown(name),
+        shown(of)
+    )?;
+    let simple = names_of(alloc, types, TypeKind::Simple)?;
+    tell_near(told, of, simple.as_slice())
+}
+
+/// Adds that what a type extends, or the type of one of its submodules, isn't declared. Answers whether there is such.
+fn tell_unknown_in(
+    alloc: Global,
+    told: &mut String,
+    sources: &Sources<'_>,
+    files: &[ReadFile],
+    types: &[Declared<'_>],
+    it: &Declared<'_>,
+) -> Result<bool, NoMemory> {
+    if let Some(base) = &it.of.base {
+        if !is_known(types, base.as_bytes()) {
+            tell_unknown_base(alloc, told, sources, files, types, it, base.as_bytes())?;
+            return Ok(true);
+        }
+    }
+    for submodule in it.of.submodules.as_slice() {
+        if !is_known(types, submodule.type_name.as_bytes()) {
+            tell_unknown_submodule(alloc, told, sources, files, types, it, submodule)?;
+            return Ok(true);
+        }
+    }
+    Ok(false)
+}
+
+/// Adds that a type isn't declared. Answers whether there is such.
 fn tell_unknown(
     alloc: Global,
     told: &mut String,
@@ -103,95 +137,7 @@ fn tell_unknown(
     types: &[Declared<'_>],
 ) -> Result<bool, NoMemory> {
     for it in types {
-        for submodule in it.of.submodules.as_slice() {
-            let (name, of) = (submodule.name.as_bytes(), submodule.type_name.as_bytes());
-            if !is_known(types, of) {
-                let line = line_of(files, it, Sign::Submodule, name, 0);
-                let path = sources.path(it.file);
-                write!(
-                    told,
-                    "{path}:{line}: the submodule '{}' is of the type '{}', which no file declares",
-                    shown(name),
-                    shown(of)
-                )?;
-                let simple = names_of(alloc, types, TypeKind::Simple)?;
-                tell_near(told, of, simple.as_slice())?;
-                return Ok(true);
-            }
-        }
-    }
-    Ok(false)
-}
-
-/// How often one of the lines declares the parameter.
-fn declarations_of(lines: &[SectionLine], name: &[u8]) -> usize {
-    let declares = |line: &&SectionLine| match line {
-        SectionLine::Declaration(declaration) => declaration.name.is(name),
-        _ => false,
-    };
-    lines.iter().filter(declares).count()
-}
-
-/// Whether one of the lines gives the parameter a fixed value.
-fn fixes(lines: &[SectionLine], name: &[u8]) -> bool {
-    lines.iter().any(|line| {
-        name_in(line) == name && matches!(value_in(line), Some(ParameterValue::Fixed(_)))
-    })
-}
-
-/// What is wrong with a line of a type: where that stands, behind how many such places, and in words.
-fn clash_of(
-    lines: &[SectionLine],
-    at: usize,
-    line: &SectionLine,
-) -> Option<(Sign, usize, &'static str)> {
-    let name = name_in(line);
-    if name.is_empty() {
-        return None;
-    }
-    let before = match lines.get(..at) {
-        Some(before) => before,
-        None => lines,
-    };
-    if matches!(line, SectionLine::Declaration(_)) && declarations_of(before, name) > 0 {
-        return Some((Sign::Parameter, 1, "is declared a second time"));
-    }
-    if value_in(line).is_some() && declarations_of(lines, name) == 0 {
-        return Some((
-            Sign::Name,
-            0,
-            "is given a value, and the type doesn't declare it",
-        ));
-    }
-    if value_in(line).is_some() && fixes(before, name) {
-        return Some((
-            Sign::Name,
-            1,
-            "has a fixed value already, and can't be given another",
-        ));
-    }
-    None
-}
-
-/// Adds what is wrong with the parameters of a type. Answers whether something is.
-fn tell_section(
-    told: &mut String,
-    sources: &Sources<'_>,
-    files: &[ReadFile],
-    it: &Declared<'_>,
-) -> Result<bool, NoMemory> {
-    let lines = it.of.lines.as_slice();
-    for (at, line) in lines.iter().enumerate() {
-        if let Some((sign, behind, words)) = clash_of(lines, at, line) {
-            let name = name_in(line);
-            let number = line_of(files, it, sign, name, behind);
-            let path = sources.path(it.file);
-            write!(
-                told,
-                "{path}:{number}: the parameter '{}' of '{}' {words}",
-                shown(name),
-                shown(it.of.name.as_bytes())
-            )?;
+        if tell_unknown_in(alloc, told, sources, files, types, it)? {
             return Ok(true);
         }
     }
@@ -244,13 +190,16 @@ fn tell_submodules(
 
 /// Adds why members clash. Answers whether they do.
 fn tell_clash(
+    alloc: Global,
     told: &mut String,
     sources: &Sources<'_>,
     files: &[ReadFile],
     types: &[Declared<'_>],
+    bases: &[Option<usize>],
 ) -> Result<bool, NoMemory> {
-    for it in types {
-        if tell_section(told, sources, files, it)?
+    for (at, it) in types.iter().enumerate() {
+        let along = bases_along(alloc, types, bases, at)?;
+        if tell_section(told, sources, files, along.as_slice(), it)?
             || tell_submodules(told, sources, files, types, it)?
         {
             return Ok(true);
@@ -269,6 +218,21 @@ pub fn tell_types(alloc: Global, told: &mut String, sources: &Sources<'_>) -> Re
     if tell_unknown(alloc, told, sources, files.as_slice(), types.as_slice())? {
         return Ok(());
     }
-    tell_clash(told, sources, files.as_slice(), types.as_slice())?;
+    let bases = bases_of(alloc, types.as_slice())?;
+    let bases = bases.as_slice();
+    if tell_circle(told, sources, files.as_slice(), types.as_slice(), bases)? {
+        return Ok(());
+    }
+    if tell_other_base(told, sources, files.as_slice(), types.as_slice(), bases)? {
+        return Ok(());
+    }
+    tell_clash(
+        alloc,
+        told,
+        sources,
+        files.as_slice(),
+        types.as_slice(),
+        bases,
+    )?;
     Ok(())
 }

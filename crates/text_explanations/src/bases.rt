@@ -1,0 +1,186 @@
+//! What types extend, and what is wrong with that.
+
+use crate::names::{shown, tell_near};
+use crate::ned_files::{Declared, ReadFile, Sign, line_of, names_of, place_of};
+use crate::sources::Sources;
+use ned_syntax::ast::TypeKind;
+use sim_values::NoMemory;
+use sim_values::text::Text;
+use std::alloc::Global;
+use std::fmt::Write;
+
+/// The place of a type that is extended, where there is one.
+fn place_of_base(types: &[Declared<'_>], base: &Option<Text>) -> Option<usize> {
+    match base {
+        Some(name) => place_of(types, name.as_bytes()),
+        None => None,
+    }
+}
+
+/// The place of what each type extends, where that is one of them.
+pub fn bases_of(alloc: Global, types: &[Declared<'_>]) -> Result<Vec<Option<usize>>, NoMemory> {
+    let mut bases = Vec::new(alloc);
+    for it in types {
+        bases.push(place_of_base(types, &it.of.base))?;
+    }
+    Ok(bases)
+}
+
+/// The place of what the type at that place extends.
+fn base_at(bases: &[Option<usize>], at: usize) -> Option<usize> {
+    match bases.get(at) {
+        Some(base) => *base,
+        None => None,
+    }
+}
+
+/// The types that the one at that place extends, the nearest first, where none extends itself.
+pub fn bases_along<'a>(
+    alloc: Global,
+    types: &[Declared<'a>],
+    bases: &[Option<usize>],
+    at: usize,
+) -> Result<Vec<Declared<'a>>, NoMemory> {
+    let mut along = Vec::new(alloc);
+    let mut next = base_at(bases, at);
+    for _step in 0..types.len() {
+        let Some(place) = next else {
+            break;
+        };
+        if let Some(found) = types.get(place) {
+            along.push(*found)?;
+        }
+        next = base_at(bases, place);
+    }
+    Ok(along)
+}
+
+/// Where as many steps as there are types lead, from a place to what is extended there.
+fn far_from(bases: &[Option<usize>], at: usize) -> Option<usize> {
+    let mut next = Some(at);
+    for _step in 0..bases.len() {
+        let Some(place) = next else {
+            break;
+        };
+        next = base_at(bases, place);
+    }
+    next
+}
+
+/// The place of a type that extends itself: where there is still a type after that many steps, the way is in a circle.
+fn in_a_circle(bases: &[Option<usize>]) -> Option<usize> {
+    for at in 0..bases.len() {
+        let far = far_from(bases, at);
+        if far.is_some() {
+            return far;
+        }
+    }
+    None
+}
+
+/// Adds that what a type extends isn't declared.
+pub fn tell_unknown_base(
+    alloc: Global,
+    told: &mut String,
+    sources: &Sources<'_>,
+    files: &[ReadFile],
+    types: &[Declared<'_>],
+    it: &Declared<'_>,
+    base: &[u8],
+) -> Result<(), NoMemory> {
+    let line = line_of(files, it, Sign::Base, base, 0);
+    write!(
+        told,
+        "{}:{line}: the type '{}' extends '{}', which no file declares",
+        sources.path(it.file),
+        shown(it.of.name.as_bytes()),
+        shown(base)
+    )?;
+    let simple = names_of(alloc, types, TypeKind::Simple)?;
+    tell_near(told, base, simple.as_slice())
+}
+
+/// Adds that a type extends itself.
+fn tell_itself(
+    told: &mut String,
+    sources: &Sources<'_>,
+    files: &[ReadFile],
+    it: &Declared<'_>,
+    base: &[u8],
+) -> Result<(), NoMemory> {
+    let name = it.of.name.as_bytes();
+    let line = line_of(files, it, Sign::Base, base, 0);
+    write!(
+        told,
+        "{}:{line}: the type '{}' extends ",
+        sources.path(it.file),
+        shown(name)
+    )?;
+    if name == base {
+        told.push_str("itself; it can extend another type, or none")?;
+        return Ok(());
+    }
+    write!(
+        told,
+        "'{}', and that in the end '{}' again; let one of them extend another type, or none",
+        shown(base),
+        shown(name)
+    )?;
+    Ok(())
+}
+
+/// Adds that a type extends itself, perhaps by way of others. Answers whether one does.
+pub fn tell_circle(
+    told: &mut String,
+    sources: &Sources<'_>,
+    files: &[ReadFile],
+    types: &[Declared<'_>],
+    bases: &[Option<usize>],
+) -> Result<bool, NoMemory> {
+    let Some(place) = in_a_circle(bases) else {
+        return Ok(false);
+    };
+    if let Some(it) = types.get(place) {
+        if let Some(base) = &it.of.base {
+            tell_itself(told, sources, files, it, base.as_bytes())?;
+        }
+    }
+    Ok(true)
+}
+
+/// Whether it is the place of a simple type.
+fn is_simple(types: &[Declared<'_>], place: Option<usize>) -> bool {
+    match place {
+        Some(place) => match types.get(place) {
+            Some(found) => found.of.kind == TypeKind::Simple,
+            None => false,
+        },
+        None => false,
+    }
+}
+
+/// Adds that what a type extends is no simple module. Answers whether one extends such.
+pub fn tell_other_base(
+    told: &mut String,
+    sources: &Sources<'_>,
+    files: &[ReadFile],
+    types: &[Declared<'_>],
+    bases: &[Option<usize>],
+) -> Result<bool, NoMemory> {
+    for (at, it) in types.iter().enumerate() {
+        if let Some(base) = &it.of.base {
+            if !is_simple(types, base_at(bases, at)) {
+                let line = line_of(files, it, Sign::Base, base.as_bytes(), 0);
+                write!(
+                    told,
+                    "{}:{line}: the type '{}' extends '{}', which is no simple module",
+                    sources.path(it.file),
+                    shown(it.of.name.as_bytes()),
+                    shown(base.as_bytes())
+                )?;
+                return Ok(true);
+            }
+        }
+    }
+    Ok(false)
+}

@@ -1,0 +1,188 @@
+//! What is wrong with the parameters of a type, with those of the types that it extends.
+
+use crate::names::shown;
+use crate::ned_files::{Declared, ReadFile, Sign, line_of};
+use crate::sources::Sources;
+use ned_syntax::ast::{ParameterValue, SectionLine};
+use ned_types::faults::{name_in, value_in};
+use sim_values::NoMemory;
+use std::fmt::Write;
+
+/// What is wrong with a line, and in which type that is extended the other line stands; in none where it stands in the same type.
+#[derive(Clone, Copy)]
+enum Clash<'a> {
+    /// The parameter is declared already.
+    Declared(Option<Declared<'a>>),
+    /// It is declared nowhere.
+    Undeclared,
+    /// It has a fixed value already.
+    Fixed(Option<Declared<'a>>),
+}
+
+fn is_declaration(line: &SectionLine) -> bool {
+    matches!(line, SectionLine::Declaration(_))
+}
+
+/// How often one of the lines declares the parameter.
+fn declarations_of(lines: &[SectionLine], name: &[u8]) -> usize {
+    lines
+        .iter()
+        .filter(|line| is_declaration(*line) && name_in(*line) == name)
+        .count()
+}
+
+/// How many of the lines speak of the parameter.
+fn mentions_of(lines: &[SectionLine], name: &[u8]) -> usize {
+    lines.iter().filter(|line| name_in(*line) == name).count()
+}
+
+/// Whether one of the lines gives the parameter a fixed value.
+fn fixes(lines: &[SectionLine], name: &[u8]) -> bool {
+    lines.iter().any(|line| {
+        name_in(line) == name && matches!(value_in(line), Some(ParameterValue::Fixed(_)))
+    })
+}
+
+/// The first of the types that declares the parameter.
+fn declared_in<'a>(bases: &[Declared<'a>], name: &[u8]) -> Option<Declared<'a>> {
+    for it in bases {
+        if declarations_of(it.of.lines.as_slice(), name) > 0 {
+            return Some(*it);
+        }
+    }
+    None
+}
+
+/// The first of the types that gives the parameter a fixed value.
+fn fixed_in<'a>(bases: &[Declared<'a>], name: &[u8]) -> Option<Declared<'a>> {
+    for it in bases {
+        if fixes(it.of.lines.as_slice(), name) {
+            return Some(*it);
+        }
+    }
+    None
+}
+
+/// What is wrong with a declaration behind these lines.
+fn declared_before<'a>(
+    bases: &[Declared<'a>],
+    before: &[SectionLine],
+    name: &[u8],
+) -> Option<Clash<'a>> {
+    if declarations_of(before, name) > 0 {
+        return Some(Clash::Declared(None));
+    }
+    match declared_in(bases, name) {
+        Some(base) => Some(Clash::Declared(Some(base))),
+        None => None,
+    }
+}
+
+/// What is wrong with a value behind these lines.
+fn fixed_before<'a>(
+    bases: &[Declared<'a>],
+    before: &[SectionLine],
+    name: &[u8],
+) -> Option<Clash<'a>> {
+    if fixes(before, name) {
+        return Some(Clash::Fixed(None));
+    }
+    match fixed_in(bases, name) {
+        Some(base) => Some(Clash::Fixed(Some(base))),
+        None => None,
+    }
+}
+
+/// What is wrong with a line of a type that extends these, the nearest first.
+fn clash_of<'a>(
+    bases: &[Declared<'a>],
+    lines: &[SectionLine],
+    before: &[SectionLine],
+    line: &SectionLine,
+) -> Option<Clash<'a>> {
+    let name = name_in(line);
+    if is_declaration(line) {
+        let clash = declared_before(bases, before, name);
+        if clash.is_some() {
+            return clash;
+        }
+    }
+    if value_in(line).is_none() {
+        return None;
+    }
+    if declarations_of(lines, name) == 0 && declared_in(bases, name).is_none() {
+        return Some(Clash::Undeclared);
+    }
+    fixed_before(bases, before, name)
+}
+
+/// Adds in words what is wrong with a parameter of that type.
+fn tell_words(
+    told: &mut String,
+    clash: Clash<'_>,
+    extends: bool,
+    of: &[u8],
+) -> Result<(), NoMemory> {
+    match clash {
+        Clash::Declared(None) => told.push_str("is declared a second time")?,
+        Clash::Declared(Some(base)) => write!(
+            told,
+            "is declared in '{}' already, which '{}' extends; leave out the word before it, or choose another name",
+            shown(base.of.name.as_bytes()),
+            shown(of)
+        )?,
+        Clash::Undeclared if extends => {
+            told.push_str("is given a value, and neither the type nor what it extends declares it")?
+        }
+        Clash::Undeclared => told.push_str("is given a value, and the type doesn't declare it")?,
+        Clash::Fixed(None) => {
+            told.push_str("has a fixed value already, and can't be given another")?
+        }
+        Clash::Fixed(Some(base)) => write!(
+            told,
+            "has a fixed value in '{}' already, and can't be given another; with default(..) there it could",
+            shown(base.of.name.as_bytes())
+        )?,
+    }
+    Ok(())
+}
+
+/// Which place in the text of a type shows the clash of a line, and behind how many such.
+fn sign_of(clash: Clash<'_>, before: &[SectionLine], name: &[u8]) -> (Sign, usize) {
+    match clash {
+        Clash::Declared(_) => (Sign::Parameter, declarations_of(before, name)),
+        _ => (Sign::Name, mentions_of(before, name)),
+    }
+}
+
+/// Adds what is wrong with the parameters of a type that extends these, the nearest first. Answers whether something is.
+pub fn tell_section(
+    told: &mut String,
+    sources: &Sources<'_>,
+    files: &[ReadFile],
+    bases: &[Declared<'_>],
+    it: &Declared<'_>,
+) -> Result<bool, NoMemory> {
+    let lines = it.of.lines.as_slice();
+    for (at, line) in lines.iter().enumerate() {
+        let before = match lines.get(..at) {
+            Some(before) => before,
+            None => lines,
+        };
+        if let Some(clash) = clash_of(bases, lines, before, line) {
+            let name = name_in(line);
+            let (sign, behind) = sign_of(clash, before, name);
+            write!(
+                told,
+                "{}:{}: the parameter '{}' of '{}' ",
+                sources.path(it.file),
+                line_of(files, it, sign, name, behind),
+                shown(name),
+                shown(it.of.name.as_bytes())
+            )?;
+            tell_words(told, clash, !bases.is_empty(), it.of.name.as_bytes())?;
+            return Ok(true);
+        }
+    }
+    Ok(false)
+}
