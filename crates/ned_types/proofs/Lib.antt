@@ -3,3 +3,4 @@ pub mod BuildingLaws
 pub mod InheritanceLaws
 pub mod Near
 pub mod Repeats
+pub mod NamedLaws

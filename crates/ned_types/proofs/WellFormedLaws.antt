@@ -1,6 +1,6 @@
 -- Types have no clash exactly where they are well formed.
-use Rattle.std.proofs.Common.{◌≡◌, ◌≢◌, inl, inr, ℕ, Bool, true, false, not, ◌||◌, ◌&&◌, List, [], ◌∷◌, Option, Some, None, refl, sym, ap, subst, ◌∙◌, if◌then◌else◌}
-use Rattle.std.specs.Prelude.{is_some, ◌↔◌}
+use Rattle.std.proofs.Common.{◌≡◌, ◌≢◌, inl, inr, ℕ, Bool, true, false, not, ◌||◌, ◌&&◌, List, [], ◌∷◌, Some, refl, sym, ap, subst, ◌∙◌, if◌then◌else◌}
+use Rattle.std.specs.Prelude.{is_some}
 use Rattle.std.specs.List.{list_any}
 use Rattle.std.specs.Str.{bytes_eq}
 use Rattle.std.proofs.lemmas.Bool.{cases_Bool, false≢true, or_parts}
@@ -42,10 +42,10 @@ and_made : (x y : Bool) → (x ≡ true → y ≡ false) → (x && y) ≡ false
 and_made true y h = h refl
 and_made false y h = refl
 
-names_apart : (a b : List ℕ) → bytes_eq a b ≡ false → b ≢ a
+pub names_apart : (a b : List ℕ) → bytes_eq a b ≡ false → b ≢ a
 names_apart a b h e = false≢true (sym h ∙ (bytes_eq-Decides a b).1 (sym e))
 
-apart_names : (a b : List ℕ) → b ≢ a → bytes_eq a b ≡ false
+pub apart_names : (a b : List ℕ) → b ≢ a → bytes_eq a b ≡ false
 apart_names a b h =
     elim (cases_Bool (bytes_eq a b)) [
       | inl same ↦ absurd (h (sym ((bytes_eq-Decides a b).0 same)))

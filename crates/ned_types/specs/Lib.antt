@@ -5,3 +5,4 @@ pub mod WellFormed
 pub mod Building
 pub mod Seen
 pub mod Example
+pub mod Named

@@ -1,15 +1,18 @@
 //! Why declared types make no model.
 
 ghost use Rattle.std.specs.Prelude.{◌≡◌, ◌||◌, ◌↔◌, None, IfOk};
-ghost use Rattle.ned_types.specs.Types.{has_duplicate, has_unknown, has_clash, is_built_in, is_type_named, names_unknown, is_submodule_known, clashes, section_clashes, submodules_clash, is_submodule_simple, is_simple, repeats_submodule, has_other_kind, redeclares, declares, is_declaration, is_declared, is_undeclared, gives_undeclared, gives_again, gives, is_given, is_fixed, name_in, value_in};
+ghost use Rattle.ned_types.specs.Types.{is_built_in, is_type_named, names_unknown, is_submodule_known, clashes, section_clashes, submodules_clash, is_submodule_simple, is_simple, repeats_submodule, has_other_kind, redeclares, declares, is_declaration, is_declared, is_undeclared, gives_undeclared, gives_again, gives, is_given, is_fixed, name_in, value_in};
 ghost use Rattle.ned_types.specs.Inheritance.{flat_types};
-ghost use Rattle.ned_types.specs.Building.{base_fault, fault_of, Builds, AnswersTable, CanBuild};
+ghost use Rattle.ned_types.specs.Building.{Builds, AnswersTable, CanBuild};
 ghost use Rattle.ned_types.specs.WellFormed.{IsWellFormed};
+ghost use Rattle.std.specs.List.{list_any};
 ghost use Rattle.std.specs.Option.{option_copied};
+ghost use Rattle.ned_types.specs.Named.{later_fault};
 ghost use Rattle.ned_types.specs.Seen.{is_one_named, names_in};
 
 use crate::inheritance::{flat_types, has_circle, has_other_base, has_unknown_base};
-use crate::table::{TypeFault, find_type};
+use crate::named::{NamedTypes, by_name};
+use crate::table::TypeFault;
 use indexmap::IndexSet;
 use ned_syntax::ast::{ParameterValue, SectionLine, Submodule, TypeDeclaration, TypeKind};
 use sqlite_items::Items;
@@ -29,61 +32,48 @@ pub(crate) fn flattened(
     built(alloc, types)
 }
 
+#[tactic(auto, using(crate::proofs::BuildingLaws::clash_flat))]
 fn built(alloc: Global, types: &[TypeDeclaration]) -> Result<Items<TypeDeclaration>, TypeFault>
     ensures { Builds types.now result }
 {
-    if let Some(fault) = base_fault(types) {
+    let Some(named) = by_name(alloc, types)? else {
+        return Err(TypeFault::DuplicateType);
+    };
+    if let Some(fault) = later_fault(&named, types) {
         return Err(fault);
     }
-    let flat = flat_types(alloc, types)?;
-    if has_clash(alloc, flat.as_slice())? {
+    let flat = flat_types(alloc, &named, types)?;
+    if has_clash(alloc, &named, flat.as_slice())? {
         return Err(TypeFault::KindClash);
     }
     Ok(flat)
 }
 
-/// The first fault of names and bases.
-fn base_fault(types: &[TypeDeclaration]) -> Option<TypeFault>
-    ensures { result ≡ base_fault types.now }
+/// The first fault of names and bases behind that of two types of one name.
+fn later_fault(named: &NamedTypes<'_>, types: &[TypeDeclaration]) -> Option<TypeFault>
+    ensures { result ≡ later_fault named.now types.now }
 {
-    if has_duplicate(types) {
-        return Some(TypeFault::DuplicateType);
-    }
-    if has_unknown(types) || has_unknown_base(types) {
+    if has_unknown(named, types) || has_unknown_base(named, types) {
         return Some(TypeFault::UnknownType);
     }
-    if has_circle(types) {
+    if has_circle(named, types) {
         return Some(TypeFault::InheritanceCircle);
     }
-    if has_other_base(types) {
+    if has_other_base(named, types) {
         return Some(TypeFault::KindClash);
     }
     None
 }
 
-/// Whether two types have one name, or one the name of a built-in channel.
-fn has_duplicate(types: &[TypeDeclaration]) -> bool
-    ensures { result ≡ has_duplicate types.now }
-{
-    let mut rest = types;
-    while let [declared, after @ ..] = rest {
-        if is_taken(declared.name.as_bytes(), after) {
-            return true;
-        }
-        rest = after;
-    }
-    false
-}
-
 /// Whether a built-in channel or one of the types has that name.
-pub(crate) fn is_taken(name: &[u8], types: &[TypeDeclaration]) -> bool
-    ensures { result ≡ is_built_in name.now || is_type_named name.now types.now }
+pub(crate) fn is_taken(name: &[u8], named: &NamedTypes<'_>) -> bool
+    ensures { result ≡ is_built_in name.now || is_type_named name.now named.now }
 {
-    is_built_in(name) || is_type_named(name, types)
+    is_built_in(name) || named.has(name)
 }
 
 /// Whether a built-in channel has that name.
-fn is_built_in(name: &[u8]) -> bool
+pub(crate) fn is_built_in(name: &[u8]) -> bool
     ensures { result ≡ is_built_in name.now }
 {
     name == b"IdealChannel".as_slice()
@@ -91,41 +81,38 @@ fn is_built_in(name: &[u8]) -> bool
         || name == b"DatarateChannel".as_slice()
 }
 
-/// Whether one of the types has that name.
-fn is_type_named(name: &[u8], types: &[TypeDeclaration]) -> bool
-    ensures { result ≡ is_type_named name.now types.now }
-{
-    types.iter().any(|declared| declared.name.is(name))
-}
-
 /// Whether a submodule's type isn't there.
-fn has_unknown(types: &[TypeDeclaration]) -> bool
-    ensures { result ≡ has_unknown types.now }
+fn has_unknown(named: &NamedTypes<'_>, types: &[TypeDeclaration]) -> bool
+    ensures { result ≡ list_any (λ t. names_unknown named.now t.submodules) types.now }
 {
-    types.iter().any(|declared| names_unknown(types, declared.submodules.as_slice()))
+    types.iter().any(|declared| names_unknown(named, declared.submodules.as_slice()))
 }
 
 /// Whether the type of one of these submodules isn't there.
-fn names_unknown(types: &[TypeDeclaration], submodules: &[Submodule]) -> bool
-    ensures { result ≡ names_unknown types.now submodules.now }
+fn names_unknown(named: &NamedTypes<'_>, submodules: &[Submodule]) -> bool
+    ensures { result ≡ names_unknown named.now submodules.now }
 {
-    submodules.iter().any(|s| !is_submodule_known(types, s))
+    submodules.iter().any(|s| !is_submodule_known(named, s))
 }
 
 /// Whether the submodule's type is there.
-fn is_submodule_known(types: &[TypeDeclaration], submodule: &Submodule) -> bool
-    ensures { result ≡ is_submodule_known types.now submodule.now }
+fn is_submodule_known(named: &NamedTypes<'_>, submodule: &Submodule) -> bool
+    ensures { result ≡ is_submodule_known named.now submodule.now }
 {
-    is_taken(submodule.type_name.as_bytes(), types)
+    is_taken(submodule.type_name.as_bytes(), named)
 }
 
 /// Whether one of the types has a clash.
-fn has_clash(alloc: Global, types: &[TypeDeclaration]) -> Result<bool, AllocError>
-    ensures { IfOk result (λ clash. clash ≡ has_clash types.now) }
+fn has_clash(
+    alloc: Global,
+    named: &NamedTypes<'_>,
+    types: &[TypeDeclaration],
+) -> Result<bool, AllocError>
+    ensures { IfOk result (λ clash. clash ≡ list_any (λ t. clashes named.now t) types.now) }
 {
     let mut rest = types;
     while let [declared, after @ ..] = rest {
-        if clashes(alloc, types, declared)? {
+        if clashes(alloc, named, declared)? {
             return Ok(true);
         }
         rest = after;
@@ -136,15 +123,15 @@ fn has_clash(alloc: Global, types: &[TypeDeclaration]) -> Result<bool, AllocErro
 /// Whether a member of the type clashes.
 fn clashes(
     alloc: Global,
-    types: &[TypeDeclaration],
+    named: &NamedTypes<'_>,
     declared: &TypeDeclaration,
 ) -> Result<bool, AllocError>
-    ensures { IfOk result (λ clash. clash ≡ clashes types.now declared.now) }
+    ensures { IfOk result (λ clash. clash ≡ clashes named.now declared.now) }
 {
     if section_clashes(declared.lines.as_slice()) {
         return Ok(true);
     }
-    submodules_clash(alloc, types, declared.submodules.as_slice())
+    submodules_clash(alloc, named, declared.submodules.as_slice())
 }
 
 fn section_clashes(lines: &[SectionLine]) -> bool
@@ -155,15 +142,15 @@ fn section_clashes(lines: &[SectionLine]) -> bool
 
 fn submodules_clash(
     alloc: Global,
-    types: &[TypeDeclaration],
+    named: &NamedTypes<'_>,
     submodules: &[Submodule],
 ) -> Result<bool, AllocError>
-    ensures { IfOk result (λ clash. clash ≡ submodules_clash types.now submodules.now) }
+    ensures { IfOk result (λ clash. clash ≡ submodules_clash named.now submodules.now) }
 {
     if repeats_submodule(alloc, submodules)? {
         return Ok(true);
     }
-    Ok(has_other_kind(types, submodules))
+    Ok(has_other_kind(named, submodules))
 }
 
 /// Whether a parameter is declared twice.
@@ -301,16 +288,16 @@ fn repeats_seen<'a>(
 }
 
 /// Whether the type of a submodule isn't a simple type.
-fn has_other_kind(types: &[TypeDeclaration], submodules: &[Submodule]) -> bool
-    ensures { result ≡ has_other_kind types.now submodules.now }
+fn has_other_kind(named: &NamedTypes<'_>, submodules: &[Submodule]) -> bool
+    ensures { result ≡ has_other_kind named.now submodules.now }
 {
-    submodules.iter().any(|s| !is_submodule_simple(types, s))
+    submodules.iter().any(|s| !is_submodule_simple(named, s))
 }
 
-fn is_submodule_simple(types: &[TypeDeclaration], submodule: &Submodule) -> bool
-    ensures { result ≡ is_submodule_simple types.now submodule.now }
+fn is_submodule_simple(named: &NamedTypes<'_>, submodule: &Submodule) -> bool
+    ensures { result ≡ is_submodule_simple named.now submodule.now }
 {
-    match find_type(types, submodule.type_name.as_bytes()) {
+    match named.find(submodule.type_name.as_bytes()) {
         Some(declared) => matches!(declared.kind, TypeKind::Simple),
         None => false,
     }

@@ -1,62 +1,60 @@
 //! Types that extend others.
 
-ghost use Rattle.std.specs.Prelude.{◌≡◌, ◌++◌, length, Some, IfOk, OnOk};
+ghost use Rattle.std.specs.Prelude.{◌≡◌, ◌++◌, length, map, Some, IfOk, OnOk};
+ghost use Rattle.std.specs.List.{list_any};
 ghost use Rattle.std.specs.Option.{option_copied};
 ghost use Rattle.ned_types.specs.Types.{is_simple, is_simple_kind};
-ghost use Rattle.ned_types.specs.Inheritance.{base_of, line_of, goes_on, has_circle, extends_unknown, has_unknown_base, extends_other, has_other_base, joined_lines, class_along, heir_of, flat_type, flat_types, types_in};
+ghost use Rattle.ned_types.specs.Inheritance.{base_of, line_of, goes_on, extends_unknown, extends_other, joined_lines, class_along, heir_of, flat_type, types_in};
 
 use crate::copies::{add_lines, copy_submodules, copy_type};
 use crate::faults::is_taken;
 use crate::flat::{class_in, class_of};
-use crate::table::find_type;
+use crate::named::NamedTypes;
 use ned_syntax::ast::{SectionLine, TypeDeclaration, TypeKind};
 use sim_values::text::Text;
 use sqlite_items::Items;
 use std::alloc::{AllocError, Global};
 
 /// What the type extends.
-fn base_of<'a>(
-    types: &'a [TypeDeclaration],
-    declared: &TypeDeclaration,
-) -> Option<&'a TypeDeclaration>
-    ensures { option_copied result ≡ base_of types.now declared.now.base }
+fn base_of<'a>(named: &NamedTypes<'a>, declared: &TypeDeclaration) -> Option<&'a TypeDeclaration>
+    ensures { option_copied result ≡ base_of named.now declared.now.base }
 {
     match &declared.base {
-        Some(name) => find_type(types, name.as_bytes()),
+        Some(name) => named.find(name.as_bytes()),
         None => None,
     }
 }
 
 /// Whether what one of the types extends isn't there.
-pub(crate) fn has_unknown_base(types: &[TypeDeclaration]) -> bool
-    ensures { result ≡ has_unknown_base types.now }
+pub(crate) fn has_unknown_base(named: &NamedTypes<'_>, types: &[TypeDeclaration]) -> bool
+    ensures { result ≡ list_any (λ t. extends_unknown named.now t.base) types.now }
 {
     types
         .iter()
-        .any(|declared| extends_unknown(types, &declared.base))
+        .any(|declared| extends_unknown(named, &declared.base))
 }
 
-fn extends_unknown(types: &[TypeDeclaration], base: &Option<Text>) -> bool
-    ensures { result ≡ extends_unknown types.now base.now }
+fn extends_unknown(named: &NamedTypes<'_>, base: &Option<Text>) -> bool
+    ensures { result ≡ extends_unknown named.now base.now }
 {
     match base {
-        Some(name) => !is_taken(name.as_bytes(), types),
+        Some(name) => !is_taken(name.as_bytes(), named),
         None => false,
     }
 }
 
 /// Whether what one of the types extends, or a type that extends another, isn't a simple type.
-pub(crate) fn has_other_base(types: &[TypeDeclaration]) -> bool
-    ensures { result ≡ has_other_base types.now }
+pub(crate) fn has_other_base(named: &NamedTypes<'_>, types: &[TypeDeclaration]) -> bool
+    ensures { result ≡ list_any (λ t. extends_other named.now t.kind t.base) types.now }
 {
-    types.iter().any(|declared| extends_other(types, declared.kind, &declared.base))
+    types.iter().any(|declared| extends_other(named, declared.kind, &declared.base))
 }
 
-fn extends_other(types: &[TypeDeclaration], kind: TypeKind, base: &Option<Text>) -> bool
-    ensures { result ≡ extends_other types.now kind base.now }
+fn extends_other(named: &NamedTypes<'_>, kind: TypeKind, base: &Option<Text>) -> bool
+    ensures { result ≡ extends_other named.now kind base.now }
 {
     match base {
-        Some(name) => !(is_simple_kind(kind) && is_simple(find_type(types, name.as_bytes()))),
+        Some(name) => !(is_simple_kind(kind) && is_simple(named.find(name.as_bytes()))),
         None => false,
     }
 }
@@ -78,23 +76,23 @@ fn is_simple(declared: Option<&TypeDeclaration>) -> bool
 }
 
 /// Whether a type extends itself, perhaps by way of others.
-pub(crate) fn has_circle(types: &[TypeDeclaration]) -> bool
-    ensures { result ≡ has_circle types.now }
+pub(crate) fn has_circle(named: &NamedTypes<'_>, types: &[TypeDeclaration]) -> bool
+    ensures { result ≡ list_any (λ t. goes_on (length named.now) named.now (Some t)) types.now }
 {
-    types.iter().any(|declared| goes_on(types, declared))
+    types.iter().any(|declared| goes_on(named, declared))
 }
 
 /// Whether there is still a type after as many steps from this one to what it extends as there are types.
-fn goes_on(types: &[TypeDeclaration], declared: &TypeDeclaration) -> bool
-    ensures { result ≡ goes_on (length types.now) types.now (Some declared.now) }
+fn goes_on(named: &NamedTypes<'_>, declared: &TypeDeclaration) -> bool
+    ensures { result ≡ goes_on (length named.now) named.now (Some declared.now) }
 {
     let mut next = Some(declared);
-    let mut left = types.len();
+    let mut left = named.len();
     while let Some(found) = next {
         if left == 0 {
             return true;
         }
-        next = base_of(types, found);
+        next = base_of(named, found);
         left -= 1;
     }
     false
@@ -103,20 +101,20 @@ fn goes_on(types: &[TypeDeclaration], declared: &TypeDeclaration) -> bool
 /// A type, what it extends, what that extends, and so on.
 fn line_of<'a>(
     alloc: Global,
-    types: &'a [TypeDeclaration],
+    named: &NamedTypes<'a>,
     declared: &'a TypeDeclaration,
 ) -> Result<Vec<&'a TypeDeclaration>, AllocError>
-    ensures { IfOk result (λ line. types_in line.items ≡ line_of types.now declared.now) }
+    ensures { IfOk result (λ line. types_in line.items ≡ line_of named.now declared.now) }
 {
     let mut line = Vec::new(alloc);
     let mut next = Some(declared);
-    let mut left = types.len();
+    let mut left = named.len();
     while let Some(found) = next {
         if left == 0 {
             break;
         }
         line.push(found)?;
-        next = base_of(types, found);
+        next = base_of(named, found);
         left -= 1;
     }
     Ok(line)
@@ -155,14 +153,14 @@ fn class_along<'a>(line: &[&'a TypeDeclaration]) -> &'a [u8]
 }
 
 /// A type that extends another, with all that its bases have.
-fn heir_of(
+fn heir_of<'a>(
     alloc: Global,
-    types: &[TypeDeclaration],
-    declared: &TypeDeclaration,
+    named: &NamedTypes<'a>,
+    declared: &'a TypeDeclaration,
 ) -> Result<TypeDeclaration, AllocError>
-    ensures { IfOk result (λ flat. flat ≡ heir_of types.now declared.now) }
+    ensures { IfOk result (λ flat. flat ≡ heir_of named.now declared.now) }
 {
-    let line = line_of(alloc, types, declared)?;
+    let line = line_of(alloc, named, declared)?;
     let mut lines = Items::new(alloc);
     lines.push(SectionLine::Class(Text::from_bytes(alloc, class_along(&line))?))?;
     add_joined(alloc, &mut lines, line)?;
@@ -176,29 +174,30 @@ fn heir_of(
 }
 
 /// What the type has with all that its bases have.
-fn flat_type(
+fn flat_type<'a>(
     alloc: Global,
-    types: &[TypeDeclaration],
-    declared: &TypeDeclaration,
+    named: &NamedTypes<'a>,
+    declared: &'a TypeDeclaration,
 ) -> Result<TypeDeclaration, AllocError>
-    ensures { IfOk result (λ flat. flat ≡ flat_type types.now declared.now) }
+    ensures { IfOk result (λ flat. flat ≡ flat_type named.now declared.now) }
 {
     match &declared.base {
-        Some(_) => heir_of(alloc, types, declared),
+        Some(_) => heir_of(alloc, named, declared),
         None => copy_type(alloc, declared),
     }
 }
 
 /// The flat type of each.
-pub(crate) fn flat_types(
+pub(crate) fn flat_types<'a>(
     alloc: Global,
-    types: &[TypeDeclaration],
+    named: &NamedTypes<'a>,
+    types: &'a [TypeDeclaration],
 ) -> Result<Items<TypeDeclaration>, AllocError>
-    ensures { IfOk result (λ flat. flat ≡ flat_types types.now) }
+    ensures { IfOk result (λ flat. flat ≡ map (flat_type named.now) types.now) }
 {
     let mut flat = Items::new(alloc);
     for declared in types {
-        flat.push(flat_type(alloc, types, declared)?)?;
+        flat.push(flat_type(alloc, named, declared)?)?;
     }
     Ok(flat)
 }

@@ -6,4 +6,5 @@ pub mod faults;
 pub mod flat;
 mod inheritance;
 pub mod laws;
+mod named;
 pub mod table;

@@ -10,6 +10,7 @@ ghost use Rattle.ned_types.specs.WellFormed.{HaveOwnNames, IsAmong, IsWellFormed
 
 use crate::faults;
 use crate::flat::submodule_named;
+use indexmap::IndexMap;
 use ned_syntax::ast::{NedFile, Submodule, TypeDeclaration};
 use sim_values::NoMemory;
 use sqlite_items::Items;
@@ -55,6 +56,8 @@ impl From<AllocError> for TypeFault {
 #[derive(Debug, Drop)]
 pub struct TypeTable {
     types: Rc<Items<TypeDeclaration>>,
+    /// The place of each name: where a type is looked for first.
+    places: Rc<IndexMap<Vec<u8>, usize>>,
 }
 
 impl Model for TypeTable {
@@ -82,10 +85,9 @@ impl TypeTable {
     {
         let declared = joined(alloc, files)?;
         let types = faults::flattened(alloc, declared.as_slice())?;
-        match Rc::new(alloc, types) {
-            Ok(types) => Ok(TypeTable { types }),
-            Err(failed) => Err(TypeFault::NoMemory(failed.into())),
-        }
+        let places = shared(alloc, places_of(alloc, types.as_slice())?)?;
+        let types = shared(alloc, types)?;
+        Ok(TypeTable { types, places })
     }
 
     /// An equal table, which shares the types. It takes no memory, and fails only where there are too many copies to be counted.
@@ -94,6 +96,7 @@ impl TypeTable {
     {
         Ok(TypeTable {
             types: self.types.clone()?,
+            places: self.places.clone()?,
         })
     }
 
@@ -109,7 +112,16 @@ impl TypeTable {
     pub fn find(&self, name: &[u8]) -> Option<&TypeDeclaration>
         ensures { option_copied result ≡ type_named name.now self.now }
     {
-        find_type(self.types.as_slice(), name)
+        let types = self.types();
+        type_near(types, self.place_of(name), name)
+    }
+
+    /// Where a type of that name is looked for first.
+    fn place_of(&self, name: &[u8]) -> usize {
+        match self.places.get(name) {
+            Some(place) => *place,
+            None => 0,
+        }
     }
 
     /// The submodule of that name of one of the types. It is looked for at that place first.
@@ -124,6 +136,43 @@ impl TypeTable {
     {
         let _types = self.types();
         found_near(declared.submodules.as_slice(), place, name)
+    }
+}
+
+/// A value that can be shared.
+fn shared<T: Drop>(alloc: Global, value: T) -> Result<Rc<T>, AllocError>
+    ensures { IfOk result (λ shared. shared.value ≡ value) }
+{
+    match Rc::new(alloc, value) {
+        Ok(shared) => Ok(shared),
+        Err(failed) => Err(failed.into()),
+    }
+}
+
+/// The place of each name.
+fn places_of(
+    alloc: Global,
+    types: &[TypeDeclaration],
+) -> Result<IndexMap<Vec<u8>, usize>, AllocError> {
+    let mut places = IndexMap::new(alloc);
+    for (place, declared) in types.iter().enumerate() {
+        places.insert(Vec::from_slice(alloc, declared.name.as_bytes())?, place)?;
+    }
+    Ok(places)
+}
+
+/// The type of that name, looked for at that place first.
+fn type_near<'a>(
+    types: &'a [TypeDeclaration],
+    place: usize,
+    name: &[u8],
+) -> Option<&'a TypeDeclaration>
+    requires { IsWellFormed types.now }
+    ensures { option_copied result ≡ type_named name.now types.now }
+{
+    match type_at(types, place) {
+        Some(declared) if declared.name.is(name) => Some(declared),
+        _ => find_type(types, name),
     }
 }
 
@@ -159,6 +208,13 @@ pub fn find_type<'a>(types: &'a [TypeDeclaration], name: &[u8]) -> Option<&'a Ty
         }
     }
     None
+}
+
+/// The type at that place.
+fn type_at(types: &[TypeDeclaration], place: usize) -> Option<&TypeDeclaration>
+    ensures { option_copied result ≡ slice_get types.now place }
+{
+    types.get(place)
 }
 
 /// The submodule at that place.

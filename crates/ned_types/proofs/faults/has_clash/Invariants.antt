@@ -1,10 +1,10 @@
 use Rattle.std.proofs.Common.{◌≡◌, length}
 use Rattle.std.specs.List.{list_any}
-use Rattle.ned_types.specs.Types.{has_clash, clashes}
+use Rattle.ned_types.specs.Types.{clashes}
 use Rattle.ned_types.proofs.faults.has_clash.Given as goal
 
 abbrev pub invariant-loop-rest : goal.invariant-loop-rest
-invariant-loop-rest l = list_any (λ t. clashes l.types t) l.rest ≡ has_clash l.types
+invariant-loop-rest l = list_any (λ t. clashes l.named t) l.rest ≡ list_any (λ t. clashes l.named t) l.types
 
 abbrev pub decreases-loop-rest : goal.decreases-loop-rest
 decreases-loop-rest l = length l.rest
