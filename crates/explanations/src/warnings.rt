@@ -12,6 +12,7 @@ use sim_values::NoMemory;
 use sim_values::text::Text;
 use std::alloc::Global;
 use std::fmt::Write;
+use text_explanations::bases::with_bases;
 use text_explanations::names::{shown, tell_near};
 use text_explanations::ned_files::{Declared, all_types, read_files, type_named};
 use text_explanations::sources::Sources;
@@ -83,6 +84,21 @@ impl<'a> Network<'a> {
         }
         Ok(())
     }
+
+    /// Adds what a type and those that it extends have at a path.
+    fn push_flat(
+        &mut self,
+        alloc: Global,
+        types: &[Declared<'a>],
+        path: &str,
+        of: Declared<'a>,
+    ) -> Result<(), NoMemory> {
+        let along = with_bases(alloc, types, of)?;
+        for it in along.as_slice() {
+            self.push_type(alloc, path, it.of)?;
+        }
+        Ok(())
+    }
 }
 
 /// What is known of a network of these types.
@@ -100,7 +116,7 @@ fn network_of<'a>(
     for it in network.submodules.as_slice() {
         if let Some(of) = type_named(types, it.type_name.as_bytes()) {
             let path = format!(in alloc; "{root}.{}", shown(it.name.as_bytes()))?;
-            found.push_type(alloc, path.as_str(), of.of)?;
+            found.push_flat(alloc, types, path.as_str(), of)?;
         }
     }
     Ok(found)

@@ -1,7 +1,7 @@
 //! What types extend, and what is wrong with that.
 
 use crate::names::{shown, tell_near};
-use crate::ned_files::{Declared, ReadFile, Sign, line_of, names_of, place_of};
+use crate::ned_files::{Declared, ReadFile, Sign, line_of, names_of, place_of, type_named};
 use crate::sources::Sources;
 use ned_syntax::ast::TypeKind;
 use sim_values::NoMemory;
@@ -51,6 +51,32 @@ pub fn bases_along<'a>(
             along.push(*found)?;
         }
         next = base_at(bases, place);
+    }
+    Ok(along)
+}
+
+/// What a type extends, where that is one of the types.
+fn base_of<'a>(types: &[Declared<'a>], it: &Declared<'a>) -> Option<Declared<'a>> {
+    match &it.of.base {
+        Some(name) => type_named(types, name.as_bytes()),
+        None => None,
+    }
+}
+
+/// A type and those that it extends, the nearest first, where none extends itself.
+pub fn with_bases<'a>(
+    alloc: Global,
+    types: &[Declared<'a>],
+    it: Declared<'a>,
+) -> Result<Vec<Declared<'a>>, NoMemory> {
+    let mut along = Vec::new(alloc);
+    let mut next = Some(it);
+    for _step in 0..types.len() {
+        let Some(found) = next else {
+            break;
+        };
+        along.push(found)?;
+        next = base_of(types, &found);
     }
     Ok(along)
 }

@@ -3,7 +3,7 @@
 //! Everything here looks at the texts once more, after they were refused. It decides nothing.
 #![tactic(auto)]
 
-mod bases;
+pub mod bases;
 pub mod ini_lines;
 mod members;
 pub mod names;
