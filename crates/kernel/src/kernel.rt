@@ -330,6 +330,7 @@ impl<C: Catalogue> Kernel<C> {
         requires next { (world_in SimpleModule-box self.old).next ≡ 0 }
         requires kinds { HasKinds C.behaviour SimpleModule-box self.old }
         ensures kinds { HasKinds C.behaviour SimpleModule-box self.new }
+        ensures kept { KeepsBoxes C.behaviour SimpleModule-box self.old self.new }
         ensures next { OnOk result ((world_in SimpleModule-box self.new).next ≤ 2 ^ 82) }
         ensures step { IfOk result (λ over.
             stage_of over (world_in SimpleModule-box self.new) ≡ start C.behaviour model.now) }
@@ -408,6 +409,7 @@ impl<C: Catalogue> Kernel<C> {
         requires count { (world_in SimpleModule-box self.old).count + 1 < 2 ^ 64 }
         requires kinds { HasKinds C.behaviour SimpleModule-box self.old }
         ensures kinds { HasKinds C.behaviour SimpleModule-box self.new }
+        ensures kept { KeepsBoxes C.behaviour SimpleModule-box self.old self.new }
         ensures room { OnOk result (HasRoom (world_in SimpleModule-box self.new)) }
         ensures step { IfOk result (λ over. stage_of over (world_in SimpleModule-box self.new)
             ≡ next_stage C.behaviour model.now (Running (world_in SimpleModule-box self.old))) }
@@ -482,7 +484,7 @@ impl<C: Catalogue> Kernel<C> {
     /// Finishes all modules, the network last.
     fn finish_all(&mut self, alloc: Global, model: &Model) -> Result<Turn, NoMemory>
         requires callable { IsCallable C.behaviour SimpleModule-box (2 ^ 75) self.old }
-        ensures kinds { HasKinds C.behaviour SimpleModule-box self.new }
+        ensures kept { KeepsBoxes C.behaviour SimpleModule-box self.old self.new }
         ensures step { let before = world_in SimpleModule-box self.old in
             IfOk result (λ turn. flow_of turn (world_in SimpleModule-box self.new)
             ≡ finish_all C.behaviour model.now (standing before.modules) before) }
@@ -508,6 +510,7 @@ impl<C: Catalogue> Kernel<C> {
         requires count { (world_in SimpleModule-box self.old).count < 2 ^ 64 }
         requires kinds { HasKinds C.behaviour SimpleModule-box self.old }
         ensures kinds { HasKinds C.behaviour SimpleModule-box self.new }
+        ensures kept { KeepsBoxes C.behaviour SimpleModule-box self.old self.new }
         ensures step { IfOk result (λ last. ran_in SimpleModule-box last self.new
             ≡ ending C.behaviour model.now (ran_in SimpleModule-box outcome self.old)) }
     {
