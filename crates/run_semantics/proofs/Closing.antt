@@ -1,4 +1,4 @@
--- The end of a run asks nothing, creates no module, and counts no event.
+-- The end of a run asks nothing, creates no module, and counts no event; and of what it leaves nothing is undone.
 use Rattle.std.proofs.Common.{◌≡◌, ℕ, Bool, true, false, List, [], ◌∷◌, Option, Some, None, refl, ◌∙◌, length, nat_lt, if◌then◌else◌}
 use Rattle.module_api.specs.declared.reply.Action.{Action}
 use Rattle.module_api.specs.declared.reply.Action.TheVariants.{Emit, RecordScalar, ScheduleAfter, Fail}
@@ -15,19 +15,39 @@ use Rattle.run_semantics.specs.World.{World}
 use Rattle.run_semantics.specs.Perform.{Flow, On, Stopped, Broken, ◌>>=◌, broken, read_fault, unless_fault, with_scalar}
 use Rattle.run_semantics.specs.Event.{call_of, instance_in, changed}
 use Rattle.run_semantics.specs.Run.{Part, standing, Ran, is_fault}
-use Rattle.run_semantics.specs.Ending.{perform_last, perform_last_all, acted_last, answered_last, called_last, call_last, finish, finish_all, concluded, ending}
+use Rattle.run_semantics.specs.Ending.{perform_last, perform_last_all, acted_last, answered_last, called_last, call_last, with_finished, finish, finish_all, concluded, ending}
+use Rattle.run_semantics.specs.Laws.{GoesOn}
 use Rattle.run_semantics.proofs.Sound.{in_flow}
+use Rattle.run_semantics.proofs.Orderly.{on_same, on_more}
 
 pub record IsClosed (old new : World) : Type 0 where
   pub questions : new.questions ≡ old.questions
   pub records : new.records ≡ old.records
   pub count : new.count ≡ old.count
+  pub live : new.live ≡ old.live
+  pub started : new.started ≡ old.started
+  pub finished : GoesOn old.finished new.finished
+  pub emissions : GoesOn old.emissions new.emissions
+  pub scalars : GoesOn old.scalars new.scalars
 
 closed_same : (w : World) → IsClosed w w
-closed_same w = record { questions = refl; records = refl; count = refl }
+closed_same w = record { questions = refl; records = refl; count = refl; live = refl; started = refl; finished = on_same w.finished; emissions = on_same w.emissions; scalars = on_same w.scalars }
 
 closed_on : (u v w : World) → IsClosed u v → IsClosed v w → IsClosed u w
-closed_on u v w f g = record { questions = g.questions ∙ f.questions; records = g.records ∙ f.records; count = g.count ∙ f.count }
+closed_on u v w f g = record {
+  questions = g.questions ∙ f.questions;
+  records = g.records ∙ f.records;
+  count = g.count ∙ f.count;
+  live = g.live ∙ f.live;
+  started = g.started ∙ f.started;
+  finished = on_more u.finished v.finished w.finished f.finished g.finished;
+  emissions = on_more u.emissions v.emissions w.emissions f.emissions g.emissions;
+  scalars = on_more u.scalars v.scalars w.scalars f.scalars g.scalars;
+}
+
+-- one more module is finished
+closed_marked : (id : ℕ) (w : World) → IsClosed w (with_finished id w)
+closed_marked id w = record { questions = refl; records = refl; count = refl; live = refl; started = refl; finished = (id ∷ [], refl); emissions = on_same w.emissions; scalars = on_same w.scalars }
 
 closed_then : (w : World) (fl : Flow) (k : World → Flow) → IsClosed w (in_flow fl) → ((u : World) → IsClosed u (in_flow (k u))) → IsClosed w (in_flow (fl >>= k))
 closed_then w (On u) k f h = closed_on w u (in_flow (k u)) f (h u)
@@ -39,9 +59,11 @@ either_closed true f g w x y = x
 either_closed false f g w x y = y
 
 perform_closed : (id : ℕ) (action : Action) (w : World) → IsClosed w (in_flow (perform_last id action w))
-perform_closed id (Emit signal value) w = record { questions = refl; records = refl; count = refl }
+perform_closed id (Emit signal value) w = record { questions = refl; records = refl; count = refl; live = refl; started = refl; finished = on_same w.finished; emissions = (_, refl); scalars = on_same w.scalars }
 perform_closed id (RecordScalar name value) w =
-    either_closed (is_scalar_name name) (On (with_scalar id name value w)) (broken id fault.BadName w) w (record { questions = refl; records = refl; count = refl }) (closed_same w)
+    either_closed (is_scalar_name name) (On (with_scalar id name value w)) (broken id fault.BadName w) w
+    (record { questions = refl; records = refl; count = refl; live = refl; started = refl; finished = on_same w.finished; emissions = on_same w.emissions; scalars = (_, refl) })
+    (closed_same w)
 perform_closed id (ScheduleAfter s) w = closed_same w
 perform_closed id (Fail text) w = closed_same w
 
@@ -64,13 +86,14 @@ called_closed b m id w None = closed_same w
 called_closed b m id w (Some i) =
     let r = (b.naming i.kind).reply i.state (call_of m id prompt.Finish w) in
     closed_on w (changed id r.state w) (in_flow (answered_last m id r.reply (changed id r.state w)))
-    (record { questions = refl; records = refl; count = refl }) (answered_closed m id r.reply (changed id r.state w))
+    (record { questions = refl; records = refl; count = refl; live = refl; started = refl; finished = on_same w.finished; emissions = on_same w.emissions; scalars = on_same w.scalars })
+    (answered_closed m id r.reply (changed id r.state w))
 
 finish_closed : (b : Behaviour) (m : Model) (p : Part) (w : World) → IsClosed w (in_flow (finish b m p w))
-finish_closed b m p w = closed_then w (call_last b m p.id w) _ (called_closed b m p.id w (instance_in p.id w.modules)) (λ u. record { questions = refl; records = refl; count = refl })
+finish_closed b m p w = closed_then w (call_last b m p.id w) _ (called_closed b m p.id w (instance_in p.id w.modules)) (closed_marked p.id)
 
 finish_all_closed : (b : Behaviour) (m : Model) (ps : List Part) (w : World) → IsClosed w (in_flow (finish_all b m ps w))
-finish_all_closed b m [] w = record { questions = refl; records = refl; count = refl }
+finish_all_closed b m [] w = closed_marked 1 w
 finish_all_closed b m (p ∷ ps) w = closed_then w (finish b m p w) (finish_all b m ps) (finish_closed b m p w) (finish_all_closed b m ps)
 
 concluded_closed : (outcome : Outcome) (fl : Flow) (w : World) → IsClosed w (in_flow fl) → IsClosed w (concluded outcome fl).world

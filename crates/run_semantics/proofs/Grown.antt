@@ -54,6 +54,29 @@ grown_after b m n (suc k) h =
     (λ (l : n < suc k). grown_on (world_at (after b m n)) (world_at (after b m k)) (world_at (after b m (suc k))) (grown_after b m n k (omega (arith, l))) (grown_next b m k))
     (eq-or-lt_of_le h)
 
+-- the same modules live, and the same were started
+abbrev pub LiveAlike : World → World → Type 0
+LiveAlike old new = (new.live ≡ old.live) × (new.started ≡ old.started)
+
+alike_same : (w : World) → LiveAlike w w
+alike_same w = (refl, refl)
+
+alike_on : (u v w : World) → LiveAlike u v → LiveAlike v w → LiveAlike u w
+alike_on u v w f g = (g.0 ∙ f.0, g.1 ∙ f.1)
+
+-- one turn of a run
+alike_next : (b : Behaviour) (m : Model) (n : ℕ) → LiveAlike (world_at (after b m n)) (world_at (after b m (suc n)))
+alike_next b m n = let f = after_follows b m n in (f.live, f.started)
+
+-- so it is in a run of more events
+pub alike_after : (b : Behaviour) (m : Model) (n k : ℕ) → n ≤ k → LiveAlike (world_at (after b m n)) (world_at (after b m k))
+alike_after b m n zero h = let e : n ≡ zero = omega arith in subst (λ i. LiveAlike (world_at (after b m n)) (world_at (after b m i))) e (alike_same (world_at (after b m n)))
+alike_after b m n (suc k) h =
+    ⊎_elim
+    (λ (e : n ≡ suc k). subst (λ i. LiveAlike (world_at (after b m n)) (world_at (after b m i))) e (alike_same (world_at (after b m n))))
+    (λ (l : n < suc k). alike_on (world_at (after b m n)) (world_at (after b m k)) (world_at (after b m (suc k))) (alike_after b m n k (omega (arith, l))) (alike_next b m k))
+    (eq-or-lt_of_le h)
+
 -- ---- setup: the modules that are placed live
 
 -- the flow goes on in a world with the property, or it is broken

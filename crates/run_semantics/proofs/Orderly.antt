@@ -60,6 +60,7 @@ pub record Leads (old new : World) : Type 0 where
   pub same : standing new.modules ≡ standing old.modules
   pub started : new.started ≡ old.started
   pub live : new.live ≡ old.live
+  pub finished : new.finished ≡ old.finished
   pub delivered : new.delivered ≡ old.delivered
   pub emissions : GoesOn old.emissions new.emissions
   pub scalars : GoesOn old.scalars new.scalars
@@ -85,7 +86,7 @@ on_more xs ys zs f g = (f.0 ++ g.0, sym (append_assoc xs f.0 g.0) ∙ (ap (λ us
 
 -- nothing happened
 leads_same : (w : World) → IsOrderly w → Leads w w
-leads_same w f = record { clock = refl; count = refl; present = tt; next = omega arith; records = refl; same = refl; started = refl; live = refl; delivered = refl; emissions = on_same w.emissions; scalars = on_same w.scalars; orderly = f }
+leads_same w f = record { clock = refl; count = refl; present = tt; next = omega arith; records = refl; same = refl; started = refl; live = refl; finished = refl; delivered = refl; emissions = on_same w.emissions; scalars = on_same w.scalars; orderly = f }
 
 -- one part and then another
 leads_on : {u v w : World} → Leads u v → Leads v w → Leads u w
@@ -97,6 +98,7 @@ leads_on {u} {v} {w} f g = record {
   same = g.same ∙ f.same;
   started = g.started ∙ f.started;
   live = g.live ∙ f.live;
+  finished = g.finished ∙ f.finished;
   delivered = g.delivered ∙ f.delivered;
   emissions = on_more u.emissions v.emissions w.emissions f.emissions g.emissions;
   scalars = on_more u.scalars v.scalars w.scalars f.scalars g.scalars;
@@ -151,6 +153,7 @@ leads_inserted e w f number time stands =
       same = refl;
       started = refl;
       live = refl;
+      finished = refl;
       delivered = refl;
       emissions = on_same w.emissions;
       scalars = on_same w.scalars;
@@ -181,6 +184,7 @@ perform_leads id (Emit signal value) w f h = record {
   same = refl;
   started = refl;
   live = refl;
+  finished = refl;
   delivered = refl;
   emissions = (_, refl);
   scalars = on_same w.scalars;
@@ -197,6 +201,7 @@ perform_leads id (RecordScalar name value) w f h =
       same = refl;
       started = refl;
       live = refl;
+      finished = refl;
       delivered = refl;
       emissions = on_same w.emissions;
       scalars = (_, refl);
@@ -220,8 +225,8 @@ acted_leads id actions w f h = either_leads w (nat_lt 1000 (length actions)) _ _
 -- ---- replies and calls
 
 -- what changes neither clock, modules, events, emissions nor scalars
-leads_beside : (u v : World) → IsOrderly u → v.clock ≡ u.clock → v.next ≡ u.next → v.pending ≡ u.pending → v.records ≡ u.records → standing v.modules ≡ standing u.modules → v.started ≡ u.started → v.live ≡ u.live → v.delivered ≡ u.delivered → v.emissions ≡ u.emissions → v.scalars ≡ u.scalars → v.count ≡ u.count → Leads u v
-leads_beside u v f clock next pending records same started live delivered emissions scalars count = record {
+leads_beside : (u v : World) → IsOrderly u → v.clock ≡ u.clock → v.next ≡ u.next → v.pending ≡ u.pending → v.records ≡ u.records → standing v.modules ≡ standing u.modules → v.started ≡ u.started → v.live ≡ u.live → v.finished ≡ u.finished → v.delivered ≡ u.delivered → v.emissions ≡ u.emissions → v.scalars ≡ u.scalars → v.count ≡ u.count → Leads u v
+leads_beside u v f clock next pending records same started live finished delivered emissions scalars count = record {
   clock = clock;
   count = count;
   present = tt;
@@ -230,6 +235,7 @@ leads_beside u v f clock next pending records same started live delivered emissi
   same = same;
   started = started;
   live = live;
+  finished = finished;
   delivered = delivered;
   emissions = ([], append-nil u.emissions ∙ sym emissions);
   scalars = ([], append-nil u.scalars ∙ sym scalars);
@@ -246,7 +252,7 @@ leads_beside u v f clock next pending records same started live delivered emissi
 ask_all_leads : (id : ℕ) (reads : List Read) (w : World) → IsOrderly w → Leads w (ask_all id reads w)
 ask_all_leads id [] w f = leads_same w f
 ask_all_leads id (r ∷ rs) w f =
-    let g : Leads w (asked (question_of id r) w) = leads_beside w _ f refl refl refl refl refl refl refl refl refl refl refl in
+    let g : Leads w (asked (question_of id r) w) = leads_beside w _ f refl refl refl refl refl refl refl refl refl refl refl refl in
     leads_on g (ask_all_leads id rs (asked (question_of id r) w) g.orderly)
 
 -- a fault changes nothing
@@ -285,7 +291,7 @@ called_leads b m id p w None e f = leads_same w f
 called_leads b m id p w (Some i) e f =
     let r : Replied = (b.naming i.kind).reply i.state (call_of m id p w) in
     let v : World = changed id r.state w in
-    let g : Leads w v = leads_beside w v f refl refl refl refl (standing_state id r.state w.modules) refl refl refl refl refl refl in
+    let g : Leads w v = leads_beside w v f refl refl refl refl (standing_state id r.state w.modules) refl refl refl refl refl refl refl in
     leads_on g (answered_leads m id r.reply v g.orderly (stands_on id w v g (found_stands id w.modules i e)))
 
 -- one call
@@ -318,11 +324,11 @@ orderly_started w f = record { order = f.order; own = f.own; below = f.below; du
 pub initialize_all_leads : (b : Behaviour) (m : Model) (w : World) → IsOrderly w → Leads (with_started w) (in_flow (initialize_all b m w))
 initialize_all_leads b m w f = stages_lead b m (standing w.modules) 0 (most_stages b (standing w.modules)) (with_started w) (orderly_started w f)
 
--- ---- setup: no event is to come, and nothing was emitted
+-- ---- setup: no event is to come, nothing was emitted, and no module is finished
 
--- no event is to come, nothing was emitted, and the clock is at zero
+-- no event is to come, nothing was emitted, the clock is at zero, and no module is finished
 abbrev IsQuiet : World → Type 0
-IsQuiet w = (w.pending ≡ []) × (w.emissions ≡ []) × (w.clock ≡ 0)
+IsQuiet w = (w.pending ≡ []) × (w.emissions ≡ []) × (w.clock ≡ 0) × (w.finished ≡ [])
 
 -- the next part, where the flow goes on
 then_none : (fl : Flow) (k : World → Flow) → IsQuiet (in_flow fl) → ((w : World) → IsQuiet w → IsQuiet (in_flow (k w))) → IsQuiet (in_flow (fl >>= k))
@@ -337,13 +343,13 @@ either_none false f g e d = d
 
 -- the network is created
 root_none : (found : Answer) → IsQuiet (in_flow (rooted found (asked Root empty)))
-root_none (answer.Root name) = (refl, refl, refl)
-root_none (answer.Inside bs) = (refl, refl, refl)
-root_none (answer.Value v) = (refl, refl, refl)
-root_none (answer.Fault path f) = (refl, refl, refl)
-root_none (answer.Beyond beyond) = (refl, refl, refl)
-root_none (answer.Injection next) = (refl, refl, refl)
-root_none answer.Absent = (refl, refl, refl)
+root_none (answer.Root name) = (refl, refl, refl, refl)
+root_none (answer.Inside bs) = (refl, refl, refl, refl)
+root_none (answer.Value v) = (refl, refl, refl, refl)
+root_none (answer.Fault path f) = (refl, refl, refl, refl)
+root_none (answer.Beyond beyond) = (refl, refl, refl, refl)
+root_none (answer.Injection next) = (refl, refl, refl, refl)
+root_none answer.Absent = (refl, refl, refl, refl)
 
 -- submodules are created, unless they are too many
 many_none : (parent : ℕ) (bs : List Built) (w : World) (one : Option Built) → IsQuiet w → IsQuiet (in_flow (unless_many parent bs w one))
@@ -391,6 +397,7 @@ pub record Follows (m : Model) (old new : World) : Type 0 where
   pub same : standing new.modules ≡ standing old.modules
   pub started : new.started ≡ old.started
   pub live : new.live ≡ old.live
+  pub finished : new.finished ≡ old.finished
   pub emissions : GoesOn old.emissions new.emissions
   pub scalars : GoesOn old.scalars new.scalars
   pub present : AreOf new.count new.clock emissions.0
@@ -408,6 +415,7 @@ follows_same m w f t = record {
   same = refl;
   started = refl;
   live = refl;
+  finished = refl;
   emissions = on_same w.emissions;
   scalars = on_same w.scalars;
   orderly = f;
@@ -439,10 +447,10 @@ settled_at (Broken w path f) = refl
 -- one event, from a world in which only questions were asked and injections delivered
 event_follows : (b : Behaviour) (m : Model) (p : Pending) (rest : List Pending) (w u : World) → HasLooked w u → MayCome m w.clock w.pending u p rest → IsOrderly w → Follows m w (world_at (settled (event b m p rest u)))
 event_follows b m p rest w u looked may f =
-    subst (λ v. MayCome m w.clock w.pending v p rest → Follows m w (world_at (settled (event b m p rest v)))) looked.same (by (looking w looked.last looked.rest) refl refl refl refl refl refl refl refl refl (record { order = f.order; own = f.own; below = f.below; due = f.due; modules = f.modules })) may
+    subst (λ v. MayCome m w.clock w.pending v p rest → Follows m w (world_at (settled (event b m p rest v)))) looked.same (by (looking w looked.last looked.rest) refl refl refl refl refl refl refl refl refl refl (record { order = f.order; own = f.own; below = f.below; due = f.due; modules = f.modules })) may
   where
-    by : (v : World) → v.pending ≡ w.pending → v.count ≡ w.count → v.next ≡ w.next → v.records ≡ w.records → v.modules ≡ w.modules → v.started ≡ w.started → v.live ≡ w.live → v.emissions ≡ w.emissions → v.scalars ≡ w.scalars → IsOrderly v → MayCome m w.clock w.pending v p rest → Follows m w (world_at (settled (event b m p rest v)))
-    by v pending count next records modules started live emissions scalars o c =
+    by : (v : World) → v.pending ≡ w.pending → v.count ≡ w.count → v.next ≡ w.next → v.records ≡ w.records → v.modules ≡ w.modules → v.started ≡ w.started → v.live ≡ w.live → v.finished ≡ w.finished → v.emissions ≡ w.emissions → v.scalars ≡ w.scalars → IsOrderly v → MayCome m w.clock w.pending v p rest → Follows m w (world_at (settled (event b m p rest v)))
+    by v pending count next records modules started live finished emissions scalars o c =
         let left : (rest ≡ v.pending) ⊎ (v.pending ≡ p ∷ rest) = subst (λ (ps : List Pending). (rest ≡ ps) ⊎ (ps ≡ p ∷ rest)) (sym pending) c.left in
         let g = call_leads b m p.id (prompt.Message (message_of p)) (begun p rest v) (orderly_begun p rest v left c.later o) in
         let more = event_count b m p rest v in
@@ -454,6 +462,7 @@ event_follows b m p rest w u looked may f =
           same = g.same ∙ ap standing modules;
           started = g.started ∙ started;
           live = g.live ∙ live;
+          finished = g.finished ∙ finished;
           emissions = (g.emissions.0, ap (λ es. es ++ g.emissions.0) (sym emissions) ∙ g.emissions.1);
           scalars = (g.scalars.0, ap (λ ss. ss ++ g.scalars.0) (sym scalars) ∙ g.scalars.1);
           present = rw (g.count, g.clock) g.present;
@@ -575,6 +584,19 @@ told_after b m (suc n) =
     let v : World = world_at (after b m (suc n)) in
     let g = after_follows b m n in
     subst (AreTold v.count v.clock) g.emissions.1 (told_more u.count v.count u.clock v.clock u.emissions g.emissions.0 g.count g.clock (told_after b m n) g.present)
+
+-- initialization finishes no module
+unfinished_then : (b : Behaviour) (m : Model) (fl : Flow) → IsOrderly (in_flow fl) → (in_flow fl).finished ≡ [] → (in_flow (fl >>= initialize_all b m)).finished ≡ []
+unfinished_then b m (On w) f h = (initialize_all_leads b m w f).finished ∙ h
+unfinished_then b m (Stopped w) f h = h
+unfinished_then b m (Broken w path fault) f h = h
+
+-- before its end no module of a run is finished
+pub finished_after : (b : Behaviour) (m : Model) (n : ℕ) → (world_at (after b m n)).finished ≡ []
+finished_after b m zero =
+    let quiet = ready_none b m in
+    ap (λ (w : World). w.finished) (settled_at (ready b m >>= initialize_all b m)) ∙ unfinished_then b m (ready b m) (orderly_none (in_flow (ready b m)) quiet.0) quiet.3
+finished_after b m (suc n) = (after_follows b m n).finished ∙ finished_after b m n
 
 -- in each world of a run emissions stand in the order of events
 pub turn_after : (b : Behaviour) (m : Model) (n : ℕ) → AreInTurn (world_at (after b m n)).emissions

@@ -1,6 +1,6 @@
 //! Laws of runs. The functions do nothing: their contracts are the laws.
 
-ghost use Rattle.std.specs.Prelude.{◌≡◌, ◌↔◌, ℕ, suc, ◌+◌, ◌≤◌, ◌<◌, IsSome};
+ghost use Rattle.std.specs.Prelude.{◌≡◌, ◌↔◌, ℕ, suc, ◌+◌, ◌≤◌, ◌<◌, IsSome, []};
 ghost use Rattle.module_api.specs.Behaviour.{Behaviour};
 ghost use Rattle.module_api.specs.Laws.{IsLawful};
 ghost use Rattle.model_answers.specs.declared.model.Model.{Model};
@@ -9,7 +9,7 @@ ghost use Rattle.run_semantics.specs.declared.outcome.Outcome.{Outcome};
 ghost use Rattle.run_semantics.specs.Agreement.{Agrees, AgreesUpTo, questions_of};
 ghost use Rattle.run_semantics.specs.Ending.{ending};
 ghost use Rattle.run_semantics.specs.Event.{instance_in};
-ghost use Rattle.run_semantics.specs.Laws.{Each, AreInOrder, AreInTurn, HaveOwnNumbers, HasGrown, CanBeCalled, gone_on};
+ghost use Rattle.run_semantics.specs.Laws.{Each, AreInOrder, AreInTurn, HaveOwnNumbers, HasGrown, GoesOn, CanBeCalled, gone_on};
 ghost use Rattle.run_semantics.specs.World.{World};
 ghost use Rattle.run_semantics.specs.Run.{Ran, Running, Over, IsReached, next_stage, after, stopped, run_to, world_at, standing, parts_of};
 
@@ -88,6 +88,15 @@ pub fn runs_grow()
         → HasGrown (world_at (after b m n)) (world_at (after b m k)) }
 {}
 
+/// From event zero until the end the same modules live and count as started, and none is finished.
+pub fn modules_stay_until_the_end()
+    ensures live { (b : Behaviour) (m : Model) (n k : ℕ) → n ≤ k
+        → (world_at (after b m k)).live ≡ (world_at (after b m n)).live }
+    ensures started { (b : Behaviour) (m : Model) (n k : ℕ) → n ≤ k
+        → (world_at (after b m k)).started ≡ (world_at (after b m n)).started }
+    ensures finished { (b : Behaviour) (m : Model) (n : ℕ) → (world_at (after b m n)).finished ≡ [] }
+{}
+
 /// A run that goes on after n events got as far as event n.
 pub fn running_is_reached()
     ensures { (b : Behaviour) (m : Model) (n : ℕ) (w : World) → after b m n ≡ Running w
@@ -156,4 +165,14 @@ pub fn the_end_asks_nothing()
     ensures questions { (b : Behaviour) (m : Model) (ran : Ran) → (ending b m ran).world.questions ≡ ran.world.questions }
     ensures records { (b : Behaviour) (m : Model) (ran : Ran) → (ending b m ran).world.records ≡ ran.world.records }
     ensures count { (b : Behaviour) (m : Model) (ran : Ran) → (ending b m ran).world.count ≡ ran.world.count }
+{}
+
+/// The end of a run undoes nothing: the same modules live and count as started, and what is finished, emitted and recorded is added behind what
+/// was there.
+pub fn the_end_only_adds()
+    ensures live { (b : Behaviour) (m : Model) (ran : Ran) → (ending b m ran).world.live ≡ ran.world.live }
+    ensures started { (b : Behaviour) (m : Model) (ran : Ran) → (ending b m ran).world.started ≡ ran.world.started }
+    ensures finished { (b : Behaviour) (m : Model) (ran : Ran) → GoesOn ran.world.finished (ending b m ran).world.finished }
+    ensures emissions { (b : Behaviour) (m : Model) (ran : Ran) → GoesOn ran.world.emissions (ending b m ran).world.emissions }
+    ensures scalars { (b : Behaviour) (m : Model) (ran : Ran) → GoesOn ran.world.scalars (ending b m ran).world.scalars }
 {}
