@@ -10,4 +10,5 @@ pub mod Starting
 pub mod Targets
 pub mod Upcoming
 pub mod Positions
+pub mod Growing
 pub mod Loading
