@@ -11,7 +11,8 @@ use Rattle.run_semantics.specs.World.{World}
 use Rattle.kernel.specs.declared.position.Position.{Position}
 use Rattle.kernel.specs.Seats.{Seat, instance_of, module_in, AreOfKinds, AreKept}
 use Rattle.kernel.specs.Saved.{Takes}
-use Rattle.kernel.specs.Positions.{AreStates, CanTake, with_states}
+use Rattle.run_semantics.specs.Laws.{AreStates}
+use Rattle.kernel.specs.Positions.{CanTake, with_states}
 use Rattle.kernel.proofs.Saving.{Rise}
 
 -- the ids rise, from this number on

@@ -1,9 +1,9 @@
 -- Moments of a run to which it can go back.
-use Rattle.std.specs.Prelude.{◌≡◌, ℕ, ◌≤◌, List, [], ◌∷◌, IsTrue, length, map, take}
+use Rattle.std.specs.Prelude.{◌≡◌, ℕ, ◌≤◌, List, [], ◌∷◌, length, map, take}
 use Rattle.module_api.specs.Behaviour.{Behaviour}
 use Rattle.run_semantics.specs.declared.traces.Instance.{Instance}
 use Rattle.run_semantics.specs.Event.{with_state}
-use Rattle.run_semantics.specs.Laws.{GoesOn}
+use Rattle.run_semantics.specs.Laws.{GoesOn, AreStates}
 use Rattle.run_semantics.specs.Run.{standing}
 use Rattle.run_semantics.specs.World.{World}
 use Rattle.kernel.specs.declared.position.Lengths.{Lengths}
@@ -89,11 +89,6 @@ pub record AreWithin (less more : Lengths) : Type 0 where
 -- but for its modules it is the same world
 abbrev pub IsSameBesideModules : World → World → Type 0
 IsSameBesideModules v w = record v { modules = [] } ≡ record w { modules = [] }
-
--- each state is one of its kind
-abbrev pub AreStates : Behaviour → List Instance → Type 0
-AreStates b [] = Unit {0}
-AreStates b (i ∷ is) = IsTrue ((b.naming i.kind).is_state i.state) × AreStates b is
 
 -- Boxes can be brought into these states: each box is of its kind, they are those of the same modules, and each state is one
 -- of its kind.

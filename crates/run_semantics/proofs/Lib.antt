@@ -11,3 +11,4 @@ pub mod Reached
 pub mod Reuse
 pub mod Setup
 pub mod Sound
+pub mod States

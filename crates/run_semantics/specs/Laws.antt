@@ -1,6 +1,6 @@
 -- Words for what holds of the worlds that a run reaches.
 pub use Rattle.event_set.specs.Order.{Each, AreInOrder, HaveOwnNumbers}
-use Rattle.std.specs.Prelude.{◌≡◌, ◌⊎◌, ℕ, zero, suc, ◌≤◌, List, [], ◌∷◌, ◌++◌, IsSome, map}
+use Rattle.std.specs.Prelude.{◌≡◌, ◌⊎◌, ℕ, zero, suc, ◌≤◌, List, [], ◌∷◌, ◌++◌, IsSome, IsTrue, map}
 use Rattle.module_api.specs.Behaviour.{Behaviour}
 use Rattle.model_answers.specs.declared.model.Model.{Model}
 use Rattle.run_semantics.specs.declared.traces.Emission.{Emission}
@@ -43,6 +43,11 @@ pub record HasGrown (old new : World) : Type 0 where
   pub emissions : GoesOn old.emissions new.emissions
   pub scalars : GoesOn old.scalars new.scalars
   pub questions : GoesOn old.questions new.questions
+
+-- each state is one of its kind
+abbrev pub AreStates : Behaviour → List Instance → Type 0
+AreStates b [] = Unit {0}
+AreStates b (i ∷ is) = IsTrue ((b.naming i.kind).is_state i.state) × AreStates b is
 
 -- so many more events from a stage on
 abbrev pub gone_on : Behaviour → Model → ℕ → Stage → Stage

@@ -9,7 +9,7 @@ ghost use Rattle.run_semantics.specs.declared.outcome.Outcome.{Outcome};
 ghost use Rattle.run_semantics.specs.Agreement.{Agrees, AgreesUpTo, questions_of};
 ghost use Rattle.run_semantics.specs.Ending.{ending};
 ghost use Rattle.run_semantics.specs.Event.{instance_in};
-ghost use Rattle.run_semantics.specs.Laws.{Each, AreInOrder, AreInTurn, HaveOwnNumbers, HasGrown, GoesOn, CanBeCalled, gone_on};
+ghost use Rattle.run_semantics.specs.Laws.{Each, AreInOrder, AreInTurn, HaveOwnNumbers, HasGrown, GoesOn, CanBeCalled, AreStates, gone_on};
 ghost use Rattle.run_semantics.specs.World.{World};
 ghost use Rattle.run_semantics.specs.Run.{Ran, Running, Over, IsReached, next_stage, after, stopped, run_to, world_at, standing, parts_of};
 
@@ -144,6 +144,11 @@ pub fn events_are_for_started_modules()
 pub fn created_modules_stand()
     ensures { (b : Behaviour) (m : Model) (n : ℕ) (w : World) → after b m n ≡ Running w
         → standing w.modules ≡ parts_of w }
+{}
+
+/// In a run of a lawful catalogue the state of each module is one of its kind, at each moment.
+pub fn states_are_of_their_kinds()
+    ensures { (b : Behaviour) → IsLawful b → (m : Model) (n : ℕ) → AreStates b (world_at (after b m n)).modules }
 {}
 
 /// On which of its first events two models agree is the same by what a run asked up to there and by what a longer one asked.

@@ -1,0 +1,221 @@
+-- In every world of a run each module's state is one of its kind.
+use Rattle.std.proofs.Common.{◌≡◌, ℕ, zero, suc, ◌==◌, cond, Bool, true, false, List, [], ◌∷◌, Option, Some, None, IsTrue, refl, sym, ap, subst, slice_get, length, if◌then◌else◌, nat_lt}
+use Rattle.sim_time.specs.Time.{time_sum}
+use Rattle.module_api.specs.Behaviour.{Behaviour, Replied}
+use Rattle.module_api.specs.Laws.{IsLawful}
+use Rattle.module_api.specs.declared.call.Prompt.{Prompt}
+use Rattle.module_api.specs.declared.call.Prompt.TheVariants as prompt
+use Rattle.module_api.specs.declared.reply.Action.{Action}
+use Rattle.module_api.specs.declared.reply.Action.TheVariants.{Emit, RecordScalar, ScheduleAfter, Fail}
+use Rattle.module_api.specs.declared.reply.Read.{Read}
+use Rattle.module_api.specs.declared.reply.Reply.{Reply}
+use Rattle.module_api.specs.declared.reply.Schedule.{Schedule}
+use Rattle.module_api.specs.Names.{is_scalar_name}
+use Rattle.model_answers.specs.declared.answer.Answer.{Answer}
+use Rattle.model_answers.specs.declared.answer.Answer.TheVariants as answer
+use Rattle.model_answers.specs.declared.answer.Built.{Built}
+use Rattle.model_answers.specs.declared.answer.Question.TheVariants.{Root, Build}
+use Rattle.model_answers.specs.declared.model.Model.{Model}
+use Rattle.model_answers.specs.Answering.{answer_of}
+use Rattle.event_set.specs.declared.pending.Pending.{Pending}
+use Rattle.event_set.specs.Timers.{has_timer}
+use Rattle.event_set.proofs.Order.{each_append}
+use Rattle.run_semantics.specs.declared.outcome.Fault.{Fault}
+use Rattle.run_semantics.specs.declared.outcome.Fault.TheVariants as fault
+use Rattle.run_semantics.specs.declared.outcome.Outcome.{Outcome}
+use Rattle.run_semantics.specs.declared.outcome.Outcome.TheVariants.{Ended, TimeLimit}
+use Rattle.run_semantics.specs.declared.traces.Instance.{Instance}
+use Rattle.run_semantics.specs.World.{World, empty, asked}
+use Rattle.run_semantics.specs.Perform.{Flow, On, Stopped, Broken, ◌>>=◌, broken, scheduled, perform, perform_all, ask_all, question_of, acted, read_fault, unless_fault, answered}
+use Rattle.run_semantics.specs.Event.{call_of, instance_in, with_state, changed, called, call_module, begun, event, message_of}
+use Rattle.run_semantics.specs.Run.{rooted, built, unless_many, root_asked, inside_asked, prepared, Part, parts_of, placed, place, place_all, place_parts, ready, standing, most_stages, initialize, one_stage, stages_from, initialize_all, with_started, Stage, Running, Over, world_at, settled, is_after_limit, went, next_stage, after}
+use Rattle.run_semantics.specs.Laws.{Each, AreStates}
+use Rattle.run_semantics.specs.Upcoming.{Upcoming, Comes, Nothing, upcoming}
+use Rattle.run_semantics.proofs.Looking.{beside, HasLooked, upcoming_looks}
+use Rattle.run_semantics.proofs.Sound.{in_flow}
+
+-- a module's kind is known, and its state is one of that kind
+record IsAtHome (b : Behaviour) (i : Instance) : Type 0 where
+  known : IsTrue (b.known i.kind)
+  state : IsTrue ((b.naming i.kind).is_state i.state)
+
+-- so it is with each module
+abbrev AllIn : Behaviour → World → Type 0
+AllIn b w = Each (IsAtHome b) w.modules
+
+-- the next part, where the flow goes on
+then_in : (b : Behaviour) (fl : Flow) (k : World → Flow) → AllIn b (in_flow fl) → ((w : World) → AllIn b w → AllIn b (in_flow (k w))) → AllIn b (in_flow (fl >>= k))
+then_in b (On w) k h f = f w h
+then_in b (Stopped w) k h f = h
+then_in b (Broken w path fault) k h f = h
+
+-- of two ways on, whichever is taken
+either_in : (b : Behaviour) (c : Bool) (f g : Flow) → AllIn b (in_flow f) → AllIn b (in_flow g) → AllIn b (in_flow (if c then f else g))
+either_in b true f g h k = h
+either_in b false f g h k = k
+
+-- ---- actions and questions leave modules alone: one line for each
+
+scheduled_in : (b : Behaviour) (id : ℕ) (s : Schedule) (w : World) (time : Option ℕ) → AllIn b w → AllIn b (in_flow (scheduled id s w time))
+scheduled_in b id s w None h = h
+scheduled_in b id s w (Some time) h = either_in b (has_timer id s.timer w.pending) _ _ h h
+
+perform_in : (b : Behaviour) (id : ℕ) (action : Action) (w : World) → AllIn b w → AllIn b (in_flow (perform id action w))
+perform_in b id (Emit signal value) w h = h
+perform_in b id (RecordScalar name value) w h = either_in b (is_scalar_name name) _ _ h h
+perform_in b id (ScheduleAfter s) w h = scheduled_in b id s w (time_sum w.clock s.delay) h
+perform_in b id (Fail text) w h = h
+
+perform_all_in : (b : Behaviour) (id : ℕ) (actions : List Action) (w : World) → AllIn b w → AllIn b (in_flow (perform_all id actions w))
+perform_all_in b id [] w h = h
+perform_all_in b id (action ∷ actions) w h = then_in b (perform id action w) (perform_all id actions) (perform_in b id action w h) (perform_all_in b id actions)
+
+acted_in : (b : Behaviour) (id : ℕ) (actions : List Action) (w : World) → AllIn b w → AllIn b (in_flow (acted id actions w))
+acted_in b id actions w h = either_in b (nat_lt 1000 (length actions)) _ _ h (perform_all_in b id actions w h)
+
+ask_all_in : (b : Behaviour) (id : ℕ) (reads : List Read) (w : World) → AllIn b w → AllIn b (ask_all id reads w)
+ask_all_in b id [] w h = h
+ask_all_in b id (r ∷ rs) w h = ask_all_in b id rs (asked (question_of id r) w) h
+
+unless_in : (b : Behaviour) (id : ℕ) (found : Option Fault) (go : World → Flow) (w : World) → AllIn b w → AllIn b (in_flow (go w)) → AllIn b (in_flow (unless_fault id found go w))
+unless_in b id (Some f) go w h k = h
+unless_in b id None go w h k = k
+
+answered_in : (b : Behaviour) (m : Model) (id : ℕ) (reply : Reply) (w : World) → AllIn b w → AllIn b (in_flow (answered m id reply w))
+answered_in b m id reply w h =
+    let v : World = ask_all id reply.reads w in
+    let k : AllIn b v = ask_all_in b id reply.reads w h in
+    unless_in b id (read_fault m w.records id reply.reads) (acted id reply.actions) v k (acted_in b id reply.actions v k)
+
+-- ---- a call changes the state of one module, to the one that it leaves
+
+-- a module that a call finds is at home
+found_in : (b : Behaviour) (id : ℕ) (is : List Instance) (i : Instance) → instance_in id is ≡ Some i → Each (IsAtHome b) is → IsAtHome b i
+found_in b id [] i e h = cc
+found_in b id (j ∷ js) i e h = by (j.id == id) (λ x. found_in b id js i x h.1) e
+  where
+    by : (t : Bool) → (instance_in id js ≡ Some i → IsAtHome b i) → cond t (Some j) (instance_in id js) ≡ Some i → IsAtHome b i
+    by true later e = let same : j ≡ i = cc in subst (IsAtHome b) same h.0
+    by false later e = later e
+
+-- it is the one whose state changes
+changed_in : (b : Behaviour) (id : ℕ) (state : List ℕ) (is : List Instance) (i : Instance) → instance_in id is ≡ Some i → IsTrue ((b.naming i.kind).is_state state) → Each (IsAtHome b) is → Each (IsAtHome b) (with_state id state is)
+changed_in b id state [] i e s h = tt
+changed_in b id state (j ∷ js) i e s h = by (j.id == id) (λ x. changed_in b id state js i x s h.1) e
+  where
+    by : (t : Bool) → (instance_in id js ≡ Some i → Each (IsAtHome b) (with_state id state js)) → cond t (Some j) (instance_in id js) ≡ Some i → Each (IsAtHome b) (cond t (record j { state = state } ∷ js) (j ∷ with_state id state js))
+    by true later e = let same : i ≡ j = cc in (record { known = h.0.known; state = subst (λ (k : Instance). IsTrue ((b.naming k.kind).is_state state)) same s }, h.1)
+    by false later e = (h.0, later e)
+
+-- a call of a module that may stand
+called_in : (b : Behaviour) → IsLawful b → (m : Model) (id : ℕ) (p : Prompt) (w : World) (found : Option Instance) → instance_in id w.modules ≡ found → AllIn b w → AllIn b (in_flow (called b m id p w found))
+called_in b l m id p w None e h = h
+called_in b l m id p w (Some i) e h =
+    let f = found_in b id w.modules i e h in
+    let r : Replied = (b.naming i.kind).reply i.state (call_of m id p w) in
+    answered_in b m id r.reply (changed id r.state w)
+    (changed_in b id r.state w.modules i e ((l.states i.kind f.known).goes_on i.state (call_of m id p w) f.state) h)
+
+-- one call
+call_in : (b : Behaviour) → IsLawful b → (m : Model) (id : ℕ) (p : Prompt) (w : World) → AllIn b w → AllIn b (in_flow (call_module b m id p w))
+call_in b l m id p w h = called_in b l m id p w (instance_in id w.modules) refl h
+
+-- ---- setup: no module stands, and then each is placed in its state at first
+
+root_in : (b : Behaviour) (found : Answer) → AllIn b (in_flow (rooted found (asked Root empty)))
+root_in b (answer.Root name) = tt
+root_in b (answer.Inside bs) = tt
+root_in b (answer.Value v) = tt
+root_in b (answer.Fault path f) = tt
+root_in b (answer.Beyond beyond) = tt
+root_in b (answer.Injection next) = tt
+root_in b answer.Absent = tt
+
+many_in : (b : Behaviour) (parent : ℕ) (bs : List Built) (w : World) (one : Option Built) → AllIn b w → AllIn b (in_flow (unless_many parent bs w one))
+many_in b parent bs w (Some one) h = h
+many_in b parent bs w None h = h
+
+built_in : (b : Behaviour) (parent : ℕ) (found : Answer) (w : World) → AllIn b w → AllIn b (in_flow (built parent found w))
+built_in b parent (answer.Inside bs) w h = many_in b parent bs w (slice_get bs 65535) h
+built_in b parent (answer.Root name) w h = h
+built_in b parent (answer.Value v) w h = h
+built_in b parent (answer.Fault path f) w h = h
+built_in b parent (answer.Beyond beyond) w h = h
+built_in b parent (answer.Injection next) w h = h
+built_in b parent answer.Absent w h = h
+
+prepared_in : (b : Behaviour) (m : Model) → AllIn b (in_flow (prepared m))
+prepared_in b m = then_in b (root_asked m) (inside_asked m) (root_in b (answer_of m [] Root)) (λ w h. built_in b 1 (answer_of m w.records (Build 1)) (asked (Build 1) w) h)
+
+-- only a module of a known kind is placed
+place_in : (b : Behaviour) → IsLawful b → (p : Part) (w : World) → AllIn b w → AllIn b (in_flow (place b p w))
+place_in b l p w h = by (b.known p.kind) refl
+  where
+    by : (t : Bool) → b.known p.kind ≡ t → AllIn b (in_flow (if t then On (placed p (b.naming p.kind).initial w) else broken p.id fault.UnknownClass w))
+    by true e = each_append (IsAtHome b) w.modules (record { id = p.id; kind = p.kind; state = (b.naming p.kind).initial } ∷ []) h (record { known = e; state = (l.states p.kind e).starts }, tt)
+    by false e = h
+
+place_all_in : (b : Behaviour) → IsLawful b → (ps : List Part) (w : World) → AllIn b w → AllIn b (in_flow (place_all b ps w))
+place_all_in b l [] w h = h
+place_all_in b l (p ∷ ps) w h = then_in b (place b p w) (place_all b ps) (place_in b l p w h) (place_all_in b l ps)
+
+ready_in : (b : Behaviour) → IsLawful b → (m : Model) → AllIn b (in_flow (ready b m))
+ready_in b l m = then_in b (prepared m) (place_parts b) (prepared_in b m) (λ w h. place_all_in b l (parts_of w) w h)
+
+-- ---- initialization
+
+initialize_in : (b : Behaviour) → IsLawful b → (m : Model) (stage : ℕ) (p : Part) (w : World) → AllIn b w → AllIn b (in_flow (initialize b m stage p w))
+initialize_in b l m stage p w h = either_in b (nat_lt stage (b.naming p.kind).stages) _ _ (call_in b l m p.id (prompt.Initialize stage) w h) h
+
+one_stage_in : (b : Behaviour) → IsLawful b → (m : Model) (stage : ℕ) (ps : List Part) (w : World) → AllIn b w → AllIn b (in_flow (one_stage b m stage ps w))
+one_stage_in b l m stage [] w h = h
+one_stage_in b l m stage (p ∷ ps) w h = then_in b (initialize b m stage p w) (one_stage b m stage ps) (initialize_in b l m stage p w h) (one_stage_in b l m stage ps)
+
+stages_in : (b : Behaviour) → IsLawful b → (m : Model) (ps : List Part) (stage left : ℕ) (w : World) → AllIn b w → AllIn b (in_flow (stages_from b m ps stage left w))
+stages_in b l m ps stage zero w h = h
+stages_in b l m ps stage (suc left) w h = then_in b (one_stage b m stage ps w) (stages_from b m ps (suc stage) left) (one_stage_in b l m stage ps w h) (stages_in b l m ps (suc stage) left)
+
+initialize_all_in : (b : Behaviour) → IsLawful b → (m : Model) (w : World) → AllIn b w → AllIn b (in_flow (initialize_all b m w))
+initialize_all_in b l m w h = stages_in b l m (standing w.modules) 0 (most_stages b (standing w.modules)) (with_started w) h
+
+-- ---- runs
+
+-- the end of an event changes nothing of the world
+settled_in : (b : Behaviour) (fl : Flow) → AllIn b (in_flow fl) → AllIn b (world_at (settled fl))
+settled_in b (On w) h = h
+settled_in b (Stopped w) h = h
+settled_in b (Broken w path fault) h = h
+
+start_in : (b : Behaviour) → IsLawful b → (m : Model) → AllIn b (world_at (after b m 0))
+start_in b l m = settled_in b (ready b m >>= initialize_all b m) (then_in b (ready b m) (initialize_all b m) (ready_in b l m) (initialize_all_in b l m))
+
+-- where the run is over nothing happens
+over_in : (b : Behaviour) (c : Bool) (w : World) (outcome : Outcome) (s : Stage) → AllIn b w → AllIn b (world_at s) → AllIn b (world_at (if c then Over w outcome else s))
+over_in b true w outcome s h k = h
+over_in b false w outcome s h k = k
+
+-- one event
+event_in : (b : Behaviour) → IsLawful b → (m : Model) (p : Pending) (rest : List Pending) (w : World) → AllIn b w → AllIn b (world_at (settled (event b m p rest w)))
+event_in b l m p rest w h = settled_in b (event b m p rest w) (call_in b l m p.id (prompt.Message (message_of p)) (begun p rest w) h)
+
+-- the next event, where there is one; what is asked to know it leaves modules alone
+went_in : (b : Behaviour) → IsLawful b → (m : Model) (w : World) (up : Upcoming) → HasLooked w (beside up) → AllIn b w → AllIn b (world_at (went b m w up))
+went_in b l m w (Nothing u) looked h = h
+went_in b l m w (Comes u p rest) looked h = over_in b (is_after_limit m u.records p) w TimeLimit (settled (event b m p rest u)) h (event_in b l m p rest u (subst (AllIn b) looked.same h))
+
+next_in : (b : Behaviour) → IsLawful b → (m : Model) (s : Stage) → AllIn b (world_at s) → AllIn b (world_at (next_stage b m s))
+next_in b l m (Running w) h = over_in b w.ended w Ended (went b m w (upcoming m w)) h (went_in b l m w (upcoming m w) (upcoming_looks m w) h)
+next_in b l m (Over w outcome) h = h
+
+run_in : (b : Behaviour) → IsLawful b → (m : Model) (n : ℕ) → AllIn b (world_at (after b m n))
+run_in b l m zero = start_in b l m
+run_in b l m (suc n) = next_in b l m (after b m n) (run_in b l m n)
+
+-- each state is one of its kind
+states_in : (b : Behaviour) (is : List Instance) → Each (IsAtHome b) is → AreStates b is
+states_in b [] h = tt
+states_in b (i ∷ is) h = (h.0.state, states_in b is h.1)
+
+-- in every world of a run of a lawful catalogue each state is one of its kind
+pub states_of_run : (b : Behaviour) → IsLawful b → (m : Model) (n : ℕ) → AreStates b (world_at (after b m n)).modules
+states_of_run b l m n = states_in b (world_at (after b m n)).modules (run_in b l m n)
