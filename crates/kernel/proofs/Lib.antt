@@ -11,4 +11,5 @@ pub mod Targets
 pub mod Upcoming
 pub mod Positions
 pub mod Growing
+pub mod Lasting
 pub mod Loading

@@ -1,14 +1,11 @@
 -- Boxes that take the states of a position.
-use Rattle.std.proofs.Common.{◌≡◌, ℕ, zero, suc, ◌+◌, ◌≤◌, ◌<◌, ◌==◌, Bool, true, false, cond, IsTrue, List, [], ◌∷◌, Option, Some, None, length, drop, get_or, map, refl, sym, ap, ◌∙◌, subst, arith, eqb-true, if◌then◌else◌}
+use Rattle.std.proofs.Common.{◌≡◌, ℕ, zero, suc, ◌+◌, ◌≤◌, ◌<◌, ◌==◌, true, false, cond, IsTrue, List, [], ◌∷◌, Some, length, drop, get_or, map, refl, sym, ap, ◌∙◌, subst, arith}
 use Rattle.std.proofs.Math.Seq.{drop-cons}
 use Rattle.std.proofs.lemmas.Bool.Decides.{nat_tests}
 use Rattle.module_api.specs.Behaviour.{Behaviour}
-use Rattle.module_api.specs.Meaning.{Module, IsOfKind}
 use Rattle.run_semantics.specs.declared.traces.Instance.{Instance}
 use Rattle.run_semantics.specs.Event.{with_state}
 use Rattle.run_semantics.specs.Run.{Part, part_of, standing}
-use Rattle.run_semantics.specs.World.{World}
-use Rattle.kernel.specs.declared.position.Position.{Position}
 use Rattle.kernel.specs.Seats.{Seat, instance_of, module_in, AreOfKinds, AreKept}
 use Rattle.kernel.specs.Saved.{Takes}
 use Rattle.run_semantics.specs.Laws.{AreStates}

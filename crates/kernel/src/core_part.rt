@@ -1,6 +1,6 @@
 //! A world but for the modules and their states.
 
-ghost use Rattle.std.specs.Prelude.{◌≡◌, ◌+◌, ◌^◌, ◌<◌, OnOk, IfOk, Some, true, [], ◌∷◌, ◌++◌, length, slice_get, ◌≤◌};
+ghost use Rattle.std.specs.Prelude.{◌≡◌, ◌+◌, ◌^◌, ◌<◌, OnOk, OnErr, IfOk, Some, true, [], ◌∷◌, ◌++◌, length, slice_get, ◌≤◌};
 ghost use Rattle.model_answers.specs.Answering.{answer_of, parameters_of};
 ghost use Rattle.model_answers.specs.Questions.{is_of_modules};
 ghost use Rattle.run_semantics.specs.World.{empty, asked, timed};
@@ -14,7 +14,7 @@ ghost use Rattle.model_answers.specs.Injections.{turn_of};
 ghost use Rattle.model_answers.specs.declared.answer.Answer.TheVariants as answers;
 ghost use Rattle.model_answers.specs.declared.answer.Question.TheVariants.{BeyondLimit};
 ghost use Rattle.run_semantics.specs.Run.{rooted, built, unless_many, with_submodules, with_started, root_asked, inside_asked, prepared};
-ghost use Rattle.kernel.specs.Positions.{lengths_of, position_of, cut_to, core_back};
+ghost use Rattle.kernel.specs.Positions.{lengths_of, position_of, cut_to, core_back, IsGrownFrom};
 
 use crate::position::{Lengths, Position};
 use event_set::pending::{Happening, Pending};
@@ -242,8 +242,9 @@ impl Core {
         time: SimTime,
     ) -> Result<Turn, NoMemory>
         requires { self.old.next + 1 < 2 ^ 128 }
-        ensures { IfOk result (λ turn. flow_of turn self.new
+        ensures flow { IfOk result (λ turn. flow_of turn self.new
             ≡ scheduled_at id schedule.now self.old time) }
+        ensures err { OnErr result (self.new ≡ self.old) }
     {
         if self.pending.has_timer(id, schedule.timer) {
             return self.broken(alloc, id, Fault::AlreadyScheduled);
@@ -256,8 +257,9 @@ impl Core {
     /// Sets a timer.
     fn schedule(&mut self, alloc: Global, id: u32, schedule: &Schedule) -> Result<Turn, NoMemory>
         requires { self.old.next + 1 < 2 ^ 128 }
-        ensures { IfOk result (λ turn. flow_of turn self.new
+        ensures flow { IfOk result (λ turn. flow_of turn self.new
             ≡ perform id (Action.ScheduleAfter schedule.now) self.old) }
+        ensures err { OnErr result (self.new ≡ self.old) }
     {
         match self.clock.checked_add(schedule.delay) {
             Ok(time) => self.schedule_at(alloc, id, schedule, time),
@@ -267,8 +269,9 @@ impl Core {
 
     /// Notes an emission.
     fn emit(&mut self, alloc: Global, id: u32, signal: &Text, value: i64) -> Result<Turn, NoMemory>
-        ensures { IfOk result (λ turn. flow_of turn self.new
+        ensures flow { IfOk result (λ turn. flow_of turn self.new
             ≡ perform id (Action.Emit signal.now value) self.old) }
+        ensures err { OnErr result (self.new ≡ self.old) }
     {
         let signal = signal.copy(alloc)?;
         self.emissions.push(Emission {
@@ -283,8 +286,9 @@ impl Core {
 
     /// Notes a scalar, where it has a name.
     fn record(&mut self, alloc: Global, id: u32, name: &Text, value: i64) -> Result<Turn, NoMemory>
-        ensures { IfOk result (λ turn. flow_of turn self.new
+        ensures flow { IfOk result (λ turn. flow_of turn self.new
             ≡ perform id (Action.RecordScalar name.now value) self.old) }
+        ensures err { OnErr result (self.new ≡ self.old) }
     {
         if !is_scalar_name(name.as_bytes()) {
             return self.broken(alloc, id, Fault::BadName);
@@ -297,7 +301,8 @@ impl Core {
     /// One action of the module of that id.
     fn perform(&mut self, alloc: Global, id: u32, action: &Action) -> Result<Turn, NoMemory>
         requires { self.old.next + 1 < 2 ^ 128 }
-        ensures { IfOk result (λ turn. flow_of turn self.new ≡ perform id action.now self.old) }
+        ensures flow { IfOk result (λ turn. flow_of turn self.new ≡ perform id action.now self.old) }
+        ensures err { OnErr result (self.new ≡ self.old) }
     {
         match action {
             Action::Emit(signal, value) => self.emit(alloc, id, signal, *value),
@@ -313,8 +318,9 @@ impl Core {
     /// The actions of a reply, in order.
     fn perform_all(&mut self, alloc: Global, id: u32, actions: &[Action]) -> Result<Turn, NoMemory>
         requires { self.old.next + length actions.now < 2 ^ 128 }
-        ensures { IfOk result (λ turn. flow_of turn self.new
+        ensures flow { IfOk result (λ turn. flow_of turn self.new
             ≡ perform_all id actions.now self.old) }
+        ensures grown { IsGrownFrom self.old self.new }
     {
         for action in actions {
             match self.perform(alloc, id, action)? {
@@ -330,14 +336,16 @@ impl Core {
     /// Notes a question about modules, unless it was asked before.
     pub fn ask(&mut self, alloc: Global, question: Question) -> Result<(), NoMemory>
         requires { is_of_modules question ≡ true }
-        ensures { OnOk result (self.new ≡ asked question self.old) }
+        ensures noted { OnOk result (self.new ≡ asked question self.old) }
+        ensures err { OnErr result (self.new ≡ self.old) }
     {
         self.questions.note(alloc, self.count, question)
     }
 
     /// Notes the questions of all values that a reply used.
     fn ask_all(&mut self, alloc: Global, id: u32, reads: &[Read]) -> Result<(), NoMemory>
-        ensures { OnOk result (self.new ≡ ask_all id reads.now self.old) }
+        ensures noted { OnOk result (self.new ≡ ask_all id reads.now self.old) }
+        ensures grown { IsGrownFrom self.old self.new }
     {
         for read in reads {
             self.ask(alloc, question_of(alloc, id, read)?)?;
@@ -389,9 +397,11 @@ impl Core {
     // ---- replies
 
     /// The actions of a reply, where there are at most 1,000.
+    #[tactic(auto, using(crate::proofs::Lasting::growth_same))]
     fn act(&mut self, alloc: Global, id: u32, actions: &[Action]) -> Result<Turn, NoMemory>
         requires { self.old.next + 1000 < 2 ^ 128 }
-        ensures { IfOk result (λ turn. flow_of turn self.new ≡ acted id actions.now self.old) }
+        ensures flow { IfOk result (λ turn. flow_of turn self.new ≡ acted id actions.now self.old) }
+        ensures grown { IsGrownFrom self.old self.new }
     {
         if actions.len() > MAX_ACTIONS {
             return self.broken(alloc, id, Fault::TooManyActions);
@@ -400,6 +410,7 @@ impl Core {
     }
 
     /// Carries out the reply to a call.
+    #[tactic(auto, using(crate::proofs::Lasting::growth_same))]
     pub fn follow(
         &mut self,
         alloc: Global,
@@ -410,8 +421,9 @@ impl Core {
         requires next { self.old.next + 1000 < 2 ^ 128 }
         requires told { call.now.parameters
             ≡ parameters_of model.now self.old.records call.now.id }
-        ensures { IfOk result (λ turn. flow_of turn self.new
+        ensures flow { IfOk result (λ turn. flow_of turn self.new
             ≡ answered model.now call.now.id reply.now self.old) }
+        ensures grown { IsGrownFrom self.old self.new }
     {
         let fault = self.read_fault(alloc, model, call, reply.reads.as_slice())?;
         self.ask_all(alloc, call.id, reply.reads.as_slice())?;
@@ -426,8 +438,9 @@ impl Core {
     /// One action of a reply to the end.
     fn perform_last(&mut self, alloc: Global, id: u32, action: &Action) -> Result<Turn, NoMemory>
         requires { self.old.next + 1 < 2 ^ 128 }
-        ensures { IfOk result (λ turn. flow_of turn self.new
+        ensures flow { IfOk result (λ turn. flow_of turn self.new
             ≡ perform_last id action.now self.old) }
+        ensures err { OnErr result (self.new ≡ self.old) }
     {
         if !is_last_action(action) {
             return self.broken(alloc, id, Fault::NotInFinish);
@@ -443,8 +456,9 @@ impl Core {
         last_actions: &[Action],
     ) -> Result<Turn, NoMemory>
         requires { self.old.next + length last_actions.now < 2 ^ 128 }
-        ensures { IfOk result (λ turn. flow_of turn self.new
+        ensures flow { IfOk result (λ turn. flow_of turn self.new
             ≡ perform_last_all id last_actions.now self.old) }
+        ensures grown { IsGrownFrom self.old self.new }
     {
         for action in last_actions {
             match self.perform_last(alloc, id, action)? {
@@ -455,9 +469,11 @@ impl Core {
         Ok(Turn::GoOn)
     }
 
+    #[tactic(auto, using(crate::proofs::Lasting::growth_same))]
     fn act_last(&mut self, alloc: Global, id: u32, actions: &[Action]) -> Result<Turn, NoMemory>
         requires { self.old.next + 1000 < 2 ^ 128 }
-        ensures { IfOk result (λ turn. flow_of turn self.new ≡ acted_last id actions.now self.old) }
+        ensures flow { IfOk result (λ turn. flow_of turn self.new ≡ acted_last id actions.now self.old) }
+        ensures grown { IsGrownFrom self.old self.new }
     {
         if actions.len() > MAX_ACTIONS {
             return self.broken(alloc, id, Fault::TooManyActions);
@@ -466,6 +482,7 @@ impl Core {
     }
 
     /// Carries out the reply to a call for the end.
+    #[tactic(auto, using(crate::proofs::Lasting::growth_same))]
     pub fn follow_last(
         &mut self,
         alloc: Global,
@@ -476,8 +493,9 @@ impl Core {
         requires next { self.old.next + 1000 < 2 ^ 128 }
         requires told { call.now.parameters
             ≡ parameters_of model.now self.old.records call.now.id }
-        ensures { IfOk result (λ turn. flow_of turn self.new
+        ensures flow { IfOk result (λ turn. flow_of turn self.new
             ≡ answered_last model.now call.now.id reply.now self.old) }
+        ensures grown { IsGrownFrom self.old self.new }
     {
         match self.read_fault(alloc, model, call, reply.reads.as_slice())? {
             Some(fault) => self.broken(alloc, call.id, fault),
@@ -487,7 +505,8 @@ impl Core {
 
     /// Notes that a module is finished.
     pub fn mark_finished(&mut self, id: u32) -> Result<(), NoMemory>
-        ensures { OnOk result (self.new ≡ with_finished id self.old) }
+        ensures marked { OnOk result (self.new ≡ with_finished id self.old) }
+        ensures err { OnErr result (self.new ≡ self.old) }
     {
         self.finished.push(id)?;
         Ok(())
@@ -543,8 +562,9 @@ impl Core {
     /// An event begins that is due then: it is counted, and what was asked before is noted, with the question whether the time limit allows it.
     fn begin_event(&mut self, look: Look, time: SimTime) -> Result<(), NoMemory>
         requires { self.old.count + 1 < 2 ^ 64 }
-        ensures { let world = looked self.old look in
+        ensures begun { let world = looked self.old look in
             OnOk result (self.new ≡ timed (BeyondLimit time) (record world { clock = time; count = world.count + 1 })) }
+        ensures grown { IsGrownFrom self.old self.new }
     {
         let Look { delivered, asked } = look;
         self.note_looks(asked.as_slice())?;
@@ -558,8 +578,9 @@ impl Core {
     /// Notes the questions of these looks, which are of the event behind.
     fn note_looks(&mut self, looks: &[LookedAt]) -> Result<(), NoMemory>
         requires { self.old.count + 1 < 2 ^ 64 }
-        ensures { OnOk result (self.new
+        ensures noted { OnOk result (self.new
             ≡ record self.old { questions = self.old.questions ++ asked_in (self.old.count + 1) looks.now }) }
+        ensures grown { IsGrownFrom self.old self.new }
     {
         for look in looks {
             self.note_look(look)?;
@@ -570,14 +591,16 @@ impl Core {
     /// Notes the question of a look, which is of the event behind.
     fn note_look(&mut self, look: &LookedAt) -> Result<(), NoMemory>
         requires { self.old.count + 1 < 2 ^ 64 }
-        ensures { OnOk result (self.new
+        ensures noted { OnOk result (self.new
             ≡ record self.old { questions = self.old.questions ++ asked_in (self.old.count + 1) (look.now ∷ []) }) }
+        ensures err { OnErr result (self.new ≡ self.old) }
     {
         let question = Question::InjectionBefore(look.due, look.last);
         self.questions.note_time(self.count + 1, question)
     }
 
     /// Begins an event that is none of those to come, or tells that it is too late.
+    #[tactic(auto, using(crate::proofs::Lasting::growth_same))]
     fn begin_arrival(
         &mut self,
         model: &NetworkModel,
@@ -585,8 +608,9 @@ impl Core {
         event: Pending,
     ) -> Result<Result<Pending, Outcome>, NoMemory>
         requires { self.old.count + 1 < 2 ^ 64 }
-        ensures { let world = looked self.old look in
+        ensures begins { let world = looked self.old look in
             IfOk result (λ begins. Begins model.now (Comes world event world.pending) self.old begins self.new) }
+        ensures grown { IsGrownFrom self.old self.new }
     {
         if is_beyond(model, event.time.ps()) {
             return Ok(Err(Outcome::TimeLimit));
@@ -596,14 +620,16 @@ impl Core {
     }
 
     /// Begins the first of the events to come, or tells that it is too late, or that there is none.
+    #[tactic(auto, using(crate::proofs::Lasting::growth_same))]
     fn begin_first(
         &mut self,
         model: &NetworkModel,
         look: Look,
     ) -> Result<Result<Pending, Outcome>, NoMemory>
         requires { self.old.count + 1 < 2 ^ 64 }
-        ensures { let world = looked self.old look in
+        ensures begins { let world = looked self.old look in
             IfOk result (λ begins. Begins model.now (first_of world world.pending) self.old begins self.new) }
+        ensures grown { IsGrownFrom self.old self.new }
     {
         if self.is_after_limit(model) {
             return Ok(Err(Outcome::TimeLimit));
@@ -626,6 +652,7 @@ impl Core {
     }
 
     /// Begins what comes next, or tells how the run ends instead.
+    #[tactic(auto, using(crate::proofs::Lasting::growth_same))]
     pub fn begin(
         &mut self,
         model: &NetworkModel,
@@ -633,8 +660,9 @@ impl Core {
         next: Next,
     ) -> Result<Result<Pending, Outcome>, NoMemory>
         requires { self.old.count + 1 < 2 ^ 64 }
-        ensures { let world = looked self.old look in
+        ensures begins { let world = looked self.old look in
             IfOk result (λ begins. Begins model.now (upcoming_of next world) self.old begins self.new) }
+        ensures grown { IsGrownFrom self.old self.new }
     {
         match next {
             Next::First => self.begin_first(model, look),

@@ -12,7 +12,7 @@ ghost use Rattle.run_semantics.specs.Run.{Running, Part, stage_of, settled, prep
 ghost use Rattle.run_semantics.specs.Ending.{call_last, finish_all, ending};
 ghost use Rattle.kernel.specs.Seats.{module_in, stages_of, stands_at, AreBelow, AreFirst, IsServed, missing_of, missing_part};
 ghost use Rattle.kernel.specs.Parts.{part_in, initialize_at, finish_at};
-ghost use Rattle.kernel.specs.Positions.{position_of, world_back, CanTake, IsSameBesideModules, with_states};
+ghost use Rattle.kernel.specs.Positions.{position_of, world_back, CanTake, IsGrownFrom, IsSameBesideModules, with_states};
 ghost use Rattle.kernel.specs.Saved.{Takes};
 ghost use Rattle.kernel.specs.Kernels.{seats_in, world_in, ran_in, HasKinds, IsCallable, KeepsBoxes};
 
@@ -215,6 +215,7 @@ impl<C: Catalogue> Kernel<C> {
     }
 
     /// One call of the module of that id. A call of what isn't there is passed over.
+    #[tactic(auto, using(crate::proofs::Lasting::growth_same))]
     fn call_module(
         &mut self,
         alloc: Global,
@@ -226,6 +227,8 @@ impl<C: Catalogue> Kernel<C> {
         ensures kept { KeepsBoxes C.behaviour SimpleModule-box self.old self.new }
         ensures step { IfOk result (λ turn. flow_of turn (world_in SimpleModule-box self.new)
             ≡ call_module C.behaviour model.now id prompt (world_in SimpleModule-box self.old)) }
+        ensures grown { IsGrownFrom (world_in SimpleModule-box self.old)
+            (world_in SimpleModule-box self.new) }
     {
         let call = self.core.call(alloc, model, id, prompt)?;
         let Some(reply) = self.reply_of(alloc, &call) else {
@@ -404,6 +407,7 @@ impl<C: Catalogue> Kernel<C> {
     }
 
     /// The next event, or how the run ends.
+    #[tactic(auto, using(crate::proofs::Lasting::growth_same))]
     pub fn step(&mut self, alloc: Global, model: &Model) -> Result<Option<Outcome>, NoMemory>
         requires room { HasRoom (world_in SimpleModule-box self.old) }
         requires count { (world_in SimpleModule-box self.old).count + 1 < 2 ^ 64 }
@@ -413,6 +417,8 @@ impl<C: Catalogue> Kernel<C> {
         ensures room { OnOk result (HasRoom (world_in SimpleModule-box self.new)) }
         ensures step { IfOk result (λ over. stage_of over (world_in SimpleModule-box self.new)
             ≡ next_stage C.behaviour model.now (Running (world_in SimpleModule-box self.old))) }
+        ensures grown { IsGrownFrom (world_in SimpleModule-box self.old)
+            (world_in SimpleModule-box self.new) }
     {
         if self.core.is_ended() {
             return Ok(Some(Outcome::Ended));
@@ -444,12 +450,15 @@ impl<C: Catalogue> Kernel<C> {
     // ---- the end
 
     /// Tells the module of that id that the run is over, where it has a box.
+    #[tactic(auto, using(crate::proofs::Lasting::growth_same))]
     fn call_last(&mut self, alloc: Global, model: &Model, id: u32) -> Result<Turn, NoMemory>
         requires callable { IsCallable C.behaviour SimpleModule-box 1000 self.old }
         ensures kept { KeepsBoxes C.behaviour SimpleModule-box self.old self.new }
         ensures step { let before = world_in SimpleModule-box self.old in
             IfOk result (λ turn. flow_of turn (world_in SimpleModule-box self.new)
             ≡ call_last C.behaviour model.now id before) }
+        ensures grown { IsGrownFrom (world_in SimpleModule-box self.old)
+            (world_in SimpleModule-box self.new) }
     {
         let call = self.core.call(alloc, model, id, Prompt::Finish)?;
         let Some(reply) = self.reply_of(alloc, &call) else {
@@ -460,6 +469,7 @@ impl<C: Catalogue> Kernel<C> {
     }
 
     /// Finishes the module of that id, where it has a box.
+    #[tactic(auto, using(crate::proofs::Lasting::growth_same))]
     fn finish_one(&mut self, alloc: Global, model: &Model, id: u32) -> Result<Turn, NoMemory>
         requires callable { IsCallable C.behaviour SimpleModule-box 1000 self.old }
         ensures kept { KeepsBoxes C.behaviour SimpleModule-box self.old self.new }
@@ -468,6 +478,8 @@ impl<C: Catalogue> Kernel<C> {
         ensures step { let before = world_in SimpleModule-box self.old in
             IfOk result (λ turn. flow_of turn (world_in SimpleModule-box self.new)
             ≡ finish_at C.behaviour model.now before (part_in id (standing before.modules))) }
+        ensures grown { IsGrownFrom (world_in SimpleModule-box self.old)
+            (world_in SimpleModule-box self.new) }
     {
         if self.stages_at(id).is_none() {
             return Ok(Turn::GoOn);
@@ -488,6 +500,8 @@ impl<C: Catalogue> Kernel<C> {
         ensures step { let before = world_in SimpleModule-box self.old in
             IfOk result (λ turn. flow_of turn (world_in SimpleModule-box self.new)
             ≡ finish_all C.behaviour model.now (standing before.modules) before) }
+        ensures grown { IsGrownFrom (world_in SimpleModule-box self.old)
+            (world_in SimpleModule-box self.new) }
     {
         for index in 0..self.boxes.room() {
             match self.finish_one(alloc, model, index as u32)? {
@@ -500,6 +514,7 @@ impl<C: Catalogue> Kernel<C> {
     }
 
     /// Finishes the modules of a run that ended so, and answers how it ends then.
+    #[tactic(auto, using(crate::proofs::Lasting::growth_same))]
     pub fn finish(
         &mut self,
         alloc: Global,
@@ -513,6 +528,8 @@ impl<C: Catalogue> Kernel<C> {
         ensures kept { KeepsBoxes C.behaviour SimpleModule-box self.old self.new }
         ensures step { IfOk result (λ last. ran_in SimpleModule-box last self.new
             ≡ ending C.behaviour model.now (ran_in SimpleModule-box outcome self.old)) }
+        ensures grown { IsGrownFrom (world_in SimpleModule-box self.old)
+            (world_in SimpleModule-box self.new) }
     {
         if outcome.is_fault() {
             return Ok(outcome);

@@ -5,6 +5,8 @@ use Rattle.run_semantics.specs.World.{World}
 use Rattle.run_semantics.specs.Perform.{On, answered}
 use Rattle.kernel.specs.Seats.{world_of, IsCalled, IsServed}
 use Rattle.kernel.specs.Kernels.{seats_in}
+use Rattle.kernel.specs.Positions.{IsGrownFrom}
+use Rattle.kernel.proofs.Lasting.{growth_is, boxed_grows}
 use Rattle.kernel.proofs.Calling.{ok_step, served_kept, passed_over, called_is}
 use Rattle.kernel.proofs.kernel.Kernel.call_module.Goals as goal
 
@@ -28,10 +30,22 @@ returns-clause-kept g c =
     served_kept g.C.Catalogue.behaviour c.args.id (seats_in (λ b. (g.dyn-1.0.entry b.vtable).1) c.args.self.now) (seats_in (λ b. (g.dyn-1.0.entry b.vtable).1) c.reply_of.new.self) _ c.reply_of.result (subst (λ (k : Call). IsServed k.id (seats_in (λ b. (g.dyn-1.0.entry b.vtable).1) c.args.self.now) (seats_in (λ b. (g.dyn-1.0.entry b.vtable).1) c.reply_of.new.self) k c.reply_of.result) c.in_ok-call.ensures c.reply_of.ensures.served) c.requires.callable.kinds
 
 pub returns-clause-step : goal.returns-clause-step
-returns-clause-step g c = ok_step c.follow.result c.follow.ensures (λ turn step.
+returns-clause-step g c = ok_step c.follow.result c.follow.ensures.flow (λ turn step.
     called_is g.C.Catalogue.behaviour c.args.model.now c.args.id c.args.prompt c.args.self.now.core c.follow.new.self (seats_in (λ b. (g.dyn-1.0.entry b.vtable).1) c.args.self.now) (seats_in (λ b. (g.dyn-1.0.entry b.vtable).1) c.reply_of.new.self)
     c.in_ok-reply.reply turn c.requires.callable.kinds
     (subst (λ (k : Call). IsCalled k.id (seats_in (λ b. (g.dyn-1.0.entry b.vtable).1) c.args.self.now) (seats_in (λ b. (g.dyn-1.0.entry b.vtable).1) c.reply_of.new.self) k (Ok c.in_ok-reply.reply)) c.in_ok-call.ensures (rw c.in_ok-reply.was at c.in-Some.ensures.served))
     (step
     ∙ ap (λ (k : Call). answered c.args.model.now k.id c.in_ok-reply.reply c.reply_of.new.self.core) c.in_ok-call.ensures
     ∙ ap (answered c.args.model.now c.args.id c.in_ok-reply.reply) c.reply_of.ensures.core))
+
+pub returns-in_default-clause-grown : goal.returns-in_default-clause-grown
+returns-in_default-clause-grown g c =
+    boxed_grows c.args.self.now.core c.reply_of.new.self.core (seats_in (λ b. (g.dyn-1.0.entry b.vtable).1) c.args.self.now) (seats_in (λ b. (g.dyn-1.0.entry b.vtable).1) c.reply_of.new.self) (growth_is c.args.self.now.core c.reply_of.new.self.core c.reply_of.ensures.core)
+
+pub returns-in_err-reply-clause-grown : goal.returns-in_err-reply-clause-grown
+returns-in_err-reply-clause-grown g c =
+    boxed_grows c.args.self.now.core c.reply_of.new.self.core (seats_in (λ b. (g.dyn-1.0.entry b.vtable).1) c.args.self.now) (seats_in (λ b. (g.dyn-1.0.entry b.vtable).1) c.reply_of.new.self) (growth_is c.args.self.now.core c.reply_of.new.self.core c.reply_of.ensures.core)
+
+pub returns-clause-grown : goal.returns-clause-grown
+returns-clause-grown g c =
+    boxed_grows c.args.self.now.core c.follow.new.self (seats_in (λ b. (g.dyn-1.0.entry b.vtable).1) c.args.self.now) (seats_in (λ b. (g.dyn-1.0.entry b.vtable).1) c.reply_of.new.self) (subst (λ (w : World). IsGrownFrom w c.follow.new.self) c.reply_of.ensures.core c.follow.ensures.grown)

@@ -2,6 +2,7 @@ use Rattle.std.proofs.Common.{◌≡◌, ◌+◌, ◌*◌, ◌≤◌}
 use Rattle.run_semantics.specs.Run.{standing}
 use Rattle.run_semantics.specs.Ending.{finish_all}
 use Rattle.kernel.specs.Kernels.{world_in, KeepsBoxes}
+use Rattle.kernel.specs.Positions.{IsGrownFrom}
 use Rattle.kernel.proofs.Rising.{parts_left}
 use Rattle.kernel.proofs.kernel.Kernel.finish_all.Given as goal
 
@@ -12,5 +13,6 @@ invariant-loop-index g l =
     record {
       flow : finish_all g.C.Catalogue.behaviour l.model (parts_left l.index (standing old.modules)) world ≡ finish_all g.C.Catalogue.behaviour l.model (standing old.modules) old;
       next : world.next ≤ old.next + 1000 * l.index;
+      grown : IsGrownFrom old world;
       kept : KeepsBoxes g.C.Catalogue.behaviour (λ b. (g.dyn-1.0.entry b.vtable).1) l.fn.self l.self;
     }

@@ -16,11 +16,11 @@ returns-then-is_none-clause-step g c =
 pub returns-in_ok-mark_finished-in-GoOn-clause-next : goal.returns-in_ok-mark_finished-in-GoOn-clause-next
 returns-in_ok-mark_finished-in-GoOn-clause-next g c =
     let kept = call_last_leaves g.C.Catalogue.behaviour c.args.model.now c.args.id c.in_ok-turn.turn (world_in (λ b. (g.dyn-1.0.entry b.vtable).1) c.args.self.now) (world_in (λ b. (g.dyn-1.0.entry b.vtable).1) c.call_last.new.self) c.in_ok-turn.ensures.step in
-    omega (arith, kept.next, ap (λ (w : World). w.next) c.in_ok-mark_finished-in-GoOn.ensures)
+    omega (arith, kept.next, ap (λ (w : World). w.next) c.in_ok-mark_finished-in-GoOn.ensures.marked)
 
 pub returns-in_ok-mark_finished-in-GoOn-clause-step : goal.returns-in_ok-mark_finished-in-GoOn-clause-step
 returns-in_ok-mark_finished-in-GoOn-clause-step g c =
-    ap (λ (core : World). On (world_of core (seats_in (λ b. (g.dyn-1.0.entry b.vtable).1) c.call_last.new.self))) c.in_ok-mark_finished-in-GoOn.ensures
+    ap (λ (core : World). On (world_of core (seats_in (λ b. (g.dyn-1.0.entry b.vtable).1) c.call_last.new.self))) c.in_ok-mark_finished-in-GoOn.ensures.marked
     ∙ finish-called g.C.Catalogue.behaviour c.args.model.now c.args.id (seats_in (λ b. (g.dyn-1.0.entry b.vtable).1) c.args.self.now) (world_in (λ b. (g.dyn-1.0.entry b.vtable).1) c.args.self.now) c.stages_at.result (On (world_in (λ b. (g.dyn-1.0.entry b.vtable).1) c.call_last.new.self)) c.stages_at.ensures (is_there c.stages_at.result c.is_none.result c.is_none.ensures c.if-is_none.false)
     (rw c.in-GoOn.is at c.in_ok-turn.ensures.step)
 
