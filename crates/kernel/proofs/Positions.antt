@@ -1,11 +1,10 @@
 -- Going back to a position.
-use Rattle.std.proofs.Common.{◌≡◌, ℕ, zero, suc, ◌+◌, ◌≤◌, List, [], ◌∷◌, ◌++◌, length, take, refl, sym, ap, ◌∙◌, arith, append-nil}
+use Rattle.std.proofs.Common.{◌≡◌, ℕ, zero, suc, ◌≤◌, List, [], ◌∷◌, length, take, refl, sym, ap, ◌∙◌, arith, append-nil}
 use Rattle.std.proofs.Math.Seq.{take-append_seam}
 use Rattle.run_semantics.specs.Laws.{GoesOn}
 use Rattle.run_semantics.specs.World.{World}
-use Rattle.kernel.specs.declared.position.Lengths.{Lengths}
 use Rattle.kernel.specs.declared.position.Position.{Position}
-use Rattle.kernel.specs.Positions.{lengths_of, position_of, world_with, cut_to, core_back, world_back, IsGrownFrom, AreWithin}
+use Rattle.kernel.specs.Positions.{position_of, cut_to, world_back, IsGrownFrom, AreWithin}
 
 -- a list that has grown, cut to what it was
 cut_grown : {X : Type 0} (xs ys : List X) → GoesOn xs ys → take (length xs) ys ≡ xs
@@ -41,6 +40,11 @@ back_to_taken w = back_when_grown w w (same w)
 -- A WORLD THAT WENT BACK can go back farther, as if it had not gone back before
 pub back_after_back : (p q : Position) (w : World) → AreWithin p.lengths q.lengths → world_back p (world_back q w) ≡ world_back p w
 back_after_back p q w h =
+    rw (cut_twice p.lengths.records q.lengths.records w.records h.records, cut_twice p.lengths.live q.lengths.live w.live h.live, cut_twice p.lengths.started q.lengths.started w.started h.started, cut_twice p.lengths.finished q.lengths.finished w.finished h.finished, cut_twice p.lengths.emissions q.lengths.emissions w.emissions h.emissions, cut_twice p.lengths.scalars q.lengths.scalars w.scalars h.scalars, cut_twice p.lengths.questions q.lengths.questions w.questions h.questions) refl
+
+-- so it can where only its lists were cut
+pub back_after_cut : (p q : Position) (w : World) → AreWithin p.lengths q.lengths → world_back p (cut_to q.lengths w) ≡ world_back p w
+back_after_cut p q w h =
     rw (cut_twice p.lengths.records q.lengths.records w.records h.records, cut_twice p.lengths.live q.lengths.live w.live h.live, cut_twice p.lengths.started q.lengths.started w.started h.started, cut_twice p.lengths.finished q.lengths.finished w.finished h.finished, cut_twice p.lengths.emissions q.lengths.emissions w.emissions h.emissions, cut_twice p.lengths.scalars q.lengths.scalars w.scalars h.scalars, cut_twice p.lengths.questions q.lengths.questions w.questions h.questions) refl
 
 -- the same position once more

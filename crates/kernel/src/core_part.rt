@@ -823,7 +823,7 @@ impl Core {
     }
 
     /// Cuts the lists that only grow while a run goes on.
-    fn cut_to(&mut self, lengths: Lengths)
+    pub fn cut_to(&mut self, lengths: Lengths)
         ensures { self.new ≡ cut_to lengths self.old }
     {
         cut_items(&mut self.records, lengths.records);

@@ -12,7 +12,7 @@ ghost use Rattle.run_semantics.specs.Run.{Running, Part, stage_of, settled, prep
 ghost use Rattle.run_semantics.specs.Ending.{call_last, finish_all, ending};
 ghost use Rattle.kernel.specs.Seats.{module_in, stages_of, stands_at, AreBelow, AreFirst, IsServed, missing_of, missing_part};
 ghost use Rattle.kernel.specs.Parts.{part_in, initialize_at, finish_at};
-ghost use Rattle.kernel.specs.Positions.{position_of, world_back, CanTake, IsGrownFrom, IsSameBesideModules, with_states};
+ghost use Rattle.kernel.specs.Positions.{position_of, cut_to, world_back, CanTake, IsGrownFrom, IsSameBesideModules, with_states};
 ghost use Rattle.kernel.specs.Saved.{Takes};
 ghost use Rattle.kernel.specs.Kernels.{seats_in, world_in, ran_in, HasKinds, IsCallable, KeepsBoxes};
 
@@ -569,6 +569,16 @@ impl<C: Catalogue> Kernel<C> {
         self.load_all(alloc, position.modules.as_slice())?;
         self.core.go_back(position, coming);
         Ok(())
+    }
+
+    /// Cuts the lists that only grow while a run goes on to what they were at a position. The boxes, the events to come and all else
+    /// stay, and it takes no memory: what was noted since the position is dropped, and the kernel can still go back to it.
+    pub fn cut_back(&mut self, position: &Position)
+        ensures world { world_in SimpleModule-box self.new
+            ≡ cut_to position.now.lengths (world_in SimpleModule-box self.old) }
+        ensures same { seats_in SimpleModule-box self.new ≡ seats_in SimpleModule-box self.old }
+    {
+        self.core.cut_to(position.lengths);
     }
 
     /// Each box takes its state.

@@ -7,7 +7,7 @@ ghost use Rattle.run_semantics.specs.Ending.{ending};
 ghost use Rattle.run_semantics.specs.Run.{after, run_to, world_at};
 ghost use Rattle.run_semantics.specs.World.{World};
 ghost use Rattle.kernel.specs.declared.position.Position.{Position};
-ghost use Rattle.kernel.specs.Positions.{position_of, world_back, IsGrownFrom, AreWithin};
+ghost use Rattle.kernel.specs.Positions.{position_of, cut_to, world_back, IsGrownFrom, AreWithin};
 
 /// A position stays good while a run goes on: going back from any world whose lists have grown since gives the world of which it
 /// was taken.
@@ -16,11 +16,13 @@ pub fn positions_stay_good()
     ensures { (before after : World) → IsGrownFrom before after → world_back (position_of before) after ≡ before }
 {}
 
-/// A world that went back can go back farther: it is as if it had not gone back before.
-#[tactic(auto, using(crate::proofs::Positions::back_after_back))]
+/// A world that went back can go back farther, and so can one whose lists alone were cut: it is as if that had not been.
+#[tactic(auto, using(crate::proofs::Positions::back_after_back, crate::proofs::Positions::back_after_cut))]
 pub fn positions_before_stay_good()
-    ensures { (p q : Position) (w : World) → AreWithin p.lengths q.lengths
+    ensures back { (p q : Position) (w : World) → AreWithin p.lengths q.lengths
         → world_back p (world_back q w) ≡ world_back p w }
+    ensures cut { (p q : Position) (w : World) → AreWithin p.lengths q.lengths
+        → world_back p (cut_to q.lengths w) ≡ world_back p w }
 {}
 
 /// In a run the lists only grow of which a position has the lengths, with more events and at the end too. So a position of a run
