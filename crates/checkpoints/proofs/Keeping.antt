@@ -103,6 +103,16 @@ pub more : (n : ℕ) → (n ≡ 0 → ⊥) → 0 < n
 more zero h = absurd (h refl)
 more (suc n) h = omega arith
 
+take_whole : (ps : List Position) → take (length ps) ps ≡ ps
+take_whole [] = refl
+take_whole (p ∷ ps) = ap (λ qs. p ∷ qs) (take_whole ps)
+
+-- the last one of all
+pub last_whole : (n : ℕ) (ps : List Position) → n ≡ length ps → 0 < n → slice_get ps (n - 1) ≡ last_of ps
+last_whole n ps e some =
+    let k : suc (n - 1) ≡ length ps = omega (arith, e, some) in
+    sym (last_first (n - 1) ps (omega (arith, e, some))) ∙ ap (λ j. last_of (take j ps)) k ∙ ap last_of (take_whole ps)
+
 -- none is there
 pub none_is : (event first : ℕ) (held : List Position) (counts : List ℕ) → AreStored held counts → first ≡ number_up_to event counts → first ≡ 0 → None ≡ last_of (up_to event held)
 none_is event first held counts s f none = ap last_of (ap (λ n. take n held) (sym none ∙ f ∙ ap (number_up_to event) s.counts_are) ∙ first_up_to event held s.rising)

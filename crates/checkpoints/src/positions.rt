@@ -2,7 +2,7 @@
 
 ghost use Rattle.std.specs.Prelude.{◌≡◌, [], ◌∷◌, ◌++◌, OnOk, OnErr};
 ghost use Rattle.std.specs.Option.{option_copied};
-ghost use Rattle.checkpoints.specs.Stored.{counts_of, up_to, last_of, number_up_to, AreBelow};
+ghost use Rattle.checkpoints.specs.Stored.{counts_of, up_to, last_of, number_up_to, AreBelow, AreRising};
 
 use kernel::position::Position;
 use question_log::cutting::cut_items;
@@ -76,6 +76,18 @@ impl Positions {
             return None;
         }
         self.held.get(first - 1)
+    }
+
+    /// The last one, where there is one. Their counts rise.
+    pub fn last(&self) -> Option<&Position>
+        ensures last { option_copied result ≡ last_of self.now }
+        ensures rising { AreRising self.now }
+    {
+        let number = self.held.len();
+        if number == 0 {
+            return None;
+        }
+        self.held.get(number - 1)
     }
 
     /// How many events were executed in each, in order. They rise.
