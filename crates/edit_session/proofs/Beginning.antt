@@ -8,12 +8,12 @@ use Rattle.edit_session.specs.declared.running.Phase.TheVariants.{Idle}
 use Rattle.edit_session.specs.Editing.{Editing, fresh_editing}
 
 -- a session without a run, with so many boxes
-abbrev begun_with : Model → ℕ → Editing
-begun_with m held = record { model = m; done = None; phase = Idle; held = held; known = None }
+abbrev begun_with : Model → ℕ → ℕ → List ℕ → Editing
+begun_with m held interval positions = record { model = m; done = None; phase = Idle; held = held; known = None; interval = interval; positions = positions }
 
 no_seat : (s : Seat) (ss : List Seat) → map instance_of (s ∷ ss) ≡ [] → ⊥
 no_seat s ss e = cc
 
-pub begins_fresh : (m : Model) (core : World) (seats : List Seat) → world_of core seats ≡ empty → begun_with m (length seats) ≡ fresh_editing m
-begins_fresh m core [] e = refl
-begins_fresh m core (s ∷ ss) e = absurd (no_seat s ss (ap (λ (w : World). w.modules) e))
+pub begins_fresh : (m : Model) (core : World) (seats : List Seat) (interval : ℕ) → world_of core seats ≡ empty → begun_with m (length seats) interval [] ≡ fresh_editing m interval
+begins_fresh m core [] interval e = refl
+begins_fresh m core (s ∷ ss) interval e = absurd (no_seat s ss (ap (λ (w : World). w.modules) e))

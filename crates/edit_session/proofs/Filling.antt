@@ -19,12 +19,15 @@ use Rattle.run_semantics.specs.Perform.{Flow, On, Stopped, Broken, ◌>>=◌}
 use Rattle.run_semantics.specs.Run.{Part, part_of, standing, parts_from, parts_of, with_class, rooted, built, unless_many, root_asked, inside_asked, prepared, place_parts, ready, placed, place, place_all, initialize_all, start, Running, Over, settled, is_fault}
 use Rattle.run_semantics.specs.Ending.{ending}
 use Rattle.run_semantics.proofs.Ends.{run_over}
+use Rattle.checkpoints.specs.Stored.{counts_of}
+use Rattle.kernel.specs.declared.position.Position.{Position}
 use Rattle.kernel.specs.declared.request.Request.{Request}
 use Rattle.kernel.specs.Seats.{Seat, AreBelow, AreOfKinds, instance_of, request_for, missing_part, missing_of}
 use Rattle.edit_session.specs.declared.running.Phase.{Phase}
 use Rattle.edit_session.specs.declared.running.Phase.TheVariants.{Idle, Waiting, Declined}
 use Rattle.edit_session.proofs.Valid.{known_same}
-use Rattle.edit_session.specs.Editing.{Completed, IsKept, IsLeft, IsFor, IsUnknown, waited_for, wanted_after, wanted_by, IsFilled, IsDeclined, whole_run}
+use Rattle.edit_session.specs.Kept.{AreGood}
+use Rattle.edit_session.specs.Editing.{Completed, IsKept, IsWaiting, IsLeft, IsFor, IsUnknown, waited_for, wanted_after, wanted_by, IsFilled, IsDeclined, whole_run}
 
 -- ---- setup goes on, or ends in a fault
 
@@ -96,6 +99,10 @@ over_is_fault : (fl : Flow) (w : World) (outcome : Outcome) → Over w outcome �
 over_is_fault (On v) w outcome e = cc
 over_is_fault (Stopped v) w outcome e = cc
 over_is_fault (Broken v path f) w outcome e = let s : outcome ≡ outcomes.Fault v.count path f = cc in rw s refl
+
+-- a run that is over behind event zero ended in a fault
+pub start_is_fault : (b : Behaviour) (m : Model) (w : World) (outcome : Outcome) → Over w outcome ≡ start b m → is_fault outcome ≡ true
+start_is_fault b m w outcome e = over_is_fault (ready b m >>= initialize_all b m) w outcome e
 
 -- a fault in setup is the start's
 pub start_over : (b : Behaviour) (m : Model) (w : World) (outcome : Outcome) → Over w outcome ≡ settled (prepared m) → Over w outcome ≡ start b m
@@ -275,8 +282,8 @@ waited b m w ss r e filled wanted =
 request_of : (o : Option Request) (id : ℕ) → option_map (λ (r : Request). r.id) o ≡ Some id → (r : Request) × (o ≡ Some r) × (id ≡ r.id)
 request_of o id e = some_part (λ (r : Request). r.id) o id e
 
-pub kept_declined : (b : Behaviour) (ss : List Seat) (w : World) (m : Model) (phase : Phase) (done : Option Completed) (known : Option ℕ) (id : ℕ) → w.modules ≡ map instance_of ss → IsKept b ss w m phase done known → option_map (λ (r : Request). r.id) (waited_for phase m (length ss)) ≡ Some id → IsUnknown b (waited_for phase m (length ss)) → IsKept b ss w m Declined done known
-kept_declined b ss w m Waiting last known id e kept some unknown =
+pub kept_declined : (b : Behaviour) (ss : List Seat) (w : World) (m : Model) (phase : Phase) (done : Option Completed) (known : Option ℕ) (interval : ℕ) (ps : List Position) (id : ℕ) → w.modules ≡ map instance_of ss → IsKept b ss w m phase done known interval ps → option_map (λ (r : Request). r.id) (waited_for phase m (length ss)) ≡ Some id → IsUnknown b (waited_for phase m (length ss)) → IsKept b ss w m Declined done known interval ps
+kept_declined b ss w m Waiting last known interval ps id e kept some unknown =
     let q = request_of (wanted_by m (length ss)) id some in
     record {
       kinds = kept.kinds;
@@ -284,20 +291,22 @@ kept_declined b ss w m Waiting last known id e kept some unknown =
       left = kept.left;
       undone = kept.undone;
       asked = kept.asked;
+      good = kept.good;
+      interval_is = kept.interval_is;
     }
-kept_declined b ss w m Idle last known id e kept some unknown = cc
-kept_declined b ss w m Declined last known id e kept some unknown = cc
+kept_declined b ss w m Idle last known interval ps id e kept some unknown = cc
+kept_declined b ss w m Declined last known interval ps id e kept some unknown = cc
 
 -- the box that is supplied is of a greater id than all that are there
-pub supply_above : (b : Behaviour) (ss : List Seat) (w : World) (m : Model) (phase : Phase) (done : Option Completed) (known : Option ℕ) (id : ℕ) → w.modules ≡ map instance_of ss → IsKept b ss w m phase done known → option_map (λ (r : Request). r.id) (waited_for phase m (length ss)) ≡ Some id → AreBelow id w.modules
-supply_above b ss w m Waiting last known id e kept some =
+pub supply_above : (b : Behaviour) (ss : List Seat) (w : World) (m : Model) (phase : Phase) (done : Option Completed) (known : Option ℕ) (interval : ℕ) (ps : List Position) (id : ℕ) → w.modules ≡ map instance_of ss → IsKept b ss w m phase done known interval ps → option_map (λ (r : Request). r.id) (waited_for phase m (length ss)) ≡ Some id → AreBelow id w.modules
+supply_above b ss w m Waiting last known interval ps id e kept some =
     let q = request_of (wanted_by m (length ss)) id some in
     subst (λ i. AreBelow i w.modules) (sym q.2) (filled_above b m w q.0 kept.live (waited b m w ss q.0 e kept.live q.1))
-supply_above b ss w m Idle last known id e kept some = cc
-supply_above b ss w m Declined last known id e kept some = cc
+supply_above b ss w m Idle last known interval ps id e kept some = cc
+supply_above b ss w m Declined last known interval ps id e kept some = cc
 
-pub kept_supplied : (b : Behaviour) (ss ts : List Seat) (w u : World) (m : Model) (phase : Phase) (done : Option Completed) (known : Option ℕ) (id : ℕ) (box : Module) → w.modules ≡ map instance_of ss → IsKept b ss w m phase done known → option_map (λ (r : Request). r.id) (waited_for phase m (length ss)) ≡ Some id → IsFor b (waited_for phase m (length ss)) box → AreOfKinds b ts → u ≡ placed (record { id = id; kind = box.kind }) box.state w → IsKept b ts u m phase done known
-kept_supplied b ss ts w u m Waiting last known id box e kept some for_it kinds now =
+pub kept_supplied : (b : Behaviour) (ss ts : List Seat) (w u : World) (m : Model) (phase : Phase) (done : Option Completed) (known : Option ℕ) (interval : ℕ) (ps : List Position) (id : ℕ) (box : Module) → w.modules ≡ map instance_of ss → IsKept b ss w m phase done known interval ps → option_map (λ (r : Request). r.id) (waited_for phase m (length ss)) ≡ Some id → IsFor b (waited_for phase m (length ss)) box → AreOfKinds b ts → u ≡ placed (record { id = id; kind = box.kind }) box.state w → IsKept b ts u m phase done known interval ps
+kept_supplied b ss ts w u m Waiting last known interval ps id box e kept some for_it kinds now =
     let q = request_of (wanted_by m (length ss)) id some in
     let placed_is : u ≡ placed (record { id = q.0.id; kind = box.kind }) box.state w = now ∙ ap (λ i. placed (record { id = i; kind = box.kind }) box.state w) q.2 in
     record {
@@ -306,6 +315,26 @@ kept_supplied b ss ts w u m Waiting last known id box e kept some for_it kinds n
       left = subst (IsLeft b m u) (sym kept.undone.0) tt;
       undone = kept.undone;
       asked = known_same b m w u known (ap (λ (x : World). x.records) now) (ap (λ (x : World). x.questions) now) kept.asked;
+      good = subst (AreGood b m ts u) (sym kept.undone.2) tt;
+      interval_is = kept.interval_is;
     }
-kept_supplied b ss ts w u m Idle last known id box e kept some for_it kinds now = cc
-kept_supplied b ss ts w u m Declined last known id box e kept some for_it kinds now = cc
+kept_supplied b ss ts w u m Idle last known interval ps id box e kept some for_it kinds now = cc
+kept_supplied b ss ts w u m Declined last known interval ps id box e kept some for_it kinds now = cc
+
+none_counted : (ps : List Position) → counts_of ps ≡ [] → ps ≡ []
+none_counted [] e = refl
+none_counted (p ∷ ps) e = cc
+
+-- a run waits
+pub kept_waiting : (b : Behaviour) (ss : List Seat) (w : World) (m : Model) (limit kept : ℕ) (phase : Phase) (old : List ℕ) (interval : ℕ) (ps : List Position) (request : Request) → AreOfKinds b ss → IsWaiting b m limit kept phase old w (counts_of ps) request → 1 ≤ interval → IsKept b ss w m Waiting None None interval ps
+kept_waiting b ss w m limit kept phase old interval ps request kinds h i =
+    let none : ps ≡ [] = none_counted ps h.positions in
+    record {
+      kinds = kinds;
+      live = h.filled;
+      left = tt;
+      undone = (refl, refl, none);
+      asked = tt;
+      good = subst (AreGood b m ss w) (sym none) tt;
+      interval_is = i;
+    }

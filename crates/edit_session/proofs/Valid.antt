@@ -9,16 +9,20 @@ use Rattle.model_answers.specs.declared.record.Record.{Record}
 use Rattle.run_semantics.specs.declared.outcome.Outcome.{Outcome}
 use Rattle.run_semantics.specs.Agreement.{AgreesUpTo, IsAgreement}
 use Rattle.run_semantics.specs.Ending.{ending}
-use Rattle.run_semantics.specs.Run.{Stage, Running, Over, IsReached, after, run_to, stopped, world_at}
+use Rattle.run_semantics.specs.Run.{Stage, Running, Over, Ran, IsReached, after, run_to, stopped, world_at}
 use Rattle.run_semantics.specs.World.{World}
 use Rattle.run_semantics.proofs.Agreeing.{shorter_agrees, longer_agrees}
 use Rattle.run_semantics.proofs.Closing.{ending_closed}
 use Rattle.run_semantics.proofs.Reached.{stands, reached_before}
 use Rattle.run_semantics.proofs.Reuse.{reached_same_up_to}
 use Rattle.result_files.specs.declared.files.ResultFiles.{ResultFiles}
+use Rattle.kernel.specs.declared.position.Position.{Position}
 use Rattle.kernel.specs.Seats.{Seat, AreOfKinds}
+use Rattle.edit_session.specs.Kept.{AreGood}
 use Rattle.edit_session.specs.declared.running.Phase.TheVariants.{Idle}
-use Rattle.edit_session.specs.Editing.{files_in, whole_run, IsKept}
+use Rattle.edit_session.specs.declared.session.Change.{Change}
+use Rattle.edit_session.specs.Positions.{up_to_event}
+use Rattle.edit_session.specs.Editing.{Editing, edited_by, files_in, whole_run, IsKept}
 use Rattle.edit_session.specs.Reuse.{IsValidTo, IsAskedUpTo, IsKnown}
 
 -- ---- a run that is done
@@ -27,8 +31,12 @@ stopped_world : (s : Stage) → (stopped s).world ≡ world_at s
 stopped_world (Running w) = refl
 stopped_world (Over w outcome) = refl
 
+-- a run has as many events with its end as without
+pub whole_count : (b : Behaviour) (m : Model) (limit : ℕ) (w : World) (outcome : Outcome) → whole_run b m limit w outcome → w.count ≡ (run_to b m limit).world.count
+whole_count b m limit w outcome whole = ap (λ (r : Ran). r.world.count) (sym whole) ∙ (ending_closed b m (run_to b m limit)).count
+
 -- each model agrees with itself
-agrees_itself : (v : ℕ) (m : Model) (rs : List Record) (qs : List Asked) → AgreesUpTo v m m rs qs
+pub agrees_itself : (v : ℕ) (m : Model) (rs : List Record) (qs : List Asked) → AgreesUpTo v m m rs qs
 agrees_itself v m rs [] = tt
 agrees_itself v m rs (q ∷ qs) = (λ l. refl, agrees_itself v m rs qs)
 
@@ -79,7 +87,7 @@ valid_found b law m n w v found h a =
     subst (λ (s : Stage). IsAgreement m n (world_at s).records v (world_at s).questions found) one own
 
 -- one agreement and then another
-agrees_then : (u v : ℕ) (o m n : Model) (rs : List Record) (qs : List Asked) → u ≤ v → AgreesUpTo v o m rs qs → AgreesUpTo u m n rs qs → AgreesUpTo u o n rs qs
+pub agrees_then : (u v : ℕ) (o m n : Model) (rs : List Record) (qs : List Asked) → u ≤ v → AgreesUpTo v o m rs qs → AgreesUpTo u m n rs qs → AgreesUpTo u o n rs qs
 agrees_then u v o m n rs [] l f g = tt
 agrees_then u v o m n rs (q ∷ qs) l f g = (λ (e : q.event ≤ u). f.0 (omega (arith, e, l)) ∙ g.0 e, agrees_then u v o m n rs qs l f.1 g.1)
 
@@ -122,12 +130,19 @@ known_of b m n w known last (Err error) e h a = tt
 known_of b m n w known last (Ok found) e h a = known_edited b m n w last found (subst (IsKnown b m w) e h) a
 
 -- what is kept of a run that is done
-pub kept_done : (b : Behaviour) (ss : List Seat) (w : World) (m : Model) (limit : ℕ) (outcome : Outcome) (files : ResultFiles) (known : ℕ) → AreOfKinds b ss → whole_run b m limit w outcome
-    → files ≡ files_in m w → known ≡ w.count → IsKept b ss w m Idle (Some (record { limit = limit; outcome = outcome; files = files })) (Some known)
-kept_done b ss w m limit outcome files known kinds whole e n = record {
+pub kept_done : (b : Behaviour) (ss : List Seat) (w : World) (m : Model) (limit : ℕ) (outcome : Outcome) (files : ResultFiles) (known interval : ℕ) (ps : List Position) → AreOfKinds b ss → whole_run b m limit w outcome
+    → files ≡ files_in m w → known ≡ w.count → AreGood b m ss w ps → 1 ≤ interval → IsKept b ss w m Idle (Some (record { limit = limit; outcome = outcome; files = files })) (Some known) interval ps
+kept_done b ss w m limit outcome files known interval ps kinds whole e n good i = record {
   kinds = kinds;
   live = tt;
   left = (whole, e);
   undone = tt;
   asked = subst (IsAskedUpTo b m w) (sym n) (known_done b m limit w outcome whole);
+  good = good;
+  interval_is = i;
 }
+
+-- what an accepted edit leaves
+pub edited_same : (before : Editing) (change : Change) (held interval : ℕ) (positions : List ℕ) → held ≡ before.held → interval ≡ before.interval → positions ≡ up_to_event change.edited.valid_to before.positions
+    → record { model = change.model; done = None; phase = Idle; held = held; known = change.edited.valid_to; interval = interval; positions = positions } ≡ edited_by before change
+edited_same before change held interval positions h i p = rw (h, i, p) refl

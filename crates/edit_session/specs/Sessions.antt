@@ -4,6 +4,8 @@ use Rattle.module_api.specs.Behaviour.{Behaviour}
 use Rattle.model_edits.specs.declared.edit.Edit.{Edit}
 use Rattle.kernel.specs.Kernels.{Members, seats_in, world_in}
 use Rattle.edit_session.specs.Editing.{Completed, Editing, IsChangeBy, IsKept}
+use Rattle.checkpoints.specs.Stored.{counts_of}
+use Rattle.edit_session.specs.Kept.{kept_up_to, AreGood}
 use Rattle.edit_session.specs.Reuse.{IsKnown}
 use Rattle.edit_session.specs.declared.session.Change.{Change}
 use Rattle.edit_session.specs.declared.session.Done.{Done}
@@ -21,19 +23,23 @@ module _ {C X : Type 0} {Y : X → Type 0} where
     phase = s.phase;
     held = length (seats_in members s.runner.kernel);
     known = s.known;
+    interval = s.runner.interval;
+    positions = counts_of s.runner.positions;
   }
 
   -- what it keeps
   abbrev pub IsSound : Behaviour → Members X Y → Session C X Y → Type 0
   IsSound b members s =
-      IsKept b (seats_in members s.runner.kernel) (world_in members s.runner.kernel) s.model s.phase (option_map completed_of s.done) s.known
+      IsKept b (seats_in members s.runner.kernel) (world_in members s.runner.kernel) s.model s.phase (option_map completed_of s.done) s.known s.runner.interval s.runner.positions
 
-  -- It is sound, and of the same model as before.
+  -- It is sound, and of the same model and interval as before.
   pub record KeepsModel (b : Behaviour) (members : Members X Y) (before after : Session C X Y) : Type 0 where
     pub sound : IsSound b members after
     pub model : (editing_of members after).model ≡ (editing_of members before).model
+    pub interval : (editing_of members after).interval ≡ (editing_of members before).interval
 
-  -- The change is what the edit makes of this session, and its questions stay known up to where the change says.
+  -- The change is what the edit makes of this session. Up to where it says the questions stay known and the positions good.
   pub record IsChangeOf (b : Behaviour) (members : Members X Y) (s : Session C X Y) (e : Edit) (change : Change) : Type 0 where
     pub by : IsChangeBy b (editing_of members s) e change
     pub known : IsKnown b change.model (world_in members s.runner.kernel) change.edited.valid_to
+    pub good : AreGood b change.model (seats_in members s.runner.kernel) (world_in members s.runner.kernel) (kept_up_to change.edited.valid_to s.runner.positions)

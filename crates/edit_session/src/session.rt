@@ -1,6 +1,6 @@
 //! A session.
 
-ghost use Rattle.std.specs.Prelude.{◌≡◌, ◌↔◌, ◌+◌, Some, None, IsSome, OnOk, OnErr, IfOk, IfErr, option_map, option_copied};
+ghost use Rattle.std.specs.Prelude.{◌≡◌, ◌↔◌, ◌+◌, ◌≤◌, Some, None, IsSome, OnOk, OnErr, IfOk, IfErr, option_map, option_copied};
 ghost use Rattle.sim_values.specs.Memory.{no_memory};
 ghost use Rattle.model_answers.specs.declared.model.Model.{Model};
 ghost use Rattle.result_files.specs.ScalarText.{scalar_text};
@@ -8,11 +8,14 @@ ghost use Rattle.result_files.specs.VectorText.{vector_text};
 ghost use Rattle.model_texts.specs.Models.{IsModelOf, IsRuledOut, Refuses};
 ghost use Rattle.model_edits.specs.Edited.{number_given, IsRuledOut as IsEditRuledOut, Refuses as RefusesEdit};
 ghost use Rattle.edit_session.specs.Files.{scalars_of_run, vectors_of_run, FileWritten, TextWritten};
-ghost use Rattle.edit_session.specs.Editing.{Completed, fresh_editing, last_used, wanted_of, IfDone, IfWant, IsAccepted, IsFor, IsFreshRun, IsIdle, IsUnknown, WaitsFor};
+ghost use Rattle.edit_session.specs.Editing.{Completed, edited_by, fresh_editing, last_used, wanted_of, IfDone, IfWant, IsAccepted, IsFor, IsFreshRun, IsGivenUp, IsUnknown, WaitsFor};
+ghost use Rattle.edit_session.specs.Kept.{kept_up_to, AreGood, HasGood};
+ghost use Rattle.edit_session.specs.Positions.{events_behind, starts_within, HasStored};
 ghost use Rattle.kernel.specs.declared.request.Request.{Request};
 ghost use Rattle.edit_session.specs.Reuse.{IsKnown, IsValidTo};
 ghost use Rattle.edit_session.specs.Sessions.{editing_of, IsChangeOf, IsSound, KeepsModel};
-ghost use Rattle.kernel.specs.Kernels.{world_in};
+ghost use Rattle.kernel.specs.Kernels.{seats_in, world_in, HasKinds};
+ghost use Rattle.checkpoints.specs.Stored.{counts_of};
 ghost use Rattle.model_edits.specs.declared.edit.Edit.{Edit};
 
 use crate::running::{Advance, Phase, Runner};
@@ -125,33 +128,37 @@ pub struct Session<C: Catalogue> {
 }
 
 impl<C: Catalogue> Session<C> {
-    /// A session of the model that these texts make, or why they make none.
+    /// A session of the model that these texts make, or why they make none. A run leaves a position after each multiple of
+    /// `interval` events, to which a later one can go back.
     pub fn begin(
         alloc: Global,
         texts: &NedTexts,
         ini: &[u8],
         config: &[u8],
+        interval: u64,
     ) -> Result<Session<C>, BeginFault>
+        requires interval { 1 ≤ interval }
         ensures sound { IfOk result (λ session. IsSound C.behaviour SimpleModule-box session) }
         ensures editing { IfOk result (λ session. (model : Model)
             × IsModelOf texts.now ini.now config.now model
-            × (editing_of SimpleModule-box session ≡ fresh_editing model)) }
+            × (editing_of SimpleModule-box session ≡ fresh_editing model interval)) }
         ensures refused { IfErr result (λ fault. Refuses texts.now ini.now config.now fault) }
         // Where the texts make a model, there is a session of it, unless memory runs out.
         ensures complete { IfErr result (λ fault. IsRuledOut texts.now ini.now config.now fault) }
     {
         let model = model_of(alloc, texts, ini, config)?;
-        Ok(Session::of_model(alloc, model))
+        Ok(Session::of_model(alloc, model, interval))
     }
 
     /// A session of this model, which no call but an accepted edit changes.
-    pub fn of_model(alloc: Global, model: Model) -> Session<C>
+    pub fn of_model(alloc: Global, model: Model, interval: u64) -> Session<C>
+        requires { 1 ≤ interval }
         ensures sound { IsSound C.behaviour SimpleModule-box result }
-        ensures editing { editing_of SimpleModule-box result ≡ fresh_editing model }
+        ensures editing { editing_of SimpleModule-box result ≡ fresh_editing model interval }
     {
         Session {
             alloc,
-            runner: Runner::new(Kernel::new(alloc, Tree::new(alloc))),
+            runner: Runner::new(alloc, Kernel::new(alloc, Tree::new(alloc)), interval),
             model,
             phase: Phase::Idle,
             done: None,
@@ -220,6 +227,9 @@ impl<C: Catalogue> Session<C> {
             IfOk result (λ valid. IsValidTo C.behaviour before.model model.now before.known valid) }
         ensures known { IfOk result (λ valid.
             IsKnown C.behaviour model.now (world_in SimpleModule-box self.now.runner.kernel) valid) }
+        ensures good { let kernel = self.now.runner.kernel in
+            IfOk result (λ valid. AreGood C.behaviour model.now (seats_in SimpleModule-box kernel)
+            (world_in SimpleModule-box kernel) (kept_up_to valid self.now.runner.positions)) }
     {
         let Some(last) = self.known else {
             return Ok(None);
@@ -235,19 +245,20 @@ impl<C: Catalogue> Session<C> {
         )
     }
 
-    /// Makes a change, which takes no memory. A run that waits is given up, and no run is done until the next one.
+    /// Makes a change, which takes no memory. A run that waits is given up, and no run is done until the next one. Of the stored
+    /// positions those stay up to which the last run stays valid.
     pub fn accept(&mut self, change: Change) -> Edited
         requires sound { IsSound C.behaviour SimpleModule-box self.old }
         requires changed { (edit : Edit) × IsChangeOf C.behaviour SimpleModule-box self.old edit change }
         ensures sound { IsSound C.behaviour SimpleModule-box self.new }
         ensures told { result ≡ change.edited }
-        ensures left { let before = editing_of SimpleModule-box self.old in editing_of SimpleModule-box self.new
-            ≡ record { model = change.model; done = None; phase = Phase.Idle; held = before.held; known = change.edited.valid_to } }
+        ensures left { editing_of SimpleModule-box self.new ≡ edited_by (editing_of SimpleModule-box self.old) change }
     {
         let Change { model, edited } = change;
         self.model = model;
         self.give_up();
         self.known = edited.valid_to;
+        self.runner.keep_up_to(self.alloc, edited.valid_to);
         edited
     }
 
@@ -275,8 +286,8 @@ impl<C: Catalogue> Session<C> {
         self.model.config.as_bytes()
     }
 
-    /// Runs the model for at most so many events, from setup, or goes on with the run that waits; or
-    /// answers which module needs a box first, of those without one the one of the least id.
+    /// Runs the model for at most so many events, from the greatest stored position up to there, or from setup, or goes on with the run
+    /// that waits; or answers which module needs a box first, of those without one the one of the least id.
     pub fn run(&mut self, limit: u64) -> Result<Progress, NoMemory>
         requires sound { IsSound C.behaviour SimpleModule-box self.old }
         ensures kept { KeepsModel C.behaviour SimpleModule-box self.old self.new }
@@ -290,10 +301,38 @@ impl<C: Catalogue> Session<C> {
         // It waits exactly while a box is missing that isn't declined.
         ensures waits { let before = editing_of SimpleModule-box self.old in
             let after = editing_of SimpleModule-box self.new in
-            IfOk result (λ progress. IfWant progress (λ request. WaitsFor before request after)) }
+            IfOk result (λ progress. IfWant progress (λ request. WaitsFor before limit request after)) }
 
-        // After want of memory no run waits, and none is done.
-        ensures memory { OnErr result (IsIdle (editing_of SimpleModule-box self.new)) }
+        // After want of memory no run waits, and none is done; the positions that it stored stay.
+        ensures memory { let before = editing_of SimpleModule-box self.old in
+            OnErr result (IsGivenUp C.behaviour before limit (editing_of SimpleModule-box self.new)) }
+    {
+        match self.run_through(limit) {
+            Ok(progress) => Ok(progress),
+            Err(error) => {
+                self.give_up();
+                self.known = self.runner.cut_back();
+                Err(error)
+            }
+        }
+    }
+
+    /// The same, but that after want of memory nothing is said of what is known.
+    fn run_through(&mut self, limit: u64) -> Result<Progress, NoMemory>
+        requires sound { IsSound C.behaviour SimpleModule-box self.old }
+        ensures model { (self.new.model ≡ self.old.model) × (self.new.runner.interval ≡ self.old.runner.interval) }
+        ensures kinds { HasKinds C.behaviour SimpleModule-box self.new.runner.kernel }
+        ensures good { HasGood C.behaviour self.new.model SimpleModule-box self.new.runner }
+        ensures stored { HasStored C.behaviour self.old.model limit self.old.runner.interval
+            (counts_of self.old.runner.positions) (counts_of self.new.runner.positions) }
+        ensures sound { OnOk result (IsSound C.behaviour SimpleModule-box self.new) }
+        ensures done { let before = editing_of SimpleModule-box self.old in
+            let after = editing_of SimpleModule-box self.new in
+            IfOk result (λ progress. IfDone progress (λ report.
+            IsFreshRun C.behaviour before limit report after)) }
+        ensures waits { let before = editing_of SimpleModule-box self.old in
+            let after = editing_of SimpleModule-box self.new in
+            IfOk result (λ progress. IfWant progress (λ request. WaitsFor before limit request after)) }
     {
         let phase = self.phase;
         self.give_up();
@@ -302,9 +341,9 @@ impl<C: Catalogue> Session<C> {
                 self.phase = Phase::Waiting;
                 Ok(Progress::Want(request))
             }
-            Advance::Ends(outcome) => {
-                let executed = self.runner.kernel.count();
-                let report = report_of(self.alloc, &outcome, executed)?;
+            Advance::Ends(start, outcome) => {
+                let count = self.runner.kernel.count();
+                let report = report_of(self.alloc, &outcome, start, count)?;
                 let files = prepare(
                     self.alloc,
                     &self.model,
@@ -313,7 +352,7 @@ impl<C: Catalogue> Session<C> {
                     self.runner.kernel.scalars(),
                     self.runner.kernel.emissions(),
                 )?;
-                self.known = Some(executed);
+                self.known = Some(count);
                 self.done = Some(Done {
                     limit,
                     outcome,
@@ -417,6 +456,21 @@ impl<C: Catalogue> Session<C> {
         }
     }
 
+    /// The positions that are stored, by their counts of events, which rise.
+    pub fn positions(&self) -> &[u64]
+        ensures { result.now ≡ (editing_of SimpleModule-box self.now).positions }
+    {
+        self.runner.positions.counts()
+    }
+
+    /// The last event whose questions are known, where there is one: of a run that is done its last one, after an edit the one that it
+    /// told, after want of memory that of the last position.
+    pub fn known_to(&self) -> Option<u64>
+        ensures { result ≡ (editing_of SimpleModule-box self.now).known }
+    {
+        self.known
+    }
+
     /// How many boxes the session holds.
     pub fn held(&self) -> usize
         ensures { result ≡ (editing_of SimpleModule-box self.now).held }
@@ -485,14 +539,24 @@ fn write_done_vectors<O: Out>(
     }
 }
 
-/// What a run that is done tells.
-fn report_of(alloc: Global, outcome: &Outcome, executed: u64) -> Result<Report, NoMemory>
+/// What a run that is done tells, which began there and has so many events in all.
+fn report_of(
+    alloc: Global,
+    outcome: &Outcome,
+    start: Option<u64>,
+    count: u64,
+) -> Result<Report, NoMemory>
+    requires { starts_within start count }
     ensures { IfOk result (λ report. report
-        ≡ record { outcome = outcome.now; started_from = None; executed = executed }) }
+        ≡ record { outcome = outcome.now; started_from = start; executed = events_behind start count }) }
 {
+    let executed = match start {
+        Some(event) => count - event,
+        None => count,
+    };
     Ok(Report {
         outcome: outcome.copy(alloc)?,
-        started_from: None,
+        started_from: start,
         executed,
     })
 }

@@ -1,16 +1,19 @@
-use Rattle.std.proofs.Common.{refl}
+use Rattle.std.proofs.Common.{◌≤◌, sym, ◌∙◌, subst}
 use Rattle.kernel.specs.Kernels.{seats_in, world_in}
-use Rattle.edit_session.proofs.Valid.{kept_done}
+use Rattle.edit_session.proofs.Good.{kept_cut}
 use Rattle.edit_session.proofs.session.Session.run.Goals as goal
 
-pub returns-in_ok-files-in-Ends-clause-kept : goal.returns-in_ok-files-in-Ends-clause-kept
-returns-in_ok-files-in-Ends-clause-kept g c =
-    let kernel = c.carry_on.new.self.kernel in
-    rw c.give_up.ensures (record {
-      sound = kept_done g.C.Catalogue.behaviour (seats_in (λ b. (g.dyn-1.0.entry b.vtable).1) kernel) (world_in (λ b. (g.dyn-1.0.entry b.vtable).1) kernel) c.args.self.now.model c.args.limit
-          c.in-Ends.outcome c.in_ok-files-in-Ends.files c.count-executed.result c.carry_on.ensures.kinds
-          (rw (c.in-Ends.is, c.give_up.ensures) at c.in_ok-request.ensures.advances).0
-          (rw (c.give_up.ensures, c.records.ensures.records, c.finished.ensures, c.scalars.ensures, c.emissions.ensures) at c.in_ok-files-in-Ends.ensures)
-          c.count-executed.ensures;
-      model = refl;
-    })
+pub returns-in-Err-clause-kept : goal.returns-in-Err-clause-kept
+returns-in-Err-clause-kept g c =
+    let old = c.run_through.new.self.runner in
+    let new = c.cut_back-self.new.self in
+    let interval = rw c.give_up.ensures at c.cut_back-self.ensures.interval in
+    record {
+      sound = rw c.give_up.ensures (kept_cut g.C.Catalogue.behaviour c.run_through.new.self.model (seats_in (λ b. (g.dyn-1.0.entry b.vtable).1) old.kernel) (seats_in (λ b. (g.dyn-1.0.entry b.vtable).1) new.kernel) (world_in (λ b. (g.dyn-1.0.entry b.vtable).1) old.kernel) (world_in (λ b. (g.dyn-1.0.entry b.vtable).1) new.kernel)
+          old.interval new.interval old.positions new.positions c.cut_back-self.result
+          (rw c.give_up.ensures at c.cut_back-self.ensures.seats) interval (rw c.give_up.ensures at c.cut_back-self.ensures.positions) (rw c.give_up.ensures at c.cut_back-self.ensures.last)
+          c.run_through.ensures.kinds c.run_through.ensures.good (rw c.give_up.ensures at c.cut_back-self.ensures.rising) (rw c.give_up.ensures at c.cut_back-self.ensures.world)
+          (subst (λ i. 1 ≤ i) (sym c.run_through.ensures.model.1) c.requires.sound.interval_is));
+      model = rw c.give_up.ensures c.run_through.ensures.model.0;
+      interval = interval ∙ c.run_through.ensures.model.1;
+    }

@@ -1,4 +1,5 @@
-use Rattle.kernel.specs.Kernels.{world_in}
+use Rattle.kernel.specs.Kernels.{seats_in, world_in}
+use Rattle.edit_session.proofs.Good.{good_of}
 use Rattle.edit_session.proofs.Valid.{valid_of, known_of}
 use Rattle.edit_session.proofs.session.Session.valid_to.Goals as goal
 
@@ -11,3 +12,9 @@ pub returns-clause-known : goal.returns-clause-known
 returns-clause-known g c =
     known_of g.C.Catalogue.behaviour c.args.self.now.model c.args.model.now (world_in (λ b. (g.dyn-1.0.entry b.vtable).1) c.args.self.now.runner.kernel)
     c.args.self.now.known c.in-Some.last c.agreement.result c.in-Some.is c.requires.sound.asked (rw (c.records.ensures.records, c.questions.ensures) at c.agreement.ensures)
+
+pub returns-clause-good : goal.returns-clause-good
+returns-clause-good g c =
+    let kernel = c.args.self.now.runner.kernel in
+    good_of g.C.Catalogue.behaviour g.C.Catalogue.lawful c.args.self.now.model c.args.model.now (seats_in (λ b. (g.dyn-1.0.entry b.vtable).1) kernel) (world_in (λ b. (g.dyn-1.0.entry b.vtable).1) kernel) c.args.self.now.runner.positions
+    c.args.self.now.known c.in-Some.last c.agreement.result c.in-Some.is c.requires.sound.asked c.requires.sound.good (rw (c.records.ensures.records, c.questions.ensures) at c.agreement.ensures)
