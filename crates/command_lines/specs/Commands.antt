@@ -48,11 +48,12 @@ edit_of line =
 abbrev pub limit_of : List ℕ → Option ℕ
 limit_of line = option_and_then number_of (behind (codes "run ") line)
 
--- what is neither a run nor an edit: `write`, `held`, or nothing
+-- what is neither a run nor an edit: `write`, `held`, `positions`, or nothing
 abbrev pub plain_command : List ℕ → Command
 plain_command line =
     if bytes_eq line (codes "write") then command.Write
     else if bytes_eq line (codes "held") then command.Held
+    else if bytes_eq line (codes "positions") then command.Positions
     else command.Unknown
 
 abbrev pub edit_or_plain : List ℕ → Option Edit → Command
@@ -71,6 +72,7 @@ command_of line = if nat_lt 65536 (length line) then command.TooLarge else run_o
 abbrev pub IsEdit : Command → Type 0
 IsEdit (command.Edit e) = Unit {0}
 IsEdit (command.Run limit) = ⊥
+IsEdit command.Positions = ⊥
 IsEdit command.Held = ⊥
 IsEdit command.Write = ⊥
 IsEdit command.Unknown = ⊥

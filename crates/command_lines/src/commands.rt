@@ -23,6 +23,8 @@ pub enum Command {
     /// `ini insert L TEXT`, `ini replace L TEXT`, `ini remove L`, `config NAME`,
     /// `inject PATH TIME PRIORITY KIND BITS HEX`, `withdraw K`: an edit of the model.
     Edit(Edit),
+    /// `positions`: say after which events positions are stored.
+    Positions,
     /// `held`: say how many boxes there are.
     Held,
     /// `write`: write the files of the last run.
@@ -137,6 +139,8 @@ fn plain_command(line: &[u8]) -> Command
         Command::Write
     } else if line == b"held".as_slice() {
         Command::Held
+    } else if line == b"positions".as_slice() {
+        Command::Positions
     } else {
         Command::Unknown
     }
