@@ -1,5 +1,5 @@
 -- The texts of answers.
-use Rattle.std.specs.Prelude.{ℕ, List, [], ◌++◌, Option, Some, None, codes}
+use Rattle.std.specs.Prelude.{ℕ, List, [], ◌∷◌, ◌++◌, Option, Some, None, codes}
 use Rattle.std.specs.Fmt.{decimal}
 use Rattle.model_edits.specs.declared.edit.Refusal.{Refusal}
 use Rattle.model_edits.specs.declared.edit.Refusal.TheVariants as edit
@@ -93,6 +93,18 @@ edited_text valid_to injection = codes "edited valid " ++ (valid_text valid_to +
 -- THE ANSWER TO `held`: how many boxes there are
 abbrev pub held_text : ℕ → List ℕ
 held_text held = codes "held " ++ decimal held
+
+-- THE ANSWER TO `positions`: after which events a position is stored, or that there is none
+abbrev pub numbers_text : List ℕ → List ℕ
+numbers_text [] = []
+numbers_text (n ∷ ns) = codes " " ++ (decimal n ++ numbers_text ns)
+
+abbrev pub counts_text : List ℕ → List ℕ
+counts_text [] = codes " none"
+counts_text (n ∷ ns) = numbers_text (n ∷ ns)
+
+abbrev pub positions_text : List ℕ → List ℕ
+positions_text counts = codes "positions" ++ counts_text counts
 
 -- THE ANSWER of an edit that is refused: its name, and the line where it is known. Want of memory has no text: it is handed on.
 abbrev pub edit_refusal_text : Refusal → Option (List ℕ)

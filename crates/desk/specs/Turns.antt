@@ -9,11 +9,12 @@ use Rattle.command_lines.specs.Commands.{command_of}
 use Rattle.command_lines.specs.declared.commands.Command.{Command}
 use Rattle.command_lines.specs.declared.commands.Command.TheVariants as command
 use Rattle.kernel.specs.Kernels.{Members}
-use Rattle.edit_session.specs.Editing.{Editing, boxes_left, completed, fresh_run, WaitsFor}
+use Rattle.edit_session.specs.Editing.{Editing, boxes_left, completed, fresh_run, IsGivenUp, WaitsFor}
+use Rattle.edit_session.specs.Positions.{events_behind, positions_after, start_of, up_to_event}
 use Rattle.edit_session.specs.declared.running.Phase.TheVariants.{Idle}
 use Rattle.edit_session.specs.Reuse.{IsValidTo}
 use Rattle.edit_session.specs.Sessions.{editing_of, IsSound, KeepsModel}
-use Rattle.desk.specs.Answers.{done_text, edit_refusal_text, edited_text, held_text}
+use Rattle.desk.specs.Answers.{done_text, edit_refusal_text, edited_text, held_text, positions_text}
 use Rattle.desk.specs.declared.desk.Desk.{Desk}
 use Rattle.desk.specs.declared.desk.DeskTurn.{DeskTurn}
 use Rattle.desk.specs.declared.desk.DeskTurn.TheVariants as turn
@@ -31,35 +32,42 @@ module _ {C X : Type 0} {Y : X → Type 0} where
   abbrev pub IsSettled : Behaviour → Members X Y → Desk C X Y → Type 0
   IsSettled b members d = IsSound b members d.session
 
-  -- it keeps that, and its model is the one before
+  -- it keeps that, and its model and its interval are those before
   abbrev pub StaysSettled : Behaviour → Members X Y → Desk C X Y → Desk C X Y → Type 0
   StaysSettled b members before after = KeepsModel b members before.session after.session
 
 -- ---- runs
 
--- THE ANSWER TO `run N`: that of a fresh run of the model
-abbrev pub run_answer : Behaviour → Model → ℕ → List ℕ
-run_answer b m limit =
+-- the answer of a fresh run of the model that begins there: how it ends, and how many events are executed behind that
+abbrev pub answer_from : Behaviour → Model → ℕ → Option ℕ → List ℕ
+answer_from b m limit start =
     let ran = fresh_run b m limit in
-    done_text ran.outcome None ran.world.count
+    done_text ran.outcome start (events_behind start ran.world.count)
 
--- A run to that limit is done, and the text is its answer.
-pub record HasRun (b : Behaviour) (e : Editing) (limit : ℕ) (text : List ℕ) : Type 0 where
-  pub answer : text ≡ run_answer b e.model limit
-  pub done : e.done ≡ Some (completed b e.model limit)
-  pub held : e.held ≡ boxes_left b e.model limit
-  pub known : e.known ≡ Some (fresh_run b e.model limit).world.count
+-- THE ANSWER TO `run N` where these positions are stored: that of a fresh run of the model, which begins at the greatest of them up to N
+abbrev pub run_answer : Behaviour → Model → ℕ → List ℕ → List ℕ
+run_answer b m limit old = answer_from b m limit (start_of limit old)
+
+-- A run to that limit is done: what is kept of it, and what it leaves.
+pub record IsDone (b : Behaviour) (before : Editing) (limit : ℕ) (after : Editing) : Type 0 where
+  pub done : after.done ≡ Some (completed b before.model limit)
+  pub held : after.held ≡ boxes_left b before.model limit
+  pub known : after.known ≡ Some (fresh_run b before.model limit).world.count
+  pub positions : after.positions ≡ positions_after b before.model limit before.interval before.positions
+
+-- The same, and the text is its answer.
+pub record HasRun (b : Behaviour) (before : Editing) (limit : ℕ) (text : List ℕ) (after : Editing) : Type 0 where
+  pub answer : text ≡ run_answer b before.model limit before.positions
+  pub done : IsDone b before limit after
 
 -- WHAT A RUN COMES TO: it is done, and its answer is that of a fresh run; or it waits for a box
 abbrev pub IsRunTurn : Behaviour → Editing → ℕ → DeskTurn → Editing → Type 0
-IsRunTurn b before limit (turn.Text text) after = HasRun b after limit text
-IsRunTurn b before limit (turn.Want request) after = WaitsFor before request after
+IsRunTurn b before limit (turn.Text text) after = HasRun b before limit text after
+IsRunTurn b before limit (turn.Want request) after = WaitsFor before limit request after
 
--- What want of memory leaves behind a run to that limit: no run is done, or this one is.
-abbrev pub MayBeDone : Behaviour → Editing → ℕ → Type 0
-MayBeDone b e limit =
-    ((e.done ≡ None) × (e.known ≡ None))
-    ⊎ ((e.done ≡ Some (completed b e.model limit)) × (e.known ≡ Some (fresh_run b e.model limit).world.count))
+-- What want of memory leaves behind a run to that limit: no run is done, and the positions are those that it stored; or this one is done.
+abbrev pub MayBeDone : Behaviour → Editing → ℕ → Editing → Type 0
+MayBeDone b before limit after = IsGivenUp b before limit after ⊎ IsDone b before limit after
 
 -- ---- edits
 
@@ -78,11 +86,11 @@ pub record IsRefused (m : Model) (e : Edit) (text : List ℕ) : Type 0 where
   pub due : Refuses m e why
   pub none : (new : Model) → IsEditOf m e new → ⊥
 
--- The edit is made, and no run waits or is done; or it is refused, and nothing changed.
+-- The edit is made: no run waits or is done, and the positions stay up to which the last run stays valid. Or it is refused, and nothing changed.
 abbrev pub AnswersEdit : Behaviour → Editing → Edit → List ℕ → Editing → Type 0
 AnswersEdit b before e text after =
     ((valid : Option ℕ) × IsMade b before.model before.known e text after.model valid
-    × (after ≡ record { model = after.model; done = None; phase = Idle; held = before.held; known = valid }))
+    × (after ≡ record { model = after.model; done = None; phase = Idle; held = before.held; known = valid; interval = before.interval; positions = up_to_event valid before.positions }))
     ⊎ (IsRefused before.model e text × (after ≡ before))
 
 -- ---- lines
@@ -94,8 +102,9 @@ IsTextOf (turn.Want request) P = ⊥
 
 -- WHAT A COMMAND IS ANSWERED, and what it leaves
 abbrev pub AnswersCommand : Behaviour → Editing → Command → DeskTurn → Editing → Type 0
-AnswersCommand b before (command.Run limit) answer after = IsRunTurn b before limit answer after × (after.model ≡ before.model)
+AnswersCommand b before (command.Run limit) answer after = IsRunTurn b before limit answer after × (after.model ≡ before.model) × (after.interval ≡ before.interval)
 AnswersCommand b before (command.Edit e) answer after = IsTextOf answer (λ text. AnswersEdit b before e text after)
+AnswersCommand b before command.Positions answer after = (answer ≡ turn.Text (positions_text before.positions)) × (after ≡ before)
 AnswersCommand b before command.Held answer after = (answer ≡ turn.Text (held_text before.held)) × (after ≡ before)
 AnswersCommand b before command.Write answer after = (answer ≡ turn.Text (codes "refused Command")) × (after ≡ before)
 AnswersCommand b before command.Unknown answer after = (answer ≡ turn.Text (codes "refused Command")) × (after ≡ before)
@@ -104,10 +113,10 @@ AnswersCommand b before command.TooLarge answer after = (answer ≡ turn.Text (c
 abbrev pub AnswersLine : Behaviour → Editing → List ℕ → DeskTurn → Editing → Type 0
 AnswersLine b before line answer after = AnswersCommand b before (command_of line) answer after
 
--- WHAT WANT OF MEMORY LEAVES behind a command: of a run the model, and of all else everything as it was
-abbrev pub Forgoes : Command → Editing → Editing → Type 0
-Forgoes (command.Run limit) before after = after.model ≡ before.model
-Forgoes _ before after = after ≡ before
+-- WHAT WANT OF MEMORY LEAVES behind a command: of a run the model, the interval and what it stored; and of all else everything as it was
+abbrev pub Forgoes : Behaviour → Command → Editing → Editing → Type 0
+Forgoes b (command.Run limit) before after = MayBeDone b before limit after × (after.model ≡ before.model) × (after.interval ≡ before.interval)
+Forgoes b _ before after = after ≡ before
 
 -- the limit of the last run, behind a command
 abbrev pub limit_after : Command → ℕ → ℕ

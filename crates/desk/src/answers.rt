@@ -2,7 +2,7 @@
 
 ghost use Rattle.std.specs.Prelude.{◌≡◌, ◌++◌, Some, IfOk, OnOk, codes};
 ghost use Rattle.std.specs.Fmt.{decimal};
-ghost use Rattle.desk.specs.Answers.{done_text, edit_refusal_text, edited_text, held_text, injection_text, valid_text};
+ghost use Rattle.desk.specs.Answers.{counts_text, done_text, edit_refusal_text, edited_text, held_text, injection_text, numbers_text, positions_text, valid_text};
 ghost use Rattle.desk.specs.Answers.{fault_detail, fault_name, outcome_text, refusal_name, refusal_place, refusal_text, start_text};
 
 use edit_session::session::Report;
@@ -200,6 +200,37 @@ pub fn held_text(alloc: Global, held: usize) -> Result<Text, AllocError>
     let mut text = Vec::new(alloc);
     push(&mut text, b"held ")?;
     push_number(&mut text, held as u64)?;
+    Ok(Text::from_vec(text))
+}
+
+/// Adds numbers, each behind a space.
+fn push_numbers(text: &mut Vec<u8>, numbers: &[u64]) -> Result<(), AllocError>
+    ensures { OnOk result (text.new.items ≡ text.old.items ++ numbers_text numbers.now) }
+{
+    for number in numbers {
+        push(text, b" ")?;
+        push_number(text, *number)?;
+    }
+    Ok(())
+}
+
+/// Adds after which events a position is stored.
+fn push_counts(text: &mut Vec<u8>, counts: &[u64]) -> Result<(), AllocError>
+    ensures { OnOk result (text.new.items ≡ text.old.items ++ counts_text counts.now) }
+{
+    match counts {
+        [] => push(text, b" none"),
+        _ => push_numbers(text, counts),
+    }
+}
+
+/// The answer to `positions`.
+pub fn positions_text(alloc: Global, counts: &[u64]) -> Result<Text, AllocError>
+    ensures { IfOk result (λ text. text ≡ positions_text counts.now) }
+{
+    let mut text = Vec::new(alloc);
+    push(&mut text, b"positions")?;
+    push_counts(&mut text, counts)?;
     Ok(Text::from_vec(text))
 }
 

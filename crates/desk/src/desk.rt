@@ -7,10 +7,12 @@ ghost use Rattle.edit_session.specs.Sessions.{editing_of, IsSound};
 ghost use Rattle.edit_session.specs.declared.running.Phase.{Phase};
 ghost use Rattle.edit_session.specs.declared.session.SupplyReason.{SupplyReason};
 ghost use Rattle.command_lines.specs.Commands.{command_of};
-ghost use Rattle.desk.specs.Answers.{held_text};
+ghost use Rattle.desk.specs.Answers.{held_text, positions_text};
 ghost use Rattle.desk.specs.Turns.{editing_at, limit_at, limit_after, AnswersEdit, AnswersLine, Forgoes, IsRunTurn, IsSettled, MayBeDone, StaysSettled};
 
-use crate::answers::{done_text, edit_refusal_text, edited_text, held_text, refused_as};
+use crate::answers::{
+    done_text, edit_refusal_text, edited_text, held_text, positions_text, refused_as,
+};
 use command_lines::commands::{Command, command_of};
 use edit_session::session::{FileFault, NotWanted, Progress, Session, SupplyFault};
 use kernel::request::Request;
@@ -59,7 +61,7 @@ impl<C: Catalogue> Desk<C> {
     }
 
     /// Answers a command line. Where memory runs out the line has no answer: the model is what it was, and a line that asks for no
-    /// run changed nothing.
+    /// run changed nothing; one that asks for a run left what that left.
     pub fn line(&mut self, line: &[u8]) -> Result<DeskTurn, NoMemory>
         requires sound { IsSettled C.behaviour SimpleModule-box self.old }
         ensures sound { IsSettled C.behaviour SimpleModule-box self.new }
@@ -69,11 +71,12 @@ impl<C: Catalogue> Desk<C> {
         ensures limit { limit_at self.new ≡ limit_after (command_of line.now) (limit_at self.old) }
         ensures memory { let before = editing_at SimpleModule-box self.old in
             let after = editing_at SimpleModule-box self.new in
-            OnErr result (Forgoes (command_of line.now) before after) }
+            OnErr result (Forgoes C.behaviour (command_of line.now) before after) }
     {
         match command_of(self.alloc, line)? {
             Command::Run(limit) => self.run(limit),
             Command::Edit(edit) => Ok(DeskTurn::Text(self.edit(edit)?)),
+            Command::Positions => Ok(DeskTurn::Text(self.positions()?)),
             Command::Held => Ok(DeskTurn::Text(self.held()?)),
             Command::Write | Command::Unknown => Ok(DeskTurn::Text(refused_as(
                 self.alloc, b"Command",
@@ -104,7 +107,8 @@ impl<C: Catalogue> Desk<C> {
         }
     }
 
-    /// Runs the model for at most so many events, or goes on with the run that waits.
+    /// Runs the model for at most so many events, from the greatest stored position up to there or from setup, or goes on with the
+    /// run that waits. Where memory runs out there is no answer: no run is done, or this one is.
     pub fn run(&mut self, limit: u64) -> Result<DeskTurn, NoMemory>
         requires sound { IsSettled C.behaviour SimpleModule-box self.old }
         ensures kept { StaysSettled C.behaviour SimpleModule-box self.old self.new }
@@ -112,8 +116,9 @@ impl<C: Catalogue> Desk<C> {
         ensures ran { let before = editing_at SimpleModule-box self.old in
             let after = editing_at SimpleModule-box self.new in
             IfOk result (λ turn. IsRunTurn C.behaviour before limit turn after) }
-        ensures memory { let after = editing_at SimpleModule-box self.new in
-            OnErr result (MayBeDone C.behaviour after limit) }
+        ensures memory { let before = editing_at SimpleModule-box self.old in
+            let after = editing_at SimpleModule-box self.new in
+            OnErr result (MayBeDone C.behaviour before limit after) }
     {
         self.limit = limit;
         match self.session.run(limit)? {
@@ -167,6 +172,14 @@ impl<C: Catalogue> Desk<C> {
         ensures limit { limit_at self.new ≡ limit_at self.old }
     {
         self.session.decline()
+    }
+
+    /// Answers after which events a position is stored.
+    pub fn positions(&self) -> Result<Text, NoMemory>
+        ensures { let editing = editing_at SimpleModule-box self.now in
+            IfOk result (λ text. text ≡ positions_text editing.positions) }
+    {
+        Ok(positions_text(self.alloc, self.session.positions())?)
     }
 
     /// Answers how many boxes there are.
