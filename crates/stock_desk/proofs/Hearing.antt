@@ -4,21 +4,23 @@ use Rattle.module_api.specs.Behaviour.{Behaviour}
 use Rattle.model_answers.specs.declared.model.Model.{Model}
 use Rattle.run_semantics.specs.declared.outcome.Outcome.{Outcome}
 use Rattle.edit_session.specs.Editing.{Completed, Editing, boxes_left, completed}
+use Rattle.edit_session.specs.Positions.{last_count, up_to_event, HasStored}
 use Rattle.edit_session.specs.Files.{scalars_of_run, vectors_of_run}
-use Rattle.desk.specs.Answers.{held_text}
-use Rattle.desk.specs.Turns.{run_answer, AnswersEdit, HasRun, IsMade, IsRefused, MayBeDone}
+use Rattle.desk.specs.Answers.{held_text, positions_text}
+use Rattle.desk.specs.Turns.{AnswersEdit, HasRun, IsDone, IsMade, IsRefused, MayBeDone}
 use Rattle.model_edits.specs.declared.edit.Edit.{Edit}
 use Rattle.command_lines.specs.Commands.{IsEdit}
 use Rattle.command_lines.specs.declared.commands.Command.{Command}
 use Rattle.command_lines.specs.declared.commands.Command.TheVariants as command
-use Rattle.stock_desk.specs.Served.{Machine, AreHeard, Hears, HearsFiles, command_asked, events_of}
+use Rattle.stock_desk.specs.Served.{Machine, AreHeard, Hears, HearsFiles, behind_run, command_asked, events_of}
 use Rattle.transcripts.specs.Heard.{Answer, Files, Heard}
 use Rattle.transcripts.specs.declared.asked.Asked.{Asked}
-use Rattle.stock_desk.specs.Serving.{Seen, AreFilled, ComesTo, HearsAnswer, HearsNext, IsAt, IsCutOff, IsRunIn}
+use Rattle.stock_desk.specs.Serving.{Seen, AreFilled, ComesTo, HearsAnswer, HearsNext, IsAt, IsCutOff, IsRunIn, RunsAlike}
 use Rattle.stock_desk.specs.declared.serving.Next.{Next}
 use Rattle.stock_desk.specs.declared.serving.Next.TheVariants as next
 use Rattle.stock_desk.specs.declared.serving.Stop.TheVariants as stop
 use Rattle.stock_desk.specs.declared.serving.Turn.TheVariants as turn
+use Rattle.stock_desk.proofs.Alike.{same_answer, same_positions, same_stored}
 
 nothing_more : (heard : List Heard) → heard ≡ heard ++ []
 nothing_more [] = refl
@@ -55,66 +57,106 @@ tells b c before after text (next.Stop (stop.Device page written)) asked may run
 
 -- the same of a run
 tells_going : (b : Behaviour) (limit : ℕ) (before after : Seen) (text : List ℕ) (n : Next) → after.asked ≡ before.asked → after.may ≡ before.may → after.running ≡ None
-    → HearsAnswer text before.heard after.heard n → ((s : Machine) → before.editing.model ≡ s.model → Told b (command.Run limit) text s after.editing)
+    → HearsAnswer text before.heard after.heard n → ((s : Machine) → RunsAlike limit before.editing s → Told b (command.Run limit) text s after.editing)
     → IsRunIn b limit before after (turn.Over n)
 tells_going b limit before after text next.GoOn asked may running heard told =
     inr (asked, may, running, λ s same. let t = told s same in (Answer text ∷ [], t.0, heard, t.1, t.2))
 tells_going b limit before after text (next.Stop stop.Gone) asked may running heard told =
-    cut_off b (command.Run limit) (λ s. before.editing.model ≡ s.model) before after text asked heard told
+    cut_off b (command.Run limit) (RunsAlike limit before.editing) before after text asked heard told
 tells_going b limit before after text (next.Stop stop.End) asked may running heard told = absurd heard
 tells_going b limit before after text (next.Stop (stop.Device page written)) asked may running heard told = absurd heard
 
 -- ---- runs
 
--- a run is done, and its answer is told
+-- its model and its interval stay
+pub record StaysOf (before after : Editing) : Type 0 where
+  pub model : after.model ≡ before.model
+  pub interval : after.interval ≡ before.interval
+
+-- a run is done: the session is where the machine then is
+at_done : (b : Behaviour) (limit : ℕ) (before after : Editing) (s : Machine) → StaysOf before after → IsDone b before limit after → RunsAlike limit before s
+    → IsAt b after (behind_run b s limit)
+at_done b limit before after s stays done same = record {
+  model = stays.model ∙ same.model;
+  done = done.done ∙ ap (λ (m : Model). Some (completed b m limit)) same.model;
+  held = done.held ∙ ap (λ (m : Model). boxes_left b m limit) same.model;
+  known = done.known ∙ ap (λ (m : Model). Some (events_of b m limit)) same.model;
+  interval = stays.interval ∙ same.interval;
+  positions = done.positions ∙ same_positions b limit before s same;
+}
+
+-- and its answer is told
 pub tells_run : (b : Behaviour) (limit : ℕ) (before after : Seen) (text : List ℕ) (n : Next) → after.asked ≡ before.asked → after.may ≡ before.may
-    → after.running ≡ None → after.editing.model ≡ before.editing.model → HasRun b after.editing limit text → HearsAnswer text before.heard after.heard n
-    → IsRunIn b limit before after (turn.Over n)
-tells_run b limit before after text n asked may running model ran heard = tells_going b limit before after text n asked may running heard (λ s same. (
-  record { model = s.model; last = Some limit; held = boxes_left b s.model limit; known = Some (events_of b s.model limit) },
-  inl (ap (λ (t : List ℕ). Answer t ∷ []) (ran.answer ∙ ap (λ (m : Model). run_answer b m limit) (model ∙ same)), refl),
-  record {
-    model = model ∙ same;
-    done = ran.done ∙ ap (λ (m : Model). Some (completed b m limit)) (model ∙ same);
-    held = ran.held ∙ ap (λ (m : Model). boxes_left b m limit) (model ∙ same);
-    known = ran.known ∙ ap (λ (m : Model). Some (events_of b m limit)) (model ∙ same);
-  },
+    → after.running ≡ None → StaysOf before.editing after.editing → HasRun b before.editing limit text after.editing
+    → HearsAnswer text before.heard after.heard n → IsRunIn b limit before after (turn.Over n)
+tells_run b limit before after text n asked may running stays ran heard = tells_going b limit before after text n asked may running heard (λ s same. (
+  behind_run b s limit,
+  inl (ap (λ (t : List ℕ). Answer t ∷ []) (ran.answer ∙ same_answer b limit before.editing s same), refl),
+  at_done b limit before.editing after.editing s stays ran.done same,
 ))
 
--- memory ran out for a run: none is done, or this one is
-after_memory : (b : Behaviour) (limit : ℕ) (s : Machine) (e : Editing) → e.model ≡ s.model → MayBeDone b e limit → Told b (command.Run limit) (codes "refused NoMemory") s e
-after_memory b limit s e model (inl none) = (
-  record { model = s.model; last = None; held = e.held; known = None },
-  inr (refl, refl, inl (refl, refl)),
-  record { model = model; done = none.0; held = refl; known = none.1 },
-)
-after_memory b limit s e model (inr done) = (
-  record { model = s.model; last = Some limit; held = e.held; known = Some (events_of b s.model limit) },
-  inr (refl, refl, inr (refl, refl)),
+-- Memory ran out for a run, and none is done: the positions are those that it stored, and nothing is known but the events up to the last of them.
+pub record LeavesNone (b : Behaviour) (before : Editing) (limit : ℕ) (after : Editing) : Type 0 where
+  pub done : after.done ≡ None
+  pub known : after.known ≡ last_count after.positions
+  pub positions : HasStored b before.model limit before.interval before.positions after.positions
+
+none_left : (b : Behaviour) (limit : ℕ) (before after : Editing) (s : Machine) → StaysOf before after → LeavesNone b before limit after → RunsAlike limit before s
+    → Told b (command.Run limit) (codes "refused NoMemory") s after
+none_left b limit before after s stays none same = (
+  record { model = s.model; last = None; held = after.held; known = last_count after.positions; interval = s.interval; positions = after.positions },
+  inr (
+    refl,
+    inl (record { model = refl; last = refl; known = refl; interval = refl; positions = same_stored b limit before s after.positions same none.positions }),
+  ),
   record {
-    model = model;
-    done = done.0 ∙ ap (λ (m : Model). Some (completed b m limit)) model;
+    model = stays.model ∙ same.model;
+    done = none.done;
     held = refl;
-    known = done.1 ∙ ap (λ (m : Model). Some (events_of b m limit)) model;
+    known = none.known;
+    interval = stays.interval ∙ same.interval;
+    positions = refl;
   },
 )
 
 -- and that is told
+pub tells_none : (b : Behaviour) (limit : ℕ) (before after : Seen) (n : Next) → after.asked ≡ before.asked → after.may ≡ before.may → after.running ≡ None
+    → StaysOf before.editing after.editing → LeavesNone b before.editing limit after.editing → HearsAnswer (codes "refused NoMemory") before.heard after.heard n
+    → IsRunIn b limit before after (turn.Over n)
+tells_none b limit before after n asked may running stays none heard =
+    tells_going b limit before after (codes "refused NoMemory") n asked may running heard (λ s same. none_left b limit before.editing after.editing s stays none same)
+
+-- memory ran out for a run: none is done, or this one is
+after_memory : (b : Behaviour) (limit : ℕ) (before after : Editing) (s : Machine) → StaysOf before after → MayBeDone b before limit after → RunsAlike limit before s
+    → Told b (command.Run limit) (codes "refused NoMemory") s after
+after_memory b limit before after s stays (inl none) same =
+    none_left b limit before after s stays (record { done = none.done; known = none.known; positions = none.positions }) same
+after_memory b limit before after s stays (inr done) same =
+    (behind_run b s limit, inr (refl, inr refl), at_done b limit before after s stays done same)
+
+-- and that is told
 pub tells_memory : (b : Behaviour) (limit : ℕ) (before after : Seen) (n : Next) → after.asked ≡ before.asked → after.may ≡ before.may
-    → after.running ≡ None → after.editing.model ≡ before.editing.model → MayBeDone b after.editing limit
+    → after.running ≡ None → StaysOf before.editing after.editing → MayBeDone b before.editing limit after.editing
     → HearsAnswer (codes "refused NoMemory") before.heard after.heard n
     → IsRunIn b limit before after (turn.Over n)
-tells_memory b limit before after n asked may running model is heard =
-    tells_going b limit before after (codes "refused NoMemory") n asked may running heard (λ s same. after_memory b limit s after.editing (model ∙ same) is)
+tells_memory b limit before after n asked may running stays is heard =
+    tells_going b limit before after (codes "refused NoMemory") n asked may running heard (λ s same. after_memory b limit before.editing after.editing s stays is same)
 
 -- ---- edits
 
 edited : (b : Behaviour) (e : Edit) (before after : Editing) (text : List ℕ) → AnswersEdit b before e text after → (s : Machine) → IsAt b before s
     → Told b (command.Edit e) text s after
 edited b e before after text (inl made) s at = (
-  record { model = after.model; last = None; held = s.held; known = made.0 },
-  inl (text, refl, inl (subst (λ k. IsMade b s.model k e text after.model made.0) at.known (subst (λ m. IsMade b m before.known e text after.model made.0) at.model made.1), refl, refl)),
-  record { model = refl; done = ap (λ (x : Editing). x.done) made.2; held = ap (λ (x : Editing). x.held) made.2 ∙ at.held; known = ap (λ (x : Editing). x.known) made.2 },
+  record { model = after.model; last = None; held = s.held; known = made.0; interval = s.interval; positions = up_to_event made.0 s.positions },
+  inl (text, refl, inl (subst (λ k. IsMade b s.model k e text after.model made.0) at.known (subst (λ m. IsMade b m before.known e text after.model made.0) at.model made.1), refl, refl, refl, refl)),
+  record {
+    model = refl;
+    done = ap (λ (x : Editing). x.done) made.2;
+    held = ap (λ (x : Editing). x.held) made.2 ∙ at.held;
+    known = ap (λ (x : Editing). x.known) made.2;
+    interval = ap (λ (x : Editing). x.interval) made.2 ∙ at.interval;
+    positions = ap (λ (x : Editing). x.positions) made.2 ∙ ap (up_to_event made.0) at.positions;
+  },
 )
 edited b e before after text (inr refused) s at = (
   s,
@@ -140,12 +182,29 @@ pub tells_no_line : (b : Behaviour) (c : Command) (before after : Seen) (n : Nex
     → after.editing ≡ before.editing → HearsAnswer (codes "refused NoMemory") before.heard after.heard n → ComesTo b c before after (turn.Over n)
 tells_no_line b (command.Edit e) before after n is asked may running same heard = tells_no_edit b e before after n asked may running same heard
 tells_no_line b (command.Run limit) before after n is asked may running same heard = absurd is
+tells_no_line b command.Positions before after n is asked may running same heard = absurd is
 tells_no_line b command.Held before after n is asked may running same heard = absurd is
 tells_no_line b command.Write before after n is asked may running same heard = absurd is
 tells_no_line b command.Unknown before after n is asked may running same heard = absurd is
 tells_no_line b command.TooLarge before after n is asked may running same heard = absurd is
 
 -- ---- what changes nothing
+
+-- what is told of the positions
+pub tells_positions : (b : Behaviour) (before after : Seen) (text : List ℕ) (n : Next) → after.asked ≡ before.asked → after.may ≡ before.may → after.running ≡ None
+    → after.editing ≡ before.editing → text ≡ positions_text before.editing.positions → HearsAnswer text before.heard after.heard n
+    → HearsNext b command.Positions before after n
+tells_positions b before after text n asked may running same is heard = tells b command.Positions before after text n asked may running heard (λ s at. (
+  s,
+  (inl (ap (λ (t : List ℕ). Answer t ∷ []) (is ∙ ap positions_text at.positions)), refl),
+  subst (λ x. IsAt b x s) (sym same) at,
+))
+
+-- memory ran out for that
+pub tells_no_positions : (b : Behaviour) (before after : Seen) (n : Next) → after.asked ≡ before.asked → after.may ≡ before.may → after.running ≡ None
+    → after.editing ≡ before.editing → HearsAnswer (codes "refused NoMemory") before.heard after.heard n → HearsNext b command.Positions before after n
+tells_no_positions b before after n asked may running same heard =
+    tells b command.Positions before after (codes "refused NoMemory") n asked may running heard (λ s at. (s, (inr refl, refl), subst (λ x. IsAt b x s) (sym same) at))
 
 -- what is told of the boxes
 pub tells_held : (b : Behaviour) (before after : Seen) (text : List ℕ) (n : Next) → after.asked ≡ before.asked → after.may ≡ before.may → after.running ≡ None

@@ -1,3 +1,4 @@
+pub mod Alike
 pub mod Boxes
 pub mod Hearing
 pub mod ServingTurns

@@ -1,16 +1,19 @@
 -- One turn of a desk with a client after the other.
 use Rattle.std.proofs.Common.{◌≡◌, ℕ, ◌+◌, ◌*◌, ◌<◌, ◌≤◌, List, [], ◌∷◌, ◌++◌, Option, Some, None, IsSome, codes, arith, inl, inr, refl, sym, ap, ◌∙◌, subst}
 use Rattle.module_api.specs.Behaviour.{Behaviour}
+use Rattle.checkpoints.specs.Stored.{counts_of}
 use Rattle.command_lines.specs.declared.commands.Command.{Command}
 use Rattle.command_lines.specs.declared.commands.Command.TheVariants as command
 use Rattle.edit_session.specs.Editing.{Completed, Editing, IsUndone, fresh_editing, waited_for, wanted_of}
+use Rattle.edit_session.specs.Positions.{last_count, positions_begun, start_of}
 use Rattle.edit_session.specs.declared.running.Phase.{Phase}
+use Rattle.kernel.specs.declared.position.Position.{Position}
 use Rattle.model_answers.specs.declared.model.Model.{Model}
 use Rattle.stock_modules.specs.declared.modules.StockModule.{StockModule}
 use Rattle.edit_session.specs.declared.running.Phase.TheVariants.{Idle, Waiting, Declined}
 use Rattle.stock_desk.specs.Boxes.{most_boxes}
 use Rattle.stock_desk.specs.Served.{Machine, AreHeard, BeginsToHear, Hears, command_asked, fresh_machine}
-use Rattle.stock_desk.specs.Serving.{Seen, ComesTo, Ends, EndsServing, HearsAnswer, HearsNext, IsAt, IsCutOff, IsGoing, IsNextServing, IsRunIn, IsServed, IsServingTurn, NeedsBox, Stands, StandsBy, WaitsIn, left_in_run, left_seen}
+use Rattle.stock_desk.specs.Serving.{Seen, ComesTo, Ends, EndsServing, HearsAnswer, HearsNext, IsAt, IsCutOff, IsGoing, IsNextServing, IsRunIn, IsServed, IsServingTurn, NeedsBox, RunsAlike, Stands, StandsBy, WaitsIn, left_in_run, left_seen}
 use Rattle.transcripts.specs.Heard.{Heard}
 use Rattle.transcripts.specs.declared.asked.Asked.{Asked}
 use Rattle.stock_desk.specs.declared.serving.Next.{Next}
@@ -19,7 +22,8 @@ use Rattle.stock_desk.specs.declared.serving.Stop.{Stop}
 use Rattle.stock_desk.specs.declared.serving.Stop.TheVariants as stop
 use Rattle.stock_desk.specs.declared.serving.Turn.{Turn}
 use Rattle.stock_desk.specs.declared.serving.Turn.TheVariants as turn
-use Rattle.stock_desk.proofs.Hearing.{heard_more, tells_memory}
+use Rattle.stock_desk.proofs.Alike.{at_alike, waits_alike}
+use Rattle.stock_desk.proofs.Hearing.{LeavesNone, heard_more, tells_none}
 use Rattle.stock_desk.proofs.Turning.{few_left}
 
 -- ---- a run goes on
@@ -31,7 +35,7 @@ still_going b s limit before after w g = subst (λ r. StandsBy r b s after) (sym
   all = w.asked ∙ g.all;
   runs = g.runs;
   machine = g.machine;
-  model = w.model ∙ g.model;
+  alike = waits_alike limit before after g.machine w g.alike;
   heard = subst (λ (h : List Heard). AreHeard b s g.before h g.machine) (sym w.heard) g.heard;
 })
 
@@ -73,12 +77,12 @@ run_goes b limit first before after (turn.Over next.GoOn) on fits (inl waits) = 
   less_left (left_seen first) before after limit fits waits.0 waits.1,
 )
 run_goes b limit first before after (turn.Over next.GoOn) on fits (inr run) = (
-  (λ s stands. let g = on s stands in let h = run.3 g.machine g.model in
+  (λ s stands. let g = on s stands in let h = run.3 g.machine g.alike in
       subst (λ r. StandsBy r b s after) (sym run.2) (run_served b s h.1 limit before after g h.0 run.0 h.2 h.3 h.4)),
   none_left (left_seen first) before after fits run.2 run.1,
 )
 run_goes b limit first before after (turn.Over (next.Stop stop.Gone)) on fits cut = λ s stands. let g = on s stands in
-    inr (record { before = g.before; last = g.last; all = cut.asked ∙ g.all; front = before.heard; more = cut.more; heard_is = cut.heard; left = g.machine; are = g.heard; begins = rw g.runs (cut.begins g.machine g.model) })
+    inr (record { before = g.before; last = g.last; all = cut.asked ∙ g.all; front = before.heard; more = cut.more; heard_is = cut.heard; left = g.machine; are = g.heard; begins = rw g.runs (cut.begins g.machine g.alike) })
 run_goes b limit first before after (turn.Over (next.Stop stop.End)) on fits run = absurd run
 run_goes b limit first before after (turn.Over (next.Stop (stop.Device page written))) on fits run = absurd run
 
@@ -113,7 +117,7 @@ now_going b s a limit before mid is asks v = record {
   all = asks.asked;
   runs = is;
   machine = v.machine;
-  model = ap (λ (e : Editing). e.model) asks.editing ∙ v.at.model;
+  alike = subst (λ e. RunsAlike limit e v.machine) (sym asks.editing) (at_alike b limit before.editing v.machine v.at);
   heard = subst (λ (h : List Heard). AreHeard b s before.asked h v.machine) (sym asks.heard) v.heard;
 }
 
@@ -145,18 +149,20 @@ by_command b s a (command.Run limit) before mid after t is asks run =
     run_goes b limit before mid after t (λ m stands. now_going b m a limit before mid is asks (served b m before asks.idle stands))
     (fewer_going before.may mid.may (left_in_run mid.editing) _ asks.less (few_left mid.editing)) run
 by_command b s a (command.Edit e) before mid after (turn.Over n) is asks hears = now_heard b s a (command.Edit e) before mid after n is asks hears
+by_command b s a command.Positions before mid after (turn.Over n) is asks hears = now_heard b s a command.Positions before mid after n is asks hears
 by_command b s a command.Held before mid after (turn.Over n) is asks hears = now_heard b s a command.Held before mid after n is asks hears
 by_command b s a command.Write before mid after (turn.Over n) is asks hears = now_heard b s a command.Write before mid after n is asks hears
 by_command b s a command.Unknown before mid after (turn.Over n) is asks hears = now_heard b s a command.Unknown before mid after n is asks hears
 by_command b s a command.TooLarge before mid after (turn.Over n) is asks hears = now_heard b s a command.TooLarge before mid after n is asks hears
 by_command b s a (command.Edit e) before mid after (turn.Need made) is asks hears = absurd hears
+by_command b s a command.Positions before mid after (turn.Need made) is asks hears = absurd hears
 by_command b s a command.Held before mid after (turn.Need made) is asks hears = absurd hears
 by_command b s a command.Write before mid after (turn.Need made) is asks hears = absurd hears
 by_command b s a command.Unknown before mid after (turn.Need made) is asks hears = absurd hears
 by_command b s a command.TooLarge before mid after (turn.Need made) is asks hears = absurd hears
 
 pub asked_turn : (b : Behaviour) (a : Asked) (before mid after : Seen) (t : Turn) → AsksNow before mid a → ComesTo b (command_asked a) mid after t → IsServingTurn b before after t
-asked_turn b a before mid after t asks comes = by_command b (record { model = before.editing.model; last = None; held = 0; known = None }) a (command_asked a) before mid after t refl asks comes
+asked_turn b a before mid after t asks comes = by_command b (fresh_machine before.editing.model 0) a (command_asked a) before mid after t refl asks comes
 
 -- ---- memory runs out for a box
 
@@ -164,21 +170,34 @@ some_limit : (o : Option ℕ) → IsSome o → (limit : ℕ) × (o ≡ Some limi
 some_limit None is = absurd cc
 some_limit (Some limit) is = (limit, refl)
 
-undone : (phase : Phase) (m : Model) (held : ℕ) (done : Option Completed) (known : Option ℕ) → IsSome (waited_for phase m held) → IsUndone phase done known
-    → (done ≡ None) × (known ≡ None)
-undone Idle m held d k is none = absurd cc
-undone Waiting m held d k is none = none
-undone Declined m held d k is none = absurd cc
+undone : (phase : Phase) (m : Model) (held : ℕ) (done : Option Completed) (known : Option ℕ) (ps : List Position) → IsSome (waited_for phase m held)
+    → IsUndone phase done known ps → (done ≡ None) × (known ≡ None) × (ps ≡ [])
+undone Idle m held d k ps is none = absurd cc
+undone Waiting m held d k ps is none = none
+undone Declined m held d k ps is none = absurd cc
 
-pub memory_turn : (b : Behaviour) (before after : Seen) (n : Next) → IsSome before.running → IsSome (wanted_of before.editing) → IsUndone before.editing.phase before.editing.done before.editing.known
+-- a run that waits leaves nothing: neither it nor one before it is done, and no position is stored
+waits_for_none : (b : Behaviour) (limit : ℕ) (e : Editing) (ps : List Position) → IsSome (wanted_of e) → IsUndone e.phase e.done e.known ps
+    → e.positions ≡ counts_of ps → LeavesNone b e limit e
+waits_for_none b limit e ps waits none counts =
+    let left = undone e.phase e.model e.held e.done e.known ps waits none in
+    let no_counts : e.positions ≡ [] = counts ∙ ap counts_of left.2 in
+    record {
+      done = left.0;
+      known = left.1 ∙ sym (ap last_count no_counts);
+      positions = inl (0, no_counts ∙ sym (ap (λ (old : List ℕ). positions_begun e.interval old (start_of limit old) 0) no_counts));
+    }
+
+pub memory_turn : (b : Behaviour) (before after : Seen) (n : Next) (ps : List Position) → IsSome before.running → IsSome (wanted_of before.editing)
+    → IsUndone before.editing.phase before.editing.done before.editing.known ps → before.editing.positions ≡ counts_of ps
     → after.editing ≡ before.editing → after.asked ≡ before.asked → after.may ≡ before.may → after.running ≡ None
     → HearsAnswer (codes "refused NoMemory") before.heard after.heard n → IsNextServing b before after n
-memory_turn b before after n going waits none same asked may running heard =
+memory_turn b before after n ps going waits none counts same asked may running heard =
     let at = some_limit before.running going in
-    let left = undone before.editing.phase before.editing.model before.editing.held before.editing.done before.editing.known waits none in
     run_turn b at.0 before after (turn.Over n) at.1
-    (tells_memory b at.0 before after n asked may running (ap (λ (e : Editing). e.model) same)
-    (inl (ap (λ (e : Editing). e.done) same ∙ left.0, ap (λ (e : Editing). e.known) same ∙ left.1)) heard)
+    (tells_none b at.0 before after n asked may running
+    (record { model = ap (λ (e : Editing). e.model) same; interval = ap (λ (e : Editing). e.interval) same })
+    (subst (LeavesNone b before.editing at.0) (sym same) (waits_for_none b at.0 before.editing ps waits none counts)) heard)
 
 -- a box is placed, or it isn't, and the turn goes on
 pub went_serving : (b : Behaviour) (before mid after : Seen) (made : StockModule) (n : Next) → NeedsBox b before mid made → IsNextServing b mid after n → IsNextServing b before after n
@@ -195,9 +214,17 @@ ends_served b s v (stop.Device page written) is = is
 
 -- ---- the beginning
 
-pub served_first : (b : Behaviour) (m : Model) (v : Seen) → v.editing ≡ fresh_editing m → v.asked ≡ [] → v.heard ≡ [] → IsServed b (fresh_machine m) v
-served_first b m v fresh asked heard = record {
-  machine = fresh_machine m;
-  at = record { model = ap (λ (e : Editing). e.model) fresh; done = ap (λ (e : Editing). e.done) fresh; held = ap (λ (e : Editing). e.held) fresh; known = ap (λ (e : Editing). e.known) fresh };
+pub served_first : (b : Behaviour) (m : Model) (interval : ℕ) (v : Seen) → v.editing ≡ fresh_editing m interval → v.asked ≡ [] → v.heard ≡ []
+    → IsServed b (fresh_machine m interval) v
+served_first b m interval v fresh asked heard = record {
+  machine = fresh_machine m interval;
+  at = record {
+    model = ap (λ (e : Editing). e.model) fresh;
+    done = ap (λ (e : Editing). e.done) fresh;
+    held = ap (λ (e : Editing). e.held) fresh;
+    known = ap (λ (e : Editing). e.known) fresh;
+    interval = ap (λ (e : Editing). e.interval) fresh;
+    positions = ap (λ (e : Editing). e.positions) fresh;
+  };
   heard = rw (asked, heard) (refl, refl);
 }

@@ -14,8 +14,8 @@ use Rattle.stock_desk.specs.Boxes.{boxes_after, boxes_of, left_of, most_boxes}
 
 -- ---- a run that waits
 
-pub waiting : (before after : Editing) (request : Request) → WaitsFor before request after → wanted_of after ≡ Some request
-waiting before after request w = ap wanted_of w.waits ∙ w.wanted
+pub waiting : (before after : Editing) (limit : ℕ) (request : Request) → WaitsFor before limit request after → wanted_of after ≡ Some request
+waiting before after limit request w = ap wanted_of w.waits ∙ w.wanted
 
 -- it hears that there is no box
 pub heard : (before after declined : Editing) (w : Option Request) (request : Request) (r : Result Unit NotWanted)
@@ -62,13 +62,13 @@ one_box_less Waiting m held is = omega (arith, box_there (prepared m) held is)
 one_box_less Declined m held is = cc
 
 -- it waits: no more is left
-pub waits_left : (before after : Editing) (request : Request) → WaitsFor before request after → left after ≤ left before
-waits_left before after request w =
+pub waits_left : (before after : Editing) (limit : ℕ) (request : Request) → WaitsFor before limit request after → left after ≤ left before
+waits_left before after limit request w =
     subst (λ (e : Editing). left e ≤ left before) (sym w.waits) (kept_left before.phase (boxes_of before.model) before.held w.undeclined)
 
 -- it waited, and heard that there is no box: less is left
-pub declined_left : (before mid after : Editing) (request : Request) → WaitsFor before request mid → after ≡ record mid { phase = Declined } → left after < left before
-declined_left before mid after request w e =
+pub declined_left : (before mid after : Editing) (limit : ℕ) (request : Request) → WaitsFor before limit request mid → after ≡ record mid { phase = Declined } → left after < left before
+declined_left before mid after limit request w e =
     subst (λ (x : Editing). left x < left before) (sym e) (some_left before.phase (boxes_of before.model) before.held w.undeclined)
 
 -- it has a box more: less is left

@@ -8,19 +8,22 @@ use Rattle.command_lines.specs.declared.commands.Command.{Command}
 use Rattle.command_lines.specs.declared.commands.Command.TheVariants as command
 use Rattle.edit_session.specs.Editing.{boxes_left, fresh_run}
 use Rattle.edit_session.specs.Files.{scalars_of_run, vectors_of_run}
-use Rattle.desk.specs.Answers.{held_text}
+use Rattle.edit_session.specs.Positions.{last_count, positions_after, up_to_event, HasStored}
+use Rattle.desk.specs.Answers.{held_text, positions_text}
 use Rattle.desk.specs.Turns.{run_answer, IsMade, IsRefused}
 use Rattle.transcripts.specs.Heard.{Answer, Files, Heard}
 use Rattle.transcripts.specs.declared.asked.Asked.{Asked}
 use Rattle.transcripts.specs.declared.asked.Asked.TheVariants as asked
 
--- THE PLAIN MACHINE holds a model, the limit of the last run that is done, if there is one, how many boxes there are, and of how many events of a run of
--- the model the questions are known. It keeps nothing else of a run.
+-- THE PLAIN MACHINE holds a model, the limit of the last run that is done, if there is one, how many boxes there are, of how many events of a run of
+-- the model the questions are known, after how many events each a position is stored, and after which events one is. It keeps nothing else of a run.
 pub record Machine : Type 0 where
   pub model : Model
   pub last : Option ℕ
   pub held : ℕ
   pub known : Option ℕ
+  pub interval : ℕ
+  pub positions : List ℕ
 
 -- how many events a run of the model has, up to that limit
 abbrev pub events_of : Behaviour → Model → ℕ → ℕ
@@ -34,20 +37,44 @@ command_asked asked.TooLong = command.TooLarge
 abbrev pub out_of_memory : Heard
 out_of_memory = Answer (codes "refused NoMemory")
 
--- A RUN is answered as a fresh run of the model, and there are as many boxes then as that leaves. Or memory ran out: the run may be done nevertheless, and
+-- the machine behind a run to that limit: all events of it are known, and there are as many boxes as it leaves, and its positions
+abbrev pub behind_run : Behaviour → Machine → ℕ → Machine
+behind_run b s limit = record {
+  model = s.model;
+  last = Some limit;
+  held = boxes_left b s.model limit;
+  known = Some (events_of b s.model limit);
+  interval = s.interval;
+  positions = positions_after b s.model limit s.interval s.positions;
+}
+
+-- Memory ran out for a run to that limit, and none is done: its positions are those that it stored, known are the events up to the last of them, and
 -- nothing is said of the boxes.
+pub record GivesUpRun (b : Behaviour) (s : Machine) (limit : ℕ) (s' : Machine) : Type 0 where
+  pub model : s'.model ≡ s.model
+  pub last : s'.last ≡ None
+  pub known : s'.known ≡ last_count s'.positions
+  pub interval : s'.interval ≡ s.interval
+  pub positions : HasStored b s.model limit s.interval s.positions s'.positions
+
+-- A RUN is answered as a fresh run of the model that begins at the greatest position up to the limit. Or memory ran out: the run may be done nevertheless.
 abbrev pub HearsRun : Behaviour → Machine → ℕ → List Heard → Machine → Type 0
 HearsRun b s limit heard s' =
-    ((heard ≡ Answer (run_answer b s.model limit) ∷ []) × (s' ≡ record { model = s.model; last = Some limit; held = boxes_left b s.model limit; known = Some (events_of b s.model limit) }))
-    ⊎ ((heard ≡ out_of_memory ∷ []) × (s'.model ≡ s.model)
-    × (((s'.last ≡ None) × (s'.known ≡ None)) ⊎ ((s'.last ≡ Some limit) × (s'.known ≡ Some (events_of b s.model limit)))))
+    ((heard ≡ Answer (run_answer b s.model limit s.positions) ∷ []) × (s' ≡ behind_run b s limit))
+    ⊎ ((heard ≡ out_of_memory ∷ []) × (GivesUpRun b s limit s' ⊎ (s' ≡ behind_run b s limit)))
 
--- AN EDIT is made, and then no run is done, and the boxes stay; or it is refused, or memory ran out, and then nothing changed.
+-- AN EDIT is made, and then no run is done, the boxes stay, and so do the positions up to which the last run stays valid; or it is refused, or memory ran
+-- out, and then nothing changed.
 abbrev pub HearsEdit : Behaviour → Machine → Edit → List Heard → Machine → Type 0
 HearsEdit b s e heard s' =
     ((text : List ℕ) × (heard ≡ Answer text ∷ [])
-    × ((IsMade b s.model s.known e text s'.model s'.known × (s'.last ≡ None) × (s'.held ≡ s.held)) ⊎ (IsRefused s.model e text × (s' ≡ s))))
+    × ((IsMade b s.model s.known e text s'.model s'.known × (s'.last ≡ None) × (s'.held ≡ s.held)
+    × (s'.interval ≡ s.interval) × (s'.positions ≡ up_to_event s'.known s.positions)) ⊎ (IsRefused s.model e text × (s' ≡ s))))
     ⊎ ((heard ≡ out_of_memory ∷ []) × (s' ≡ s))
+
+-- AFTER WHICH EVENTS a position is stored is told, or memory ran out.
+abbrev pub HearsPositions : List ℕ → List Heard → Type 0
+HearsPositions positions heard = (heard ≡ Answer (positions_text positions) ∷ []) ⊎ (heard ≡ out_of_memory ∷ [])
 
 -- HOW MANY BOXES there are is told, or memory ran out.
 abbrev pub HearsHeld : ℕ → List Heard → Type 0
@@ -63,6 +90,7 @@ HearsFiles b m (Some limit) heard = heard ≡ Files m.config (scalars_of_run b m
 abbrev pub Hears : Behaviour → Machine → Command → List Heard → Machine → Type 0
 Hears b s (command.Run limit) heard s' = HearsRun b s limit heard s'
 Hears b s (command.Edit e) heard s' = HearsEdit b s e heard s'
+Hears b s command.Positions heard s' = HearsPositions s.positions heard × (s' ≡ s)
 Hears b s command.Held heard s' = HearsHeld s.held heard × (s' ≡ s)
 Hears b s command.Write heard s' = HearsFiles b s.model s.last heard × (s' ≡ s)
 Hears b s command.Unknown heard s' = (heard ≡ Answer (codes "refused Command") ∷ []) × (s' ≡ s)
@@ -74,9 +102,9 @@ AreHeard b s [] heard s' = (heard ≡ []) × (s' ≡ s)
 AreHeard b s (a ∷ more) heard s' = (front rest : List Heard) × (mid : Machine)
     × (heard ≡ front ++ rest) × Hears b s (command_asked a) front mid × AreHeard b mid more rest s'
 
--- a machine that has run nothing has no boxes
-abbrev pub fresh_machine : Model → Machine
-fresh_machine m = record { model = m; last = None; held = 0; known = None }
+-- a machine that has run nothing has no boxes and no positions
+abbrev pub fresh_machine : Model → ℕ → Machine
+fresh_machine m interval = record { model = m; last = None; held = 0; known = None; interval = interval; positions = [] }
 
 -- THE FIRST PART of what a command is answered is heard, or nothing; what comes next is missed.
 pub record BeginsToHear (b : Behaviour) (s : Machine) (c : Command) (heard : List Heard) : Type 0 where

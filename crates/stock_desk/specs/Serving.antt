@@ -8,6 +8,7 @@ use Rattle.stock_modules.specs.Modules.{module_of}
 use Rattle.stock_modules.specs.declared.modules.StockModule.{StockModule}
 use Rattle.edit_session.specs.Editing.{Completed, Editing, completed, wanted_of, IsFor}
 use Rattle.edit_session.specs.Files.{scalars_of_run, vectors_of_run}
+use Rattle.edit_session.specs.Positions.{start_of, up_to_event}
 use Rattle.kernel.specs.Kernels.{Members}
 use Rattle.desk.specs.Turns.{editing_at, IsSettled}
 use Rattle.edit_session.specs.declared.running.Phase.TheVariants.{Declined}
@@ -43,6 +44,16 @@ pub record IsAt (b : Behaviour) (e : Editing) (s : Machine) : Type 0 where
   pub done : e.done ≡ option_map (completed b s.model) s.last
   pub held : e.held ≡ s.held
   pub known : e.known ≡ s.known
+  pub interval : e.interval ≡ s.interval
+  pub positions : e.positions ≡ s.positions
+
+-- A run to that limit is the same of the session and of the plain machine: of the same model and interval, it begins at the same position, and up to there
+-- the same ones stay.
+pub record RunsAlike (limit : ℕ) (e : Editing) (s : Machine) : Type 0 where
+  pub model : e.model ≡ s.model
+  pub interval : e.interval ≡ s.interval
+  pub start : start_of limit e.positions ≡ start_of limit s.positions
+  pub kept : up_to_event (start_of limit e.positions) e.positions ≡ up_to_event (start_of limit s.positions) s.positions
 
 -- All that was asked is heard.
 pub record IsServed (b : Behaviour) (s : Machine) (v : Seen) : Type 0 where
@@ -50,14 +61,15 @@ pub record IsServed (b : Behaviour) (s : Machine) (v : Seen) : Type 0 where
   pub at : IsAt b v.editing machine
   pub heard : AreHeard b s v.asked v.heard machine
 
--- A run to that limit was asked last, and goes on; all before is heard.
+-- A run to that limit was asked last, and goes on; all before is heard. It began with setup, and where the machine has positions, all behind the limit,
+-- the session has none any more.
 pub record IsGoing (b : Behaviour) (s : Machine) (limit : ℕ) (v : Seen) : Type 0 where
   pub before : List Asked
   pub last : Asked
   pub all : v.asked ≡ before ++ last ∷ []
   pub runs : command_asked last ≡ command.Run limit
   pub machine : Machine
-  pub model : v.editing.model ≡ machine.model
+  pub alike : RunsAlike limit v.editing machine
   pub heard : AreHeard b s before v.heard machine
 
 abbrev pub StandsBy : Option ℕ → Behaviour → Machine → Seen → Type 0
@@ -141,7 +153,7 @@ IsHeardNow b c before after = (s : Machine) → IsAt b before.editing s
 -- The same of a run, whatever was done before.
 abbrev pub IsHeardRun : Behaviour → ℕ → Seen → Seen → Type 0
 IsHeardRun b limit before after = (after.asked ≡ before.asked) × (after.may ≡ before.may) × (after.running ≡ None)
-    × ((s : Machine) → before.editing.model ≡ s.model
+    × ((s : Machine) → RunsAlike limit before.editing s
     → (front : List Heard) × (s' : Machine) × (after.heard ≡ before.heard ++ front) × HearsRun b s limit front s' × IsAt b after.editing s')
 
 -- The first part of it is heard, or nothing, and no more, wherever the machine may be.
@@ -175,13 +187,16 @@ module _ {O K X : Type 0} {Y : X → Type 0} where
 
 -- ---- runs
 
--- It waits for a box.
+-- It waits for a box, as it began with setup.
 pub record WaitsIn (before after : Seen) (limit : ℕ) : Type 0 where
   pub asked : after.asked ≡ before.asked
   pub heard : after.heard ≡ before.heard
   pub may : after.may ≡ before.may
   pub running : after.running ≡ Some limit
   pub model : after.editing.model ≡ before.editing.model
+  pub interval : after.editing.interval ≡ before.editing.interval
+  pub start : start_of limit before.editing.positions ≡ None
+  pub positions : after.editing.positions ≡ []
 
 -- a box is made for what the run waits for, or there may be no such box, and the run is told so
 abbrev pub IsMetIn : Behaviour → Editing → Editing → Turn → Type 0
@@ -198,7 +213,7 @@ IsRunIn b limit before after (turn.Need made) =
 IsRunIn b limit before after (turn.Over next.GoOn) =
     (WaitsIn before after limit × (left_in_run after.editing < left_in_run before.editing))
     ⊎ IsHeardRun b limit before after
-IsRunIn b limit before after (turn.Over (next.Stop stop.Gone)) = IsCutOff b (command.Run limit) (λ s. before.editing.model ≡ s.model) before after
+IsRunIn b limit before after (turn.Over (next.Stop stop.Gone)) = IsCutOff b (command.Run limit) (RunsAlike limit before.editing) before after
 IsRunIn b limit before after (turn.Over (next.Stop _)) = ⊥
 
 -- What a command comes to that is asked where no run goes on: a run goes on or is heard; all else is heard at once.

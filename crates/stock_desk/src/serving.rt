@@ -1,6 +1,6 @@
 //! A client at a desk with boxes of the stock modules: it asks one thing after the other, and hears what comes of it.
 
-ghost use Rattle.std.specs.Prelude.{◌≡◌, ◌<◌, ℕ, List, [], ◌∷◌, ◌++◌, Some, None, IsSome, OnOk, OnErr, IfOk, IfErr, IfSome, codes};
+ghost use Rattle.std.specs.Prelude.{◌≡◌, ◌<◌, ◌≤◌, ℕ, List, [], ◌∷◌, ◌++◌, Some, None, IsSome, OnOk, OnErr, IfOk, IfErr, IfSome, codes};
 ghost use Rattle.model_answers.specs.declared.model.Model.{Model};
 ghost use Rattle.model_texts.specs.Models.{IsModelOf, IsRuledOut, Refuses};
 ghost use Rattle.stock_modules.specs.Stock.{stock};
@@ -271,6 +271,25 @@ impl<O: Out + Drop, K: Client<O> + Drop> Server<O, K> {
         }
     }
 
+    /// Tells after which events a position is stored.
+    fn positions(&mut self) -> Next
+        requires sound { IsServer stock SimpleModule-box self.old }
+        requires idle { self.old.running ≡ None }
+        requires kept { K.keeps self.old.client }
+        ensures kept { K.keeps self.new.client }
+        ensures label { K.label self.new.client ≡ K.label self.old.client }
+        ensures stops { MayStopAt (K.stops self.new.client) result }
+        ensures sound { IsServer stock SimpleModule-box self.new }
+        ensures heard { let before = seen_in SimpleModule-box K.asked K.heard K.left self.old in
+            let after = seen_in SimpleModule-box K.asked K.heard K.left self.new in
+            HearsNext stock commands.Positions before after result }
+    {
+        match self.desk.positions() {
+            Ok(text) => self.hear(text.as_bytes()),
+            Err(_) => self.out_of_memory(),
+        }
+    }
+
     /// Tells how many boxes there are.
     fn held(&mut self) -> Next
         requires sound { IsServer stock SimpleModule-box self.old }
@@ -381,6 +400,7 @@ impl<O: Out + Drop, K: Client<O> + Drop> Server<O, K> {
         match command {
             Command::Run(limit) => self.run(limit),
             Command::Edit(edit) => Turn::Over(self.edit(edit)),
+            Command::Positions => Turn::Over(self.positions()),
             Command::Held => Turn::Over(self.held()),
             Command::Write => Turn::Over(self.write()),
             Command::Unknown => Turn::Over(self.hear(b"refused Command".as_slice())),
@@ -474,21 +494,24 @@ impl<O: Out + Drop, K: Client<O> + Drop> Server<O, K> {
 }
 
 /// Serves a client at a desk of the model that these texts make with the configuration of that name, with boxes of the stock modules,
-/// until it asks nothing more, can't go on, or a device of a file fails. Answers the client, and why; or why the texts make no model.
+/// until it asks nothing more, can't go on, or a device of a file fails. A run leaves a position after each multiple of `interval`
+/// events. Answers the client, and why; or why the texts make no model.
 pub fn serve<O: Out + Drop, K: Client<O> + Drop>(
     alloc: Global,
     texts: &NedTexts,
     ini: &[u8],
     config: &[u8],
+    interval: u64,
     client: K,
 ) -> Result<(K, Stop), BeginFault>
+    requires interval { 1 ≤ interval }
     requires unasked { K.asked client ≡ [] }
     requires unheard { K.heard client ≡ [] }
     requires kept { K.keeps client }
     // THE LAW OF A CLIENT: what it hears is what the plain machine says, whatever it asks.
     ensures served { IfOk result (λ r. (model : Model)
         × IsModelOf texts.now ini.now config.now model
-        × Ends stock (fresh_machine model) (K.asked r.0) (K.heard r.0) r.1) }
+        × Ends stock (fresh_machine model interval) (K.asked r.0) (K.heard r.0) r.1) }
     // It is served no more only where that is true of it which it says of the reason: it has nothing more to ask, can't go on, or
     // heard that a device failed, which one, and after how many bytes.
     ensures stopped { IfOk result (λ r. K.stops r.0 r.1) }
@@ -499,7 +522,7 @@ pub fn serve<O: Out + Drop, K: Client<O> + Drop>(
     // Where the texts make a model the client is served, unless memory runs out.
     ensures complete { IfErr result (λ fault. IsRuledOut texts.now ini.now config.now fault) }
 {
-    let session = Session::<Stock>::begin(alloc, texts, ini, config)?;
+    let session = Session::<Stock>::begin(alloc, texts, ini, config, interval)?;
     let mut server = Server {
         desk: Desk::of_session(alloc, session),
         client,

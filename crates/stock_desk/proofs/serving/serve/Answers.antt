@@ -19,7 +19,7 @@ turns-init g c =
       sound = c.of_session.ensures.sound;
       kept = c.requires.kept;
       label = refl;
-      stands = (e.0, e.1, served_first stock e.0 (seen (editing_at (λ b. (own-1.entry b.vtable).1) c.of_session.result) (g.K.Client.asked c.args.client) (g.K.Client.heard c.args.client) (g.K.Client.left c.args.client) None) (c.of_session.ensures.editing ∙ e.2) c.requires.unasked c.requires.unheard);
+      stands = (e.0, e.1, served_first stock e.0 c.args.interval (seen (editing_at (λ b. (own-1.entry b.vtable).1) c.of_session.result) (g.K.Client.asked c.args.client) (g.K.Client.heard c.args.client) (g.K.Client.left c.args.client) None) (c.of_session.ensures.editing ∙ e.2) c.requires.unasked c.requires.unheard);
     }
 
 pub supply-requires-clause-wanted : goal.supply-requires-clause-wanted
@@ -33,7 +33,7 @@ turns-preserved g c =
     let went : IsNextServing stock (seen_in (λ b. (own-1.entry b.vtable).1) g.K.Client.asked g.K.Client.heard g.K.Client.left c.turns.server) (seen_in (λ b. (own-1.entry b.vtable).1) g.K.Client.asked g.K.Client.heard g.K.Client.left c.match-turn.server) c.match-turn.next = elim c.match-turn.branch [
       | in-Need+in-Ok w ↦ rw (w.server-is, w.next-is) (went_serving stock (seen_in (λ b. (own-1.entry b.vtable).1) g.K.Client.asked g.K.Client.heard g.K.Client.left c.turns.server) (seen_in (λ b. (own-1.entry b.vtable).1) g.K.Client.asked g.K.Client.heard g.K.Client.left c.turn.new.self) (seen_in (λ b. (own-1.entry b.vtable).1) g.K.Client.asked g.K.Client.heard g.K.Client.left w.supply.new.self) w.in-Need.made w.supply.result w.in-Need.ensures.turn w.supply.ensures.next)
       | in-Need+in-Err w ↦ rw (w.server-is, w.next-is) (went_serving stock (seen_in (λ b. (own-1.entry b.vtable).1) g.K.Client.asked g.K.Client.heard g.K.Client.left c.turns.server) (seen_in (λ b. (own-1.entry b.vtable).1) g.K.Client.asked g.K.Client.heard g.K.Client.left c.turn.new.self) (seen_in (λ b. (own-1.entry b.vtable).1) g.K.Client.asked g.K.Client.heard g.K.Client.left w.out_of_memory.new.self) w.in-Need.made w.out_of_memory.result w.in-Need.ensures.turn
-          (memory_turn stock (seen_in (λ b. (own-1.entry b.vtable).1) g.K.Client.asked g.K.Client.heard g.K.Client.left c.turn.new.self) (seen_in (λ b. (own-1.entry b.vtable).1) g.K.Client.asked g.K.Client.heard g.K.Client.left w.out_of_memory.new.self) w.out_of_memory.result w.in-Need.ensures.turn.going w.in-Need.ensures.turn.waits c.turn.ensures.sound.undone
+          (memory_turn stock (seen_in (λ b. (own-1.entry b.vtable).1) g.K.Client.asked g.K.Client.heard g.K.Client.left c.turn.new.self) (seen_in (λ b. (own-1.entry b.vtable).1) g.K.Client.asked g.K.Client.heard g.K.Client.left w.out_of_memory.new.self) w.out_of_memory.result _ w.in-Need.ensures.turn.going w.in-Need.ensures.turn.waits c.turn.ensures.sound.undone refl
           (ap (editing_at (λ b. (own-1.entry b.vtable).1)) w.out_of_memory.ensures.desk) w.out_of_memory.ensures.asked w.out_of_memory.ensures.left w.out_of_memory.ensures.running w.out_of_memory.ensures.heard))
       | in-Over w ↦ rw (w.server-is, w.next-is) w.in-Over.ensures.turn
     ] in
@@ -54,20 +54,20 @@ turns-preserved g c =
       | in-Need+in-Err w ↦ rw w.server-is (w.out_of_memory.ensures.label ∙ c.turn.ensures.label)
       | in-Over w ↦ rw w.server-is c.turn.ensures.label
     ] in
-    record { sound = sound; kept = kept; label = label ∙ c.turns.invariant.label; stands = (stands.0, stands.1, goes_on.0 (fresh_machine stands.0) stands.2) }
+    record { sound = sound; kept = kept; label = label ∙ c.turns.invariant.label; stands = (stands.0, stands.1, goes_on.0 (fresh_machine stands.0 c.args.interval) stands.2) }
 
 pub returns-in-Stop-clause-served : goal.returns-in-Stop-clause-served
 returns-in-Stop-clause-served g c =
     let went : IsNextServing stock (seen_in (λ b. (own-1.entry b.vtable).1) g.K.Client.asked g.K.Client.heard g.K.Client.left c.turns.server) (seen_in (λ b. (own-1.entry b.vtable).1) g.K.Client.asked g.K.Client.heard g.K.Client.left c.match-turn.server) c.match-turn.next = elim c.match-turn.branch [
       | in-Need+in-Ok w ↦ rw (w.server-is, w.next-is) (went_serving stock (seen_in (λ b. (own-1.entry b.vtable).1) g.K.Client.asked g.K.Client.heard g.K.Client.left c.turns.server) (seen_in (λ b. (own-1.entry b.vtable).1) g.K.Client.asked g.K.Client.heard g.K.Client.left c.turn.new.self) (seen_in (λ b. (own-1.entry b.vtable).1) g.K.Client.asked g.K.Client.heard g.K.Client.left w.supply.new.self) w.in-Need.made w.supply.result w.in-Need.ensures.turn w.supply.ensures.next)
       | in-Need+in-Err w ↦ rw (w.server-is, w.next-is) (went_serving stock (seen_in (λ b. (own-1.entry b.vtable).1) g.K.Client.asked g.K.Client.heard g.K.Client.left c.turns.server) (seen_in (λ b. (own-1.entry b.vtable).1) g.K.Client.asked g.K.Client.heard g.K.Client.left c.turn.new.self) (seen_in (λ b. (own-1.entry b.vtable).1) g.K.Client.asked g.K.Client.heard g.K.Client.left w.out_of_memory.new.self) w.in-Need.made w.out_of_memory.result w.in-Need.ensures.turn
-          (memory_turn stock (seen_in (λ b. (own-1.entry b.vtable).1) g.K.Client.asked g.K.Client.heard g.K.Client.left c.turn.new.self) (seen_in (λ b. (own-1.entry b.vtable).1) g.K.Client.asked g.K.Client.heard g.K.Client.left w.out_of_memory.new.self) w.out_of_memory.result w.in-Need.ensures.turn.going w.in-Need.ensures.turn.waits c.turn.ensures.sound.undone
+          (memory_turn stock (seen_in (λ b. (own-1.entry b.vtable).1) g.K.Client.asked g.K.Client.heard g.K.Client.left c.turn.new.self) (seen_in (λ b. (own-1.entry b.vtable).1) g.K.Client.asked g.K.Client.heard g.K.Client.left w.out_of_memory.new.self) w.out_of_memory.result _ w.in-Need.ensures.turn.going w.in-Need.ensures.turn.waits c.turn.ensures.sound.undone refl
           (ap (editing_at (λ b. (own-1.entry b.vtable).1)) w.out_of_memory.ensures.desk) w.out_of_memory.ensures.asked w.out_of_memory.ensures.left w.out_of_memory.ensures.running w.out_of_memory.ensures.heard))
       | in-Over w ↦ rw (w.server-is, w.next-is) w.in-Over.ensures.turn
     ] in
     let stops = subst (IsNextServing stock (seen_in (λ b. (own-1.entry b.vtable).1) g.K.Client.asked g.K.Client.heard g.K.Client.left c.turns.server) (seen_in (λ b. (own-1.entry b.vtable).1) g.K.Client.asked g.K.Client.heard g.K.Client.left c.match-turn.server)) c.in-Stop.is went in
     let stands = c.turns.invariant.stands in
-    (stands.0, stands.1, rw c.into_client.ensures (ends_served stock (fresh_machine stands.0) (seen_in (λ b. (own-1.entry b.vtable).1) g.K.Client.asked g.K.Client.heard g.K.Client.left c.match-turn.server) c.in-Stop.stop (stops (fresh_machine stands.0) stands.2)))
+    (stands.0, stands.1, rw c.into_client.ensures (ends_served stock (fresh_machine stands.0 c.args.interval) (seen_in (λ b. (own-1.entry b.vtable).1) g.K.Client.asked g.K.Client.heard g.K.Client.left c.match-turn.server) c.in-Stop.stop (stops (fresh_machine stands.0 c.args.interval) stands.2)))
 
 pub returns-in-Stop-clause-kept : goal.returns-in-Stop-clause-kept
 returns-in-Stop-clause-kept g c =

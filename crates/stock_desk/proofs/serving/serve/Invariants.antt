@@ -12,7 +12,7 @@ abbrev pub invariant-turns : goal.invariant-turns
 invariant-turns g l = record {
   sound : IsServer stock (λ b. (own-1.entry b.vtable).1) l.server;
   stands : (m : Model) × IsModelOf l.texts l.ini l.config m
-      × Stands stock (fresh_machine m) (seen_in (λ b. (own-1.entry b.vtable).1) g.K.Client.asked g.K.Client.heard g.K.Client.left l.server);
+      × Stands stock (fresh_machine m l.interval) (seen_in (λ b. (own-1.entry b.vtable).1) g.K.Client.asked g.K.Client.heard g.K.Client.left l.server);
   kept : g.K.Client.keeps l.server.client;
   label : g.K.Client.label l.server.client ≡ g.K.Client.label l.fn.client;
 }

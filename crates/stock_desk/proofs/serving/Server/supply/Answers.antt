@@ -1,4 +1,4 @@
-use Rattle.std.proofs.Common.{ap, ◌∙◌}
+use Rattle.std.proofs.Common.{refl, ap, ◌∙◌}
 use Rattle.desk.specs.Turns.{editing_at}
 use Rattle.stock_modules.specs.Stock.{stock}
 use Rattle.stock_desk.specs.Serving.{seen_in}
@@ -8,5 +8,5 @@ use Rattle.stock_desk.proofs.serving.Server.supply.Goals as goal
 pub returns-in-NoMemory-clause-next : goal.returns-in-NoMemory-clause-next
 returns-in-NoMemory-clause-next g c =
     memory_turn stock (seen_in (λ b. (g.dyn-1.0.entry b.vtable).1) g.K.Client.asked g.K.Client.heard g.K.Client.left c.args.self.now)
-    (seen_in (λ b. (g.dyn-1.0.entry b.vtable).1) g.K.Client.asked g.K.Client.heard g.K.Client.left c.out_of_memory.new.self) c.out_of_memory.result
-    c.requires.going c.requires.waits c.requires.sound.undone (ap (editing_at (λ b. (g.dyn-1.0.entry b.vtable).1)) c.out_of_memory.ensures.desk ∙ c.in-Err.ensures.err.1) c.out_of_memory.ensures.asked c.out_of_memory.ensures.left c.out_of_memory.ensures.running c.out_of_memory.ensures.heard
+    (seen_in (λ b. (g.dyn-1.0.entry b.vtable).1) g.K.Client.asked g.K.Client.heard g.K.Client.left c.out_of_memory.new.self) c.out_of_memory.result _
+    c.requires.going c.requires.waits c.requires.sound.undone refl (ap (editing_at (λ b. (g.dyn-1.0.entry b.vtable).1)) c.out_of_memory.ensures.desk ∙ c.in-Err.ensures.err.1) c.out_of_memory.ensures.asked c.out_of_memory.ensures.left c.out_of_memory.ensures.running c.out_of_memory.ensures.heard
