@@ -1,7 +1,7 @@
 //! Runs a network of modules from its files, and writes the result files of the run.
 #![tactic(auto)]
 
-ghost use Rattle.std.specs.Prelude.{◌≡◌, [], IsSome, IfOk, string_bytes};
+ghost use Rattle.std.specs.Prelude.{◌≡◌, ◌≤◌, [], IsSome, IfOk, string_bytes};
 ghost use Rattle.model_answers.specs.declared.model.Model.{Model};
 ghost use Rattle.model_texts.specs.Models.{IsModelOf};
 ghost use Rattle.stock_modules.specs.Stock.{stock};
@@ -34,10 +34,11 @@ fn serve_user<'a, R: Files + Input + Print + Eprint + AllocGlobal>(
     words: &'a Words,
     sources: &'a Sources<'a>,
 ) -> Result<(User<'a, R>, serving::Stop), BeginFault>
+    requires interval { 1 ≤ words.now.interval }
     // What the user hears is what the plain machine says to what the user asks.
     ensures served { IfOk result (λ r. (model : Model)
         × IsModelOf sources.now.texts.now sources.now.ini.now (string_bytes words.now.config) model
-        × Ends stock (fresh_machine model) r.0.transcript.asked r.0.transcript.heard r.1) }
+        × Ends stock (fresh_machine model words.now.interval) r.0.transcript.asked r.0.transcript.heard r.1) }
     // What is asked: the run of the words, then to write its files, then the lines of standard input;
     ensures asked { IfOk result (λ r. AsksInOrder words.now.limit r.0.ask r.0.transcript.asked
         r.0.lines.source.given.bytes r.0.lines.buffer) }
@@ -51,6 +52,7 @@ fn serve_user<'a, R: Files + Input + Print + Eprint + AllocGlobal>(
         sources.texts,
         sources.ini,
         words.config.as_bytes(),
+        words.interval,
         user,
     )
 }
@@ -60,7 +62,9 @@ fn session<R: Files + Input + Print + Eprint + AllocGlobal>(
     rt: &R,
     words: &Words,
     sources: &Sources<'_>,
-) -> Result<(), Stop> {
+) -> Result<(), Stop>
+    requires interval { 1 ≤ words.now.interval }
+{
     match serve_user(rt, words, sources) {
         Ok((_, serving::Stop::End)) => Ok(()),
         Ok((user, _)) => Err(user.into_stop()),

@@ -1,7 +1,9 @@
 //! What the program is asked for.
 
+ghost use Rattle.std.specs.Prelude.{◌≤◌, IfOk};
+
 use crate::stops::Stop;
-use clap::{Arg, ArgAction, Command, value_parser};
+use clap::{Arg, ArgAction, ArgMatches, Command, value_parser};
 use std::alloc::{AllocError, Global};
 use std::env;
 use std::rt::Env;
@@ -26,6 +28,8 @@ pub struct Words {
     pub config: String,
     /// The run ends after so many events.
     pub limit: u64,
+    /// A run leaves a position after each multiple of so many events.
+    pub interval: u64,
     /// Where the result files are written.
     pub directory: String,
     /// The path of the ini file.
@@ -53,6 +57,19 @@ fn limit_word<'a>(alloc: Global) -> Arg<'a> {
         .value_parser(value_parser!(u64))
         .default_value("1000000")
         .help("How many events are executed at most")
+}
+
+/// `-k INTERVAL`.
+fn interval_word<'a>(alloc: Global) -> Arg<'a> {
+    Arg::new(alloc, "interval")
+        .short('k')
+        .long("interval")
+        .value_name("INTERVAL")
+        .value_parser(value_parser!(u64).range(1..=1000000))
+        .default_value("1000")
+        .help(
+            "After each multiple of how many events the state is stored, to which a run behind an edit can go back: 1 to 1000000",
+        )
 }
 
 /// `-o DIR`.
@@ -83,10 +100,11 @@ fn ned_word<'a>(alloc: Global) -> Arg<'a> {
         .help("The NED files")
 }
 
-/// A command with the options: the configuration, the limit and the directory.
+/// A command with the options: the configuration, the limit, the interval and the directory.
 fn with_options<'a>(alloc: Global, command: Command<'a>) -> Result<Command<'a>, AllocError> {
     let command = command.arg(config_word(alloc))?;
     let command = command.arg(limit_word(alloc))?;
+    let command = command.arg(interval_word(alloc))?;
     command.arg(directory_word(alloc))
 }
 
@@ -103,6 +121,16 @@ fn command<'a>(alloc: Global) -> Result<Command<'a>, AllocError> {
     let command = command.version(VERSION).after_help(MORE);
     let command = with_options(alloc, command)?;
     with_files(alloc, command)
+}
+
+/// The interval that was given: `clap` takes none below 1.
+fn given_interval(matches: &ArgMatches<'_>) -> u64
+    ensures { 1 ≤ result }
+{
+    match matches.get_one::<u64>("interval") {
+        Some(interval) if interval >= 1 => interval,
+        _ => 1000,
+    }
 }
 
 /// The folder of that name: an empty one is the folder that the program runs in.
@@ -125,7 +153,9 @@ fn given_words<R: Env + AllocGlobal>(rt: &R) -> Result<Vec<String>, Stop> {
 
 impl Words {
     /// The program's own words.
-    pub fn read<R: Env + AllocGlobal>(rt: &R) -> Result<Words, Stop> {
+    pub fn read<R: Env + AllocGlobal>(rt: &R) -> Result<Words, Stop>
+        ensures interval { IfOk result (λ words. 1 ≤ words.interval) }
+    {
         let alloc = rt.alloc();
         let given = given_words(rt)?;
         let matches = command(alloc)?.try_get_matches_from(given.as_slice())?;
@@ -136,6 +166,7 @@ impl Words {
         Ok(Words {
             config: String::from_str(alloc, matches.get_str("config").unwrap_or("General"))?,
             limit: matches.get_one::<u64>("limit").unwrap_or(1000000),
+            interval: given_interval(&matches),
             directory: String::from_str(
                 alloc,
                 folder(matches.get_str("directory").unwrap_or(".")),
