@@ -1,6 +1,6 @@
 //! A scenario at a desk, with the stock modules.
 
-ghost use Rattle.std.specs.Prelude.{◌≡◌, ℕ, ◌++◌, ◌∷◌, [], Some, IfOk, IfSome, IsSome, OnOk, OnErr, length};
+ghost use Rattle.std.specs.Prelude.{◌≡◌, ◌≤◌, ℕ, ◌++◌, ◌∷◌, [], Some, IfOk, IfSome, IsSome, OnOk, OnErr, length};
 ghost use Rattle.stock_desk.specs.Devices.{untouched, HasFailed};
 ghost use Rattle.stock_desk.specs.Stops.{at_stop};
 ghost use Rattle.transcripts.specs.Heard as heards;
@@ -257,7 +257,9 @@ fn told_by(player: Player<'_>, stop: Stop) -> Result<Vec<u8>, NoMemory> {
 }
 
 /// Plays a scenario. Answers what its lines lead to.
-pub fn play(alloc: Global, scenario: &Scenario<'_>) -> Result<Vec<u8>, NoMemory> {
+pub fn play(alloc: Global, scenario: &Scenario<'_>) -> Result<Vec<u8>, NoMemory>
+    requires interval { 1 ≤ scenario.now.interval }
+{
     let lines = lines_of(alloc, scenario.asked)?;
     let player = Player::new(alloc, lines.as_slice());
     match serve(
@@ -265,6 +267,7 @@ pub fn play(alloc: Global, scenario: &Scenario<'_>) -> Result<Vec<u8>, NoMemory>
         &scenario.texts,
         scenario.ini.as_bytes(),
         scenario.config.as_bytes(),
+        scenario.interval,
         player,
     ) {
         Ok((player, stop)) => told_by(player, stop),
