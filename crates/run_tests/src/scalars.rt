@@ -25,7 +25,7 @@ fn desk_of(alloc: Global, ned: &str) -> Result<Desk<Office>, Fail>
     let mut texts = NedTexts::new(alloc);
     texts.push(ned.as_bytes())?;
     let ini = b"[General]\nnetwork = N\n".as_slice();
-    let session = Session::<Office>::begin(alloc, &texts, ini, b"General".as_slice())?;
+    let session = Session::<Office>::begin(alloc, &texts, ini, b"General".as_slice(), 1000)?;
     Ok(Desk::of_session(alloc, session))
 }
 

@@ -8,9 +8,9 @@ use Rattle.edit_session.specs.Files.{scalars_of_run, vectors_of_run}
 use Rattle.desk.specs.Turns.{run_answer}
 use Rattle.worked_runs.specs.Models.{ticks, given, three_ticks}
 
--- the answer of the run to this limit, its scalar file, and its vector file
+-- the answer of the run to this limit where no position is stored, its scalar file, and its vector file
 pub record Gives (m : Model) (limit : ℕ) (answer scalars vectors : List ℕ) : Type 0 where
-  pub answer_is : run_answer stock m limit ≡ answer
+  pub answer_is : run_answer stock m limit [] ≡ answer
   pub scalars_are : scalars_of_run stock m limit ≡ scalars
   pub vectors_are : vectors_of_run stock m limit ≡ vectors
 

@@ -60,7 +60,7 @@ fn desk_of<C: Catalogue>(alloc: Global, texts: &NedTexts) -> Result<Desk<C>, Beg
     ensures { IfOk result (λ desk. IsSettled C.behaviour (λ b. ⟦<dyn SimpleModule as SimpleModule>⟧ b.vtable) desk) }
 {
     let ini = b"[General]\nnetwork = N\n".as_slice();
-    let session = Session::begin(alloc, texts, ini, b"General".as_slice())?;
+    let session = Session::begin(alloc, texts, ini, b"General".as_slice(), 1000)?;
     Ok(Desk::of_session(alloc, session))
 }
 
