@@ -1,0 +1,76 @@
+//! A scene of parameters that stand in a table.
+
+ghost use Rattle.std.specs.Prelude.{◌≡◌};
+ghost use Rattle.parameter_tests.specs.Rows.{setting_of, told};
+ghost use Rattle.parameter_values.specs.Scenes.{given_by};
+
+use indexmap::IndexMap;
+use ini_entries::entry::EntryValue;
+use ned_expressions::ast::Expression;
+use parameter_values::key::Key;
+use parameter_values::kind::Kind;
+use parameter_values::scene::{Given, Parameter, Scene, Section, Written};
+use sim_values::NoMemory;
+use std::alloc::Global;
+
+/// What the NED text gives a parameter.
+#[derive(Drop)]
+pub enum Said {
+    Nothing,
+    Fixed(Section, Expression),
+    Default(Section, Expression),
+}
+
+/// A parameter.
+#[derive(Drop)]
+pub struct Row {
+    pub kind: Kind,
+    /// The id of the enclosing module.
+    pub parent: u32,
+    pub said: Said,
+    /// What the ini text says for it.
+    pub entry: Option<EntryValue>,
+}
+
+/// Parameters, by their keys.
+#[derive(Drop)]
+pub struct Rows {
+    pub rows: IndexMap<Key, Row>,
+}
+
+/// What the NED text gives a parameter.
+fn told(said: &Said) -> Option<Given<'_>>
+    ensures { given_by result ≡ told said.now }
+{
+    match said {
+        Said::Nothing => None,
+        Said::Fixed(section, expression) => Some(Given::Fixed(Written {
+            section: *section,
+            expression,
+        })),
+        Said::Default(section, expression) => Some(Given::Default(Written {
+            section: *section,
+            expression,
+        })),
+    }
+}
+
+impl Scene for Rows {
+    ghost setting = { setting_of };
+
+    fn parameter(&self, key: &Key) -> Option<Parameter<'_>> {
+        let row = self.rows.get(key)?;
+        Some(Parameter {
+            kind: row.kind,
+            parent: row.parent,
+            given: told(&row.said),
+        })
+    }
+
+    fn entry(&self, _alloc: Global, key: &Key) -> Result<Option<&EntryValue>, NoMemory> {
+        let Some(row) = self.rows.get(key) else {
+            return Ok(None);
+        };
+        Ok(row.entry.as_ref())
+    }
+}
