@@ -4,3 +4,4 @@ pub mod InheritanceLaws
 pub mod Near
 pub mod Repeats
 pub mod NamedLaws
+pub mod Circles

@@ -28,7 +28,7 @@ near (t ∷ ts) (suc k) s name own at e = by (bytes_eq t.name name) refl (near t
 
 -- ---- types
 
-type_among : (ts : List TypeDeclaration) (k : ℕ) (t : TypeDeclaration) → slice_get ts k ≡ Some t → IsAmong t ts
+pub type_among : (ts : List TypeDeclaration) (k : ℕ) (t : TypeDeclaration) → slice_get ts k ≡ Some t → IsAmong t ts
 type_among [] k t e = cc
 type_among (u ∷ us) zero t e = let same : t ≡ u = cc in inl same
 type_among (u ∷ us) (suc k) t e = inr (type_among us k t e)

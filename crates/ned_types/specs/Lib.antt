@@ -1,6 +1,7 @@
 pub mod Types
 pub mod Flat
 pub mod Inheritance
+pub mod Circles
 pub mod WellFormed
 pub mod Building
 pub mod Seen

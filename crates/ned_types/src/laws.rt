@@ -1,9 +1,16 @@
 //! Laws of types.
 
+ghost use Rattle.ned_types.specs.Circles.{CirclesAreFound};
 ghost use Rattle.ned_types.specs.Example.{ExampleFaults, ExampleIsFlat};
 
 /// The flat types of small examples, and their faults.
 pub fn examples()
     ensures flat { ExampleIsFlat }
     ensures faults { ExampleFaults }
+{}
+
+/// A circle is found exactly where one of the types extends itself, perhaps by way of others: it is no matter that the
+/// definition counts steps.
+pub fn circles()
+    ensures { CirclesAreFound }
 {}
