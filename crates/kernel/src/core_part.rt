@@ -3,6 +3,7 @@
 ghost use Rattle.std.specs.Prelude.{◌≡◌, ◌+◌, ◌^◌, ◌<◌, OnOk, OnErr, IfOk, Some, true, [], ◌∷◌, ◌++◌, length, slice_get, ◌≤◌};
 ghost use Rattle.model_answers.specs.Answering.{answer_of, parameters_of};
 ghost use Rattle.model_answers.specs.Questions.{is_of_modules};
+ghost use Rattle.question_log.specs.Entries.{noted_in};
 ghost use Rattle.run_semantics.specs.World.{empty, asked, timed};
 ghost use Rattle.run_semantics.specs.Perform.{flow_of, perform, perform_all, scheduled, scheduled_at, ask_all, question_of, fault_of_read, parameter_fault, read_fault, acted, answered, broken};
 ghost use Rattle.run_semantics.specs.Ending.{is_last_action, perform_last, perform_last_all, acted_last, answered_last, with_finished};
@@ -19,7 +20,7 @@ ghost use Rattle.kernel.specs.Positions.{lengths_of, position_of, cut_to, core_b
 use crate::position::{Lengths, Position};
 use event_set::pending::{Happening, Pending};
 use event_set::set::EventSet;
-use model_answers::answer::{Answer, Asked, Built, Question};
+use model_answers::answer::{Answer, Built, Question};
 use model_answers::answering::{answer, is_beyond, parameters_of};
 use model_answers::injection::{Due, Injection, Turn as InjectionTurn, injection_before};
 use model_answers::model::Model as NetworkModel;
@@ -28,6 +29,7 @@ use module_api::call::{Call, Parameter, Prompt, find_value};
 use module_api::names::is_scalar_name;
 use module_api::reply::{Action, Read, Reply, Schedule};
 use question_log::cutting::cut_items;
+use question_log::entry::Entry;
 use question_log::log::QuestionLog;
 use run_semantics::outcome::{Fault, Outcome, Turn, fault_of};
 use run_semantics::traces::{Emission, Instance, Scalar};
@@ -170,10 +172,11 @@ impl Core {
         self.records.as_slice()
     }
 
-    pub fn questions(&self) -> &[Asked]
-        ensures { result.now ≡ self.now.questions }
+    /// What is noted of the questions.
+    pub fn questions(&self) -> &[Entry]
+        ensures { noted_in result.now ≡ self.now.questions }
     {
-        self.questions.as_slice()
+        self.questions.entries()
     }
 
     pub fn emissions(&self) -> &[Emission]
@@ -560,49 +563,50 @@ impl Core {
     }
 
     /// An event begins that is due then: it is counted, and what was asked before is noted, with the question whether the time limit allows it.
-    fn begin_event(&mut self, look: Look, time: SimTime) -> Result<(), NoMemory>
+    fn begin_event(&mut self, alloc: Global, look: Look, time: SimTime) -> Result<(), NoMemory>
         requires { self.old.count + 1 < 2 ^ 64 }
         ensures begun { let world = looked self.old look in
             OnOk result (self.new ≡ timed (BeyondLimit time) (record world { clock = time; count = world.count + 1 })) }
         ensures grown { IsGrownFrom self.old self.new }
     {
         let Look { delivered, asked } = look;
-        self.note_looks(asked.as_slice())?;
+        self.note_looks(alloc, asked.as_slice())?;
         self.delivered = delivered;
         self.clock = time;
         self.count += 1;
         self.questions
-            .note_time(self.count, Question::BeyondLimit(time.ps()))
+            .note_time(alloc, self.count, Question::BeyondLimit(time.ps()))
     }
 
     /// Notes the questions of these looks, which are of the event behind.
-    fn note_looks(&mut self, looks: &[LookedAt]) -> Result<(), NoMemory>
+    fn note_looks(&mut self, alloc: Global, looks: &[LookedAt]) -> Result<(), NoMemory>
         requires { self.old.count + 1 < 2 ^ 64 }
         ensures noted { OnOk result (self.new
             ≡ record self.old { questions = self.old.questions ++ asked_in (self.old.count + 1) looks.now }) }
         ensures grown { IsGrownFrom self.old self.new }
     {
         for look in looks {
-            self.note_look(look)?;
+            self.note_look(alloc, look)?;
         }
         Ok(())
     }
 
     /// Notes the question of a look, which is of the event behind.
-    fn note_look(&mut self, look: &LookedAt) -> Result<(), NoMemory>
+    fn note_look(&mut self, alloc: Global, look: &LookedAt) -> Result<(), NoMemory>
         requires { self.old.count + 1 < 2 ^ 64 }
         ensures noted { OnOk result (self.new
             ≡ record self.old { questions = self.old.questions ++ asked_in (self.old.count + 1) (look.now ∷ []) }) }
         ensures err { OnErr result (self.new ≡ self.old) }
     {
         let question = Question::InjectionBefore(look.due, look.last);
-        self.questions.note_time(self.count + 1, question)
+        self.questions.note_time(alloc, self.count + 1, question)
     }
 
     /// Begins an event that is none of those to come, or tells that it is too late.
     #[tactic(auto, using(crate::proofs::Lasting::growth_same))]
     fn begin_arrival(
         &mut self,
+        alloc: Global,
         model: &NetworkModel,
         look: Look,
         event: Pending,
@@ -615,7 +619,7 @@ impl Core {
         if is_beyond(model, event.time.ps()) {
             return Ok(Err(Outcome::TimeLimit));
         }
-        self.begin_event(look, event.time)?;
+        self.begin_event(alloc, look, event.time)?;
         Ok(Ok(event))
     }
 
@@ -623,6 +627,7 @@ impl Core {
     #[tactic(auto, using(crate::proofs::Lasting::growth_same))]
     fn begin_first(
         &mut self,
+        alloc: Global,
         model: &NetworkModel,
         look: Look,
     ) -> Result<Result<Pending, Outcome>, NoMemory>
@@ -637,7 +642,7 @@ impl Core {
         let Some(event) = self.pending.take_first() else {
             return Ok(Err(Outcome::NoMoreEvents));
         };
-        self.begin_event(look, event.time)?;
+        self.begin_event(alloc, look, event.time)?;
         Ok(Ok(event))
     }
 
@@ -655,6 +660,7 @@ impl Core {
     #[tactic(auto, using(crate::proofs::Lasting::growth_same))]
     pub fn begin(
         &mut self,
+        alloc: Global,
         model: &NetworkModel,
         look: Look,
         next: Next,
@@ -665,8 +671,8 @@ impl Core {
         ensures grown { IsGrownFrom self.old self.new }
     {
         match next {
-            Next::First => self.begin_first(model, look),
-            Next::Arrival(event) => self.begin_arrival(model, look, event),
+            Next::First => self.begin_first(alloc, model, look),
+            Next::Arrival(event) => self.begin_arrival(alloc, model, look, event),
             Next::Nothing => Ok(Err(Outcome::NoMoreEvents)),
         }
     }
@@ -802,7 +808,7 @@ impl Core {
             finished: self.finished.len(),
             emissions: self.emissions.len(),
             scalars: self.scalars.len(),
-            questions: self.questions.as_slice().len(),
+            questions: self.questions.len(),
         }
     }
 

@@ -3,6 +3,7 @@
 ghost use Rattle.std.specs.Prelude.{◌≡◌, ◌+◌, ◌^◌, ◌<◌, ◌≤◌, OnOk, OnErr, IfOk, IfErr, [], length, max, slice_get, drop, option_map, unwrap_or};
 ghost use Rattle.module_api.specs.Meaning.{IsOfKind, Answered, IsSameModule};
 ghost use Rattle.module_tree.specs.Boxes.{nothing};
+ghost use Rattle.question_log.specs.Entries.{noted_in};
 ghost use Rattle.run_semantics.specs.World.{empty, HasRoom};
 ghost use Rattle.run_semantics.specs.Perform.{flow_of, On};
 ghost use Rattle.run_semantics.specs.Event.{call_module, call_of, message_of, with_state};
@@ -21,7 +22,6 @@ use crate::core_part::{Core, Look, Next};
 use crate::position::Position;
 use crate::request::Request;
 use event_set::pending::{Happening, Pending};
-use model_answers::answer::Asked;
 use model_answers::injection::Injection;
 use model_answers::model::Model;
 use model_answers::record::{Record, path_of};
@@ -31,6 +31,7 @@ use module_api::message::{Message, Origin};
 use module_api::reply::Reply;
 use module_api::simple_module::SimpleModule;
 use module_tree::Tree;
+use question_log::entry::Entry;
 use run_semantics::outcome::{Fault, Outcome, Turn};
 use run_semantics::traces::{Emission, Instance, Scalar};
 use sim_values::NoMemory;
@@ -80,9 +81,9 @@ impl<C: Catalogue> Kernel<C> {
         self.core.records()
     }
 
-    /// What was asked of the model.
-    pub fn questions(&self) -> &[Asked]
-        ensures { result.now ≡ (world_in SimpleModule-box self.now).questions }
+    /// What is noted of the questions that were asked of the model.
+    pub fn questions(&self) -> &[Entry]
+        ensures { noted_in result.now ≡ (world_in SimpleModule-box self.now).questions }
     {
         self.core.questions()
     }
@@ -424,7 +425,7 @@ impl<C: Catalogue> Kernel<C> {
             return Ok(Some(Outcome::Ended));
         }
         let (look, next) = self.upcoming(alloc, model)?;
-        match self.core.begin(model, look, next)? {
+        match self.core.begin(alloc, model, look, next)? {
             Ok(event) => {
                 let id = event.id;
                 let prompt = Prompt::Message(message_of(alloc, event));

@@ -2,4 +2,5 @@
 #![tactic(auto)]
 
 pub mod cutting;
+pub mod entry;
 pub mod log;

@@ -3,11 +3,13 @@
 ghost use Rattle.std.specs.Prelude.{◌≡◌, [], ◌∷◌, ◌++◌, true, false, OnOk, OnErr, drop, length, take};
 ghost use Rattle.model_answers.specs.Questions.{is_of_modules};
 ghost use Rattle.run_semantics.specs.World.{noted};
+ghost use Rattle.question_log.specs.Entries.{noted_in, asked_of};
 ghost use Rattle.question_log.specs.Keys.{about_modules};
 
 use crate::cutting::cut_items;
+use crate::entry::{Entry, noted};
 use indexmap::IndexSet;
-use model_answers::answer::{Asked, Question};
+use model_answers::answer::Question;
 use sim_values::NoMemory;
 use sqlite_items::Items;
 use std::alloc::Global;
@@ -17,7 +19,7 @@ use std::marker::Model;
 /// asked it; it is looked for in time that doesn't grow with their number. Contracts see the list.
 #[derive(Drop)]
 pub struct QuestionLog {
-    asked: Items<Asked>,
+    entries: Items<Entry>,
     /// The questions about modules among them.
     about_modules: IndexSet<Question>,
 }
@@ -25,13 +27,14 @@ pub struct QuestionLog {
 impl Model for QuestionLog {
     ghost use Rattle.std.specs.Prelude.{List};
     ghost use Rattle.model_answers.specs.declared.answer.Asked.{Asked};
+    ghost use Rattle.question_log.specs.Entries.{noted_in};
     ghost use Rattle.question_log.specs.Keys.{AreKeysOf};
 
     ghost Value = { List Asked };
 
-    ghost view = { λ l. l.asked };
+    ghost view = { λ l. noted_in l.entries };
 
-    ghost invariant = { λ l. AreKeysOf l.asked l.about_modules.keys };
+    ghost invariant = { λ l. AreKeysOf (noted_in l.entries) l.about_modules.keys };
 }
 
 impl QuestionLog {
@@ -40,16 +43,23 @@ impl QuestionLog {
         ensures { result ≡ [] }
     {
         QuestionLog {
-            asked: Items::new(alloc),
+            entries: Items::new(alloc),
             about_modules: IndexSet::new(alloc),
         }
     }
 
-    /// The questions.
-    pub fn as_slice(&self) -> &[Asked]
-        ensures { result.now ≡ self.now }
+    /// How many questions were asked.
+    pub fn len(&self) -> usize
+        ensures { result ≡ length self.now }
     {
-        self.asked.as_slice()
+        self.entries.len()
+    }
+
+    /// What is noted of the questions.
+    pub fn entries(&self) -> &[Entry]
+        ensures { noted_in result.now ≡ self.now }
+    {
+        self.entries.as_slice()
     }
 
     /// Notes that a question about modules is asked in that event. One that was asked before is not noted again.
@@ -62,23 +72,28 @@ impl QuestionLog {
             return Ok(());
         }
         let key = question.copy(alloc)?;
-        self.asked.push(Asked { event, question })?;
+        self.entries.push(noted(alloc, event, question)?)?;
         match self.about_modules.insert(key) {
             Ok(_) => Ok(()),
             Err(failed) => {
-                self.asked.pop();
+                self.entries.pop();
                 Err(failed.into())
             }
         }
     }
 
     /// Notes what is asked of the time of that event.
-    pub fn note_time(&mut self, event: u64, question: Question) -> Result<(), NoMemory>
+    pub fn note_time(
+        &mut self,
+        alloc: Global,
+        event: u64,
+        question: Question,
+    ) -> Result<(), NoMemory>
         requires { is_of_modules question ≡ false }
         ensures ok { OnOk result (self.new ≡ self.old ++ record { event = event; question = question } ∷ []) }
         ensures err { OnErr result (self.new ≡ self.old) }
     {
-        self.asked.push(Asked { event, question })?;
+        self.entries.push(noted(alloc, event, question)?)?;
         Ok(())
     }
 
@@ -86,44 +101,55 @@ impl QuestionLog {
     pub fn cut(&mut self, left: usize)
         ensures { self.new ≡ take left self.old }
     {
-        let forgotten = count_behind(self.asked.as_slice(), left);
+        let forgotten = count_behind(self.entries.as_slice(), left);
         let kept = self.about_modules.len() - forgotten;
         self.about_modules.truncate(kept);
-        cut_items(&mut self.asked, left);
+        cut_items(&mut self.entries, left);
     }
 }
 
 /// How many questions about modules stand behind the first ones, of which there are so many.
-fn count_behind(asked: &[Asked], first: usize) -> usize
-    ensures { result ≡ length (about_modules (drop first asked.now)) }
+fn count_behind(entries: &[Entry], first: usize) -> usize
+    ensures { result ≡ length (about_modules (noted_in (drop first entries.now))) }
 {
-    if first >= asked.len() {
+    if first >= entries.len() {
         return 0;
     }
-    let (_, behind) = asked.split_at(first);
+    let (_, behind) = entries.split_at(first);
     count_about(behind)
 }
 
 /// How many questions are about modules.
-fn count_about(asked: &[Asked]) -> usize
-    ensures { result ≡ length (about_modules asked.now) }
+fn count_about(entries: &[Entry]) -> usize
+    ensures { result ≡ length (about_modules (noted_in entries.now)) }
 {
     let mut count = 0;
-    for a in asked {
-        if is_about_modules(&a.question) {
+    for entry in entries {
+        if is_about_modules(entry) {
             count += 1;
         }
     }
     count
 }
 
+/// Whether what is noted is a question about modules.
+fn is_about_modules(entry: &Entry) -> bool
+    ensures { result ≡ is_of_modules (asked_of entry.now).question }
+{
+    match entry {
+        Entry::BeyondLimit { .. } | Entry::FirstInjection { .. } => false,
+        Entry::Other { question, .. } => is_of_modules(question.get()),
+    }
+}
+
 /// Whether a question is about modules.
-fn is_about_modules(question: &Question) -> bool
+fn is_of_modules(question: &Question) -> bool
     ensures { result ≡ is_of_modules question.now }
 {
     match question {
-        Question::Root | Question::Build(_) | Question::Param(_, _) | Question::GateSize(_, _) =>
-            true,
+        Question::Root | Question::Build(_) | Question::Param(_, _) | Question::GateSize(_, _) => {
+            true
+        }
         Question::BeyondLimit(_) | Question::InjectionBefore(_, _) => false,
     }
 }

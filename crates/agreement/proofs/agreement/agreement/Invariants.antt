@@ -1,9 +1,11 @@
 use Rattle.std.proofs.Common.{◌≤◌, Option, ℕ, drop}
+use Rattle.question_log.specs.Entries.{noted_in}
 use Rattle.run_semantics.specs.Agreement.{IsAgreement}
 use Rattle.agreement.proofs.agreement.agreement.Given as goal
 
 abbrev pub invariant-loop-entry : goal.invariant-loop-entry
 invariant-loop-entry l = record {
   within : l.valid ≤ l.last;
-  rest : (found : Option ℕ) → IsAgreement l.one l.other l.records l.valid (drop l.entry-index l.asked) found → IsAgreement l.one l.other l.records l.last l.asked found;
+  rest : (found : Option ℕ) → IsAgreement l.one l.other l.records l.valid (noted_in (drop l.entry-index l.asked)) found
+      → IsAgreement l.one l.other l.records l.last (noted_in l.asked) found;
 }
