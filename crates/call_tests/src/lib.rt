@@ -1,0 +1,7 @@
+//! How often modules are called behind an edit.
+#![tactic(auto)]
+
+#[cfg(test)]
+mod calls;
+#[cfg(test)]
+mod counted;
