@@ -1,15 +1,19 @@
 //! Why a run ended with a fault.
 
+use ini_config::entries::value_for;
+use ini_entries::entry::EntryValue;
 use model_answers::answer::ModelFault;
 use model_answers::model::Model;
 use model_answers::parameters::parameter_value;
+use model_answers::record::path_under;
 use model_texts::begin::model_of;
-use ned_syntax::ast::{Declaration, ParameterWord, SectionLine, TypeDeclaration};
-use ned_types::flat::{class_of, submodule_named};
+use ned_syntax::ast::{Declaration, ParameterValue, ParameterWord, SectionLine, TypeDeclaration};
+use ned_types::flat::{class_of, last_value, submodule_named};
 use sim_values::NoMemory;
 use sim_values::value::Dimension;
 use std::alloc::Global;
 use std::fmt::Write;
+use text_explanations::members::tell_place_of_value;
 use text_explanations::names::{shown, tell_list};
 use text_explanations::sources::Sources;
 
@@ -84,6 +88,45 @@ fn parameter_fault(name: &str) -> Option<ModelFault> {
     }
 }
 
+/// Whether the value of a parameter of a type with these lines, of the module of that path, is one of a NED file.
+fn is_from_ned(
+    alloc: Global,
+    model: &Model,
+    path: &[u8],
+    name: &[u8],
+    lines: &[SectionLine],
+) -> Result<bool, NoMemory> {
+    match last_value(name, lines) {
+        Some(ParameterValue::Fixed(_)) => Ok(true),
+        Some(ParameterValue::Default(_)) => {
+            let full = path_under(alloc, path, name)?;
+            let entry = value_for(model.ini.lines(), model.chain.as_slice(), full.as_bytes());
+            Ok(!matches!(entry, Some(EntryValue::Given(_))))
+        }
+        None => Ok(false),
+    }
+}
+
+/// Adds what is wrong with the value of a parameter of that name, which a NED file gives.
+fn tell_wrong_in_ned(
+    told: &mut String,
+    path: &str,
+    name: &str,
+    kind: &str,
+    fault: ModelFault,
+) -> Result<(), NoMemory> {
+    match fault {
+        ModelFault::Unassigned => {
+            write!(
+                told,
+                "the value of '{path}.{name}' refers to something, and references have no values yet: write it with literals"
+            )?;
+            Ok(())
+        }
+        _ => tell_wrong(told, path, name, kind, fault),
+    }
+}
+
 /// Adds what is wrong with the value of a parameter of that name, which takes values of that kind.
 fn tell_wrong(
     told: &mut String,
@@ -126,9 +169,20 @@ fn tell_parameter(
     let Some(declaration) = blamed(alloc, model, fault.path, of, found)? else {
         return Ok(());
     };
+    let name = declaration.name.as_bytes();
+    let kind = kind_of(declaration);
+    if is_from_ned(
+        alloc,
+        model,
+        fault.path.as_bytes(),
+        name,
+        of.lines.as_slice(),
+    )? {
+        tell_place_of_value(alloc, told, sources, of.name.as_bytes(), name)?;
+        return tell_wrong_in_ned(told, fault.path, shown(name), kind, found);
+    }
     write!(told, "{}: ", sources.ini_path)?;
-    let name = shown(declaration.name.as_bytes());
-    tell_wrong(told, fault.path, name, kind_of(declaration), found)
+    tell_wrong(told, fault.path, shown(name), kind, found)
 }
 
 /// Adds which parameters a type declares, of which the module reads another.

@@ -14,7 +14,6 @@ use Rattle.ned_expressions.specs.declared.ast.Expression.{Expression, the_lemmas
 use Rattle.ned_expressions.specs.declared.ast.Expression.TheVariants as expression
 use Rattle.ned_expressions.specs.declared.ast.Scope.{Scope}
 use Rattle.ned_expressions.specs.declared.ast.Scope.TheVariants as scope
-use Rattle.ned_values.specs.declared.ast.Expression.TheVariants as ned_expression
 use Rattle.ned_syntax.specs.declared.ast.Declaration.{Declaration}
 use Rattle.ned_syntax.specs.declared.ast.ParameterValue.{ParameterValue}
 use Rattle.ned_syntax.specs.declared.ast.ParameterValue.TheVariants as given
@@ -32,10 +31,10 @@ use Rattle.param_eval.specs.Values.{Valued, valued, asked, answered, value_in}
 use Rattle.model_answers.specs.declared.model.Model.{Model}
 use Rattle.model_answers.specs.declared.record.Record.{Record}
 use Rattle.model_answers.specs.Models.{entries_in, type_at}
-use Rattle.model_answers.specs.Parameters.{told, chosen, checked, checked_value, value_of_ini, evaluated, parameter_value, is_of_kind, literal_of}
+use Rattle.model_answers.specs.Parameters.{told, chosen, checked, checked_value, value_of_expression, evaluated, parameter_value, is_of_kind}
 use Rattle.model_answers.specs.Records.{record_at, path_of, path_under}
 use Rattle.model_answers.specs.Referring.{Key, Section, Given, Setting, Asked, same_key, referring, nothing_meant, meant, given_first, given_in, of_kind, asked_of, asked_in, asking_of, rules_of, value_at, setting_of, placed, declared_in, parent_of, OfType, OfBody, Fixed}
-use Rattle.model_answers.specs.ReferringLaws.{IsAsAnswered, IsChained, IsDeclared, AreWorked, whole, number, both_ways, fixed_four, default_four, default_kept, of_network}
+use Rattle.model_answers.specs.ReferringLaws.{AsksNothing, RefersToNothing, IsAsAnswered, IsChained, IsDeclared, AreWorked, whole, number, both_ways, fixed_four, default_four, default_kept, of_network}
 use Rattle.model_answers.specs.ReferringLaws as rows
 
 -- ---- the value of a key
@@ -75,12 +74,17 @@ refers_not answers (Ask r rest) = refl
 at_literal : (v : Value) → valued (expression.Literal v) ≡ Done (Ok v)
 at_literal v = search the_lemmas
 
+-- what asks for nothing comes to its value, whatever references mean
+asks_not : (answers : Key → Option Evaluated) (m : Reference → Option Key) (t : Valued) → AsksNothing t → outcome answers (referring m t) ≡ Some (answered (λ r. Err Unassigned) t)
+asks_not answers m (Done found) h = refl
+asks_not answers m (Ask r rest) h = absurd h
+
 -- what gives a parameter its value, as it is answered
 abbrev first_found : Option ParameterValue → Option EntryValue → Evaluated
-first_found (Some (given.Fixed (ned_expression.Literal v))) found = Ok v
+first_found (Some (given.Fixed e)) found = value_in (λ r. Err Unassigned) e
 first_found (Some (given.Default e)) (Some (entry.Given f)) = value_in (λ r. Err Unassigned) f
-first_found (Some (given.Default (ned_expression.Literal v))) (Some entry.Default) = Ok v
-first_found (Some (given.Default (ned_expression.Literal v))) None = Ok v
+first_found (Some (given.Default e)) (Some entry.Default) = value_in (λ r. Err Unassigned) e
+first_found (Some (given.Default e)) None = value_in (λ r. Err Unassigned) e
 first_found None (Some (entry.Given f)) = value_in (λ r. Err Unassigned) f
 first_found None (Some entry.Default) = Err Unassigned
 first_found None None = Err Unassigned
@@ -89,27 +93,27 @@ module _ (answers : Key → Option Evaluated) (means : Section → Reference →
   literal_given : (m : Reference → Option Key) (v : Value) → outcome answers (referring m (valued (expression.Literal v))) ≡ Some (Ok v)
   literal_given m v = ap (λ (t : Valued). outcome answers (referring m t)) (at_literal v)
 
-  comes_first : (g : Option ParameterValue) (found : Option EntryValue) → outcome answers (given_first means (given_in g) found) ≡ Some (first_found g found)
-  comes_first (Some (given.Fixed (ned_expression.Literal v))) found = literal_given (means OfType) v
-  comes_first (Some (given.Default (ned_expression.Literal v))) (Some (entry.Given f)) = refers_not answers (valued f)
-  comes_first (Some (given.Default (ned_expression.Literal v))) (Some entry.Default) = literal_given (means OfType) v
-  comes_first (Some (given.Default (ned_expression.Literal v))) None = literal_given (means OfType) v
-  comes_first None (Some (entry.Given f)) = refers_not answers (valued f)
-  comes_first None (Some entry.Default) = refl
-  comes_first None None = refl
+  comes_first : (g : Option ParameterValue) (found : Option EntryValue) → RefersToNothing g found → outcome answers (given_first means (given_in g) found) ≡ Some (first_found g found)
+  comes_first (Some (given.Fixed e)) found h = asks_not answers (means OfType) (valued e) h
+  comes_first (Some (given.Default e)) (Some (entry.Given f)) h = refers_not answers (valued f)
+  comes_first (Some (given.Default e)) (Some entry.Default) h = asks_not answers (means OfType) (valued e) h
+  comes_first (Some (given.Default e)) None h = asks_not answers (means OfType) (valued e) h
+  comes_first None (Some (entry.Given f)) h = refers_not answers (valued f)
+  comes_first None (Some entry.Default) h = refl
+  comes_first None None h = refl
 
--- a literal of the ini text, which is not evaluated, is worth what it says
-ini_told : (f : Expression) → told (value_in (λ r. Err Unassigned) f) ≡ value_of_ini f
-unfolding value_of_ini
-ini_told (expression.Literal v) = ap (λ (t : Valued). told (answered (λ r. Err Unassigned) t)) (at_literal v)
-ini_told _ = refl
+-- a literal, which is not evaluated, is worth what it says
+value_told : (f : Expression) → told (value_in (λ r. Err Unassigned) f) ≡ value_of_expression f
+unfolding value_of_expression
+value_told (expression.Literal v) = ap (λ (t : Valued). told (answered (λ r. Err Unassigned) t)) (at_literal v)
+value_told _ = refl
 
 first_told : (g : Option ParameterValue) (found : Option EntryValue) → told (first_found g found) ≡ chosen g found
-first_told (Some (given.Fixed (ned_expression.Literal v))) found = refl
-first_told (Some (given.Default (ned_expression.Literal v))) (Some (entry.Given f)) = ini_told f
-first_told (Some (given.Default (ned_expression.Literal v))) (Some entry.Default) = refl
-first_told (Some (given.Default (ned_expression.Literal v))) None = refl
-first_told None (Some (entry.Given f)) = ini_told f
+first_told (Some (given.Fixed e)) found = value_told e
+first_told (Some (given.Default e)) (Some (entry.Given f)) = value_told f
+first_told (Some (given.Default e)) (Some entry.Default) = value_told e
+first_told (Some (given.Default e)) None = value_told e
+first_told None (Some (entry.Given f)) = value_told f
 first_told None (Some entry.Default) = refl
 first_told None None = refl
 
@@ -149,21 +153,21 @@ module _ (m : Model) (records : List Record) (id : ℕ) (t : TypeDeclaration) (d
   abbrev above : ℕ
   above = parent_of (record_at records id)
 
-  comes : type_at m records id ≡ Some t → declaration_named d.name t.lines ≡ Some d → (answers : Key → Option Evaluated)
+  comes : type_at m records id ≡ Some t → declaration_named d.name t.lines ≡ Some d → RefersToNothing given_here said → (answers : Key → Option Evaluated)
       → outcome answers (asking_of (setting_of m records) asked_key) ≡ Some (kept d.word d.unit (first_found given_here said))
-  comes at named answers =
+  comes at named alone answers =
       ap (λ (o : Option TypeDeclaration). outcome answers (asked_in (setting_of m records) asked_key (placed (path_of records id) above o))) at
       ∙ ap (λ (o : Option Declaration). outcome answers (asked_of said above id (declared_in t.lines d.name o))) named
-      ∙ comes_kept answers d.word d.unit (given_first (meant above id) (given_in given_here) said) (first_found given_here said) (comes_first answers (meant above id) given_here said)
+      ∙ comes_kept answers d.word d.unit (given_first (meant above id) (given_in given_here) said) (first_found given_here said) (comes_first answers (meant above id) given_here said alone)
 
-  answered_so : type_at m records id ≡ Some t → declaration_named d.name t.lines ≡ Some d
+  answered_so : type_at m records id ≡ Some t → declaration_named d.name t.lines ≡ Some d → RefersToNothing given_here said
       → told (value_at (setting_of m records) asked_key) ≡ parameter_value (entries_in m) (path_of records id) t.lines d
-  answered_so at named =
-      ap told (done_is (setting_of m records) asked_key (kept d.word d.unit (first_found given_here said)) (comes at named))
+  answered_so at named alone =
+      ap told (done_is (setting_of m records) asked_key (kept d.word d.unit (first_found given_here said)) (comes at named alone))
       ∙ kept_told d (first_found given_here said) ∙ ap (checked d) (first_told given_here said)
 
 pub as_answered : IsAsAnswered
-as_answered m records id t d at named = answered_so m records id t d at named
+as_answered m records id t d at named alone = answered_so m records id t d at named alone
 
 -- ---- references
 

@@ -10,10 +10,8 @@ use Rattle.ini_entries.specs.declared.entry.EntryValue.{EntryValue}
 use Rattle.ini_entries.specs.declared.entry.EntryValue.TheVariants as entry
 use Rattle.ini_config.specs.Entries.{value_for}
 use Rattle.ned_syntax.specs.declared.ast.Declaration.{Declaration}
-use Rattle.ned_expressions.specs.declared.ast.Expression as ini
-use Rattle.ned_expressions.specs.declared.ast.Expression.TheVariants as ini_expression
-use Rattle.ned_values.specs.declared.ast.Expression.{Expression}
-use Rattle.ned_values.specs.declared.ast.Expression.TheVariants.{Literal}
+use Rattle.ned_expressions.specs.declared.ast.Expression.{Expression}
+use Rattle.ned_expressions.specs.declared.ast.Expression.TheVariants.{Literal}
 use Rattle.ned_syntax.specs.declared.ast.ParameterValue.{ParameterValue}
 use Rattle.ned_syntax.specs.declared.ast.ParameterValue.TheVariants as given
 use Rattle.ned_syntax.specs.declared.ast.ParameterWord.{ParameterWord}
@@ -28,10 +26,6 @@ use Rattle.model_answers.specs.declared.answer.ModelFault.{ModelFault}
 use Rattle.model_answers.specs.declared.answer.ModelFault.TheVariants.{Unassigned, Overflow, Inexact, Mismatch}
 use Rattle.model_answers.specs.Records.{path_under}
 
--- the value of an expression of a NED text
-abbrev pub literal_of : Expression → Value
-literal_of (Literal v) = v
-
 -- why an expression has no value; where no reference has one there are no other faults
 abbrev pub fault_of : Fault → ModelFault
 fault_of eval_fault.Overflow = Overflow
@@ -43,32 +37,32 @@ abbrev pub told : Evaluated → Result Value ModelFault
 told (Ok v) = Ok v
 told (Err f) = Err (fault_of f)
 
--- the literal that an expression of the ini text is
-abbrev pub literal_in : ini.Expression → Option Value
-literal_in (ini_expression.Literal v) = Some v
+-- the literal that an expression is
+abbrev pub literal_in : Expression → Option Value
+literal_in (Literal v) = Some v
 literal_in _ = None
 
 -- the value of an expression, or its first fault in the order of its evaluation, where no reference has a value
-abbrev pub evaluated : ini.Expression → Result Value ModelFault
+abbrev pub evaluated : Expression → Result Value ModelFault
 evaluated e = told (value_in (λ reference. Err eval_fault.Unassigned) e)
 
 abbrev pub literal_or : Option Value → Result Value ModelFault → Result Value ModelFault
 literal_or (Some v) found = Ok v
 literal_or None found = found
 
--- the value of an expression of the ini text: a literal is its own, any other is evaluated. It is constant (`is_constant` of
--- ini_entries), and so asks for no reference.
-unfoldable pub value_of_ini : ini.Expression → Result Value ModelFault
-value_of_ini e = literal_or (literal_in e) (evaluated e)
+-- the value of an expression of a NED text or the ini text: a literal is its own, any other is evaluated, and is Unassigned where
+-- its evaluation comes to a reference. One of the ini text is constant (`is_constant` of ini_entries), and refers to nothing.
+unfoldable pub value_of_expression : Expression → Result Value ModelFault
+value_of_expression e = literal_or (literal_in e) (evaluated e)
 
 -- what gives a parameter its value, the first that exists of: the fixed value of the type; the expression of the first matching entry,
 -- where `default` means the next case; the default of the type
 abbrev pub chosen : Option ParameterValue → Option EntryValue → Result Value ModelFault
-chosen (Some (given.Fixed e)) entry = Ok (literal_of e)
-chosen (Some (given.Default e)) (Some (entry.Given f)) = value_of_ini f
-chosen (Some (given.Default e)) (Some entry.Default) = Ok (literal_of e)
-chosen (Some (given.Default e)) None = Ok (literal_of e)
-chosen None (Some (entry.Given f)) = value_of_ini f
+chosen (Some (given.Fixed e)) entry = value_of_expression e
+chosen (Some (given.Default e)) (Some (entry.Given f)) = value_of_expression f
+chosen (Some (given.Default e)) (Some entry.Default) = value_of_expression e
+chosen (Some (given.Default e)) None = value_of_expression e
+chosen None (Some (entry.Given f)) = value_of_expression f
 chosen None (Some entry.Default) = Err Unassigned
 chosen None None = Err Unassigned
 

@@ -8,8 +8,6 @@ use Rattle.sim_values.specs.declared.value.Value.{Value}
 use Rattle.ned_expressions.specs.declared.ast.Expression.{Expression}
 use Rattle.ned_expressions.specs.declared.ast.Expression.TheVariants as expression
 use Rattle.ned_expressions.specs.declared.ast.Scope.TheVariants as scope
-use Rattle.ned_values.specs.declared.ast.Expression as ned
-use Rattle.ned_values.specs.declared.ast.Expression.TheVariants as ned_expression
 use Rattle.ned_syntax.specs.declared.ast.Declaration.{Declaration}
 use Rattle.ned_syntax.specs.declared.ast.ParameterValue.{ParameterValue}
 use Rattle.ned_syntax.specs.declared.ast.ParameterValue.TheVariants as given
@@ -141,14 +139,10 @@ value_at s k = value_of (rules_of s) k
 
 -- ---- the modules of a model
 
--- an expression of a NED text is so far a literal
-abbrev pub as_expression : ned.Expression → Expression
-as_expression (ned_expression.Literal v) = expression.Literal v
-
 abbrev pub given_in : Option ParameterValue → Option Given
 given_in None = None
-given_in (Some (given.Fixed e)) = Some (Fixed OfType (as_expression e))
-given_in (Some (given.Default e)) = Some (Default OfType (as_expression e))
+given_in (Some (given.Fixed e)) = Some (Fixed OfType e)
+given_in (Some (given.Default e)) = Some (Default OfType e)
 
 abbrev pub declared_in : List SectionLine → List ℕ → Option Declaration → Option Declared
 declared_in lines name None = None

@@ -1,27 +1,46 @@
 -- What holds of values of parameters that refer to other parameters, and small settings whose values were worked out by hand.
 use Rattle.std.specs.Prelude.{ℕ, suc, ◌==◌, ◌≡◌, ◌<◌, ◌^◌, ℤ, pos, List, Option, Some, None, Ok, Err, bytes_eq, codes, if◌then◌else◌}
+use Rattle.asking.specs.Asking.{Done, Ask}
 use Rattle.sim_values.specs.declared.value.Value.TheVariants as value
 use Rattle.ned_expressions.specs.declared.ast.Expression.{Expression}
 use Rattle.ned_expressions.specs.declared.ast.Expression.TheVariants as expression
 use Rattle.ned_expressions.specs.declared.ast.Scope.TheVariants as scope
 use Rattle.ned_syntax.specs.declared.ast.Declaration.{Declaration}
+use Rattle.ned_syntax.specs.declared.ast.ParameterValue.{ParameterValue}
+use Rattle.ned_syntax.specs.declared.ast.ParameterValue.TheVariants as given
 use Rattle.ned_syntax.specs.declared.ast.ParameterWord.TheVariants as word
 use Rattle.ned_syntax.specs.declared.ast.TypeDeclaration.{TypeDeclaration}
-use Rattle.ned_types.specs.Flat.{declaration_named}
+use Rattle.ned_types.specs.Flat.{declaration_named, last_value}
+use Rattle.ini_config.specs.Entries.{value_for}
 use Rattle.ini_entries.specs.declared.entry.EntryValue.{EntryValue}
 use Rattle.ini_entries.specs.declared.entry.EntryValue.TheVariants as entry
 use Rattle.param_eval.specs.declared.fault.Fault.TheVariants.{Circle, Unassigned}
+use Rattle.param_eval.specs.Values.{Valued, valued}
 use Rattle.model_answers.specs.declared.model.Model.{Model}
 use Rattle.model_answers.specs.declared.record.Record.{Record}
 use Rattle.model_answers.specs.Models.{entries_in, type_at}
 use Rattle.model_answers.specs.Parameters.{parameter_value, told}
-use Rattle.model_answers.specs.Records.{path_of}
+use Rattle.model_answers.specs.Records.{path_of, path_under}
 use Rattle.model_answers.specs.Referring.{Key, OfType, OfBody, Given, Fixed, Default, Declared, Placed, Setting, value_at, setting_of}
 
--- AS ANSWERED: the value of a parameter of a module that is there, found by following references, is the one that the model answers
+-- an evaluation that comes to no reference
+abbrev pub AsksNothing : Valued → Type 0
+AsksNothing (Done found) = Unit {0}
+AsksNothing (Ask r rest) = ⊥
+
+-- the evaluation of the NED text's expression comes to no reference, where that expression gives the value
+abbrev pub RefersToNothing : Option ParameterValue → Option EntryValue → Type 0
+RefersToNothing (Some (given.Fixed e)) found = AsksNothing (valued e)
+RefersToNothing (Some (given.Default e)) (Some (entry.Given f)) = Unit {0}
+RefersToNothing (Some (given.Default e)) _ = AsksNothing (valued e)
+RefersToNothing None found = Unit {0}
+
+-- AS ANSWERED: the value of a parameter of a module that is there, found by following references, is the one that the model answers,
+-- which follows none
 abbrev pub IsAsAnswered : Type 0
 IsAsAnswered = (m : Model) (records : List Record) (id : ℕ) (t : TypeDeclaration) (d : Declaration) →
     type_at m records id ≡ Some t → declaration_named d.name t.lines ≡ Some d →
+    RefersToNothing (last_value d.name t.lines) (value_for (path_under (path_of records id) d.name) (entries_in m)) →
     told (value_at (setting_of m records) (record { id = id; name = d.name })) ≡ parameter_value (entries_in m) (path_of records id) t.lines d
 
 -- `int x = e;` or `int x = default(e);`

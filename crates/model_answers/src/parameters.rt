@@ -4,7 +4,7 @@ ghost use Rattle.std.specs.Prelude.{◌≡◌, IfOk};
 ghost use Rattle.std.specs.Option.{option_copied};
 ghost use Rattle.ini_config.specs.Entries.{value_for};
 ghost use Rattle.model_answers.specs.Models.{entries_in};
-ghost use Rattle.model_answers.specs.Parameters.{literal_of, fault_of, literal_in, evaluated, value_of_ini, chosen, parameter_value, is_of_kind, checked};
+ghost use Rattle.model_answers.specs.Parameters.{fault_of, literal_in, evaluated, value_of_expression, chosen, parameter_value, is_of_kind, checked};
 ghost use Rattle.model_answers.specs.Records.{path_under};
 
 use crate::answer::ModelFault;
@@ -13,16 +13,14 @@ use crate::record::path_under;
 use ini_config::entries::value_for;
 use ini_entries::entry::EntryValue;
 use ned_expressions::ast::Expression;
-use ned_syntax::ast::{
-    Declaration, Expression as NedExpression, ParameterValue, ParameterWord, SectionLine,
-};
+use ned_syntax::ast::{Declaration, ParameterValue, ParameterWord, SectionLine};
 use ned_types::flat::last_value;
 use param_eval::evaluation::evaluate;
 use param_eval::fault::Fault;
 use param_eval::names::NoNames;
 use sim_values::NoMemory;
 use sim_values::value::{Dimension, Value};
-use std::alloc::{AllocError, Global};
+use std::alloc::Global;
 
 /// The model's fault where an expression has no value.
 fn fault_of(fault: Fault) -> ModelFault
@@ -46,7 +44,7 @@ fn evaluated(alloc: Global, expression: &Expression) -> Result<Result<Value, Mod
     }
 }
 
-/// The literal that an expression of the ini text is.
+/// The literal that an expression is.
 fn literal_in(expression: &Expression) -> Option<&Value>
     ensures { option_copied result ≡ literal_in expression.now }
 {
@@ -56,26 +54,18 @@ fn literal_in(expression: &Expression) -> Option<&Value>
     }
 }
 
-/// The value of an expression of the ini text, or its first fault. A literal is not evaluated.
-#[tactic(auto, unfolding(crate::specs::Parameters::value_of_ini))]
-fn value_of_ini(
+/// The value of an expression of a NED text or the ini text, or its first fault: `Unassigned` where its evaluation comes to a
+/// reference. A literal is not evaluated.
+#[tactic(auto, unfolding(crate::specs::Parameters::value_of_expression))]
+fn value_of_expression(
     alloc: Global,
     expression: &Expression,
 ) -> Result<Result<Value, ModelFault>, NoMemory>
-    ensures { IfOk result (λ found. found ≡ value_of_ini expression.now) }
+    ensures { IfOk result (λ found. found ≡ value_of_expression expression.now) }
 {
     match literal_in(expression) {
         Some(value) => Ok(Ok(value.copy(alloc)?)),
         None => evaluated(alloc, expression),
-    }
-}
-
-/// The value of an expression of a NED text.
-fn value_of_ned(alloc: Global, expression: &NedExpression) -> Result<Value, AllocError>
-    ensures { IfOk result (λ value. value ≡ literal_of expression.now) }
-{
-    match expression {
-        NedExpression::Literal(value) => value.copy(alloc),
     }
 }
 
@@ -89,9 +79,9 @@ fn chosen(
     ensures { IfOk result (λ found. found ≡ chosen (option_copied declared.entry) (option_copied entry.entry)) }
 {
     match (declared, entry) {
-        (Some(ParameterValue::Fixed(expression)), _) => Ok(Ok(value_of_ned(alloc, expression)?)),
-        (_, Some(EntryValue::Given(expression))) => value_of_ini(alloc, expression),
-        (Some(ParameterValue::Default(expression)), _) => Ok(Ok(value_of_ned(alloc, expression)?)),
+        (Some(ParameterValue::Fixed(expression)), _) => value_of_expression(alloc, expression),
+        (_, Some(EntryValue::Given(expression))) => value_of_expression(alloc, expression),
+        (Some(ParameterValue::Default(expression)), _) => value_of_expression(alloc, expression),
         (None, _) => Ok(Err(ModelFault::Unassigned)),
     }
 }

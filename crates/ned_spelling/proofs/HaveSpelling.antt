@@ -1,7 +1,5 @@
 -- Each token of a standard spelling has a spelling.
-use Rattle.std.proofs.Common.{ℕ, Bool, true, false, List, [], ◌∷◌, ◌++◌, Option, Some, None, pos, negsuc, refl}
-use Rattle.sim_values.specs.declared.value.Value.{Value}
-use Rattle.sim_values.specs.declared.value.Value.TheVariants as values
+use Rattle.std.proofs.Common.{ℕ, Bool, true, false, List, [], ◌∷◌, ◌++◌, Option, Some, None, refl}
 use Rattle.sim_values.specs.declared.value.Dimension.{Dimension}
 use Rattle.sim_values.specs.declared.value.Dimension.TheVariants as dimension
 use Rattle.ned_tokens.specs.declared.token.Keyword.TheVariants as k
@@ -10,8 +8,8 @@ use Rattle.ned_tokens.specs.declared.token.Token.{Token}
 use Rattle.ned_tokens.specs.declared.token.Token.TheVariants as token
 use Rattle.ned_tokens.specs.Words.{keyword_of, head_word, section_word, member_word, value_word}
 use Rattle.ned_spelling.specs.Tokens.{unit_text, IsName, HaveSpelling}
-use Rattle.ned_values.specs.declared.ast.Expression.{Expression}
-use Rattle.ned_values.specs.declared.ast.Expression.TheVariants as expressions
+use Rattle.ned_expressions.specs.declared.ast.Expression.{Expression}
+use Rattle.ned_expressions.specs.Spelling.{expression_tokens}
 use Rattle.ned_syntax.specs.declared.ast.ParameterValue.{ParameterValue}
 use Rattle.ned_syntax.specs.declared.ast.ParameterValue.TheVariants as given
 use Rattle.ned_syntax.specs.declared.ast.Declaration.{Declaration}
@@ -26,8 +24,8 @@ use Rattle.ned_syntax.specs.declared.ast.TypeKind.{TypeKind}
 use Rattle.ned_syntax.specs.declared.ast.TypeKind.TheVariants as kinds
 use Rattle.ned_syntax.specs.declared.ast.TypeDeclaration.{TypeDeclaration}
 use Rattle.ned_syntax.specs.declared.ast.NedFile.{NedFile}
-use Rattle.ned_spelling.specs.Declarations.{listed_tokens, value_tokens, expression_tokens, given_tokens, valued_tokens, unit_tokens, declaration_tokens, mode_name, question_tokens, mode_tokens, next_mode_tokens, record_tokens, statistic_tokens, line_tokens, section_line_tokens, submodule_tokens, base_tokens, kind_tokens, type_tokens, file_tokens}
-use Rattle.ned_spelling.proofs.Spellable.{Each, IfThere, CanBeValue, CanBeExpression, CanBeGiven, CanBeDeclaration, CanBeStatistic, CanBeLine, CanBeSubmodule, CanBeParts, CanBeType, CanBeFile}
+use Rattle.ned_spelling.specs.Declarations.{listed_tokens, given_tokens, valued_tokens, unit_tokens, declaration_tokens, mode_name, question_tokens, mode_tokens, next_mode_tokens, record_tokens, statistic_tokens, line_tokens, section_line_tokens, submodule_tokens, base_tokens, kind_tokens, type_tokens, file_tokens}
+use Rattle.ned_spelling.proofs.Spellable.{Each, IfThere, CanBeExpression, CanBeGiven, CanBeDeclaration, CanBeStatistic, CanBeLine, CanBeSubmodule, CanBeParts, CanBeType, CanBeFile}
 
 -- two lists in a row
 have-append : (ts us : List Token) → HaveSpelling ts → HaveSpelling us → HaveSpelling (ts ++ us)
@@ -41,19 +39,9 @@ have_listed f P h (x ∷ xs) all = have-append (f x) (listed_tokens f xs) (h x a
 
 -- ---- values
 
--- a literal
-have_value : (v : Value) → CanBeValue v → HaveSpelling (value_tokens v)
-have_value (values.Whole (pos n)) h = (h, tt)
-have_value (values.Whole (negsuc n)) h = (tt, (h, tt))
-have_value (values.Truth true) h = (tt, tt)
-have_value (values.Truth false) h = (tt, tt)
-have_value (values.Text text) h = (h, tt)
-have_value (values.Quantity d (pos n)) h = (h, tt)
-have_value (values.Quantity d (negsuc n)) h = absurd h
-
 -- an expression
 pub have_expression : (e : Expression) → CanBeExpression e → HaveSpelling (expression_tokens e)
-have_expression (expressions.Literal v) h = have_value v h
+have_expression e h = h.spelled
 
 -- a value, or `default(..)`
 have_given : (g : ParameterValue) → CanBeGiven g → HaveSpelling (given_tokens g)

@@ -1,10 +1,7 @@
 -- What a text declares can be declared.
-use Rattle.std.proofs.Common.{◌≡◌, ℕ, zero, suc, ◌^◌, Bool, true, false, cond, ltb, List, [], ◌∷◌, ◌++◌, Option, Some, None, inl, inr, pos, refl, sym, subst}
+use Rattle.std.proofs.Common.{◌≡◌, ℕ, Bool, true, List, [], ◌∷◌, ◌++◌, Option, Some, None, inl, inr, refl, sym, subst}
 use Rattle.std.specs.Prelude.{unwrap_or}
-use Rattle.sim_values.specs.declared.value.Value.{Value}
-use Rattle.sim_values.specs.declared.value.Value.TheVariants as values
 use Rattle.sim_values.specs.declared.value.Dimension.{Dimension}
-use Rattle.ned_tokens.specs.Digits.{below_limit}
 use Rattle.ned_tokens.specs.declared.token.Keyword.TheVariants as k
 use Rattle.ned_tokens.specs.declared.token.Mark.TheVariants as m
 use Rattle.ned_tokens.specs.declared.token.Token.{Token}
@@ -13,8 +10,10 @@ use Rattle.ned_tokens.specs.Rule.{Rule, token as one_token, ◌⊗◌, ◌◁◌
 use Rattle.ned_tokens.specs.Balanced.{balanced}
 use Rattle.ned_tokens.specs.Units.{unit_of}
 use Rattle.ned_spelling.specs.Tokens.{IsName}
-use Rattle.ned_spelling.proofs.SoundTokens.{IsSound, AreSound}
-use Rattle.ned_values.specs.declared.ast.Expression.{Expression}
+use Rattle.ned_spelling.proofs.SoundTokens.{IsSound, AreSound, have_spelling}
+use Rattle.ned_spelling.proofs.ExpressionTokens.{none_stray, expression_spelled}
+use Rattle.ned_expressions.specs.declared.ast.Expression.{Expression}
+use Rattle.ned_expressions.specs.Spelling.{expression_tokens}
 use Rattle.ned_syntax.specs.declared.ast.ParameterWord.{ParameterWord}
 use Rattle.ned_syntax.specs.declared.ast.ParameterWord.TheVariants as words
 use Rattle.ned_syntax.specs.declared.ast.Declaration.{Declaration}
@@ -31,8 +30,8 @@ use Rattle.ned_syntax.specs.declared.statistics.Except.TheVariants as except_is
 use Rattle.ned_syntax.specs.declared.statistics.Said.{Said}
 use Rattle.ned_syntax.specs.declared.parameters.Valued.{Valued}
 use Rattle.ned_syntax.specs.declared.parameters.Tail.{Tail}
-use Rattle.ned_syntax.specs.Grammar.{word, mark, name, name_of, whole_value, quantity_value, literal_of, number_of, negated, plain_literal, number, negative_literal, literal, expression, default_value, value_rule, in_parens, turn_of, bracketed, index, body, unit_effect, said_by_word, said, effect_of, property, modes, loose_text, no_value, source_value, record_value, source_tail, record_tail, source_word, record_word, source_part, record_part, part_or_other, other_part, record_or_other, any_part, part, next_part, nothing_said, over, over_all, statistic_body, optional_body, statistic_line, indexed_statistic, unnamed_statistic, named_or_not, line_or_ignored, statistic_tail, statistic_word, statistic, plain_name, line_of, plain_line, property_text, property_line, valued, tail, value_in, unit_in, parameter_word, volatile, any_declaration, is_measured_word, declaration, assignment, assigned_or_said, any_line, section_line, heading, section, base_name, optional_base, simple, submodule, listed, submodules, network, type_rule, file}
-use Rattle.ned_spelling.proofs.Spellable.{Each, IfThere, IsSmall, CanBeValue, CanBeExpression, CanBeGiven, CanBeUnit, CanBeDeclaration, CanBeAssignment, CanBeLine, CanBeSubmodule, CanBeType, CanBeFile}
+use Rattle.ned_syntax.specs.Grammar.{word, mark, name, name_of, expression, default_value, value_rule, in_parens, turn_of, bracketed, index, body, unit_effect, said_by_word, said, effect_of, property, modes, loose_text, no_value, source_value, record_value, source_tail, record_tail, source_word, record_word, source_part, record_part, part_or_other, other_part, record_or_other, any_part, part, next_part, nothing_said, over, over_all, statistic_body, optional_body, statistic_line, indexed_statistic, unnamed_statistic, named_or_not, line_or_ignored, statistic_tail, statistic_word, statistic, plain_name, line_of, plain_line, property_text, property_line, valued, tail, value_in, unit_in, parameter_word, volatile, any_declaration, is_measured_word, declaration, assignment, assigned_or_said, any_line, section_line, heading, section, base_name, optional_base, simple, submodule, listed, submodules, network, type_rule, file}
+use Rattle.ned_spelling.proofs.Spellable.{Each, IfThere, CanBeExpression, CanBeGiven, CanBeUnit, CanBeDeclaration, CanBeAssignment, CanBeLine, CanBeSubmodule, CanBeType, CanBeFile}
 
 -- what sound tokens spell by the rule is so
 record Keeps {X : Type 0} (r : Rule X) (P : X → Type 0) : Type 0 where
@@ -123,60 +122,15 @@ keeps_name = one name_of IsName go
 
 -- ---- values
 
--- a number that is read is within the limit
-small_is : (n k : ℕ) → below_limit n ≡ Some k → IsSmall k
-small_is n k e = go (ltb n (2 ^ 63)) refl e
-  where
-    go : (t : Bool) → ltb n (2 ^ 63) ≡ t → cond t (Some n) None ≡ Some k → IsSmall k
-    go true et h = let same : n ≡ k = cc in subst IsSmall same et
-    go false et h = absurd cc
-
--- a number is within the limit
-keeps_number : Keeps number IsSmall
-unfolding number
-keeps_number = one number_of IsSmall go
-  where
-    go : (t : Token) (k : ℕ) → IsSound t → number_of t ≡ Some k → IsSmall k
-    go (token.Number n) k h e = small_is n k e
-    go _ k h e = absurd cc
-
--- a whole number
-whole_can : (o : Option ℕ) (v : Value) → ((k : ℕ) → o ≡ Some k → IsSmall k) → whole_value o ≡ Some v → CanBeValue v
-whole_can None v h e = absurd cc
-whole_can (Some n) v h e = let same : values.Whole (pos n) ≡ v = cc in subst CanBeValue same (h n refl)
-
--- an amount
-quantity_can : (d : Dimension) (o : Option ℕ) (v : Value) → ((k : ℕ) → o ≡ Some k → IsSmall k) → quantity_value d o ≡ Some v → CanBeValue v
-quantity_can d None v h e = absurd cc
-quantity_can d (Some n) v h e = let same : values.Quantity d (pos n) ≡ v = cc in subst CanBeValue same (h n refl)
-
--- a literal without a sign
-keeps_plain : Keeps plain_literal CanBeValue
-unfolding plain_literal
-keeps_plain = one literal_of CanBeValue go
-  where
-    go : (t : Token) (v : Value) → IsSound t → literal_of t ≡ Some v → CanBeValue v
-    go (token.Number n) v h e = whole_can (below_limit n) v (small_is n) e
-    go (token.Word k.True) v h e = let same : values.Truth true ≡ v = cc in subst CanBeValue same tt
-    go (token.Word k.False) v h e = let same : values.Truth false ≡ v = cc in subst CanBeValue same tt
-    go (token.Literal text) v h e = let same : values.Text text ≡ v = cc in subst CanBeValue same (h refl)
-    go (token.Quantity d n) v h e = quantity_can d (below_limit n) v (small_is n) e
-    go _ v h e = absurd cc
-
--- a number with a sign
-negated_can : (n : ℕ) → IsSmall n → CanBeValue (negated n)
-negated_can zero h = h
-negated_can (suc n) h = h
-
--- a literal
-keeps_literal : Keeps literal CanBeValue
-unfolding literal negative_literal
-keeps_literal = choice (mapped negated_can (before (mark m.Minus) keeps_number)) keeps_plain
-
--- an expression
+-- an expression: its tokens are those that were read
 keeps_expression : Keeps expression CanBeExpression
-unfolding expression
-keeps_expression = mapped (λ v h. h) keeps_literal
+keeps_expression = record { kept = λ ts e h is. by ts e h is (expression_spelled ts e is) }
+  where
+    by : (ts : List Token) (e : Expression) → AreSound ts → expression.Is ts e → ts ≡ expression_tokens e → CanBeExpression e
+    by ts e h is same = record {
+      spelled = have_spelling (expression_tokens e) (subst AreSound same h) (none_stray e);
+      is = subst (λ (l : List Token). expression.Is l e) same is;
+    }
 
 -- a value, or `default(..)`
 keeps_given : Keeps value_rule CanBeGiven

@@ -2,6 +2,7 @@ mod Utf8Lemmas
 mod SpellingLemmas
 mod SpellingLaws
 mod SoundTokens
+mod ExpressionTokens
 mod Spellable
 mod Spells
 mod HaveSpelling

@@ -1,13 +1,11 @@
 -- What a text can declare.
-use Rattle.std.proofs.Common.{◌≡◌, ℕ, suc, ◌^◌, true, ltb, List, [], ◌∷◌, Option, Some, None, pos, negsuc}
+use Rattle.std.proofs.Common.{◌≡◌, true, List, [], ◌∷◌, Option, Some, None}
 use Rattle.std.specs.Prelude.{is_some}
-use Rattle.std.specs.Str.{is_utf8}
-use Rattle.sim_values.specs.declared.value.Value.{Value}
-use Rattle.sim_values.specs.declared.value.Value.TheVariants as values
 use Rattle.sim_values.specs.declared.value.Dimension.{Dimension}
-use Rattle.ned_spelling.specs.Tokens.{IsName}
-use Rattle.ned_values.specs.declared.ast.Expression.{Expression}
-use Rattle.ned_values.specs.declared.ast.Expression.TheVariants as expressions
+use Rattle.ned_spelling.specs.Tokens.{IsName, HaveSpelling}
+use Rattle.ned_expressions.specs.declared.ast.Expression.{Expression}
+use Rattle.ned_expressions.specs.Grammar.{expression}
+use Rattle.ned_expressions.specs.Spelling.{expression_tokens}
 use Rattle.ned_syntax.specs.declared.ast.ParameterValue.{ParameterValue}
 use Rattle.ned_syntax.specs.declared.ast.ParameterValue.TheVariants as given
 use Rattle.ned_syntax.specs.declared.ast.ParameterWord.{ParameterWord}
@@ -33,22 +31,10 @@ abbrev pub IfThere : {X : Type 0} → (X → Type 0) → Option X → Type 0
 IfThere P None = Unit {0}
 IfThere P (Some x) = P x
 
--- a number is at most 2^63 - 1
-abbrev pub IsSmall : ℕ → Type 0
-IsSmall n = ltb n (2 ^ 63) ≡ true
-
--- an amount is not below zero
-abbrev pub CanBeValue : Value → Type 0
-CanBeValue (values.Whole (pos n)) = IsSmall n
-CanBeValue (values.Whole (negsuc n)) = IsSmall (suc n)
-CanBeValue (values.Truth b) = Unit {0}
-CanBeValue (values.Text text) = is_utf8 text ≡ true
-CanBeValue (values.Quantity d (pos n)) = IsSmall n
-CanBeValue (values.Quantity d (negsuc n)) = ⊥
-
--- an expression is so far a literal
-abbrev pub CanBeExpression : Expression → Type 0
-CanBeExpression (expressions.Literal v) = CanBeValue v
+-- An expression whose tokens have a spelling and say it.
+pub record CanBeExpression (e : Expression) : Type 0 where
+  pub spelled : HaveSpelling (expression_tokens e)
+  pub is : expression.Is (expression_tokens e) e
 
 -- the value, or `default(..)`
 abbrev pub CanBeGiven : ParameterValue → Type 0

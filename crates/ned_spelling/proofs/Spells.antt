@@ -1,10 +1,7 @@
 -- The standard tokens of declarations say them.
-use Rattle.std.proofs.Common.{◌≡◌, ℕ, suc, Bool, true, false, List, [], ◌∷◌, ◌++◌, Option, Some, None, inl, inr, pos, negsuc, refl, sym, ap, ◌∙◌, subst, append-nil, codes}
-use Rattle.sim_values.specs.declared.value.Value.{Value}
-use Rattle.sim_values.specs.declared.value.Value.TheVariants as values
+use Rattle.std.proofs.Common.{◌≡◌, ℕ, Bool, true, false, List, [], ◌∷◌, ◌++◌, Option, Some, None, inl, inr, refl, sym, ap, ◌∙◌, subst, append-nil, codes}
 use Rattle.sim_values.specs.declared.value.Dimension.{Dimension}
 use Rattle.sim_values.specs.declared.value.Dimension.TheVariants as dimension
-use Rattle.ned_tokens.specs.Digits.{below_limit}
 use Rattle.ned_tokens.specs.declared.token.Keyword.{Keyword}
 use Rattle.ned_tokens.specs.declared.token.Keyword.TheVariants as k
 use Rattle.ned_tokens.specs.declared.token.Mark.{Mark}
@@ -15,8 +12,8 @@ use Rattle.ned_tokens.specs.Rule.{Rule, token as one_token, ◌⊗◌, ◌◁◌
 use Rattle.sim_values.specs.Units.{time_unit}
 use Rattle.ned_tokens.specs.Units.{unit_of, rate_unit, length_unit}
 use Rattle.ned_spelling.specs.Tokens.{unit_text}
-use Rattle.ned_values.specs.declared.ast.Expression.{Expression}
-use Rattle.ned_values.specs.declared.ast.Expression.TheVariants as expressions
+use Rattle.ned_expressions.specs.declared.ast.Expression.{Expression}
+use Rattle.ned_expressions.specs.Spelling.{expression_tokens}
 use Rattle.ned_syntax.specs.declared.ast.ParameterValue.{ParameterValue}
 use Rattle.ned_syntax.specs.declared.ast.ParameterValue.TheVariants as given
 use Rattle.ned_syntax.specs.declared.ast.ParameterWord.{ParameterWord}
@@ -42,9 +39,9 @@ use Rattle.ned_syntax.specs.declared.statistics.Part.TheVariants as part_is
 use Rattle.ned_syntax.specs.declared.parameters.Valued.{Valued}
 use Rattle.ned_tokens.specs.Words.{or_else}
 use Rattle.ned_tokens.specs.Balanced.{balanced}
-use Rattle.ned_syntax.specs.Grammar.{turn_of, effect_of, said_in, statistic_line, other_part, first_unit, unit_behind, value_in, unit_in, is_measured_word, valued, tail, parameter_word, volatile, any_declaration, declaration, assignment, source_word, source_value, source_tail, source_part, record_word, record_value, record_tail, record_part, no_value, record_or_other, any_part, part, next_part, statistic_body, optional_body, indexed_statistic, unnamed_statistic, named_or_not, statistic_tail, statistic_word, statistic, plain_name, plain_line, property_text, property_line, assigned_or_said, any_line, section_line, heading, section, base_name, optional_base, simple, submodule, submodules, network, type_rule, file, word, mark, name, is_word, is_mark, plain_literal, number, negative_literal, literal, expression, default_value, value_rule, in_parens, property_name, bracketed, index, body, property, mode_word, question, mode_rule, next_mode, modes}
-use Rattle.ned_spelling.specs.Declarations.{listed_tokens, value_tokens, expression_tokens, given_tokens, valued_tokens, unit_tokens, parameter_keyword, declaration_tokens, assignment_tokens, mode_name, question_tokens, mode_tokens, next_mode_tokens, record_tokens, statistic_tokens, line_tokens, section_line_tokens, submodule_tokens, base_tokens, kind_tokens, type_tokens, file_tokens}
-use Rattle.ned_spelling.proofs.Spellable.{Each, IfThere, IsSmall, CanBeValue, CanBeExpression, CanBeGiven, CanBeUnit, CanBeDeclaration, CanBeAssignment, CanBeLine, CanBeSubmodule, CanBeParts, CanBeType, CanBeFile}
+use Rattle.ned_syntax.specs.Grammar.{turn_of, effect_of, said_in, statistic_line, other_part, first_unit, unit_behind, value_in, unit_in, is_measured_word, valued, tail, parameter_word, volatile, any_declaration, declaration, assignment, source_word, source_value, source_tail, source_part, record_word, record_value, record_tail, record_part, no_value, record_or_other, any_part, part, next_part, statistic_body, optional_body, indexed_statistic, unnamed_statistic, named_or_not, statistic_tail, statistic_word, statistic, plain_name, plain_line, property_text, property_line, assigned_or_said, any_line, section_line, heading, section, base_name, optional_base, simple, submodule, submodules, network, type_rule, file, word, mark, name, is_word, is_mark, expression, default_value, value_rule, in_parens, property_name, bracketed, index, body, property, mode_word, question, mode_rule, next_mode, modes}
+use Rattle.ned_spelling.specs.Declarations.{listed_tokens, given_tokens, valued_tokens, unit_tokens, parameter_keyword, declaration_tokens, assignment_tokens, mode_name, question_tokens, mode_tokens, next_mode_tokens, record_tokens, statistic_tokens, line_tokens, section_line_tokens, submodule_tokens, base_tokens, kind_tokens, type_tokens, file_tokens}
+use Rattle.ned_spelling.proofs.Spellable.{Each, IfThere, CanBeExpression, CanBeGiven, CanBeUnit, CanBeDeclaration, CanBeAssignment, CanBeLine, CanBeSubmodule, CanBeParts, CanBeType, CanBeFile}
 
 -- these tokens spell this value by the rule
 record Spells {X : Type 0} (r : Rule X) (ts : List Token) (x : X) : Type 0 where
@@ -146,30 +143,9 @@ a_name text = one (token.Name text) refl
 
 -- ---- values
 
--- a number within the limit
-whole_is : (n : ℕ) → IsSmall n → below_limit n ≡ Some n
-whole_is n h = rw h refl
-
--- a number
-a_number : (n : ℕ) → IsSmall n → Spells number (token.Number n ∷ []) n
-unfolding number
-a_number n h = one (token.Number n) (whole_is n h)
-
--- a literal
-a_value : (v : Value) → CanBeValue v → Spells literal (value_tokens v) v
-unfolding literal negative_literal plain_literal
-a_value (values.Whole (pos n)) h = that negative_literal (one (token.Number n) (rw h refl))
-a_value (values.Whole (negsuc n)) h = this plain_literal (mapped (before (a_mark m.Minus) (a_number (suc n) h)))
-a_value (values.Truth true) h = that negative_literal (one (token.Word k.True) refl)
-a_value (values.Truth false) h = that negative_literal (one (token.Word k.False) refl)
-a_value (values.Text text) h = that negative_literal (one (token.Literal text) refl)
-a_value (values.Quantity d (pos n)) h = that negative_literal (one (token.Quantity d n) (rw h refl))
-a_value (values.Quantity d (negsuc n)) h = absurd h
-
 -- an expression
 an_expression : (e : Expression) → CanBeExpression e → Spells expression (expression_tokens e) e
-unfolding expression
-an_expression (expressions.Literal v) h = mapped (a_value v h)
+an_expression e h = record { is = h.is }
 
 -- a value, or `default(..)`
 a_given : (g : ParameterValue) → CanBeGiven g → Spells value_rule (given_tokens g) g

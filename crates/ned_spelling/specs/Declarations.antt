@@ -1,7 +1,5 @@
 -- The standard spelling of declarations: the tokens that say them, and the text of these.
-use Rattle.std.specs.Prelude.{◌≡◌, ℕ, suc, ◌≤◌, pos, negsuc, Bool, true, false, List, [], ◌∷◌, ◌++◌, length, Option, Some, None, codes}
-use Rattle.sim_values.specs.declared.value.Value.{Value}
-use Rattle.sim_values.specs.declared.value.Value.TheVariants as values
+use Rattle.std.specs.Prelude.{◌≡◌, ℕ, ◌≤◌, Bool, true, false, List, [], ◌∷◌, ◌++◌, length, Option, Some, None, codes}
 use Rattle.sim_values.specs.declared.value.Dimension.{Dimension}
 use Rattle.ned_tokens.specs.declared.token.Keyword.{Keyword}
 use Rattle.ned_tokens.specs.declared.token.Keyword.TheVariants as k
@@ -11,8 +9,7 @@ use Rattle.ned_tokens.specs.declared.token.Token.TheVariants as token
 use Rattle.ned_tokens.specs.Lines.{tokens_of}
 use Rattle.sim_values.specs.Limits.{max_length}
 use Rattle.ned_spelling.specs.Tokens.{unit_text, spell}
-use Rattle.ned_values.specs.declared.ast.Expression.{Expression}
-use Rattle.ned_values.specs.declared.ast.Expression.TheVariants as expressions
+use Rattle.ned_expressions.specs.declared.ast.Expression.{Expression}
 use Rattle.ned_syntax.specs.declared.ast.ParameterValue.{ParameterValue}
 use Rattle.ned_syntax.specs.declared.ast.ParameterValue.TheVariants as given
 use Rattle.ned_syntax.specs.declared.ast.ParameterWord.{ParameterWord}
@@ -32,7 +29,8 @@ use Rattle.ned_syntax.specs.declared.ast.TypeDeclaration.{TypeDeclaration}
 use Rattle.ned_syntax.specs.declared.ast.NedFile.{NedFile}
 use Rattle.ned_syntax.specs.Grammar.{file}
 use Rattle.ned_syntax.specs.NedText.{IsNedFile}
-use Rattle.ned_values.specs.ExpressionText.{IsExpressionText}
+use Rattle.ned_expressions.specs.ExpressionText.{IsExpressionText}
+use Rattle.ned_expressions.specs.Spelling.{expression_tokens}
 
 -- the tokens of a list, one element after the other
 abbrev pub listed_tokens : {X : Type 0} → (X → List Token) → List X → List Token
@@ -41,21 +39,7 @@ listed_tokens f (x ∷ xs) = f x ++ listed_tokens f xs
 
 -- ---- values
 
--- A literal; a quantity is a number of the smallest unit. No text says an amount below zero.
-abbrev pub value_tokens : Value → List Token
-value_tokens (values.Whole (pos n)) = token.Number n ∷ []
-value_tokens (values.Whole (negsuc n)) = token.Mark m.Minus ∷ token.Number (suc n) ∷ []
-value_tokens (values.Truth true) = token.Word k.True ∷ []
-value_tokens (values.Truth false) = token.Word k.False ∷ []
-value_tokens (values.Text text) = token.Literal text ∷ []
-value_tokens (values.Quantity d (pos n)) = token.Quantity d n ∷ []
-value_tokens (values.Quantity d (negsuc n)) = []
-
--- an expression is so far a literal
-abbrev pub expression_tokens : Expression → List Token
-expression_tokens (expressions.Literal v) = value_tokens v
-
--- the value, or `default(..)`
+-- the expression, as `ned_expressions` spells it, or `default(..)`
 abbrev pub given_tokens : ParameterValue → List Token
 given_tokens (given.Fixed e) = expression_tokens e
 given_tokens (given.Default e) = token.Word k.Default ∷ token.Mark m.LeftParen ∷ (expression_tokens e ++ token.Mark m.RightParen ∷ [])

@@ -1,8 +1,9 @@
 -- A file and its standard spelling.
-use Rattle.std.specs.Prelude.{◌≡◌, List, ℕ, [], ◌∷◌, Some, None, true, false, pos, negsuc, codes}
+use Rattle.std.specs.Prelude.{◌≡◌, List, ℕ, [], ◌∷◌, Some, None, true, false, pos, codes}
 use Rattle.sim_values.specs.declared.value.Value.TheVariants as values
 use Rattle.sim_values.specs.declared.value.Dimension.TheVariants as dimension
-use Rattle.ned_values.specs.declared.ast.Expression.TheVariants as expressions
+use Rattle.ned_expressions.specs.declared.ast.Expression.TheVariants as expressions
+use Rattle.ned_expressions.specs.declared.ast.Sign.TheVariants as signs
 use Rattle.ned_syntax.specs.declared.ast.ParameterValue.TheVariants as given
 use Rattle.ned_syntax.specs.declared.ast.ParameterWord.TheVariants as words
 use Rattle.ned_values.specs.declared.ast.Mode.TheVariants as modes_are
@@ -21,7 +22,7 @@ example = record {
         base = None;
         lines =
             lines.Declaration (record { name = codes "interval"; word = words.Double; unit = Some dimension.Time; value = Some (given.Default (expressions.Literal (values.Quantity dimension.Time (pos 1000000000000)))) })
-            ∷ lines.Declaration (record { name = codes "offset"; word = words.Int; unit = None; value = Some (given.Fixed (expressions.Literal (values.Whole (negsuc 4)))) })
+            ∷ lines.Declaration (record { name = codes "offset"; word = words.Int; unit = None; value = Some (given.Fixed (expressions.Signed signs.Minus (expressions.Literal (values.Whole (pos 5))))) })
             ∷ lines.Assignment (record { name = codes "label"; value = Some (given.Fixed (expressions.Literal (values.Text (codes "a\tb")))) })
             ∷ lines.Class (codes "Src")
             ∷ lines.Ignored

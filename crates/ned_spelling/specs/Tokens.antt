@@ -1,5 +1,5 @@
 -- The standard spelling of tokens: a text that says these tokens, and no others.
-use Rattle.std.specs.Prelude.{◌≡◌, ℕ, ◌^◌, Bool, true, false, ◌||◌, List, [], ◌∷◌, ◌++◌, None, nat_lt, ◌==◌, if◌then◌else◌, codes, decimal}
+use Rattle.std.specs.Prelude.{◌≡◌, ℕ, Bool, true, false, ◌||◌, List, [], ◌∷◌, ◌++◌, None, nat_lt, ◌==◌, if◌then◌else◌, codes, decimal}
 use Rattle.std.specs.Str.{is_utf8}
 use Rattle.sim_values.specs.declared.value.Dimension.{Dimension}
 use Rattle.sim_values.specs.declared.value.Dimension.TheVariants as dimension

@@ -4,9 +4,7 @@ use Rattle.std.specs.Prelude.{is_some, codes}
 use Rattle.std.proofs.lemmas.Bool.{false≢true}
 use Rattle.std.specs.Str.{bytes_eq}
 use Rattle.std.proofs.lemmas.Slice.Eq.{bytes_eq-Decides}
-use Rattle.ned_tokens.specs.declared.token.Keyword.{Keyword}
 use Rattle.ned_tokens.specs.declared.token.Keyword.TheVariants as k
-use Rattle.ned_tokens.specs.declared.token.Mark.{Mark}
 use Rattle.ned_tokens.specs.declared.token.Mark.TheVariants as m
 use Rattle.ned_tokens.specs.declared.token.Token.{Token}
 use Rattle.ned_tokens.specs.declared.token.Token.TheVariants as token
@@ -18,14 +16,15 @@ use Rattle.ned_syntax.specs.declared.properties.PropertyName.{PropertyName}
 use Rattle.ned_syntax.specs.declared.properties.PropertyName.TheVariants as names
 use Rattle.ned_syntax.specs.declared.statistics.Except.{Except}
 use Rattle.ned_syntax.specs.declared.statistics.Except.TheVariants as except_is
-use Rattle.ned_syntax.specs.Grammar.{said_in, word, mark, name, in_parens, plain_literal, number, negative_literal, literal, expression, default_value, value_rule, property_name, bracketed, index, body, property, mode_word, question, mode_rule, next_mode, modes, group, loose_token, piece, pieces, loose_text, no_value, source_value, record_value, source_tail, record_tail, source_word, record_word, source_part, record_part, other_part, record_or_other, any_part, part, next_part, statistic_body, optional_body, indexed_statistic, unnamed_statistic, named_or_not, statistic_tail, statistic_word, statistic, plain_name, plain_line, property_text, property_line, valued, tail, parameter_word, volatile, any_declaration, declaration, assignment, assigned_or_said, any_line, section_line, heading, section, base_name, optional_base, simple, submodule, submodules, network, type_rule, file, is_word, is_mark, name_of, turn_of, literal_of, number_of, property_name_of, mode_of, loose_of, source_of, record_of, statistic_of, plain_name_of, parameter_word_of, is_measured, is_source, is_record, is_statistic, plain_of}
-pub use Rattle.ned_values.proofs.GrammarLaws.{word-lawful, mark-lawful, name-lawful, plain_literal-lawful, number-lawful, negative_literal-lawful, literal-lawful, expression-lawful}
+use Rattle.ned_syntax.specs.Grammar.{said_in, word, mark, name, in_parens, expression, default_value, value_rule, property_name, bracketed, index, body, property, mode_word, question, mode_rule, next_mode, modes, group, loose_token, piece, pieces, loose_text, no_value, source_value, record_value, source_tail, record_tail, source_word, record_word, source_part, record_part, other_part, record_or_other, any_part, part, next_part, statistic_body, optional_body, indexed_statistic, unnamed_statistic, named_or_not, statistic_tail, statistic_word, statistic, plain_name, plain_line, property_text, property_line, valued, tail, parameter_word, volatile, any_declaration, declaration, assignment, assigned_or_said, any_line, section_line, heading, section, base_name, optional_base, simple, submodule, submodules, network, type_rule, file, turn_of, property_name_of, mode_of, loose_of, source_of, record_of, statistic_of, plain_name_of, parameter_word_of, is_measured, is_source, is_record, is_statistic, plain_of}
+pub use Rattle.ned_values.proofs.GrammarLaws.{word-lawful, mark-lawful, name-lawful}
+pub use Rattle.ned_expressions.proofs.ExpressionLaws.{expression-lawful}
 use Rattle.ned_tokens.proofs.Laws.{Lawful, token-lawful, such_that-lawful, either-lawful, optional-lawful, then, before, after, mapped}
 use Rattle.ned_tokens.proofs.Many.{many-lawful}
 use Rattle.ned_tokens.proofs.BalancedLaws.{balanced-lawful}
 
 text_ends : (t : Token) → (mark m.RightParen).starts t ≡ true → (balanced turn_of).goes_on t ≡ false
-unfolding word mark name in_parens plain_literal number negative_literal literal expression default_value value_rule property_name bracketed index body property mode_word question mode_rule next_mode modes group loose_token piece pieces loose_text no_value source_value record_value source_tail record_tail source_word record_word source_part record_part other_part record_or_other any_part part next_part statistic_body optional_body indexed_statistic unnamed_statistic named_or_not statistic_tail statistic_word statistic plain_name plain_line property_text property_line valued tail parameter_word volatile any_declaration declaration assignment assigned_or_said any_line section_line heading section base_name optional_base simple submodule submodules network type_rule file
+unfolding word mark name in_parens expression default_value value_rule property_name bracketed index body property mode_word question mode_rule next_mode modes group loose_token piece pieces loose_text no_value source_value record_value source_tail record_tail source_word record_word source_part record_part other_part record_or_other any_part part next_part statistic_body optional_body indexed_statistic unnamed_statistic named_or_not statistic_tail statistic_word statistic plain_name plain_line property_text property_line valued tail parameter_word volatile any_declaration declaration assignment assigned_or_said any_line section_line heading section base_name optional_base simple submodule submodules network type_rule file
 text_ends (token.Mark m.RightParen) e = refl
 text_ends (token.Mark _) e = absurd (false≢true e)
 text_ends _ e = absurd (false≢true e)
@@ -36,19 +35,31 @@ in_parens-lawful = before (mark-lawful m.LeftParen) (after (balanced-lawful turn
 
 -- ---- values
 
+paren_ends : (t : Token) → (mark m.RightParen).starts t ≡ true → (made given.Default expression).goes_on t ≡ false
+unfolding mark expression
+paren_ends (token.Mark m.RightParen) e = refl
+paren_ends (token.Mark _) e = absurd (false≢true e)
+paren_ends _ e = absurd (false≢true e)
+
 pub default_value-lawful : Lawful default_value
-unfolding default_value word mark expression literal negative_literal plain_literal number
-default_value-lawful = before (word-lawful k.Default) (before (mark-lawful m.LeftParen) (after (mapped expression-lawful) (mark-lawful m.RightParen) (λ t e. refl)) (λ t e. refl)) (λ t e. refl)
+unfolding default_value word mark expression
+default_value-lawful = before (word-lawful k.Default) (before (mark-lawful m.LeftParen) (after (mapped expression-lawful) (mark-lawful m.RightParen) paren_ends) (λ t e. refl)) (λ t e. refl)
 
 default_apart : (t : Token) → (made given.Fixed expression).starts t ≡ true → default_value.starts t ≡ false
-unfolding word mark name in_parens plain_literal number negative_literal literal expression default_value value_rule property_name bracketed index body property mode_word question mode_rule next_mode modes group loose_token piece pieces loose_text no_value source_value record_value source_tail record_tail source_word record_word source_part record_part other_part record_or_other any_part part next_part statistic_body optional_body indexed_statistic unnamed_statistic named_or_not statistic_tail statistic_word statistic plain_name plain_line property_text property_line valued tail parameter_word volatile any_declaration declaration assignment assigned_or_said any_line section_line heading section base_name optional_base simple submodule submodules network type_rule file
+unfolding word mark name in_parens expression default_value value_rule property_name bracketed index body property mode_word question mode_rule next_mode modes group loose_token piece pieces loose_text no_value source_value record_value source_tail record_tail source_word record_word source_part record_part other_part record_or_other any_part part next_part statistic_body optional_body indexed_statistic unnamed_statistic named_or_not statistic_tail statistic_word statistic plain_name plain_line property_text property_line valued tail parameter_word volatile any_declaration declaration assignment assigned_or_said any_line section_line heading section base_name optional_base simple submodule submodules network type_rule file
 default_apart (token.Word k.True) e = refl
 default_apart (token.Word k.False) e = refl
+default_apart (token.Word k.This) e = refl
+default_apart (token.Word k.Parent) e = refl
+default_apart (token.Word k.Index) e = refl
+default_apart (token.Word k.ParentIndex) e = refl
+default_apart (token.Word k.Sizeof) e = refl
+default_apart (token.Word k.Exists) e = refl
 default_apart (token.Word _) e = absurd (false≢true e)
 default_apart _ e = refl
 
 pub value-lawful : Lawful value_rule
-unfolding value_rule default_value expression literal negative_literal plain_literal word mark
+unfolding value_rule default_value expression word mark
 value-lawful = either-lawful default_value (made given.Fixed expression) default_value-lawful (mapped expression-lawful) refl refl default_apart
 
 -- ---- properties
@@ -70,7 +81,7 @@ unfolding body in_parens mark
 body-lawful = optional-lawful in_parens in_parens-lawful refl
 
 index_apart : (t : Token) → (body).starts t ≡ true → (index).goes_on t ≡ false
-unfolding word mark name in_parens plain_literal number negative_literal literal expression default_value value_rule property_name bracketed index body property mode_word question mode_rule next_mode modes group loose_token piece pieces loose_text no_value source_value record_value source_tail record_tail source_word record_word source_part record_part other_part record_or_other any_part part next_part statistic_body optional_body indexed_statistic unnamed_statistic named_or_not statistic_tail statistic_word statistic plain_name plain_line property_text property_line valued tail parameter_word volatile any_declaration declaration assignment assigned_or_said any_line section_line heading section base_name optional_base simple submodule submodules network type_rule file
+unfolding word mark name in_parens expression default_value value_rule property_name bracketed index body property mode_word question mode_rule next_mode modes group loose_token piece pieces loose_text no_value source_value record_value source_tail record_tail source_word record_word source_part record_part other_part record_or_other any_part part next_part statistic_body optional_body indexed_statistic unnamed_statistic named_or_not statistic_tail statistic_word statistic plain_name plain_line property_text property_line valued tail parameter_word volatile any_declaration declaration assignment assigned_or_said any_line section_line heading section base_name optional_base simple submodule submodules network type_rule file
 index_apart (token.Mark m.LeftParen) e = refl
 index_apart (token.Mark _) e = absurd (false≢true e)
 index_apart _ e = absurd (false≢true e)
@@ -80,7 +91,7 @@ unfolding property property_name mark
 property-lawful = before (mark-lawful m.At) (mapped (then property_name-lawful (then index-lawful body-lawful index_apart) (λ t e. refl))) (λ t e. refl)
 
 pub property-full : property.empty ≡ false
-unfolding word mark name in_parens plain_literal number negative_literal literal expression default_value value_rule property_name bracketed index body property mode_word question mode_rule next_mode modes group loose_token piece pieces loose_text no_value source_value record_value source_tail record_tail source_word record_word source_part record_part other_part record_or_other any_part part next_part statistic_body optional_body indexed_statistic unnamed_statistic named_or_not statistic_tail statistic_word statistic plain_name plain_line property_text property_line valued tail parameter_word volatile any_declaration declaration assignment assigned_or_said any_line section_line heading section base_name optional_base simple submodule submodules network type_rule file
+unfolding word mark name in_parens expression default_value value_rule property_name bracketed index body property mode_word question mode_rule next_mode modes group loose_token piece pieces loose_text no_value source_value record_value source_tail record_tail source_word record_word source_part record_part other_part record_or_other any_part part next_part statistic_body optional_body indexed_statistic unnamed_statistic named_or_not statistic_tail statistic_word statistic plain_name plain_line property_text property_line valued tail parameter_word volatile any_declaration declaration assignment assigned_or_said any_line section_line heading section base_name optional_base simple submodule submodules network type_rule file
 property-full = refl
 
 -- ---- statistics
@@ -102,17 +113,17 @@ unfolding next_mode mark
 next_mode-lawful = before (mark-lawful m.Comma) mode-lawful (λ t e. refl)
 
 pub next_mode-full : next_mode.empty ≡ false
-unfolding word mark name in_parens plain_literal number negative_literal literal expression default_value value_rule property_name bracketed index body property mode_word question mode_rule next_mode modes group loose_token piece pieces loose_text no_value source_value record_value source_tail record_tail source_word record_word source_part record_part other_part record_or_other any_part part next_part statistic_body optional_body indexed_statistic unnamed_statistic named_or_not statistic_tail statistic_word statistic plain_name plain_line property_text property_line valued tail parameter_word volatile any_declaration declaration assignment assigned_or_said any_line section_line heading section base_name optional_base simple submodule submodules network type_rule file
+unfolding word mark name in_parens expression default_value value_rule property_name bracketed index body property mode_word question mode_rule next_mode modes group loose_token piece pieces loose_text no_value source_value record_value source_tail record_tail source_word record_word source_part record_part other_part record_or_other any_part part next_part statistic_body optional_body indexed_statistic unnamed_statistic named_or_not statistic_tail statistic_word statistic plain_name plain_line property_text property_line valued tail parameter_word volatile any_declaration declaration assignment assigned_or_said any_line section_line heading section base_name optional_base simple submodule submodules network type_rule file
 next_mode-full = refl
 
 next_modes_apart : (t : Token) → (next_mode).starts t ≡ true → (next_mode).goes_on t ≡ false
-unfolding word mark name in_parens plain_literal number negative_literal literal expression default_value value_rule property_name bracketed index body property mode_word question mode_rule next_mode modes group loose_token piece pieces loose_text no_value source_value record_value source_tail record_tail source_word record_word source_part record_part other_part record_or_other any_part part next_part statistic_body optional_body indexed_statistic unnamed_statistic named_or_not statistic_tail statistic_word statistic plain_name plain_line property_text property_line valued tail parameter_word volatile any_declaration declaration assignment assigned_or_said any_line section_line heading section base_name optional_base simple submodule submodules network type_rule file
+unfolding word mark name in_parens expression default_value value_rule property_name bracketed index body property mode_word question mode_rule next_mode modes group loose_token piece pieces loose_text no_value source_value record_value source_tail record_tail source_word record_word source_part record_part other_part record_or_other any_part part next_part statistic_body optional_body indexed_statistic unnamed_statistic named_or_not statistic_tail statistic_word statistic plain_name plain_line property_text property_line valued tail parameter_word volatile any_declaration declaration assignment assigned_or_said any_line section_line heading section base_name optional_base simple submodule submodules network type_rule file
 next_modes_apart (token.Mark m.Comma) e = refl
 next_modes_apart (token.Mark _) e = absurd (false≢true e)
 next_modes_apart _ e = absurd (false≢true e)
 
 modes_apart : (t : Token) → (many next_mode).starts t ≡ true → (mode_rule).goes_on t ≡ false
-unfolding word mark name in_parens plain_literal number negative_literal literal expression default_value value_rule property_name bracketed index body property mode_word question mode_rule next_mode modes group loose_token piece pieces loose_text no_value source_value record_value source_tail record_tail source_word record_word source_part record_part other_part record_or_other any_part part next_part statistic_body optional_body indexed_statistic unnamed_statistic named_or_not statistic_tail statistic_word statistic plain_name plain_line property_text property_line valued tail parameter_word volatile any_declaration declaration assignment assigned_or_said any_line section_line heading section base_name optional_base simple submodule submodules network type_rule file
+unfolding word mark name in_parens expression default_value value_rule property_name bracketed index body property mode_word question mode_rule next_mode modes group loose_token piece pieces loose_text no_value source_value record_value source_tail record_tail source_word record_word source_part record_part other_part record_or_other any_part part next_part statistic_body optional_body indexed_statistic unnamed_statistic named_or_not statistic_tail statistic_word statistic plain_name plain_line property_text property_line valued tail parameter_word volatile any_declaration declaration assignment assigned_or_said any_line section_line heading section base_name optional_base simple submodule submodules network type_rule file
 modes_apart (token.Mark m.Comma) e = refl
 modes_apart (token.Mark _) e = absurd (false≢true e)
 modes_apart _ e = absurd (false≢true e)
@@ -130,7 +141,7 @@ unfolding loose_token
 loose_token-lawful x = token-lawful (loose_of x)
 
 group_apart : (x : Except) (t : Token) → (loose_token x).starts t ≡ true → group.starts t ≡ false
-unfolding word mark name in_parens plain_literal number negative_literal literal expression default_value value_rule property_name bracketed index body property mode_word question mode_rule next_mode modes group loose_token piece pieces loose_text no_value source_value record_value source_tail record_tail source_word record_word source_part record_part other_part record_or_other any_part part next_part statistic_body optional_body indexed_statistic unnamed_statistic named_or_not statistic_tail statistic_word statistic plain_name plain_line property_text property_line valued tail parameter_word volatile any_declaration declaration assignment assigned_or_said any_line section_line heading section base_name optional_base simple submodule submodules network type_rule file
+unfolding word mark name in_parens expression default_value value_rule property_name bracketed index body property mode_word question mode_rule next_mode modes group loose_token piece pieces loose_text no_value source_value record_value source_tail record_tail source_word record_word source_part record_part other_part record_or_other any_part part next_part statistic_body optional_body indexed_statistic unnamed_statistic named_or_not statistic_tail statistic_word statistic plain_name plain_line property_text property_line valued tail parameter_word volatile any_declaration declaration assignment assigned_or_said any_line section_line heading section base_name optional_base simple submodule submodules network type_rule file
 group_apart x (token.Mark m.LeftParen) e = absurd (false≢true e)
 group_apart x (token.Mark _) e = refl
 group_apart x _ e = refl
@@ -140,7 +151,7 @@ unfolding piece group loose_token in_parens mark
 piece-lawful x = either-lawful group (loose_token x) group-lawful (loose_token-lawful x) refl refl (group_apart x)
 
 pub piece-full : (x : Except) → (piece x).empty ≡ false
-unfolding word mark name in_parens plain_literal number negative_literal literal expression default_value value_rule property_name bracketed index body property mode_word question mode_rule next_mode modes group loose_token piece pieces loose_text no_value source_value record_value source_tail record_tail source_word record_word source_part record_part other_part record_or_other any_part part next_part statistic_body optional_body indexed_statistic unnamed_statistic named_or_not statistic_tail statistic_word statistic plain_name plain_line property_text property_line valued tail parameter_word volatile any_declaration declaration assignment assigned_or_said any_line section_line heading section base_name optional_base simple submodule submodules network type_rule file
+unfolding word mark name in_parens expression default_value value_rule property_name bracketed index body property mode_word question mode_rule next_mode modes group loose_token piece pieces loose_text no_value source_value record_value source_tail record_tail source_word record_word source_part record_part other_part record_or_other any_part part next_part statistic_body optional_body indexed_statistic unnamed_statistic named_or_not statistic_tail statistic_word statistic plain_name plain_line property_text property_line valued tail parameter_word volatile any_declaration declaration assignment assigned_or_said any_line section_line heading section base_name optional_base simple submodule submodules network type_rule file
 piece-full x = refl
 
 pub pieces-lawful : Lawful pieces
@@ -164,7 +175,7 @@ unfolding record_value mark
 record_value-lawful = mapped (before (mark-lawful m.Equals) modes-lawful (λ t e. refl))
 
 source_value_apart : (t : Token) → no_value.starts t ≡ true → source_value.starts t ≡ false
-unfolding word mark name in_parens plain_literal number negative_literal literal expression default_value value_rule property_name bracketed index body property mode_word question mode_rule next_mode modes group loose_token piece pieces loose_text no_value source_value record_value source_tail record_tail source_word record_word source_part record_part other_part record_or_other any_part part next_part statistic_body optional_body indexed_statistic unnamed_statistic named_or_not statistic_tail statistic_word statistic plain_name plain_line property_text property_line valued tail parameter_word volatile any_declaration declaration assignment assigned_or_said any_line section_line heading section base_name optional_base simple submodule submodules network type_rule file
+unfolding word mark name in_parens expression default_value value_rule property_name bracketed index body property mode_word question mode_rule next_mode modes group loose_token piece pieces loose_text no_value source_value record_value source_tail record_tail source_word record_word source_part record_part other_part record_or_other any_part part next_part statistic_body optional_body indexed_statistic unnamed_statistic named_or_not statistic_tail statistic_word statistic plain_name plain_line property_text property_line valued tail parameter_word volatile any_declaration declaration assignment assigned_or_said any_line section_line heading section base_name optional_base simple submodule submodules network type_rule file
 source_value_apart (token.Mark m.Equals) e = absurd (false≢true e)
 source_value_apart (token.Mark _) e = refl
 source_value_apart _ e = refl
@@ -178,7 +189,7 @@ unfolding source_part source_word source_tail source_value no_value loose_text p
 source_part-lawful = mapped (before (token-lawful source_of) (optional-lawful source_tail source_tail-lawful refl) (λ t e. refl))
 
 record_value_apart : (t : Token) → no_value.starts t ≡ true → record_value.starts t ≡ false
-unfolding word mark name in_parens plain_literal number negative_literal literal expression default_value value_rule property_name bracketed index body property mode_word question mode_rule next_mode modes group loose_token piece pieces loose_text no_value source_value record_value source_tail record_tail source_word record_word source_part record_part other_part record_or_other any_part part next_part statistic_body optional_body indexed_statistic unnamed_statistic named_or_not statistic_tail statistic_word statistic plain_name plain_line property_text property_line valued tail parameter_word volatile any_declaration declaration assignment assigned_or_said any_line section_line heading section base_name optional_base simple submodule submodules network type_rule file
+unfolding word mark name in_parens expression default_value value_rule property_name bracketed index body property mode_word question mode_rule next_mode modes group loose_token piece pieces loose_text no_value source_value record_value source_tail record_tail source_word record_word source_part record_part other_part record_or_other any_part part next_part statistic_body optional_body indexed_statistic unnamed_statistic named_or_not statistic_tail statistic_word statistic plain_name plain_line property_text property_line valued tail parameter_word volatile any_declaration declaration assignment assigned_or_said any_line section_line heading section base_name optional_base simple submodule submodules network type_rule file
 record_value_apart (token.Mark m.Equals) e = absurd (false≢true e)
 record_value_apart (token.Mark _) e = refl
 record_value_apart _ e = refl
@@ -202,7 +213,7 @@ record_name false true e = absurd (false≢true e)
 record_name false false e = refl
 
 record_apart : (t : Token) → other_part.starts t ≡ true → record_part.starts t ≡ false
-unfolding word mark name in_parens plain_literal number negative_literal literal expression default_value value_rule property_name bracketed index body property mode_word question mode_rule next_mode modes group loose_token piece pieces loose_text no_value source_value record_value source_tail record_tail source_word record_word source_part record_part other_part record_or_other any_part part next_part statistic_body optional_body indexed_statistic unnamed_statistic named_or_not statistic_tail statistic_word statistic plain_name plain_line property_text property_line valued tail parameter_word volatile any_declaration declaration assignment assigned_or_said any_line section_line heading section base_name optional_base simple submodule submodules network type_rule file
+unfolding word mark name in_parens expression default_value value_rule property_name bracketed index body property mode_word question mode_rule next_mode modes group loose_token piece pieces loose_text no_value source_value record_value source_tail record_tail source_word record_word source_part record_part other_part record_or_other any_part part next_part statistic_body optional_body indexed_statistic unnamed_statistic named_or_not statistic_tail statistic_word statistic plain_name plain_line property_text property_line valued tail parameter_word volatile any_declaration declaration assignment assigned_or_said any_line section_line heading section base_name optional_base simple submodule submodules network type_rule file
 record_apart (token.Name text) e = record_name (is_source text) (is_record text) e
 record_apart _ e = refl
 
@@ -220,7 +231,7 @@ source_name true false h e = absurd (false≢true e)
 source_name false q h e = refl
 
 source_apart : (t : Token) → record_or_other.starts t ≡ true → source_part.starts t ≡ false
-unfolding word mark name in_parens plain_literal number negative_literal literal expression default_value value_rule property_name bracketed index body property mode_word question mode_rule next_mode modes group loose_token piece pieces loose_text no_value source_value record_value source_tail record_tail source_word record_word source_part record_part other_part record_or_other any_part part next_part statistic_body optional_body indexed_statistic unnamed_statistic named_or_not statistic_tail statistic_word statistic plain_name plain_line property_text property_line valued tail parameter_word volatile any_declaration declaration assignment assigned_or_said any_line section_line heading section base_name optional_base simple submodule submodules network type_rule file
+unfolding word mark name in_parens expression default_value value_rule property_name bracketed index body property mode_word question mode_rule next_mode modes group loose_token piece pieces loose_text no_value source_value record_value source_tail record_tail source_word record_word source_part record_part other_part record_or_other any_part part next_part statistic_body optional_body indexed_statistic unnamed_statistic named_or_not statistic_tail statistic_word statistic plain_name plain_line property_text property_line valued tail parameter_word volatile any_declaration declaration assignment assigned_or_said any_line section_line heading section base_name optional_base simple submodule submodules network type_rule file
 source_apart (token.Name text) e = source_name (is_source text) (is_record text) (record_no_source text) e
 source_apart _ e = refl
 
@@ -237,23 +248,23 @@ unfolding next_part mark
 next_part-lawful = before (mark-lawful m.Semi) part-lawful (λ t e. refl)
 
 pub next_part-full : next_part.empty ≡ false
-unfolding word mark name in_parens plain_literal number negative_literal literal expression default_value value_rule property_name bracketed index body property mode_word question mode_rule next_mode modes group loose_token piece pieces loose_text no_value source_value record_value source_tail record_tail source_word record_word source_part record_part other_part record_or_other any_part part next_part statistic_body optional_body indexed_statistic unnamed_statistic named_or_not statistic_tail statistic_word statistic plain_name plain_line property_text property_line valued tail parameter_word volatile any_declaration declaration assignment assigned_or_said any_line section_line heading section base_name optional_base simple submodule submodules network type_rule file
+unfolding word mark name in_parens expression default_value value_rule property_name bracketed index body property mode_word question mode_rule next_mode modes group loose_token piece pieces loose_text no_value source_value record_value source_tail record_tail source_word record_word source_part record_part other_part record_or_other any_part part next_part statistic_body optional_body indexed_statistic unnamed_statistic named_or_not statistic_tail statistic_word statistic plain_name plain_line property_text property_line valued tail parameter_word volatile any_declaration declaration assignment assigned_or_said any_line section_line heading section base_name optional_base simple submodule submodules network type_rule file
 next_part-full = refl
 
 next_parts_apart : (t : Token) → (next_part).starts t ≡ true → (next_part).goes_on t ≡ false
-unfolding word mark name in_parens plain_literal number negative_literal literal expression default_value value_rule property_name bracketed index body property mode_word question mode_rule next_mode modes group loose_token piece pieces loose_text no_value source_value record_value source_tail record_tail source_word record_word source_part record_part other_part record_or_other any_part part next_part statistic_body optional_body indexed_statistic unnamed_statistic named_or_not statistic_tail statistic_word statistic plain_name plain_line property_text property_line valued tail parameter_word volatile any_declaration declaration assignment assigned_or_said any_line section_line heading section base_name optional_base simple submodule submodules network type_rule file
+unfolding word mark name in_parens expression default_value value_rule property_name bracketed index body property mode_word question mode_rule next_mode modes group loose_token piece pieces loose_text no_value source_value record_value source_tail record_tail source_word record_word source_part record_part other_part record_or_other any_part part next_part statistic_body optional_body indexed_statistic unnamed_statistic named_or_not statistic_tail statistic_word statistic plain_name plain_line property_text property_line valued tail parameter_word volatile any_declaration declaration assignment assigned_or_said any_line section_line heading section base_name optional_base simple submodule submodules network type_rule file
 next_parts_apart (token.Mark m.Semi) e = refl
 next_parts_apart (token.Mark _) e = absurd (false≢true e)
 next_parts_apart _ e = absurd (false≢true e)
 
 parts_apart : (t : Token) → (many next_part).starts t ≡ true → (part).goes_on t ≡ false
-unfolding word mark name in_parens plain_literal number negative_literal literal expression default_value value_rule property_name bracketed index body property mode_word question mode_rule next_mode modes group loose_token piece pieces loose_text no_value source_value record_value source_tail record_tail source_word record_word source_part record_part other_part record_or_other any_part part next_part statistic_body optional_body indexed_statistic unnamed_statistic named_or_not statistic_tail statistic_word statistic plain_name plain_line property_text property_line valued tail parameter_word volatile any_declaration declaration assignment assigned_or_said any_line section_line heading section base_name optional_base simple submodule submodules network type_rule file
+unfolding word mark name in_parens expression default_value value_rule property_name bracketed index body property mode_word question mode_rule next_mode modes group loose_token piece pieces loose_text no_value source_value record_value source_tail record_tail source_word record_word source_part record_part other_part record_or_other any_part part next_part statistic_body optional_body indexed_statistic unnamed_statistic named_or_not statistic_tail statistic_word statistic plain_name plain_line property_text property_line valued tail parameter_word volatile any_declaration declaration assignment assigned_or_said any_line section_line heading section base_name optional_base simple submodule submodules network type_rule file
 parts_apart (token.Mark m.Semi) e = refl
 parts_apart (token.Mark _) e = absurd (false≢true e)
 parts_apart _ e = absurd (false≢true e)
 
 body_ends : (t : Token) → (mark m.RightParen).starts t ≡ true → (part ⊗ many next_part).goes_on t ≡ false
-unfolding word mark name in_parens plain_literal number negative_literal literal expression default_value value_rule property_name bracketed index body property mode_word question mode_rule next_mode modes group loose_token piece pieces loose_text no_value source_value record_value source_tail record_tail source_word record_word source_part record_part other_part record_or_other any_part part next_part statistic_body optional_body indexed_statistic unnamed_statistic named_or_not statistic_tail statistic_word statistic plain_name plain_line property_text property_line valued tail parameter_word volatile any_declaration declaration assignment assigned_or_said any_line section_line heading section base_name optional_base simple submodule submodules network type_rule file
+unfolding word mark name in_parens expression default_value value_rule property_name bracketed index body property mode_word question mode_rule next_mode modes group loose_token piece pieces loose_text no_value source_value record_value source_tail record_tail source_word record_word source_part record_part other_part record_or_other any_part part next_part statistic_body optional_body indexed_statistic unnamed_statistic named_or_not statistic_tail statistic_word statistic plain_name plain_line property_text property_line valued tail parameter_word volatile any_declaration declaration assignment assigned_or_said any_line section_line heading section base_name optional_base simple submodule submodules network type_rule file
 body_ends (token.Mark m.RightParen) e = refl
 body_ends (token.Mark _) e = absurd (false≢true e)
 body_ends _ e = absurd (false≢true e)
@@ -275,7 +286,7 @@ unfolding unnamed_statistic
 unnamed_statistic-lawful = mapped in_parens-lawful
 
 named_apart : (t : Token) → unnamed_statistic.starts t ≡ true → indexed_statistic.starts t ≡ false
-unfolding word mark name in_parens plain_literal number negative_literal literal expression default_value value_rule property_name bracketed index body property mode_word question mode_rule next_mode modes group loose_token piece pieces loose_text no_value source_value record_value source_tail record_tail source_word record_word source_part record_part other_part record_or_other any_part part next_part statistic_body optional_body indexed_statistic unnamed_statistic named_or_not statistic_tail statistic_word statistic plain_name plain_line property_text property_line valued tail parameter_word volatile any_declaration declaration assignment assigned_or_said any_line section_line heading section base_name optional_base simple submodule submodules network type_rule file
+unfolding word mark name in_parens expression default_value value_rule property_name bracketed index body property mode_word question mode_rule next_mode modes group loose_token piece pieces loose_text no_value source_value record_value source_tail record_tail source_word record_word source_part record_part other_part record_or_other any_part part next_part statistic_body optional_body indexed_statistic unnamed_statistic named_or_not statistic_tail statistic_word statistic plain_name plain_line property_text property_line valued tail parameter_word volatile any_declaration declaration assignment assigned_or_said any_line section_line heading section base_name optional_base simple submodule submodules network type_rule file
 named_apart (token.Mark m.LeftParen) e = refl
 named_apart (token.Mark _) e = absurd (false≢true e)
 named_apart _ e = absurd (false≢true e)
@@ -307,7 +318,7 @@ statistic_name true property e = absurd (false≢true e)
 statistic_name false property e = refl
 
 statistic_apart : (t : Token) → plain_line.starts t ≡ true → statistic.starts t ≡ false
-unfolding word mark name in_parens plain_literal number negative_literal literal expression default_value value_rule property_name bracketed index body property mode_word question mode_rule next_mode modes group loose_token piece pieces loose_text no_value source_value record_value source_tail record_tail source_word record_word source_part record_part other_part record_or_other any_part part next_part statistic_body optional_body indexed_statistic unnamed_statistic named_or_not statistic_tail statistic_word statistic plain_name plain_line property_text property_line valued tail parameter_word volatile any_declaration declaration assignment assigned_or_said any_line section_line heading section base_name optional_base simple submodule submodules network type_rule file
+unfolding word mark name in_parens expression default_value value_rule property_name bracketed index body property mode_word question mode_rule next_mode modes group loose_token piece pieces loose_text no_value source_value record_value source_tail record_tail source_word record_word source_part record_part other_part record_or_other any_part part next_part statistic_body optional_body indexed_statistic unnamed_statistic named_or_not statistic_tail statistic_word statistic plain_name plain_line property_text property_line valued tail parameter_word volatile any_declaration declaration assignment assigned_or_said any_line section_line heading section base_name optional_base simple submodule submodules network type_rule file
 statistic_apart (token.Name text) e = statistic_name (is_statistic text) (cond (bytes_eq text (codes "unit")) names.Unit (cond (bytes_eq text (codes "class")) names.Class names.Other)) e
 statistic_apart _ e = refl
 
@@ -320,7 +331,7 @@ unfolding property_line mark
 property_line-lawful = before (mark-lawful m.At) property_text-lawful (λ t e. refl)
 
 properties_apart : (t : Token) → (property).starts t ≡ true → (property).goes_on t ≡ false
-unfolding word mark name in_parens plain_literal number negative_literal literal expression default_value value_rule property_name bracketed index body property mode_word question mode_rule next_mode modes group loose_token piece pieces loose_text no_value source_value record_value source_tail record_tail source_word record_word source_part record_part other_part record_or_other any_part part next_part statistic_body optional_body indexed_statistic unnamed_statistic named_or_not statistic_tail statistic_word statistic plain_name plain_line property_text property_line valued tail parameter_word volatile any_declaration declaration assignment assigned_or_said any_line section_line heading section base_name optional_base simple submodule submodules network type_rule file
+unfolding word mark name in_parens expression default_value value_rule property_name bracketed index body property mode_word question mode_rule next_mode modes group loose_token piece pieces loose_text no_value source_value record_value source_tail record_tail source_word record_word source_part record_part other_part record_or_other any_part part next_part statistic_body optional_body indexed_statistic unnamed_statistic named_or_not statistic_tail statistic_word statistic plain_name plain_line property_text property_line valued tail parameter_word volatile any_declaration declaration assignment assigned_or_said any_line section_line heading section base_name optional_base simple submodule submodules network type_rule file
 properties_apart (token.Mark m.At) e = refl
 properties_apart (token.Mark _) e = absurd (false≢true e)
 properties_apart _ e = absurd (false≢true e)
@@ -330,7 +341,7 @@ unfolding property
 properties-lawful = many-lawful property property-lawful property-full properties_apart
 
 value_apart : (t : Token) → (many property).starts t ≡ true → (mark m.Equals ▷ value_rule).goes_on t ≡ false
-unfolding word mark name in_parens plain_literal number negative_literal literal expression default_value value_rule property_name bracketed index body property mode_word question mode_rule next_mode modes group loose_token piece pieces loose_text no_value source_value record_value source_tail record_tail source_word record_word source_part record_part other_part record_or_other any_part part next_part statistic_body optional_body indexed_statistic unnamed_statistic named_or_not statistic_tail statistic_word statistic plain_name plain_line property_text property_line valued tail parameter_word volatile any_declaration declaration assignment assigned_or_said any_line section_line heading section base_name optional_base simple submodule submodules network type_rule file
+unfolding word mark name in_parens expression default_value value_rule property_name bracketed index body property mode_word question mode_rule next_mode modes group loose_token piece pieces loose_text no_value source_value record_value source_tail record_tail source_word record_word source_part record_part other_part record_or_other any_part part next_part statistic_body optional_body indexed_statistic unnamed_statistic named_or_not statistic_tail statistic_word statistic plain_name plain_line property_text property_line valued tail parameter_word volatile any_declaration declaration assignment assigned_or_said any_line section_line heading section base_name optional_base simple submodule submodules network type_rule file
 value_apart (token.Mark m.At) e = refl
 value_apart (token.Mark _) e = absurd (false≢true e)
 value_apart _ e = absurd (false≢true e)
@@ -340,7 +351,7 @@ unfolding valued mark
 valued-lawful = mapped (then (before (mark-lawful m.Equals) value-lawful (λ t e. refl)) properties-lawful value_apart)
 
 tail_apart : (t : Token) → (optional valued).starts t ≡ true → (many property).goes_on t ≡ false
-unfolding word mark name in_parens plain_literal number negative_literal literal expression default_value value_rule property_name bracketed index body property mode_word question mode_rule next_mode modes group loose_token piece pieces loose_text no_value source_value record_value source_tail record_tail source_word record_word source_part record_part other_part record_or_other any_part part next_part statistic_body optional_body indexed_statistic unnamed_statistic named_or_not statistic_tail statistic_word statistic plain_name plain_line property_text property_line valued tail parameter_word volatile any_declaration declaration assignment assigned_or_said any_line section_line heading section base_name optional_base simple submodule submodules network type_rule file
+unfolding word mark name in_parens expression default_value value_rule property_name bracketed index body property mode_word question mode_rule next_mode modes group loose_token piece pieces loose_text no_value source_value record_value source_tail record_tail source_word record_word source_part record_part other_part record_or_other any_part part next_part statistic_body optional_body indexed_statistic unnamed_statistic named_or_not statistic_tail statistic_word statistic plain_name plain_line property_text property_line valued tail parameter_word volatile any_declaration declaration assignment assigned_or_said any_line section_line heading section base_name optional_base simple submodule submodules network type_rule file
 tail_apart (token.Mark m.Equals) e = refl
 tail_apart (token.Mark _) e = absurd (false≢true e)
 tail_apart _ e = absurd (false≢true e)
@@ -358,7 +369,7 @@ unfolding volatile word
 volatile-lawful = mapped (optional-lawful (word k.Volatile) (word-lawful k.Volatile) refl)
 
 volatile_apart : (t : Token) → (parameter_word ⊗ (name ⊗ tail)).starts t ≡ true → (volatile).goes_on t ≡ false
-unfolding word mark name in_parens plain_literal number negative_literal literal expression default_value value_rule property_name bracketed index body property mode_word question mode_rule next_mode modes group loose_token piece pieces loose_text no_value source_value record_value source_tail record_tail source_word record_word source_part record_part other_part record_or_other any_part part next_part statistic_body optional_body indexed_statistic unnamed_statistic named_or_not statistic_tail statistic_word statistic plain_name plain_line property_text property_line valued tail parameter_word volatile any_declaration declaration assignment assigned_or_said any_line section_line heading section base_name optional_base simple submodule submodules network type_rule file
+unfolding word mark name in_parens expression default_value value_rule property_name bracketed index body property mode_word question mode_rule next_mode modes group loose_token piece pieces loose_text no_value source_value record_value source_tail record_tail source_word record_word source_part record_part other_part record_or_other any_part part next_part statistic_body optional_body indexed_statistic unnamed_statistic named_or_not statistic_tail statistic_word statistic plain_name plain_line property_text property_line valued tail parameter_word volatile any_declaration declaration assignment assigned_or_said any_line section_line heading section base_name optional_base simple submodule submodules network type_rule file
 volatile_apart (token.Word k.Volatile) e = absurd (false≢true e)
 volatile_apart (token.Word _) e = refl
 volatile_apart _ e = absurd (false≢true e)
@@ -376,7 +387,7 @@ unfolding assignment name
 assignment-lawful = mapped (then name-lawful tail-lawful (λ t e. refl))
 
 assignment_apart : (t : Token) → property_line.starts t ≡ true → (made lines.Assignment assignment).starts t ≡ false
-unfolding word mark name in_parens plain_literal number negative_literal literal expression default_value value_rule property_name bracketed index body property mode_word question mode_rule next_mode modes group loose_token piece pieces loose_text no_value source_value record_value source_tail record_tail source_word record_word source_part record_part other_part record_or_other any_part part next_part statistic_body optional_body indexed_statistic unnamed_statistic named_or_not statistic_tail statistic_word statistic plain_name plain_line property_text property_line valued tail parameter_word volatile any_declaration declaration assignment assigned_or_said any_line section_line heading section base_name optional_base simple submodule submodules network type_rule file
+unfolding word mark name in_parens expression default_value value_rule property_name bracketed index body property mode_word question mode_rule next_mode modes group loose_token piece pieces loose_text no_value source_value record_value source_tail record_tail source_word record_word source_part record_part other_part record_or_other any_part part next_part statistic_body optional_body indexed_statistic unnamed_statistic named_or_not statistic_tail statistic_word statistic plain_name plain_line property_text property_line valued tail parameter_word volatile any_declaration declaration assignment assigned_or_said any_line section_line heading section base_name optional_base simple submodule submodules network type_rule file
 assignment_apart (token.Name text) e = absurd (false≢true e)
 assignment_apart _ e = refl
 
@@ -385,7 +396,7 @@ unfolding assigned_or_said assignment name property_line mark
 assigned_or_said-lawful = either-lawful (made lines.Assignment assignment) property_line (mapped assignment-lawful) property_line-lawful refl refl assignment_apart
 
 declaration_apart : (t : Token) → assigned_or_said.starts t ≡ true → (made lines.Declaration declaration).starts t ≡ false
-unfolding word mark name in_parens plain_literal number negative_literal literal expression default_value value_rule property_name bracketed index body property mode_word question mode_rule next_mode modes group loose_token piece pieces loose_text no_value source_value record_value source_tail record_tail source_word record_word source_part record_part other_part record_or_other any_part part next_part statistic_body optional_body indexed_statistic unnamed_statistic named_or_not statistic_tail statistic_word statistic plain_name plain_line property_text property_line valued tail parameter_word volatile any_declaration declaration assignment assigned_or_said any_line section_line heading section base_name optional_base simple submodule submodules network type_rule file
+unfolding word mark name in_parens expression default_value value_rule property_name bracketed index body property mode_word question mode_rule next_mode modes group loose_token piece pieces loose_text no_value source_value record_value source_tail record_tail source_word record_word source_part record_part other_part record_or_other any_part part next_part statistic_body optional_body indexed_statistic unnamed_statistic named_or_not statistic_tail statistic_word statistic plain_name plain_line property_text property_line valued tail parameter_word volatile any_declaration declaration assignment assigned_or_said any_line section_line heading section base_name optional_base simple submodule submodules network type_rule file
 declaration_apart (token.Word _) e = absurd (false≢true e)
 declaration_apart _ e = refl
 
@@ -394,7 +405,7 @@ unfolding any_line declaration any_declaration volatile parameter_word word assi
 any_line-lawful = either-lawful (made lines.Declaration declaration) assigned_or_said (mapped declaration-lawful) assigned_or_said-lawful refl refl declaration_apart
 
 line_ends : (t : Token) → (mark m.Semi).starts t ≡ true → (any_line).goes_on t ≡ false
-unfolding word mark name in_parens plain_literal number negative_literal literal expression default_value value_rule property_name bracketed index body property mode_word question mode_rule next_mode modes group loose_token piece pieces loose_text no_value source_value record_value source_tail record_tail source_word record_word source_part record_part other_part record_or_other any_part part next_part statistic_body optional_body indexed_statistic unnamed_statistic named_or_not statistic_tail statistic_word statistic plain_name plain_line property_text property_line valued tail parameter_word volatile any_declaration declaration assignment assigned_or_said any_line section_line heading section base_name optional_base simple submodule submodules network type_rule file
+unfolding word mark name in_parens expression default_value value_rule property_name bracketed index body property mode_word question mode_rule next_mode modes group loose_token piece pieces loose_text no_value source_value record_value source_tail record_tail source_word record_word source_part record_part other_part record_or_other any_part part next_part statistic_body optional_body indexed_statistic unnamed_statistic named_or_not statistic_tail statistic_word statistic plain_name plain_line property_text property_line valued tail parameter_word volatile any_declaration declaration assignment assigned_or_said any_line section_line heading section base_name optional_base simple submodule submodules network type_rule file
 line_ends (token.Mark m.Semi) e = refl
 line_ends (token.Mark _) e = absurd (false≢true e)
 line_ends _ e = absurd (false≢true e)
@@ -404,7 +415,7 @@ unfolding section_line
 section_line-lawful = after any_line-lawful (mark-lawful m.Semi) line_ends
 
 pub section_line-full : section_line.empty ≡ false
-unfolding word mark name in_parens plain_literal number negative_literal literal expression default_value value_rule property_name bracketed index body property mode_word question mode_rule next_mode modes group loose_token piece pieces loose_text no_value source_value record_value source_tail record_tail source_word record_word source_part record_part other_part record_or_other any_part part next_part statistic_body optional_body indexed_statistic unnamed_statistic named_or_not statistic_tail statistic_word statistic plain_name plain_line property_text property_line valued tail parameter_word volatile any_declaration declaration assignment assigned_or_said any_line section_line heading section base_name optional_base simple submodule submodules network type_rule file
+unfolding word mark name in_parens expression default_value value_rule property_name bracketed index body property mode_word question mode_rule next_mode modes group loose_token piece pieces loose_text no_value source_value record_value source_tail record_tail source_word record_word source_part record_part other_part record_or_other any_part part next_part statistic_body optional_body indexed_statistic unnamed_statistic named_or_not statistic_tail statistic_word statistic plain_name plain_line property_text property_line valued tail parameter_word volatile any_declaration declaration assignment assigned_or_said any_line section_line heading section base_name optional_base simple submodule submodules network type_rule file
 section_line-full = refl
 
 pub heading-lawful : Lawful heading
@@ -412,13 +423,13 @@ unfolding heading word mark
 heading-lawful = mapped (optional-lawful (word k.Parameters ▷ mark m.Colon) (before (word-lawful k.Parameters) (mark-lawful m.Colon) (λ t e. refl)) refl)
 
 heading_apart : (t : Token) → (many section_line).starts t ≡ true → (heading).goes_on t ≡ false
-unfolding word mark name in_parens plain_literal number negative_literal literal expression default_value value_rule property_name bracketed index body property mode_word question mode_rule next_mode modes group loose_token piece pieces loose_text no_value source_value record_value source_tail record_tail source_word record_word source_part record_part other_part record_or_other any_part part next_part statistic_body optional_body indexed_statistic unnamed_statistic named_or_not statistic_tail statistic_word statistic plain_name plain_line property_text property_line valued tail parameter_word volatile any_declaration declaration assignment assigned_or_said any_line section_line heading section base_name optional_base simple submodule submodules network type_rule file
+unfolding word mark name in_parens expression default_value value_rule property_name bracketed index body property mode_word question mode_rule next_mode modes group loose_token piece pieces loose_text no_value source_value record_value source_tail record_tail source_word record_word source_part record_part other_part record_or_other any_part part next_part statistic_body optional_body indexed_statistic unnamed_statistic named_or_not statistic_tail statistic_word statistic plain_name plain_line property_text property_line valued tail parameter_word volatile any_declaration declaration assignment assigned_or_said any_line section_line heading section base_name optional_base simple submodule submodules network type_rule file
 heading_apart (token.Word k.Parameters) e = absurd (false≢true e)
 heading_apart (token.Word _) e = refl
 heading_apart _ e = refl
 
 lines_apart : (t : Token) → (section_line).starts t ≡ true → (section_line).goes_on t ≡ false
-unfolding word mark name in_parens plain_literal number negative_literal literal expression default_value value_rule property_name bracketed index body property mode_word question mode_rule next_mode modes group loose_token piece pieces loose_text no_value source_value record_value source_tail record_tail source_word record_word source_part record_part other_part record_or_other any_part part next_part statistic_body optional_body indexed_statistic unnamed_statistic named_or_not statistic_tail statistic_word statistic plain_name plain_line property_text property_line valued tail parameter_word volatile any_declaration declaration assignment assigned_or_said any_line section_line heading section base_name optional_base simple submodule submodules network type_rule file
+unfolding word mark name in_parens expression default_value value_rule property_name bracketed index body property mode_word question mode_rule next_mode modes group loose_token piece pieces loose_text no_value source_value record_value source_tail record_tail source_word record_word source_part record_part other_part record_or_other any_part part next_part statistic_body optional_body indexed_statistic unnamed_statistic named_or_not statistic_tail statistic_word statistic plain_name plain_line property_text property_line valued tail parameter_word volatile any_declaration declaration assignment assigned_or_said any_line section_line heading section base_name optional_base simple submodule submodules network type_rule file
 lines_apart t e = refl
 
 pub section-lawful : Lawful section
@@ -428,7 +439,7 @@ section-lawful = before heading-lawful (many-lawful section_line section_line-la
 -- ---- types
 
 section_ends : (t : Token) → (mark m.Close).starts t ≡ true → (section).goes_on t ≡ false
-unfolding word mark name in_parens plain_literal number negative_literal literal expression default_value value_rule property_name bracketed index body property mode_word question mode_rule next_mode modes group loose_token piece pieces loose_text no_value source_value record_value source_tail record_tail source_word record_word source_part record_part other_part record_or_other any_part part next_part statistic_body optional_body indexed_statistic unnamed_statistic named_or_not statistic_tail statistic_word statistic plain_name plain_line property_text property_line valued tail parameter_word volatile any_declaration declaration assignment assigned_or_said any_line section_line heading section base_name optional_base simple submodule submodules network type_rule file
+unfolding word mark name in_parens expression default_value value_rule property_name bracketed index body property mode_word question mode_rule next_mode modes group loose_token piece pieces loose_text no_value source_value record_value source_tail record_tail source_word record_word source_part record_part other_part record_or_other any_part part next_part statistic_body optional_body indexed_statistic unnamed_statistic named_or_not statistic_tail statistic_word statistic plain_name plain_line property_text property_line valued tail parameter_word volatile any_declaration declaration assignment assigned_or_said any_line section_line heading section base_name optional_base simple submodule submodules network type_rule file
 section_ends (token.Mark m.Close) e = refl
 section_ends (token.Mark _) e = absurd (false≢true e)
 section_ends _ e = absurd (false≢true e)
@@ -442,7 +453,7 @@ unfolding optional_base base_name word
 base-lawful = optional-lawful base_name base_name-lawful refl
 
 base_apart : (t : Token) → (mark m.Open ▷ (section ◁ mark m.Close)).starts t ≡ true → (optional_base).goes_on t ≡ false
-unfolding word mark name in_parens plain_literal number negative_literal literal expression default_value value_rule property_name bracketed index body property mode_word question mode_rule next_mode modes group loose_token piece pieces loose_text no_value source_value record_value source_tail record_tail source_word record_word source_part record_part other_part record_or_other any_part part next_part statistic_body optional_body indexed_statistic unnamed_statistic named_or_not statistic_tail statistic_word statistic plain_name plain_line property_text property_line valued tail parameter_word volatile any_declaration declaration assignment assigned_or_said any_line section_line heading section base_name optional_base simple submodule submodules network type_rule file
+unfolding word mark name in_parens expression default_value value_rule property_name bracketed index body property mode_word question mode_rule next_mode modes group loose_token piece pieces loose_text no_value source_value record_value source_tail record_tail source_word record_word source_part record_part other_part record_or_other any_part part next_part statistic_body optional_body indexed_statistic unnamed_statistic named_or_not statistic_tail statistic_word statistic plain_name plain_line property_text property_line valued tail parameter_word volatile any_declaration declaration assignment assigned_or_said any_line section_line heading section base_name optional_base simple submodule submodules network type_rule file
 base_apart (token.Mark m.Open) e = refl
 base_apart (token.Mark _) e = absurd (false≢true e)
 base_apart _ e = absurd (false≢true e)
@@ -460,11 +471,11 @@ unfolding submodule name mark
 submodule-lawful = mapped (then name-lawful (before (mark-lawful m.Colon) (after name-lawful (mark-lawful m.Semi) (λ t e. refl)) (λ t e. refl)) (λ t e. refl))
 
 pub submodule-full : submodule.empty ≡ false
-unfolding word mark name in_parens plain_literal number negative_literal literal expression default_value value_rule property_name bracketed index body property mode_word question mode_rule next_mode modes group loose_token piece pieces loose_text no_value source_value record_value source_tail record_tail source_word record_word source_part record_part other_part record_or_other any_part part next_part statistic_body optional_body indexed_statistic unnamed_statistic named_or_not statistic_tail statistic_word statistic plain_name plain_line property_text property_line valued tail parameter_word volatile any_declaration declaration assignment assigned_or_said any_line section_line heading section base_name optional_base simple submodule submodules network type_rule file
+unfolding word mark name in_parens expression default_value value_rule property_name bracketed index body property mode_word question mode_rule next_mode modes group loose_token piece pieces loose_text no_value source_value record_value source_tail record_tail source_word record_word source_part record_part other_part record_or_other any_part part next_part statistic_body optional_body indexed_statistic unnamed_statistic named_or_not statistic_tail statistic_word statistic plain_name plain_line property_text property_line valued tail parameter_word volatile any_declaration declaration assignment assigned_or_said any_line section_line heading section base_name optional_base simple submodule submodules network type_rule file
 submodule-full = refl
 
 submodules_apart : (t : Token) → (submodule).starts t ≡ true → (submodule).goes_on t ≡ false
-unfolding word mark name in_parens plain_literal number negative_literal literal expression default_value value_rule property_name bracketed index body property mode_word question mode_rule next_mode modes group loose_token piece pieces loose_text no_value source_value record_value source_tail record_tail source_word record_word source_part record_part other_part record_or_other any_part part next_part statistic_body optional_body indexed_statistic unnamed_statistic named_or_not statistic_tail statistic_word statistic plain_name plain_line property_text property_line valued tail parameter_word volatile any_declaration declaration assignment assigned_or_said any_line section_line heading section base_name optional_base simple submodule submodules network type_rule file
+unfolding word mark name in_parens expression default_value value_rule property_name bracketed index body property mode_word question mode_rule next_mode modes group loose_token piece pieces loose_text no_value source_value record_value source_tail record_tail source_word record_word source_part record_part other_part record_or_other any_part part next_part statistic_body optional_body indexed_statistic unnamed_statistic named_or_not statistic_tail statistic_word statistic plain_name plain_line property_text property_line valued tail parameter_word volatile any_declaration declaration assignment assigned_or_said any_line section_line heading section base_name optional_base simple submodule submodules network type_rule file
 submodules_apart t e = refl
 
 pub submodules-lawful : Lawful submodules
@@ -472,7 +483,7 @@ unfolding submodules word mark
 submodules-lawful = mapped (optional-lawful (word k.Submodules ▷ (mark m.Colon ▷ many submodule)) (before (word-lawful k.Submodules) (before (mark-lawful m.Colon) (many-lawful submodule submodule-lawful submodule-full submodules_apart) (λ t e. refl)) (λ t e. refl)) refl)
 
 submodules_end : (t : Token) → (mark m.Close).starts t ≡ true → (submodules).goes_on t ≡ false
-unfolding word mark name in_parens plain_literal number negative_literal literal expression default_value value_rule property_name bracketed index body property mode_word question mode_rule next_mode modes group loose_token piece pieces loose_text no_value source_value record_value source_tail record_tail source_word record_word source_part record_part other_part record_or_other any_part part next_part statistic_body optional_body indexed_statistic unnamed_statistic named_or_not statistic_tail statistic_word statistic plain_name plain_line property_text property_line valued tail parameter_word volatile any_declaration declaration assignment assigned_or_said any_line section_line heading section base_name optional_base simple submodule submodules network type_rule file
+unfolding word mark name in_parens expression default_value value_rule property_name bracketed index body property mode_word question mode_rule next_mode modes group loose_token piece pieces loose_text no_value source_value record_value source_tail record_tail source_word record_word source_part record_part other_part record_or_other any_part part next_part statistic_body optional_body indexed_statistic unnamed_statistic named_or_not statistic_tail statistic_word statistic plain_name plain_line property_text property_line valued tail parameter_word volatile any_declaration declaration assignment assigned_or_said any_line section_line heading section base_name optional_base simple submodule submodules network type_rule file
 submodules_end (token.Mark m.Close) e = refl
 submodules_end (token.Mark _) e = absurd (false≢true e)
 submodules_end _ e = absurd (false≢true e)
@@ -482,7 +493,7 @@ unfolding network word mark name
 network-lawful = mapped (before (word-lawful k.Network) (then name-lawful (before (mark-lawful m.Open) (after submodules-lawful (mark-lawful m.Close) submodules_end) (λ t e. refl)) (λ t e. refl)) (λ t e. refl))
 
 simple_apart : (t : Token) → network.starts t ≡ true → simple.starts t ≡ false
-unfolding word mark name in_parens plain_literal number negative_literal literal expression default_value value_rule property_name bracketed index body property mode_word question mode_rule next_mode modes group loose_token piece pieces loose_text no_value source_value record_value source_tail record_tail source_word record_word source_part record_part other_part record_or_other any_part part next_part statistic_body optional_body indexed_statistic unnamed_statistic named_or_not statistic_tail statistic_word statistic plain_name plain_line property_text property_line valued tail parameter_word volatile any_declaration declaration assignment assigned_or_said any_line section_line heading section base_name optional_base simple submodule submodules network type_rule file
+unfolding word mark name in_parens expression default_value value_rule property_name bracketed index body property mode_word question mode_rule next_mode modes group loose_token piece pieces loose_text no_value source_value record_value source_tail record_tail source_word record_word source_part record_part other_part record_or_other any_part part next_part statistic_body optional_body indexed_statistic unnamed_statistic named_or_not statistic_tail statistic_word statistic plain_name plain_line property_text property_line valued tail parameter_word volatile any_declaration declaration assignment assigned_or_said any_line section_line heading section base_name optional_base simple submodule submodules network type_rule file
 simple_apart (token.Word k.Network) e = refl
 simple_apart (token.Word _) e = absurd (false≢true e)
 simple_apart _ e = absurd (false≢true e)
@@ -492,11 +503,11 @@ unfolding type_rule simple network word
 type-lawful = either-lawful simple network simple-lawful network-lawful refl refl simple_apart
 
 pub type-full : type_rule.empty ≡ false
-unfolding word mark name in_parens plain_literal number negative_literal literal expression default_value value_rule property_name bracketed index body property mode_word question mode_rule next_mode modes group loose_token piece pieces loose_text no_value source_value record_value source_tail record_tail source_word record_word source_part record_part other_part record_or_other any_part part next_part statistic_body optional_body indexed_statistic unnamed_statistic named_or_not statistic_tail statistic_word statistic plain_name plain_line property_text property_line valued tail parameter_word volatile any_declaration declaration assignment assigned_or_said any_line section_line heading section base_name optional_base simple submodule submodules network type_rule file
+unfolding word mark name in_parens expression default_value value_rule property_name bracketed index body property mode_word question mode_rule next_mode modes group loose_token piece pieces loose_text no_value source_value record_value source_tail record_tail source_word record_word source_part record_part other_part record_or_other any_part part next_part statistic_body optional_body indexed_statistic unnamed_statistic named_or_not statistic_tail statistic_word statistic plain_name plain_line property_text property_line valued tail parameter_word volatile any_declaration declaration assignment assigned_or_said any_line section_line heading section base_name optional_base simple submodule submodules network type_rule file
 type-full = refl
 
 types_apart : (t : Token) → (type_rule).starts t ≡ true → (type_rule).goes_on t ≡ false
-unfolding word mark name in_parens plain_literal number negative_literal literal expression default_value value_rule property_name bracketed index body property mode_word question mode_rule next_mode modes group loose_token piece pieces loose_text no_value source_value record_value source_tail record_tail source_word record_word source_part record_part other_part record_or_other any_part part next_part statistic_body optional_body indexed_statistic unnamed_statistic named_or_not statistic_tail statistic_word statistic plain_name plain_line property_text property_line valued tail parameter_word volatile any_declaration declaration assignment assigned_or_said any_line section_line heading section base_name optional_base simple submodule submodules network type_rule file
+unfolding word mark name in_parens expression default_value value_rule property_name bracketed index body property mode_word question mode_rule next_mode modes group loose_token piece pieces loose_text no_value source_value record_value source_tail record_tail source_word record_word source_part record_part other_part record_or_other any_part part next_part statistic_body optional_body indexed_statistic unnamed_statistic named_or_not statistic_tail statistic_word statistic plain_name plain_line property_text property_line valued tail parameter_word volatile any_declaration declaration assignment assigned_or_said any_line section_line heading section base_name optional_base simple submodule submodules network type_rule file
 types_apart t e = refl
 
 pub file-lawful : Lawful file

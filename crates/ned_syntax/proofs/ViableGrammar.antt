@@ -1,12 +1,9 @@
 -- The tokens before the first that can't go on begin some spelling of each rule.
 use Rattle.std.proofs.Common.{◌≡◌, ℕ, true, List, [], ◌∷◌, ◌++◌, Option, Some, None, refl, sym, ap, ◌∙◌, append_assoc}
 use Rattle.std.proofs.lemmas.List.{append-nil}
-use Rattle.std.specs.Prelude.{codes, is_some, pos}
-use Rattle.sim_values.specs.declared.value.Value.TheVariants as values
+use Rattle.std.specs.Prelude.{codes, is_some}
 use Rattle.sim_values.specs.declared.value.Dimension.TheVariants as dimension
-use Rattle.ned_tokens.specs.declared.token.Keyword.{Keyword}
 use Rattle.ned_tokens.specs.declared.token.Keyword.TheVariants as k
-use Rattle.ned_tokens.specs.declared.token.Mark.{Mark}
 use Rattle.ned_tokens.specs.declared.token.Mark.TheVariants as m
 use Rattle.ned_tokens.specs.declared.token.Token.{Token}
 use Rattle.ned_tokens.specs.declared.token.Token.TheVariants as token
@@ -30,11 +27,12 @@ use Rattle.ned_syntax.specs.declared.properties.Effect.{Effect}
 use Rattle.ned_syntax.specs.declared.properties.Effect.TheVariants as effects
 use Rattle.ned_syntax.specs.declared.statistics.Except.{Except}
 use Rattle.ned_syntax.specs.declared.statistics.Except.TheVariants as except_is
-use Rattle.ned_syntax.specs.Grammar.{word, mark, name, in_parens, plain_literal, number, negative_literal, literal, expression, default_value, value_rule, property_name, bracketed, index, body, property, mode_word, question, mode_rule, next_mode, modes, group, loose_token, piece, pieces, loose_text, no_value, source_value, record_value, source_tail, record_tail, source_word, record_word, source_part, record_part, other_part, record_or_other, any_part, part, next_part, statistic_body, optional_body, indexed_statistic, unnamed_statistic, named_or_not, statistic_tail, statistic_word, statistic, plain_name, plain_line, property_text, property_line, valued, tail, parameter_word, volatile, any_declaration, declaration, assignment, assigned_or_said, any_line, section_line, heading, section, base_name, optional_base, simple, submodule, submodules, network, type_rule, file, is_word, is_mark, name_of, turn_of, literal_of, number_of, property_name_of, mode_of, loose_of, source_of, record_of, statistic_of, plain_name_of, parameter_word_of, is_measured, first_unit, unit_behind, declared}
+use Rattle.ned_syntax.specs.Grammar.{word, mark, name, in_parens, expression, default_value, value_rule, property_name, bracketed, index, body, property, mode_word, question, mode_rule, next_mode, modes, group, loose_token, piece, pieces, loose_text, no_value, source_value, record_value, source_tail, record_tail, source_word, record_word, source_part, record_part, other_part, record_or_other, any_part, part, next_part, statistic_body, optional_body, indexed_statistic, unnamed_statistic, named_or_not, statistic_tail, statistic_word, statistic, plain_name, plain_line, property_text, property_line, valued, tail, parameter_word, volatile, any_declaration, declaration, assignment, assigned_or_said, any_line, section_line, heading, section, base_name, optional_base, simple, submodule, submodules, network, type_rule, file, turn_of, property_name_of, mode_of, loose_of, source_of, record_of, statistic_of, plain_name_of, parameter_word_of, is_measured, first_unit, unit_behind, declared}
 use Rattle.ned_tokens.proofs.ViableLaws.{Viable, token-viable, such_that-viable, either-viable, optional-viable, many-viable, balanced-viable, then_on, before_on, after_on, mapped_on}
 use Rattle.ned_tokens.proofs.Laws.{mapped}
 use Rattle.ned_tokens.proofs.BalancedLaws.{balanced-lawful}
-use Rattle.ned_values.proofs.ViableGrammar.{word_on, mark_on, letter, name_on, expression_on}
+use Rattle.ned_values.proofs.ViableGrammar.{word_on, mark_on, letter, name_on}
+use Rattle.ned_expressions.proofs.ViableExpressions.{expression_on}
 use Rattle.ned_syntax.proofs.GrammarLaws as laws
 
 in_parens_on : Viable in_parens

@@ -1,14 +1,8 @@
 -- The grammar of NED over tokens, a definition for each rule (OMNeT++ Simulation Manual, "NED Language Grammar").
 -- `a ⊗ b` is a and then b; `a ▷ b` the same with the value of b, `a ◁ b` with that of a.
-use denote.Enum.Bare.{sameb}
-use Rattle.std.specs.Prelude.{ℕ, ◌^◌, pos, neg_ℤ, Bool, true, false, ◌||◌, not, List, [], ◌∷◌, Option, Some, None, Ok, nat_lt, if◌then◌else◌, codes, is_some, unwrap_or}
+use Rattle.std.specs.Prelude.{ℕ, Bool, true, false, ◌||◌, not, List, [], ◌∷◌, Option, Some, None, Ok, if◌then◌else◌, codes, is_some, unwrap_or}
 use Rattle.std.specs.Str.{bytes_eq}
-use Rattle.sim_values.specs.declared.value.Value.{Value}
-use Rattle.sim_values.specs.declared.value.Value.TheVariants as values
 use Rattle.sim_values.specs.declared.value.Dimension.{Dimension}
-use Rattle.ned_tokens.specs.contracts.token.Keyword as keywords
-use Rattle.ned_tokens.specs.contracts.token.Mark as marks
-use Rattle.ned_tokens.specs.declared.token.Keyword.{Keyword}
 use Rattle.ned_tokens.specs.declared.token.Keyword.TheVariants as k
 use Rattle.ned_tokens.specs.declared.token.Mark.{Mark}
 use Rattle.ned_tokens.specs.declared.token.Mark.TheVariants as m
@@ -18,8 +12,6 @@ use Rattle.ned_tokens.specs.Words.{or_else}
 use Rattle.ned_tokens.specs.Units.{unit_of}
 use Rattle.ned_tokens.specs.Rule.{Rule, Reading, ◌>>=◌, map_read, token as one_token, ◌⊗◌, ◌◁◌, ◌▷◌, made, such_that, either, optional, many}
 use Rattle.ned_tokens.specs.Balanced.{Turn, opens, closes, stays, bars, balanced}
-use Rattle.ned_values.specs.declared.ast.Expression.{Expression}
-use Rattle.ned_values.specs.declared.ast.Expression.TheVariants as expressions
 use Rattle.ned_syntax.specs.declared.ast.ParameterValue.{ParameterValue}
 use Rattle.ned_syntax.specs.declared.ast.ParameterValue.TheVariants as given
 use Rattle.ned_syntax.specs.declared.ast.ParameterWord.{ParameterWord}
@@ -27,7 +19,6 @@ use Rattle.ned_syntax.specs.declared.ast.ParameterWord.TheVariants as words
 use Rattle.ned_syntax.specs.declared.ast.Declaration.{Declaration}
 use Rattle.ned_syntax.specs.declared.ast.Assignment.{Assignment}
 use Rattle.ned_values.specs.declared.ast.Mode.{Mode}
-use Rattle.ned_values.specs.declared.ast.Mode.TheVariants as modes_are
 use Rattle.ned_syntax.specs.declared.ast.RecordedMode.{RecordedMode}
 use Rattle.ned_syntax.specs.declared.ast.SectionLine.{SectionLine}
 use Rattle.ned_syntax.specs.declared.ast.SectionLine.TheVariants as lines
@@ -46,9 +37,10 @@ use Rattle.ned_syntax.specs.declared.statistics.Except.TheVariants as except_is
 use Rattle.ned_syntax.specs.declared.statistics.Said.{Said}
 use Rattle.ned_syntax.specs.declared.parameters.Valued.{Valued}
 use Rattle.ned_syntax.specs.declared.parameters.Tail.{Tail}
--- single tokens, literals, expressions and names of modes are those of `ned_values`
-unfoldable pub use Rattle.ned_values.specs.Grammar.{word, mark, name, plain_literal, number, negative_literal, literal, expression}
-pub use Rattle.ned_values.specs.Grammar.{Bytes, same_word, same_mark, is_word, is_mark, name_of, whole_value, quantity_value, literal_of, number_of, negated, mode_named}
+-- single tokens and names of modes are those of `ned_values`, expressions those of `ned_expressions`
+unfoldable pub use Rattle.ned_values.specs.Grammar.{word, mark, name}
+unfoldable pub use Rattle.ned_expressions.specs.Grammar.{expression}
+pub use Rattle.ned_values.specs.Grammar.{Bytes, same_word, same_mark, is_word, is_mark, name_of, mode_named}
 
 -- ---- a mark behind a value
 

@@ -1,12 +1,13 @@
 //! What a NED text declares, as values that the later layers use.
 
-pub use ned_values::ast::{Expression, Mode};
+pub use ned_expressions::ast::Expression;
+pub use ned_values::ast::Mode;
 use sim_values::text::Text;
 use sim_values::value::Dimension;
 use sqlite_items::Items;
 
 /// A value that a parameter is given.
-#[derive(Debug, Drop)]
+#[derive(Drop)]
 pub enum ParameterValue {
     /// `= e`: it can't be changed by the ini text.
     Fixed(Expression),
@@ -24,7 +25,7 @@ pub enum ParameterWord {
 }
 
 /// A parameter that a section declares.
-#[derive(Debug, Drop)]
+#[derive(Drop)]
 pub struct Declaration {
     pub name: Text,
     pub word: ParameterWord,
@@ -34,7 +35,7 @@ pub struct Declaration {
 }
 
 /// A line without a word: a value for a parameter that is declared elsewhere.
-#[derive(Debug, Drop)]
+#[derive(Drop)]
 pub struct Assignment {
     pub name: Text,
     pub value: Option<ParameterValue>,
@@ -49,7 +50,7 @@ pub struct RecordedMode {
 }
 
 /// `@statistic[name](source=..;record=..)`.
-#[derive(Debug, Drop)]
+#[derive(Drop)]
 pub struct Statistic {
     pub name: Text,
     /// The signal that it hears; its own name where no source is written.
@@ -59,7 +60,7 @@ pub struct Statistic {
 }
 
 /// A line of a type's parameter section.
-#[derive(Debug, Drop)]
+#[derive(Drop)]
 pub enum SectionLine {
     Declaration(Declaration),
     Assignment(Assignment),
@@ -85,7 +86,7 @@ pub enum TypeKind {
 }
 
 /// A type, as declared.
-#[derive(Debug, Drop)]
+#[derive(Drop)]
 pub struct TypeDeclaration {
     pub kind: TypeKind,
     pub name: Text,
@@ -96,7 +97,7 @@ pub struct TypeDeclaration {
 }
 
 /// The declarations of a NED text, in order.
-#[derive(Debug, Drop)]
+#[derive(Drop)]
 pub struct NedFile {
     pub types: Items<TypeDeclaration>,
 }

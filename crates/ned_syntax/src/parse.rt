@@ -12,7 +12,6 @@ use ned_tokens::lines::{blamed_line, tokenize};
 use ned_tokens::refusal::Refusal;
 use ned_tokens::token::Token;
 use ned_values::error::NedError;
-pub use ned_values::parse::parse_expression;
 use sim_values::text::MAX_LENGTH;
 use std::alloc::{AllocError, Global};
 

@@ -3,29 +3,19 @@
 ghost use Rattle.std.specs.Prelude.{◌≡◌, ◌++◌, IfOk, OnOk};
 
 use ned_syntax::ast::{
-    Assignment, Declaration, Expression, ParameterValue, SectionLine, Statistic, Submodule,
-    TypeDeclaration,
+    Assignment, Declaration, ParameterValue, SectionLine, Statistic, Submodule, TypeDeclaration,
 };
 use sim_values::text::Text;
 use sqlite_items::Items;
 use std::alloc::{AllocError, Global};
-
-/// An equal expression.
-fn copy_expression(alloc: Global, expression: &Expression) -> Result<Expression, AllocError>
-    ensures { IfOk result (λ copy. copy ≡ expression.now) }
-{
-    match expression {
-        Expression::Literal(value) => Ok(Expression::Literal(value.copy(alloc)?)),
-    }
-}
 
 /// An equal value.
 fn copy_value(alloc: Global, value: &ParameterValue) -> Result<ParameterValue, AllocError>
     ensures { IfOk result (λ copy. copy ≡ value.now) }
 {
     match value {
-        ParameterValue::Fixed(e) => Ok(ParameterValue::Fixed(copy_expression(alloc, e)?)),
-        ParameterValue::Default(e) => Ok(ParameterValue::Default(copy_expression(alloc, e)?)),
+        ParameterValue::Fixed(e) => Ok(ParameterValue::Fixed(e.copy(alloc)?)),
+        ParameterValue::Default(e) => Ok(ParameterValue::Default(e.copy(alloc)?)),
     }
 }
 

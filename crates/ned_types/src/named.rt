@@ -19,10 +19,14 @@ pub(crate) struct NamedTypes<'a> {
 
 impl<'a> Model for NamedTypes<'a> {
     ghost use Rattle.std.specs.Prelude.{List};
+    ghost use Rattle.std.specs.Coded.{coded_list};
+    ghost use Rattle.ned_syntax.specs.contracts.ast.TypeDeclaration.{the_row};
     ghost use Rattle.ned_syntax.specs.declared.ast.TypeDeclaration.{TypeDeclaration};
     ghost use Rattle.ned_types.specs.Named.{types_at, HaveNames};
 
     ghost Value = { List TypeDeclaration };
+
+    ghost coded = { coded_list the_row.coded };
 
     ghost view = { λ n. types_at n.types.entries };
 

@@ -53,7 +53,7 @@ impl From<AllocError> for TypeFault {
 
 /// The flat types of all that are declared, in the order of the files and within them, which contracts see as their list. They
 /// keep the rules of types. A flat type has what its bases have, and extends nothing. A copy shares them.
-#[derive(Debug, Drop)]
+#[derive(Drop)]
 pub struct TypeTable {
     types: Rc<Items<TypeDeclaration>>,
     /// The place of each name: where a type is looked for first.
@@ -62,10 +62,14 @@ pub struct TypeTable {
 
 impl Model for TypeTable {
     ghost use Rattle.std.specs.Prelude.{List};
+    ghost use Rattle.std.specs.Coded.{coded_list};
+    ghost use Rattle.ned_syntax.specs.contracts.ast.TypeDeclaration.{the_row};
     ghost use Rattle.ned_types.specs.WellFormed.{IsWellFormed};
     ghost use Rattle.ned_syntax.specs.declared.ast.TypeDeclaration.{TypeDeclaration};
 
     ghost Value = { List TypeDeclaration };
+
+    ghost coded = { coded_list the_row.coded };
 
     ghost view = { λ t. t.types.value };
 

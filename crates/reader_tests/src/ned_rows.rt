@@ -1,12 +1,14 @@
 //! What becomes of NED texts.
 
 use crate::escapes::unescaped;
+use crate::tree_rows::tell_tree;
 use crate::words::written;
 use ned_syntax::ast::{
     Declaration, NedFile, ParameterValue, SectionLine, Statistic, Submodule, TypeDeclaration,
 };
-use ned_syntax::parse::{parse_expression, parse_ned};
+use ned_syntax::parse::parse_ned;
 use ned_syntax::texts::NedTexts;
+use ned_values::parse::parse_expression;
 use sim_values::NoMemory;
 use sim_values::text::Text;
 use std::alloc::{AllocError, Global};
@@ -21,12 +23,27 @@ pub fn tell_text(alloc: Global, told: &mut String, row: &str) -> Result<(), Allo
     }
 }
 
-/// Tells what an expression is, or why it is none.
+/// Tells what an expression without operators is, or why it is none.
 pub fn tell_expression(alloc: Global, told: &mut String, row: &str) -> Result<(), AllocError> {
     let text = unescaped(alloc, row)?;
     match parse_expression(alloc, text.as_slice()) {
         Ok(read) => write!(told, "{read:?}"),
         Err(refusal) => write!(told, "{refusal:?}"),
+    }
+}
+
+/// Tells what a parameter is given.
+fn tell_given(told: &mut String, value: &ParameterValue) -> Result<(), AllocError> {
+    match value {
+        ParameterValue::Fixed(expression) => {
+            told.push_str(" = ")?;
+            tell_tree(told, expression)
+        }
+        ParameterValue::Default(expression) => {
+            told.push_str(" = default(")?;
+            tell_tree(told, expression)?;
+            told.push(')')
+        }
     }
 }
 
@@ -36,7 +53,11 @@ fn tell_value(
     name: &Text,
     value: &Option<ParameterValue>,
 ) -> Result<(), AllocError> {
-    write!(told, "{} {value:?}; ", written(name))
+    told.push_str(written(name))?;
+    if let Some(value) = value {
+        tell_given(told, value)?;
+    }
+    told.push_str("; ")
 }
 
 /// Tells what a line declares that declares a parameter.

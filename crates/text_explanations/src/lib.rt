@@ -5,7 +5,7 @@
 
 pub mod bases;
 pub mod ini_lines;
-mod members;
+pub mod members;
 pub mod names;
 pub mod ned_files;
 pub mod sources;

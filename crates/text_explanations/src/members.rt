@@ -1,11 +1,13 @@
 //! What is wrong with the parameters of a type, with those of the types that it extends.
 
+use crate::bases::with_bases;
 use crate::names::shown;
-use crate::ned_files::{Declared, ReadFile, Sign, line_of};
+use crate::ned_files::{Declared, ReadFile, Sign, all_types, line_of, read_files, type_named};
 use crate::sources::Sources;
 use ned_syntax::ast::{ParameterValue, SectionLine};
 use ned_types::faults::{name_in, value_in};
 use sim_values::NoMemory;
+use std::alloc::Global;
 use std::fmt::Write;
 
 /// What is wrong with a line, and in which type that is extended the other line stands; in none where it stands in the same type.
@@ -41,6 +43,48 @@ fn fixes(lines: &[SectionLine], name: &[u8]) -> bool {
     lines.iter().any(|line| {
         name_in(line) == name && matches!(value_in(line), Some(ParameterValue::Fixed(_)))
     })
+}
+
+/// The last of the lines that gives the parameter a value.
+fn giving(lines: &[SectionLine], name: &[u8]) -> Option<usize> {
+    let mut last = None;
+    for (at, line) in lines.iter().enumerate() {
+        if name_in(line) == name && value_in(line).is_some() {
+            last = Some(at);
+        }
+    }
+    last
+}
+
+/// The line of the text where a type gives the parameter a value.
+fn line_of_value(files: &[ReadFile], it: &Declared<'_>, name: &[u8]) -> Option<usize> {
+    let lines = it.of.lines.as_slice();
+    let at = giving(lines, name)?;
+    let before = lines.get(..at)?;
+    Some(line_of(files, it, Sign::Name, name, mentions_of(before, name)))
+}
+
+/// Adds where a type, or what it extends, gives the parameter its value: `path:line: `.
+pub fn tell_place_of_value(
+    alloc: Global,
+    told: &mut String,
+    sources: &Sources<'_>,
+    of: &[u8],
+    name: &[u8],
+) -> Result<(), NoMemory> {
+    let files = read_files(alloc, sources)?;
+    let types = all_types(alloc, files.as_slice())?;
+    let Some(found) = type_named(types.as_slice(), of) else {
+        return Ok(());
+    };
+    let along = with_bases(alloc, types.as_slice(), found)?;
+    for it in along.as_slice() {
+        if let Some(line) = line_of_value(files.as_slice(), it, name) {
+            write!(told, "{}:{line}: ", sources.path(it.file))?;
+            break;
+        }
+    }
+    Ok(())
 }
 
 /// The first of the types that declares the parameter.

@@ -28,7 +28,7 @@ pub enum Sign {
     Parameter,
     /// `extends NAME`.
     Base,
-    /// `NAME`.
+    /// `NAME` or `int NAME`, a line of a parameter.
     Name,
 }
 
@@ -38,6 +38,32 @@ fn is_parameter_word(word: Keyword) -> bool {
         word,
         Keyword::Bool | Keyword::Int | Keyword::Text | Keyword::Double
     )
+}
+
+/// The token so many before that place.
+fn token_before(tokens: &[Token], at: usize, by: usize) -> Option<&Token> {
+    tokens.get(at.checked_sub(by)?)
+}
+
+/// Whether a name at that place is that of a line, and not one in an expression.
+fn begins_line(tokens: &[Token], at: usize) -> bool {
+    match token_before(tokens, at, 1) {
+        Some(Token::Mark(Mark::Semi | Mark::Open)) => true,
+        Some(Token::Mark(Mark::Colon)) => matches!(
+            token_before(tokens, at, 2),
+            Some(Token::Word(Keyword::Parameters))
+        ),
+        Some(Token::Word(word)) => is_parameter_word(*word),
+        _ => false,
+    }
+}
+
+/// Whether the place is one for that sign.
+fn may_stand(tokens: &[Token], at: usize, sign: Sign) -> bool {
+    match sign {
+        Sign::Name => begins_line(tokens, at),
+        _ => true,
+    }
 }
 
 /// Whether tokens begin with what the sign says of the name.
@@ -185,7 +211,7 @@ impl ReadFile {
                 Some(rest) => rest,
                 None => tokens,
             };
-            if begins_with(rest, sign, name) {
+            if may_stand(tokens, at, sign) && begins_with(rest, sign, name) {
                 if left == 0 {
                     return *line;
                 }

@@ -10,7 +10,7 @@ use std::alloc::Global;
 use std::fmt::Write;
 
 /// What a text can go on with: how it is written, and how it is called where it isn't a word or a mark.
-const GOES_ON: [(&str, &str); 27] = [
+const GOES_ON: [(&str, &str); 26] = [
     (";", ""),
     ("}", ""),
     ("{", ""),
@@ -32,11 +32,10 @@ const GOES_ON: [(&str, &str); 27] = [
     ("double", ""),
     ("volatile", ""),
     ("default", ""),
-    ("true", ""),
-    ("false", ""),
-    ("-", ""),
     ("@", ""),
-    ("\"t\"", "a literal"),
+    (".", ""),
+    ("1", "an expression"),
+    ("+", "an operator"),
     ("x", "a name"),
 ];
 
@@ -46,6 +45,20 @@ fn can_go_on(alloc: Global, tokens: &[Token]) -> Result<bool, NoMemory> {
         None | Some(0) => true,
         Some(_) => false,
     })
+}
+
+/// Whether an expression can begin so, and other things too.
+fn is_front(it: (&str, &str)) -> bool {
+    it.0 == "(" || it.0 == "x"
+}
+
+/// These, without what an expression can begin with where one is wanted.
+fn said_once(wanted: Vec<(&'static str, &'static str)>) -> Vec<(&'static str, &'static str)> {
+    let mut wanted = wanted;
+    if wanted.iter().any(|it| it.0 == "1") {
+        wanted.retain(|it| !is_front(*it));
+    }
+    wanted
 }
 
 /// What the tokens can go on with, as it is written and called.
@@ -61,7 +74,7 @@ fn wanted(
         }
         let _added = tokens.pop();
     }
-    Ok(found)
+    Ok(said_once(found))
 }
 
 /// Adds a word or mark in quotes, or what else it is called.

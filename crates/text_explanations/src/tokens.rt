@@ -86,5 +86,11 @@ pub fn is_for_later(word: Keyword) -> bool {
             | Keyword::Submodules
             | Keyword::True
             | Keyword::False
+            | Keyword::This
+            | Keyword::Parent
+            | Keyword::Index
+            | Keyword::ParentIndex
+            | Keyword::Sizeof
+            | Keyword::Exists
     )
 }

@@ -3,8 +3,7 @@ use Rattle.std.specs.Prelude.{ℕ, pos, false, List, [], ◌∷◌, ◌++◌, ma
 use Rattle.sim_values.specs.declared.value.Dimension.TheVariants as dimension
 use Rattle.sim_values.specs.declared.value.Value.{Value}
 use Rattle.sim_values.specs.declared.value.Value.TheVariants as values
-use Rattle.ned_expressions.specs.declared.ast.Expression.TheVariants as ini_expression
-use Rattle.ned_values.specs.declared.ast.Expression.TheVariants as expression
+use Rattle.ned_expressions.specs.declared.ast.Expression.TheVariants as expression
 use Rattle.ned_values.specs.declared.ast.Mode.TheVariants as mode
 use Rattle.ned_syntax.specs.declared.ast.ParameterValue.TheVariants as parameter_value
 use Rattle.ned_syntax.specs.declared.ast.ParameterWord.TheVariants as word
@@ -82,7 +81,7 @@ given name written value = record {
   meaning = ini.Entry (record {
     key = codes "**." ++ name;
     value = written;
-    meaning = meaning.Parameter (record { pattern = any_path_to name; value = entry_value.Given (ini_expression.Literal value) });
+    meaning = meaning.Parameter (record { pattern = any_path_to name; value = entry_value.Given (expression.Literal value) });
   });
 }
 

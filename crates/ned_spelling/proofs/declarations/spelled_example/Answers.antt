@@ -1,9 +1,34 @@
-use Rattle.std.proofs.Common.{refl}
+use Rattle.std.proofs.Common.{◌≡◌, List, [], ◌∷◌, codes, ap}
 use Rattle.std.specs.Fmt.{digits}
+use Rattle.sim_values.specs.declared.value.Value.{Value}
+use Rattle.sim_values.specs.declared.value.Dimension.TheVariants as dimension
+use Rattle.ned_tokens.specs.declared.token.Keyword.TheVariants as k
+use Rattle.ned_tokens.specs.declared.token.Mark.TheVariants as m
+use Rattle.ned_tokens.specs.declared.token.Token.{Token}
+use Rattle.ned_tokens.specs.declared.token.Token.TheVariants as token
+use Rattle.ned_expressions.specs.declared.ast.Expression.{Expression, the_lemmas}
+use Rattle.ned_expressions.specs.declared.ast.Expression.TheVariants as expressions
+use Rattle.ned_expressions.specs.declared.ast.Sign.TheVariants as signs
+use Rattle.ned_expressions.specs.Spelling.{literal_tokens, expression_tokens}
 use Rattle.ned_spelling.specs.Tokens.{spell, word_text, mark_text, unit_text}
-use Rattle.ned_spelling.specs.Declarations.{spelled}
+use Rattle.ned_spelling.specs.Declarations.{file_tokens, spelled}
+use Rattle.ned_spelling.specs.Example.{example}
 use Rattle.ned_spelling.proofs.declarations.spelled_example.Goals as goal
+
+at_literal : (v : Value) → expression_tokens (expressions.Literal v) ≡ literal_tokens v
+at_literal v = search the_lemmas
+
+at_minus : (e : Expression) → expression_tokens (expressions.Signed signs.Minus e) ≡ token.Mark m.Minus ∷ expression_tokens e
+at_minus e = search the_lemmas
+
+-- the tokens of the example
+abbrev tokens : List Token
+tokens = token.Word k.Simple ∷ token.Name (codes "Source") ∷ token.Mark m.Open ∷ token.Word k.Parameters ∷ token.Mark m.Colon ∷ token.Word k.Double ∷ token.Name (codes "interval") ∷ token.Mark m.At ∷ token.Name (codes "unit") ∷ token.Mark m.LeftParen ∷ token.Name (codes "ps") ∷ token.Mark m.RightParen ∷ token.Mark m.Equals ∷ token.Word k.Default ∷ token.Mark m.LeftParen ∷ token.Quantity dimension.Time 1000000000000 ∷ token.Mark m.RightParen ∷ token.Mark m.Semi ∷ token.Word k.Int ∷ token.Name (codes "offset") ∷ token.Mark m.Equals ∷ token.Mark m.Minus ∷ token.Number 5 ∷ token.Mark m.Semi ∷ token.Name (codes "label") ∷ token.Mark m.Equals ∷ token.Literal (codes "a\tb") ∷ token.Mark m.Semi ∷ token.Mark m.At ∷ token.Name (codes "class") ∷ token.Mark m.LeftParen ∷ token.Name (codes "Src") ∷ token.Mark m.RightParen ∷ token.Mark m.Semi ∷ token.Mark m.At ∷ token.Name (codes "ignored") ∷ token.Mark m.Semi ∷ token.Mark m.At ∷ token.Name (codes "statistic") ∷ token.Mark m.LeftBracket ∷ token.Name (codes "sent") ∷ token.Mark m.RightBracket ∷ token.Mark m.LeftParen ∷ token.Name (codes "source") ∷ token.Mark m.Equals ∷ token.Name (codes "packetSent") ∷ token.Mark m.Semi ∷ token.Name (codes "record") ∷ token.Mark m.Equals ∷ token.Name (codes "count") ∷ token.Mark m.Comma ∷ token.Name (codes "sum") ∷ token.Mark m.Question ∷ token.Mark m.RightParen ∷ token.Mark m.Semi ∷ token.Mark m.Close ∷ token.Word k.Simple ∷ token.Name (codes "Slow") ∷ token.Word k.Extends ∷ token.Name (codes "Source") ∷ token.Mark m.Open ∷ token.Word k.Parameters ∷ token.Mark m.Colon ∷ token.Mark m.Close ∷ token.Word k.Network ∷ token.Name (codes "Net") ∷ token.Mark m.Open ∷ token.Word k.Submodules ∷ token.Mark m.Colon ∷ token.Name (codes "a") ∷ token.Mark m.Colon ∷ token.Name (codes "Source") ∷ token.Mark m.Semi ∷ token.Mark m.Close ∷ []
+
+tokens_are : file_tokens example ≡ tokens
+unfolding unit_text
+tokens_are = simp (at_minus, at_literal)
 
 pub returns : goal.returns
 unfolding spelled spell word_text mark_text unit_text digits
-returns c = refl
+returns c = ap spell tokens_are
