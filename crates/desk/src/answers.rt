@@ -24,6 +24,7 @@ fn fault_name(fault: &Fault) -> &'static [u8]
         Fault::Overflow => b"Overflow",
         Fault::Inexact => b"Inexact",
         Fault::Mismatch => b"Mismatch",
+        Fault::Circle => b"Circle",
         Fault::TooManyModules => b"TooManyModules",
         Fault::UnknownClass => b"UnknownClass",
         Fault::NoParameter => b"NoParameter",

@@ -1,13 +1,17 @@
 //! Why a run ended with a fault.
 
 use ini_config::entries::value_for;
+use ini_entries::constants::is_constant;
 use ini_entries::entry::EntryValue;
 use model_answers::answer::ModelFault;
 use model_answers::model::Model;
-use model_answers::parameters::parameter_value;
+use model_answers::parameters::lone_value;
 use model_answers::record::path_under;
+use model_answers::scene::Placed;
 use model_texts::begin::model_of;
-use ned_syntax::ast::{Declaration, ParameterValue, ParameterWord, SectionLine, TypeDeclaration};
+use ned_syntax::ast::{
+    Declaration, Expression, ParameterValue, ParameterWord, SectionLine, TypeDeclaration,
+};
 use ned_types::flat::{class_of, last_value, submodule_named};
 use sim_values::NoMemory;
 use sim_values::value::Dimension;
@@ -57,24 +61,27 @@ fn kind_of(declaration: &Declaration) -> &'static str {
     }
 }
 
-/// The first parameter of a type whose value at that path has that fault.
+/// The first parameter of a module whose value has that fault. One to which no NED text gives a value goes before those that may
+/// refer to it.
 fn blamed<'a>(
     alloc: Global,
-    model: &Model,
-    path: &str,
-    of: &'a TypeDeclaration,
+    placed: &Placed<'a>,
     fault: ModelFault,
 ) -> Result<Option<&'a Declaration>, NoMemory> {
-    let lines = of.lines.as_slice();
-    for line in lines {
+    let mut first = None;
+    for line in placed.lines {
         if let SectionLine::Declaration(declaration) = line {
-            let value = parameter_value(alloc, model, path.as_bytes(), lines, declaration)?;
+            let name = declaration.name.as_bytes();
+            let value = lone_value(alloc, placed, name)?;
             if value.is_err_and(|found| found == fault) {
-                return Ok(Some(declaration));
+                if last_value(name, placed.lines).is_none() {
+                    return Ok(Some(declaration));
+                }
+                first = first.or(Some(declaration));
             }
         }
     }
-    Ok(None)
+    Ok(first)
 }
 
 /// The fault of a parameter that has this name.
@@ -84,47 +91,58 @@ fn parameter_fault(name: &str) -> Option<ModelFault> {
         "Overflow" => Some(ModelFault::Overflow),
         "Inexact" => Some(ModelFault::Inexact),
         "Mismatch" => Some(ModelFault::Mismatch),
+        "Circle" => Some(ModelFault::Circle),
         _ => None,
     }
 }
 
-/// Whether the value of a parameter of a type with these lines, of the module of that path, is one of a NED file.
-fn is_from_ned(
+/// The value that a NED file gives a parameter of that name of a module, where no entry of the ini text goes before it.
+fn given_in_ned<'a>(
     alloc: Global,
-    model: &Model,
-    path: &[u8],
+    placed: &Placed<'a>,
     name: &[u8],
-    lines: &[SectionLine],
-) -> Result<bool, NoMemory> {
-    match last_value(name, lines) {
-        Some(ParameterValue::Fixed(_)) => Ok(true),
-        Some(ParameterValue::Default(_)) => {
-            let full = path_under(alloc, path, name)?;
+) -> Result<Option<&'a Expression>, NoMemory> {
+    match last_value(name, placed.lines) {
+        Some(ParameterValue::Fixed(expression)) => Ok(Some(expression)),
+        Some(ParameterValue::Default(expression)) => {
+            let full = path_under(alloc, placed.path, name)?;
+            let model = placed.model;
             let entry = value_for(model.ini.lines(), model.chain.as_slice(), full.as_bytes());
-            Ok(!matches!(entry, Some(EntryValue::Given(_))))
+            Ok(match entry {
+                Some(EntryValue::Given(_)) => None,
+                _ => Some(expression),
+            })
         }
-        None => Ok(false),
+        None => Ok(None),
     }
 }
 
-/// Adds what is wrong with the value of a parameter of that name, which a NED file gives.
+/// Adds what is wrong with the value of a parameter of that name, which a NED file gives by that expression.
 fn tell_wrong_in_ned(
     told: &mut String,
     path: &str,
     name: &str,
     kind: &str,
     fault: ModelFault,
+    expression: &Expression,
 ) -> Result<(), NoMemory> {
     match fault {
-        ModelFault::Unassigned => {
-            write!(
-                told,
-                "the value of '{path}.{name}' refers to something, and references have no values yet: write it with literals"
-            )?;
-            Ok(())
+        ModelFault::Unassigned => write!(
+            told,
+            "the value of '{path}.{name}' refers to something that has no value: 'x' and 'this.x' are the parameter x of the same type, and all else has none yet"
+        )?,
+        ModelFault::Circle => write!(
+            told,
+            "the value of '{path}.{name}' rests on itself, by the parameters that it refers to: give one of them a value that refers to none of the others"
+        )?,
+        _ => {
+            tell_wrong(told, path, name, kind, fault)?;
+            if !is_constant(expression) {
+                write!(told, "; or this is so of a parameter that it refers to")?;
+            }
         }
-        _ => tell_wrong(told, path, name, kind, fault),
     }
+    Ok(())
 }
 
 /// Adds what is wrong with the value of a parameter of that name, which takes values of that kind.
@@ -166,20 +184,19 @@ fn tell_parameter(
     of: &TypeDeclaration,
     found: ModelFault,
 ) -> Result<(), NoMemory> {
-    let Some(declaration) = blamed(alloc, model, fault.path, of, found)? else {
+    let placed = Placed {
+        model,
+        path: fault.path.as_bytes(),
+        lines: of.lines.as_slice(),
+    };
+    let Some(declaration) = blamed(alloc, &placed, found)? else {
         return Ok(());
     };
     let name = declaration.name.as_bytes();
     let kind = kind_of(declaration);
-    if is_from_ned(
-        alloc,
-        model,
-        fault.path.as_bytes(),
-        name,
-        of.lines.as_slice(),
-    )? {
+    if let Some(expression) = given_in_ned(alloc, &placed, name)? {
         tell_place_of_value(alloc, told, sources, of.name.as_bytes(), name)?;
-        return tell_wrong_in_ned(told, fault.path, shown(name), kind, found);
+        return tell_wrong_in_ned(told, fault.path, shown(name), kind, found, expression);
     }
     write!(told, "{}: ", sources.ini_path)?;
     tell_wrong(told, fault.path, shown(name), kind, found)

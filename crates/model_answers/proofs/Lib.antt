@@ -2,4 +2,3 @@ pub mod AnswerLemmas
 pub mod Networks
 pub mod RecordLemmas
 pub mod QuestionLemmas
-pub mod Referring

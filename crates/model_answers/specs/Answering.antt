@@ -52,12 +52,16 @@ value_answer path (Err fault) = answer.Fault path fault
 
 abbrev pub declared_answer : List Entry → List ℕ → List SectionLine → Option Declaration → Answer
 declared_answer entries path lines None = answer.Absent
-declared_answer entries path lines (Some d) = value_answer path (parameter_value entries path lines d)
+declared_answer entries path lines (Some d) = value_answer path (parameter_value entries path lines d.name)
+
+-- the value of a parameter of a module of that path, whose type has these lines
+abbrev pub answer_in : List Entry → List ℕ → List SectionLine → List ℕ → Answer
+answer_in entries path lines name = declared_answer entries path lines (declaration_named name lines)
 
 -- the value of a parameter of a module of that path and type
 abbrev pub param_answer : Model → List ℕ → Option TypeDeclaration → List ℕ → Answer
 param_answer m path None name = answer.Absent
-param_answer m path (Some t) name = declared_answer (entries_in m) path t.lines (declaration_named name t.lines)
+param_answer m path (Some t) name = answer_in (entries_in m) path t.lines name
 
 -- whether a time is later than the limit, where there is one: a time equal to it is not
 abbrev pub is_beyond : Option ℕ → ℕ → Bool

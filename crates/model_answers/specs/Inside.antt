@@ -24,7 +24,7 @@ fault_of_value (Err fault) = Some fault
 
 -- the fault of the parameter that a line declares in a section of these lines, in the module of that path
 abbrev pub fault_at : List Entry → List ℕ → List SectionLine → SectionLine → Option ModelFault
-fault_at entries path lines (line.Declaration d) = fault_of_value (parameter_value entries path lines d)
+fault_at entries path lines (line.Declaration d) = fault_of_value (parameter_value entries path lines d.name)
 fault_at entries path lines _ = None
 
 abbrev pub first_of : Option ModelFault → Option ModelFault → Option ModelFault

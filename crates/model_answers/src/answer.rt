@@ -63,6 +63,8 @@ pub enum ModelFault {
     Inexact,
     /// A value is of another kind than its parameter, or than its operator wants.
     Mismatch,
+    /// A parameter rests on itself.
+    Circle,
 }
 
 /// A submodule that a compound module is built with.

@@ -1,24 +1,31 @@
 //! The answers of a model.
 
 ghost use Rattle.std.specs.Prelude.{◌≡◌, ◌++◌, [], Some, IfOk, OnOk};
-ghost use Rattle.model_answers.specs.Answering.{answer_of, is_beyond, root_answer, inside_answer, inside_of, param_answer, parameters_of, with_line, with_lines};
+ghost use Rattle.answer_engine.specs.Tables.{IsKept};
+ghost use Rattle.model_answers.specs.Answering.{answer_in, answer_of, is_beyond, root_answer, inside_answer, inside_of, param_answer, parameters_of, with_line, with_lines};
 ghost use Rattle.model_answers.specs.Injections.{injection_before};
 ghost use Rattle.model_answers.specs.declared.answer.Answer.TheVariants as answer;
-ghost use Rattle.model_answers.specs.Models.{network_of, type_at, time_limit_of};
+ghost use Rattle.model_answers.specs.Models.{entries_in, network_of, type_at, time_limit_of};
 ghost use Rattle.model_answers.specs.Records.{path_of};
+ghost use Rattle.model_answers.specs.Scenes.{setting_at};
+ghost use Rattle.parameter_values.specs.Values.{rules_of};
 ghost use Rattle.std.specs.Option.{option_copied};
 
 use crate::answer::{Answer, Question};
 use crate::injection::{Due, Turn, injection_before};
 use crate::inside::built_all;
 use crate::model::Model;
-use crate::parameters::parameter_value;
+use crate::parameters::{no_values, parameter_value};
 use crate::record::{Record, path_of};
+use crate::scene::Placed;
+use answer_engine::table::Table;
 use module_api::call::Parameter;
 use ned_syntax::ast::{SectionLine, TypeDeclaration, TypeKind};
 use ned_types::flat::declaration_named;
+use parameter_values::key::Key;
 use sim_values::NoMemory;
 use sim_values::text::Text;
+use sim_values::value::Value;
 use sqlite_items::Items;
 use std::alloc::Global;
 
@@ -128,26 +135,32 @@ fn param_answer(
         return Ok(Answer::Absent);
     };
     let path = path_of(alloc, records, id)?;
-    typed_answer(alloc, model, path.as_bytes(), declared, name)
+    let placed = Placed {
+        model,
+        path: path.as_bytes(),
+        lines: declared.lines.as_slice(),
+    };
+    let mut values = no_values(alloc, &placed);
+    answer_in(alloc, &placed, &mut values, name)
 }
 
-/// The value of a parameter of the module of that path and type.
-fn typed_answer(
+/// The value of a parameter of that module.
+fn answer_in(
     alloc: Global,
-    model: &Model,
-    path: &[u8],
-    declared: &TypeDeclaration,
+    placed: &Placed<'_>,
+    values: &mut Table<Key, Value>,
     name: &[u8],
 ) -> Result<Answer, NoMemory>
-    ensures { IfOk result (λ found. found ≡ param_answer model.now path.now (Some declared.now) name.now) }
+    requires { IsKept (rules_of (setting_at placed.now)) values.old.entries }
+    ensures value { IfOk result (λ found. found ≡ answer_in (entries_in placed.now.model.now) placed.now.path.now placed.now.lines.now name.now) }
+    ensures kept { IsKept (rules_of (setting_at placed.now)) values.new.entries }
 {
-    let lines = declared.lines.as_slice();
-    let Some(declaration) = declaration_named(name, lines) else {
+    let Some(declaration) = declaration_named(name, placed.lines) else {
         return Ok(Answer::Absent);
     };
-    match parameter_value(alloc, model, path, lines, declaration)? {
+    match parameter_value(alloc, placed, values, declaration.name.as_bytes())? {
         Ok(value) => Ok(Answer::Value(value)),
-        Err(fault) => Ok(Answer::Fault(Text::from_bytes(alloc, path)?, fault)),
+        Err(fault) => Ok(Answer::Fault(Text::from_bytes(alloc, placed.path)?, fault)),
     }
 }
 
@@ -165,22 +178,26 @@ pub fn parameters_of(
         return Ok(parameters);
     };
     let path = path_of(alloc, records, id)?;
-    push_lines(&mut parameters, alloc, model, path.as_bytes(), declared)?;
+    let placed = Placed {
+        model,
+        path: path.as_bytes(),
+        lines: declared.lines.as_slice(),
+    };
+    push_lines(&mut parameters, alloc, &placed)?;
     Ok(parameters)
 }
 
-/// Adds all parameters of the module of that path and type.
+/// Adds all parameters of that module. What one of them comes to is noted for those that refer to it.
 fn push_lines(
     parameters: &mut Items<Parameter>,
     alloc: Global,
-    model: &Model,
-    path: &[u8],
-    declared: &TypeDeclaration,
+    placed: &Placed<'_>,
 ) -> Result<(), NoMemory>
-    ensures { OnOk result (parameters.new ≡ parameters.old ++ with_lines (param_answer model.now path.now (Some declared.now)) declared.now.lines) }
+    ensures { OnOk result (parameters.new ≡ parameters.old ++ with_lines (answer_in (entries_in placed.now.model.now) placed.now.path.now placed.now.lines.now) placed.now.lines.now) }
 {
-    for line in declared.lines.as_slice() {
-        push_line(parameters, alloc, model, path, declared, line)?;
+    let mut values = no_values(alloc, placed);
+    for line in placed.lines {
+        push_line(parameters, alloc, placed, &mut values, line)?;
     }
     Ok(())
 }
@@ -189,18 +206,19 @@ fn push_lines(
 fn push_line(
     parameters: &mut Items<Parameter>,
     alloc: Global,
-    model: &Model,
-    path: &[u8],
-    declared: &TypeDeclaration,
+    placed: &Placed<'_>,
+    values: &mut Table<Key, Value>,
     line: &SectionLine,
 ) -> Result<(), NoMemory>
-    ensures { OnOk result (parameters.new ≡ parameters.old ++ with_line (param_answer model.now path.now (Some declared.now)) line.now []) }
+    requires { IsKept (rules_of (setting_at placed.now)) values.old.entries }
+    ensures pushed { OnOk result (parameters.new ≡ parameters.old ++ with_line (answer_in (entries_in placed.now.model.now) placed.now.path.now placed.now.lines.now) line.now []) }
+    ensures kept { IsKept (rules_of (setting_at placed.now)) values.new.entries }
 {
     let SectionLine::Declaration(declaration) = line else {
         return Ok(());
     };
     let name = declaration.name.as_bytes();
-    if let Answer::Value(value) = typed_answer(alloc, model, path, declared, name)? {
+    if let Answer::Value(value) = answer_in(alloc, placed, values, name)? {
         parameters.push(Parameter {
             name: Text::from_bytes(alloc, name)?,
             value,

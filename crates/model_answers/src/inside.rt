@@ -2,16 +2,23 @@
 
 ghost use Rattle.std.specs.Prelude.{◌≡◌, IfOk};
 ghost use Rattle.model_answers.specs.Inside.{built_one, built_all, fault_in, fault_at, class_to_build};
+ghost use Rattle.answer_engine.specs.Tables.{IsKept};
 ghost use Rattle.model_answers.specs.Models.{entries_in};
+ghost use Rattle.model_answers.specs.Scenes.{setting_at};
+ghost use Rattle.parameter_values.specs.Values.{rules_of};
 
 use crate::answer::{Built, ModelFault};
 use crate::model::Model;
-use crate::parameters::parameter_value;
+use crate::parameters::{no_values, parameter_value};
 use crate::record::path_under;
+use crate::scene::Placed;
+use answer_engine::table::Table;
 use ned_syntax::ast::{SectionLine, Submodule, TypeDeclaration, TypeKind};
 use ned_types::flat::class_of;
+use parameter_values::key::Key;
 use sim_values::NoMemory;
 use sim_values::text::Text;
+use sim_values::value::Value;
 use sqlite_items::Items;
 use std::alloc::{AllocError, Global};
 
@@ -22,17 +29,14 @@ pub struct PlacedFault {
     pub fault: ModelFault,
 }
 
-/// The first fault of the parameters that these lines declare, in their order, in the module of that path.
-fn fault_in(
-    alloc: Global,
-    model: &Model,
-    path: &[u8],
-    lines: &[SectionLine],
-) -> Result<Option<ModelFault>, NoMemory>
-    ensures { IfOk result (λ fault. fault ≡ fault_in (entries_in model.now) path.now lines.now lines.now) }
+/// The first fault of the parameters of that module, in the order of their declaration. What one of them comes to is noted
+/// for those that refer to it.
+fn fault_in(alloc: Global, placed: &Placed<'_>) -> Result<Option<ModelFault>, NoMemory>
+    ensures { IfOk result (λ fault. fault ≡ fault_in (entries_in placed.now.model.now) placed.now.path.now placed.now.lines.now placed.now.lines.now) }
 {
-    for line in lines {
-        if let Some(fault) = fault_at(alloc, model, path, lines, line)? {
+    let mut values = no_values(alloc, placed);
+    for line in placed.lines {
+        if let Some(fault) = fault_at(alloc, placed, &mut values, line)? {
             return Ok(Some(fault));
         }
     }
@@ -42,21 +46,20 @@ fn fault_in(
 /// The fault of the parameter that a line declares.
 fn fault_at(
     alloc: Global,
-    model: &Model,
-    path: &[u8],
-    lines: &[SectionLine],
+    placed: &Placed<'_>,
+    values: &mut Table<Key, Value>,
     line: &SectionLine,
 ) -> Result<Option<ModelFault>, NoMemory>
-    ensures { IfOk result (λ fault. fault ≡ fault_at (entries_in model.now) path.now lines.now line.now) }
+    requires { IsKept (rules_of (setting_at placed.now)) values.old.entries }
+    ensures fault { IfOk result (λ fault. fault ≡ fault_at (entries_in placed.now.model.now) placed.now.path.now placed.now.lines.now line.now) }
+    ensures kept { IsKept (rules_of (setting_at placed.now)) values.new.entries }
 {
-    match line {
-        SectionLine::Declaration(declaration) => {
-            match parameter_value(alloc, model, path, lines, declaration)? {
-                Ok(_) => Ok(None),
-                Err(fault) => Ok(Some(fault)),
-            }
-        }
-        _ => Ok(None),
+    let SectionLine::Declaration(declaration) = line else {
+        return Ok(None);
+    };
+    match parameter_value(alloc, placed, values, declaration.name.as_bytes())? {
+        Ok(_) => Ok(None),
+        Err(fault) => Ok(Some(fault)),
     }
 }
 
@@ -86,7 +89,12 @@ fn built_one(
             fault: ModelFault::UnknownType,
         }));
     };
-    if let Some(fault) = fault_in(alloc, model, path.as_bytes(), declared.lines.as_slice())? {
+    let placed = Placed {
+        model,
+        path: path.as_bytes(),
+        lines: declared.lines.as_slice(),
+    };
+    if let Some(fault) = fault_in(alloc, &placed)? {
         return Ok(Err(PlacedFault { path, fault }));
     }
     let class = class_to_build(alloc, declared)?;

@@ -9,3 +9,4 @@ pub mod laws;
 pub mod model;
 pub mod parameters;
 pub mod record;
+pub mod scene;

@@ -8,7 +8,7 @@ use Rattle.asking.specs.Laws.{IsExact}
 use Rattle.asking.proofs.Circles.{count, no_circle}
 use Rattle.sim_values.specs.declared.value.Value.{Value}
 use Rattle.sim_values.specs.declared.value.Value.TheVariants as value
-use Rattle.ned_expressions.specs.declared.ast.Expression.{the_lemmas}
+use Rattle.ned_expressions.specs.declared.ast.Expression.{Expression, the_lemmas}
 use Rattle.ned_expressions.specs.declared.ast.Expression.TheVariants as expression
 use Rattle.ned_expressions.specs.declared.ast.Scope.{Scope}
 use Rattle.ned_expressions.specs.declared.ast.Scope.TheVariants as scope
@@ -25,11 +25,11 @@ use Rattle.parameter_values.specs.declared.place.Place.{Place}
 use Rattle.parameter_values.specs.declared.scene.Section.TheVariants as section
 use Rattle.parameter_values.specs.Going.{same_is}
 use Rattle.parameter_values.specs.Kinds.{of_kind}
-use Rattle.parameter_values.specs.Laws.{IsChained, AreWorked, whole, fixed, own, number, both_ways, fixed_four, default_four, default_kept, no_text}
+use Rattle.parameter_values.specs.Laws.{IsChained, IsFollowed, AreWorked, whole, fixed, own, number, both_ways, fixed_four, default_four, default_kept, no_text}
 use Rattle.parameter_values.specs.Laws as rows
 use Rattle.parameter_values.specs.Meaning.{key_of}
-use Rattle.parameter_values.specs.Settings.{Given, Setting}
-use Rattle.parameter_values.specs.Values.{same_key, referring_to, asked_of, rules_of, value_at}
+use Rattle.parameter_values.specs.Settings.{Written, Given, Declared, Setting}
+use Rattle.parameter_values.specs.Values.{same_key, referring_to, first_given, place_of, asked_by, asked_of, asking_of, rules_of, value_at, literal_in, literal_of, literal_value, kept_literal, found_or, found_by, found_at}
 
 -- ---- the value of a key
 
@@ -69,6 +69,32 @@ module _ (answers : Key → Option Evaluated) (k : Kind) (p : Place) where
 
   name_found : (x : List ℕ) → outcome answers (referring_to k p (valued (expression.Name x))) ≡ outcome answers (referring_to k p (asked (Own x)))
   name_found x = ap (λ (t : Valued). outcome answers (referring_to k p t)) (at_name x)
+
+-- ---- literals
+
+is_literal : (f : Expression) (v : Value) → literal_in f ≡ Some v → f ≡ expression.Literal v
+is_literal (expression.Literal u) v e = let same : u ≡ v = cc in ap expression.Literal same
+is_literal _ v e = cc
+
+-- what gives the value is a literal, and it is of the kind or not
+literal_given : (answers : Key → Option Evaluated) (id : ℕ) (d : Declared) (w : Option Written) (v : Value) → literal_of w ≡ Some v → outcome answers (asked_by id d w) ≡ Some (of_kind d.kind v)
+literal_given answers id d None v e = cc
+literal_given answers id d (Some w) v e =
+    ap (λ (x : Expression). outcome answers (referring_to d.kind (place_of id d w) (valued x))) (is_literal w.expression v e) ∙ literal_found answers d.kind (place_of id d w) v
+
+module _ (s : Setting) (k : Key) where
+  found_so : (o : Option Declared) → s.declared k ≡ o → found_by s k o ≡ value_at s k
+  found_so None e = sym (found_is s 1 k (Err Unassigned) (omega arith) (ap (λ x. outcome (value_within (rules_of s) 0 (k ∷ [])) (asked_of k.id (s.entry k) x)) e))
+  found_so (Some d) e = by (literal_of (first_given d.given (s.entry k))) refl
+    where
+      by : (l : Option Value) → literal_of (first_given d.given (s.entry k)) ≡ l → found_or (kept_literal d.kind l) (value_at s k) ≡ value_at s k
+      by None h = refl
+      by (Some v) h =
+          sym (found_is s 1 k (of_kind d.kind v) (omega arith) (ap (λ x. outcome (value_within (rules_of s) 0 (k ∷ [])) (asked_of k.id (s.entry k) x)) e
+          ∙ literal_given (value_within (rules_of s) 0 (k ∷ [])) k.id d (first_given d.given (s.entry k)) v h))
+
+pub is_followed : IsFollowed
+is_followed s k = found_so s k (s.declared k) refl
 
 -- ---- chains
 

@@ -16,7 +16,7 @@ use Rattle.parameter_values.specs.declared.scene.Section.{Section}
 use Rattle.parameter_values.specs.declared.scene.Section.TheVariants as section
 use Rattle.parameter_values.specs.Meaning.{key_of}
 use Rattle.parameter_values.specs.Settings.{Given, Fixed, Default, Declared, Setting}
-use Rattle.parameter_values.specs.Values.{Asked, asking_of, same_key, value_at}
+use Rattle.parameter_values.specs.Values.{Asked, asking_of, same_key, value_at, found_at}
 
 -- ---- models that agree
 
@@ -40,6 +40,12 @@ pub record AlikeIsTheSame : Type 0 where
   pub alike : (s t : Setting) (k : Key) → s.declared k ≡ t.declared k → s.entry k ≡ t.entry k → asking_of s k ≡ asking_of t k
   pub same : (s t : Setting) (among : Key → Bool) → IsSelfContained s among → ((k : Key) → among k ≡ true → asking_of s k ≡ asking_of t k)
       → (k : Key) → among k ≡ true → value_at s k ≡ value_at t k
+
+-- ---- literals
+
+-- LITERALS: a literal that gives a parameter its value may be taken as it stands, in any setting
+abbrev pub IsFollowed : Type 0
+IsFollowed = (s : Setting) (k : Key) → found_at s k ≡ value_at s k
 
 -- ---- chains
 

@@ -18,6 +18,9 @@ given_by None = None
 given_by (Some (given.Fixed w)) = Some (Fixed (written_by w))
 given_by (Some (given.Default w)) = Some (Default (written_by w))
 
+abbrev pub declared_as : Parameter → Declared
+declared_as p = record { kind = p.kind; parent = p.parent; given = given_by p.given }
+
 abbrev pub declared_by : Option Parameter → Option Declared
 declared_by None = None
-declared_by (Some p) = Some (record { kind = p.kind; parent = p.parent; given = given_by p.given })
+declared_by (Some p) = Some (declared_as p)

@@ -5,6 +5,7 @@ use Rattle.asking.specs.Asking.{Asking, Done, Ask, ◌>>=◌}
 use Rattle.asking.specs.Following.{Rules, value_of}
 use Rattle.sim_values.specs.declared.value.Value.{Value}
 use Rattle.ned_expressions.specs.declared.ast.Expression.{Expression}
+use Rattle.ned_expressions.specs.declared.ast.Expression.TheVariants.{Literal}
 use Rattle.ini_entries.specs.declared.entry.EntryValue.{EntryValue}
 use Rattle.ini_entries.specs.declared.entry.EntryValue.TheVariants as entry
 use Rattle.param_eval.specs.declared.fault.Fault.{Fault}
@@ -79,3 +80,35 @@ rules_of s = record { same = same_key; asking = asking_of s; circle = Circle }
 -- THE VALUE OF A PARAMETER, or why it has none: Circle where it rests on itself
 abbrev pub value_at : Setting → Key → Evaluated
 value_at s k = value_of (rules_of s) k
+
+-- ---- literals
+
+abbrev pub literal_in : Expression → Option Value
+literal_in (Literal v) = Some v
+literal_in _ = None
+
+-- the literal that gives a parameter its value, where one does
+abbrev pub literal_of : Option Written → Option Value
+literal_of None = None
+literal_of (Some w) = literal_in w.expression
+
+abbrev pub kept_literal : Kind → Option Value → Option Evaluated
+kept_literal kind None = None
+kept_literal kind (Some v) = Some (of_kind kind v)
+
+-- what a literal comes to that gives a parameter its value, where one does: the parameter is declared so, and this is its entry
+abbrev pub literal_value : Declared → Option EntryValue → Option Evaluated
+literal_value d found = kept_literal d.kind (literal_of (first_given d.given found))
+
+abbrev pub found_or : Option Evaluated → Evaluated → Evaluated
+found_or (Some found) other = found
+found_or None other = other
+
+abbrev pub found_by : Setting → Key → Option Declared → Evaluated
+found_by s k None = Err Unassigned
+found_by s k (Some d) = found_or (literal_value d (s.entry k)) (value_at s k)
+
+-- the value of a parameter, where a literal is its own value and only what is no literal is followed. The laws say that this is its value
+-- (`IsFollowed`)
+abbrev pub found_at : Setting → Key → Evaluated
+found_at s k = found_by s k (s.declared k)

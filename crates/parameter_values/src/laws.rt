@@ -1,10 +1,15 @@
 //! What holds of the definitions themselves. The functions do nothing: their contracts are the laws.
 
-ghost use Rattle.parameter_values.specs.Laws.{IsChained, AreWorked, AlikeIsTheSame};
+ghost use Rattle.parameter_values.specs.Laws.{IsChained, IsFollowed, AreWorked, AlikeIsTheSame};
 
 /// Parameters that refer to one another in a row have the value of the last.
 pub fn chained()
     ensures { IsChained }
+{}
+
+/// What is found where a literal is taken as it stands is the value of the parameter.
+pub fn is_followed()
+    ensures { IsFollowed }
 {}
 
 /// Parameters of one module, with values that were worked out by hand.

@@ -1,6 +1,7 @@
 //! What a parameter asks, as an asker.
 
 ghost use Rattle.std.specs.Prelude.{◌≡◌, ◌+◌, ◌≤◌, IfOk};
+ghost use Rattle.std.specs.Option.{option_copied};
 ghost use Rattle.answer_engine.specs.Turns.{came_to, asks};
 ghost use Rattle.param_eval.specs.declared.fault.Fault.TheVariants.{Circle};
 ghost use Rattle.param_eval.specs.Evaluating as evaluating;
@@ -44,6 +45,24 @@ pub enum Progress<'m> {
     Over,
 }
 
+/// What gives a parameter its value, of what the NED text gives it and what the ini text says for it.
+pub(crate) fn chosen<'m>(
+    given: Option<Given<'m>>,
+    entry: Option<&'m EntryValue>,
+) -> Option<Written<'m>>
+    ensures { maybe_written result ≡ first_given (given_by given.entry) (option_copied entry.entry) }
+{
+    match (given, entry) {
+        (Some(Given::Fixed(written)), _) => Some(written),
+        (_, Some(EntryValue::Given(expression))) => Some(Written {
+            section: Section::OfType,
+            expression,
+        }),
+        (Some(Given::Default(written)), _) => Some(written),
+        (None, _) => None,
+    }
+}
+
 /// What gives a parameter its value.
 fn first_given<'m, S: Scene>(
     alloc: Global,
@@ -53,18 +72,10 @@ fn first_given<'m, S: Scene>(
 ) -> Result<Option<Written<'m>>, NoMemory>
     ensures { IfOk result (λ found. maybe_written found ≡ first_given (given_by given.entry) ((S.setting scene.now).entry key.now)) }
 {
-    let default = match given {
-        Some(Given::Fixed(written)) => return Ok(Some(written)),
-        Some(Given::Default(written)) => Some(written),
-        None => None,
-    };
-    Ok(match scene.entry(alloc, key)? {
-        Some(EntryValue::Given(expression)) => Some(Written {
-            section: Section::OfType,
-            expression,
-        }),
-        _ => default,
-    })
+    if let Some(Given::Fixed(written)) = given {
+        return Ok(Some(written));
+    }
+    Ok(chosen(given, scene.entry(alloc, key)?))
 }
 
 /// Where an expression's evaluation has stopped, in terms of parameters.

@@ -1,15 +1,20 @@
 //! Values of parameters.
 
 ghost use Rattle.std.specs.Prelude.{◌≡◌, ◌+◌, [], Some, IfOk, OnOk, length};
+ghost use Rattle.std.specs.Option.{option_copied};
 ghost use Rattle.answer_engine.specs.Tables.{IsKept, Begins, found_in};
 ghost use Rattle.answer_engine.specs.Working.{AreBegunOnce};
-ghost use Rattle.parameter_values.specs.Values.{rules_of, value_at};
+ghost use Rattle.parameter_values.specs.Scenes.{declared_as, maybe_written};
+ghost use Rattle.parameter_values.specs.Values.{rules_of, value_at, literal_of, literal_value};
 
 use crate::key::Key;
-use crate::parameters::Parameters;
-use crate::scene::Scene;
+use crate::kind::of_kind;
+use crate::parameters::{Parameters, chosen};
+use crate::scene::{Parameter, Scene, Written};
 use answer_engine::engine;
 use answer_engine::table::Table;
+use ini_entries::entry::EntryValue;
+use ned_expressions::ast::Expression;
 use param_eval::fault::Fault;
 use sim_values::NoMemory;
 use sim_values::value::Value;
@@ -44,6 +49,57 @@ pub fn parameter_value<S: Scene>(
     engine::value_of(alloc, &Parameters { scene }, table, key)
 }
 
+/// The literal that an expression is, which gives a parameter its value, where it is one.
+fn literal_of<'m>(written: Option<Written<'m>>) -> Option<&'m Value>
+    ensures { option_copied result ≡ literal_of (maybe_written written.entry) }
+{
+    match written {
+        Some(
+            Written {
+                expression: Expression::Literal(value),
+                ..
+            },
+        ) => Some(value),
+        _ => None,
+    }
+}
+
+/// What a literal comes to that gives a parameter its value, where one does: the parameter is declared so, and this is what the
+/// ini text says for it.
+pub fn literal_value(
+    alloc: Global,
+    parameter: Parameter<'_>,
+    entry: Option<&EntryValue>,
+) -> Result<Option<Result<Value, Fault>>, NoMemory>
+    ensures { IfOk result (λ found. found ≡ literal_value (declared_as parameter.entry) (option_copied entry.entry)) }
+{
+    match literal_of(chosen(parameter.given, entry)) {
+        Some(value) => Ok(Some(of_kind(parameter.kind, value.copy(alloc)?))),
+        None => Ok(None),
+    }
+}
+
+/// A copy of the value of a parameter, or its fault. It is looked for in the table, and noted there with those that were found
+/// on the way.
+pub fn copied_value<S: Scene>(
+    alloc: Global,
+    scene: &S,
+    table: &mut Table<Key, Value>,
+    key: Key,
+) -> Result<Result<Value, Fault>, NoMemory>
+    requires { IsKept (rules_of (S.setting scene.now)) table.old.entries }
+    ensures value { IfOk result (λ found. found ≡ value_at (S.setting scene.now) key) }
+    ensures kept { IsKept (rules_of (S.setting scene.now)) table.new.entries }
+{
+    match parameter_value(alloc, scene, table, key)? {
+        Ok(place) => {
+            let value = table.value(place).unwrap();
+            Ok(Ok(value.copy(alloc)?))
+        }
+        Err(fault) => Ok(Err(fault)),
+    }
+}
+
 /// The value of a parameter, or its fault, by a table of its own.
 pub fn lone_value<S: Scene>(
     alloc: Global,
@@ -53,11 +109,5 @@ pub fn lone_value<S: Scene>(
     ensures { IfOk result (λ found. found ≡ value_at (S.setting scene.now) key) }
 {
     let mut table = empty_table(alloc, scene);
-    match parameter_value(alloc, scene, &mut table, key)? {
-        Ok(place) => {
-            let value = table.value(place).unwrap();
-            Ok(Ok(value.copy(alloc)?))
-        }
-        Err(fault) => Ok(Err(fault)),
-    }
+    copied_value(alloc, scene, &mut table, key)
 }

@@ -61,6 +61,7 @@ model_fault model_fault_kind.Unassigned = fault.Unassigned
 model_fault model_fault_kind.Overflow = fault.Overflow
 model_fault model_fault_kind.Inexact = fault.Inexact
 model_fault model_fault_kind.Mismatch = fault.Mismatch
+model_fault model_fault_kind.Circle = fault.Circle
 
 -- ---- actions
 

@@ -22,6 +22,8 @@ pub enum Fault {
     Inexact,
     /// A parameter's value is of another kind than its declaration, or one in its expression than its operator wants.
     Mismatch,
+    /// A parameter's value rests on itself.
+    Circle,
     /// More than 65,536 modules would live.
     TooManyModules,
     /// No box is there for a module's class.
@@ -79,6 +81,7 @@ pub fn fault_of(fault: ModelFault) -> Fault
         ModelFault::Overflow => Fault::Overflow,
         ModelFault::Inexact => Fault::Inexact,
         ModelFault::Mismatch => Fault::Mismatch,
+        ModelFault::Circle => Fault::Circle,
     }
 }
 
@@ -93,6 +96,7 @@ impl Fault {
             Fault::Overflow => Fault::Overflow,
             Fault::Inexact => Fault::Inexact,
             Fault::Mismatch => Fault::Mismatch,
+            Fault::Circle => Fault::Circle,
             Fault::TooManyModules => Fault::TooManyModules,
             Fault::UnknownClass => Fault::UnknownClass,
             Fault::NoParameter => Fault::NoParameter,

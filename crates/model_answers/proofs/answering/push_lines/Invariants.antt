@@ -1,6 +1,13 @@
-use Rattle.std.proofs.Common.{◌≡◌, ◌++◌, Some, drop}
-use Rattle.model_answers.specs.Answering.{with_lines, param_answer}
+use Rattle.std.proofs.Common.{◌≡◌, ◌++◌, drop}
+use Rattle.answer_engine.specs.Tables.{IsKept}
+use Rattle.parameter_values.specs.Values.{rules_of}
+use Rattle.model_answers.specs.Answering.{with_lines, answer_in}
+use Rattle.model_answers.specs.Models.{entries_in}
+use Rattle.model_answers.specs.Scenes.{setting_at}
 use Rattle.model_answers.proofs.answering.push_lines.Given as goal
 
 abbrev pub invariant-loop-line : goal.invariant-loop-line
-invariant-loop-line l = l.parameters ++ with_lines (param_answer l.model l.path (Some l.declared)) (drop l.line-index l.line-items) ≡ l.fn.parameters ++ with_lines (param_answer l.model l.path (Some l.declared)) l.line-items
+invariant-loop-line l =
+    (l.parameters ++ with_lines (answer_in (entries_in l.placed.model.now) l.placed.path.now l.placed.lines.now) (drop l.line-index l.line-items)
+    ≡ l.fn.parameters ++ with_lines (answer_in (entries_in l.placed.model.now) l.placed.path.now l.placed.lines.now) l.line-items)
+    × IsKept (rules_of (setting_at l.placed)) l.values.entries
