@@ -32,6 +32,7 @@ use question_log::cutting::cut_items;
 use question_log::entry::Entry;
 use question_log::log::QuestionLog;
 use run_semantics::outcome::{Fault, Outcome, Turn, fault_of};
+use run_semantics::signals::SignalNames;
 use run_semantics::traces::{Emission, Instance, Scalar};
 use sim_time::SimTime;
 use sim_values::NoMemory;
@@ -92,6 +93,8 @@ pub struct Core {
     ended: bool,
     delivered: Option<InjectionTurn>,
     emissions: Items<Emission>,
+    /// Names of signals that emissions share.
+    names: SignalNames,
     scalars: Items<Scalar>,
     questions: QuestionLog,
 }
@@ -139,6 +142,7 @@ impl Core {
             ended: false,
             delivered: None,
             emissions: Items::new(alloc),
+            names: SignalNames::new(alloc),
             scalars: Items::new(alloc),
             questions: QuestionLog::new(alloc),
         }
@@ -276,7 +280,7 @@ impl Core {
             ≡ perform id (Action.Emit signal.now value) self.old) }
         ensures err { OnErr result (self.new ≡ self.old) }
     {
-        let signal = signal.copy(alloc)?;
+        let signal = self.names.shared(alloc, signal)?;
         self.emissions.push(Emission {
             id,
             signal,

@@ -3,4 +3,5 @@
 
 pub mod laws;
 pub mod outcome;
+pub mod signals;
 pub mod traces;

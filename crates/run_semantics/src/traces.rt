@@ -1,5 +1,6 @@
 //! What a run leaves behind.
 
+use crate::signals::SignalName;
 use sim_time::SimTime;
 use sim_values::text::Text;
 
@@ -8,7 +9,7 @@ use sim_values::text::Text;
 pub struct Emission {
     /// The module that emitted it.
     pub id: u32,
-    pub signal: Text,
+    pub signal: SignalName,
     /// The number of the event.
     pub event: u64,
     pub time: SimTime,

@@ -7,6 +7,7 @@ use recorders::vector_line::VectorLine;
 use result_files::files::{ResultFiles, write_scalars, write_vectors};
 use result_files::header::header_text;
 use result_files::writer::{Device, Out, WriteFault};
+use run_semantics::signals::SignalName;
 use run_semantics::traces::Emission;
 use sim_time::SimTime;
 use sim_values::text::Text;
@@ -86,7 +87,7 @@ fn files_of_one(alloc: Global) -> Result<ResultFiles, AllocError> {
 fn emission(alloc: Global, time: SimTime) -> Result<Emission, AllocError> {
     Ok(Emission {
         id: 1,
-        signal: Text::from_str(alloc, "tick")?,
+        signal: SignalName::new(alloc, Text::from_str(alloc, "tick")?)?,
         event: 2,
         time,
         value: -7,
