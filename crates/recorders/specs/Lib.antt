@@ -6,3 +6,4 @@ pub mod Selection
 pub mod Vectors
 pub mod Scalars
 pub mod ByPlaces
+pub mod Wanted

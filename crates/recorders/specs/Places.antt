@@ -1,10 +1,11 @@
 -- Where the elements of a list stand that concern a module.
-use Rattle.std.specs.Prelude.{◌≡◌, ℕ, ◌+◌, ◌-◌, ◌<◌, ◌==◌, Bool, false, ℤ, List, [], ◌∷◌, ◌++◌, Option, Some, None, Vec, length, slice_get, if◌then◌else◌}
+use Rattle.std.specs.Prelude.{◌≡◌, ℕ, ◌+◌, ◌-◌, ◌<◌, ◌==◌, Bool, false, ◌&&◌, ℤ, List, [], ◌∷◌, ◌++◌, Option, Some, None, Vec, length, slice_get, if◌then◌else◌}
 use Rattle.std.specs.List.{list_any}
 use Rattle.std.specs.Str.{bytes_eq}
 use Rattle.std.specs.declared.alloc.Global.{Global}
 use Rattle.model_answers.specs.declared.record.Record.{Record}
 use Rattle.recorders.specs.Hearing.{is_within}
+use Rattle.recorders.specs.Wanted.{is_wanted}
 use Rattle.recorders.specs.declared.places.RunPlaces.{RunPlaces}
 use Rattle.recorders.specs.declared.vector_line.VectorLine.{VectorLine}
 use Rattle.run_semantics.specs.declared.traces.Emission.{Emission}
@@ -77,8 +78,14 @@ abbrev pub AreOf : {A : Type 0} → ℕ → (ℕ → A → Bool) → List A → 
 AreOf count is_meant elements lists =
     (length lists ≡ count) × ((id : ℕ) → id < count → places_at lists id ≡ places_from 0 (is_meant id) elements)
 
-abbrev pub AreHeard : List Record → List Emission → PlaceLists → Type 0
-AreHeard records emissions lists = AreOf (length records + 1) (λ id (e : Emission). is_within records id e.id) emissions lists
+-- the places of the emissions that come from the subtree of the module of that id, if it is wanted
+abbrev pub wanted_places : List Bool → List Record → ℕ → List Emission → List ℕ
+wanted_places wanted records id emissions =
+    places_from 0 (λ (e : Emission). is_within records id e.id && is_wanted wanted id) emissions
+
+abbrev pub AreHeard : List Bool → List Record → List Emission → PlaceLists → Type 0
+AreHeard wanted records emissions lists =
+    AreOf (length records + 1) (λ id (e : Emission). is_within records id e.id && is_wanted wanted id) emissions lists
 
 abbrev pub AreRecorded : List Record → List Scalar → PlaceLists → Type 0
 AreRecorded records recorded lists = AreOf (length records + 1) (λ id (s : Scalar). s.id == id) recorded lists
@@ -86,8 +93,8 @@ AreRecorded records recorded lists = AreOf (length records + 1) (λ id (s : Scal
 abbrev pub AreFinished : List Record → List ℕ → PlaceLists → Type 0
 AreFinished records finished lists = AreOf (length records + 1) (λ id f. f == id) finished lists
 
--- the lists of a run with the modules of these records
+-- the lists of a run with the modules of these records, of which some are wanted
 pub record AreOfRun (records : List Record) (finished : List ℕ) (recorded : List Scalar) (emissions : List Emission) (places : RunPlaces) : Type 0 where
-  pub heard : AreHeard records emissions places.heard.items
+  pub heard : AreHeard places.wanted.items records emissions places.heard.items
   pub recorded_ones : AreRecorded records recorded places.recorded.items
   pub finished_ones : AreFinished records finished places.finished.items

@@ -1,6 +1,7 @@
 -- What the per-object options let be recorded.
 -- OMNeT++ Simulation Manual, "Configuring Result Collection", "Selecting Recording Modes".
 use Rattle.std.specs.Prelude.{ℕ, Bool, true, false, ◌&&◌, List, [], ◌∷◌, ◌++◌, fold, Option, Some, codes, if◌then◌else◌}
+use Rattle.std.specs.List.{list_any}
 use Rattle.ini_config.specs.declared.lines.Entry.{Entry}
 use Rattle.ini_entries.specs.declared.entry.ModeItem.{ModeItem}
 use Rattle.ini_entries.specs.declared.entry.ModeItem.TheVariants as item
@@ -84,6 +85,14 @@ records_vector_named entries path name = is_on (option_of entries path name (cod
 -- whether the option lets a scalar of that name be recorded
 abbrev pub records_scalar_named : List Entry → List ℕ → List ℕ → Bool
 records_scalar_named entries path name = is_on (option_of entries path name (codes "scalar-recording"))
+
+-- whether the option lets a statistic of that name be recorded as a scalar in one of these modes
+abbrev pub records_scalar_among : List Entry → List ℕ → List ℕ → List Mode → Bool
+records_scalar_among entries path name modes = list_any (λ mode. records_scalar_named entries path (result_name name mode)) modes
+
+-- whether a statistic of the module of that path is recorded as a scalar in one of its modes, if it makes a value of its values
+abbrev pub records_scalars : List Entry → List ℕ → Statistic → Bool
+records_scalars entries path s = records_scalar_among entries path s.name (selected_modes entries path s)
 
 -- WHETHER THE VECTOR of a statistic of the module of that path is recorded: the mode `vector` is among those that are
 -- selected, and the vector is

@@ -10,3 +10,4 @@ pub mod selection;
 pub mod statistics;
 pub mod vector_line;
 pub mod vectors;
+pub mod wanted;

@@ -3,14 +3,17 @@
 ghost use Rattle.std.specs.Prelude.{◌≡◌, ◌<◌, ◌^◌, ◌++◌, IfOk, OnOk, length};
 ghost use Rattle.model_answers.specs.Models.{entries_in};
 ghost use Rattle.recorders.specs.ByPlaces.{lines_at_places, lines_of_type, lines_if_finished, scalars_by_places};
-ghost use Rattle.recorders.specs.Places.{of_place, places_at, heard_places};
+ghost use Rattle.recorders.specs.Places.{of_place, places_at, heard_places, wanted_places};
 ghost use Rattle.recorders.specs.Scalars.{line_of, recorded_line, line_of_value, mode_line, mode_lines, statistic_lines, lines_among, scalars_of};
+ghost use Rattle.recorders.specs.Wanted.{is_wanted, wants};
+ghost use Rattle.recorders.specs.declared.wanted.Output.TheVariants.{Scalars};
 
 use crate::places::{RunPlaces, places_at, run_places};
 use crate::scalar_line::ScalarLine;
 use crate::selection::{records_scalar_named, result_name, selected_modes};
 use crate::statistics::{value_in, values_at};
 use crate::vectors::vector_of;
+use crate::wanted::{Output, is_wanted, wanted};
 use model_answers::model::Model;
 use model_answers::record::{Record, path_of};
 use ned_syntax::ast::{Mode, Statistic};
@@ -237,23 +240,29 @@ fn push_type_lines(
     )
 }
 
-/// Adds the lines of the statistics of the module of that id, where it was finished: there is a place at which it was.
+/// Adds the lines of the statistics of the module of that id, where it was finished, which is where there is a place at which it
+/// was, and is wanted: it has none else.
 fn push_statistics_at(
     found: &mut Items<ScalarLine>,
     alloc: Global,
     model: &Model,
     records: &[Record],
-    finished: &[usize],
     emissions: &[Emission],
-    heard: &[usize],
+    places: &RunPlaces,
     id: u32,
 ) -> Result<(), NoMemory>
-    requires { heard.now ≡ heard_places records.now id emissions.now }
-    ensures { OnOk result (found.new ≡ found.old ++ lines_if_finished model.now records.now emissions.now id finished.now) }
+    requires wanted { is_wanted places.now.wanted.items id ≡ wants Scalars model.now records.now id }
+    requires heard { places_at places.now.heard.items id ≡ wanted_places places.now.wanted.items records.now id emissions.now }
+    ensures { OnOk result (found.new ≡ found.old ++ lines_if_finished model.now records.now emissions.now id (places_at places.now.finished.items id)) }
 {
+    let finished = places_at(&places.finished, id);
     if finished.is_empty() {
         return Ok(());
     }
+    if !is_wanted(&places.wanted, id) {
+        return Ok(());
+    }
+    let heard = places_at(&places.heard, id);
     push_type_lines(found, alloc, model, records, emissions, heard, id)
 }
 
@@ -269,14 +278,13 @@ fn push_scalars_at(
     places: &RunPlaces,
     id: u32,
 ) -> Result<(), NoMemory>
-    requires { places_at places.now.heard.items id ≡ heard_places records.now id emissions.now }
+    requires wanted { is_wanted places.now.wanted.items id ≡ wants Scalars model.now records.now id }
+    requires heard { places_at places.now.heard.items id ≡ wanted_places places.now.wanted.items records.now id emissions.now }
     ensures { OnOk result (found.new ≡ found.old ++ scalars_by_places model.now records.now recorded.now emissions.now places.now id) }
 {
     let by = places_at(&places.recorded, id);
     push_all_recorded(found, alloc, model, records, id, recorded, by)?;
-    let finished = places_at(&places.finished, id);
-    let heard = places_at(&places.heard, id);
-    push_statistics_at(found, alloc, model, records, finished, emissions, heard, id)
+    push_statistics_at(found, alloc, model, records, emissions, places, id)
 }
 
 /// The scalars that a run records, with the modules of these records, of which these were finished,
@@ -294,7 +302,8 @@ pub fn scalars(
     requires few { length records.now < 2 ^ 32 }
     ensures { IfOk result (λ found. found ≡ scalars_of model.now records.now finished.now recorded.now emissions.now) }
 {
-    let places = run_places(alloc, records, finished, recorded, emissions)?;
+    let wanted = wanted(Output::Scalars, alloc, model, records)?;
+    let places = run_places(alloc, wanted, records, finished, recorded, emissions)?;
     let mut found = Items::new(alloc);
     for (index, _record) in records.iter().enumerate() {
         let id = index as u32 + 1;

@@ -4,7 +4,7 @@ ghost use Rattle.std.specs.Prelude.{◌≡◌, IfOk, OnOk};
 ghost use Rattle.std.specs.Option.{option_copied};
 ghost use Rattle.model_answers.specs.Models.{entries_in};
 ghost use Rattle.ned_spelling.specs.Declarations.{mode_name};
-ghost use Rattle.recorders.specs.Selection.{after_item, after_items, begins_signed, chosen_modes, first_modes, is_on, is_signed, modes_of, option_of, recorded_modes, records_scalar_named, records_statistic, records_vector, records_vector_named, result_name, selected_modes};
+ghost use Rattle.recorders.specs.Selection.{after_item, after_items, begins_signed, chosen_modes, first_modes, is_on, is_signed, modes_of, option_of, recorded_modes, records_scalar_among, records_scalar_named, records_scalars, records_statistic, records_vector, records_vector_named, result_name, selected_modes};
 
 use crate::modes::{
     add_mode, add_modes, declared_modes, default_modes, in_order, is_among, without_mode,
@@ -238,6 +238,44 @@ pub fn records_scalar_named(
 {
     let said = option_of(alloc, model, path, name, b"scalar-recording")?;
     Ok(is_on(said))
+}
+
+/// Whether the option lets a statistic of that name be recorded as a scalar in one of these modes.
+fn records_scalar_among(
+    alloc: Global,
+    model: &Model,
+    path: &[u8],
+    name: &[u8],
+    modes: &[Mode],
+) -> Result<bool, NoMemory>
+    ensures { IfOk result (λ on. on ≡ records_scalar_among (entries_in model.now) path.now name.now modes.now) }
+{
+    for mode in modes {
+        let scalar = result_name(alloc, name, *mode)?;
+        if records_scalar_named(alloc, model, path, scalar.as_bytes())? {
+            return Ok(true);
+        }
+    }
+    Ok(false)
+}
+
+/// Whether a statistic of the module of that path is recorded as a scalar in one of its modes.
+pub fn records_scalars(
+    alloc: Global,
+    model: &Model,
+    path: &[u8],
+    statistic: &Statistic,
+) -> Result<bool, NoMemory>
+    ensures { IfOk result (λ on. on ≡ records_scalars (entries_in model.now) path.now statistic.now) }
+{
+    let modes = selected_modes(alloc, model, path, statistic)?;
+    records_scalar_among(
+        alloc,
+        model,
+        path,
+        statistic.name.as_bytes(),
+        modes.as_slice(),
+    )
 }
 
 /// Whether the vector of a statistic of the module of that path is recorded: the mode `vector` is

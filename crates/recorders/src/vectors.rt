@@ -1,12 +1,15 @@
 //! Which vectors a run records.
 
-ghost use Rattle.std.specs.Prelude.{◌≡◌, ◌<◌, ◌^◌, [], ◌∷◌, ◌++◌, IfOk, OnOk, length, slice_get};
-ghost use Rattle.recorders.specs.Places.{heard_places, is_of, is_any_of};
+ghost use Rattle.std.specs.Prelude.{◌≡◌, ◌+◌, ◌<◌, ◌^◌, [], ◌∷◌, ◌++◌, IfOk, OnOk, length, slice_get};
+ghost use Rattle.recorders.specs.Places.{heard_places, is_of, is_any_of, places_at, AreHeard};
 ghost use Rattle.recorders.specs.Vectors.{vector_of, vectors_among, vectors_at, vectors_of};
+ghost use Rattle.recorders.specs.Wanted.{is_wanted, wants};
+ghost use Rattle.recorders.specs.declared.wanted.Output.TheVariants.{Vector};
 
 use crate::places::{heard_lists, places_at};
 use crate::selection::records_vector;
 use crate::vector_line::VectorLine;
+use crate::wanted::{Output, is_wanted, wanted};
 use model_answers::model::Model;
 use model_answers::record::{Record, path_of};
 use ned_syntax::ast::Statistic;
@@ -125,6 +128,29 @@ fn push_vectors_at(
     )
 }
 
+/// Adds the vectors of the module of that id, if it is wanted: it has none else.
+fn push_wanted_vectors(
+    found: &mut Items<VectorLine>,
+    alloc: Global,
+    model: &Model,
+    records: &[Record],
+    emissions: &[Emission],
+    wanted: &[bool],
+    places: &[Vec<usize>],
+    id: u32,
+) -> Result<(), NoMemory>
+    requires counted { id < length records.now + 1 }
+    requires wanted { is_wanted wanted.now id ≡ wants Vector model.now records.now id }
+    requires heard { AreHeard wanted.now records.now emissions.now places.now }
+    ensures { OnOk result (found.new ≡ found.old ++ vectors_at model.now records.now emissions.now id) }
+{
+    if !is_wanted(wanted, id) {
+        return Ok(());
+    }
+    let heard = places_at(places, id);
+    push_vectors_at(found, alloc, model, records, emissions, heard, id)
+}
+
 /// The vectors that a run records, with the modules of these records and these emissions: all that
 /// the options let be recorded and that hear at least one value, by rising id of the module, then in the order of its type's statistics.
 /// See OMNeT++ Simulation Manual, "Result Recording".
@@ -137,12 +163,14 @@ pub fn vectors(
     requires few { length records.now < 2 ^ 32 }
     ensures { IfOk result (λ found. found ≡ vectors_of model.now records.now emissions.now) }
 {
-    let places = heard_lists(alloc, records, emissions)?;
+    let wanted = wanted(Output::Vector, alloc, model, records)?;
+    let places = heard_lists(alloc, wanted.as_slice(), records, emissions)?;
     let mut found = Items::new(alloc);
     for (index, _record) in records.iter().enumerate() {
         let id = index as u32 + 1;
-        let heard = places_at(&places, id);
-        push_vectors_at(&mut found, alloc, model, records, emissions, heard, id)?;
+        push_wanted_vectors(
+            &mut found, alloc, model, records, emissions, &wanted, &places, id,
+        )?;
     }
     Ok(found)
 }
