@@ -6,7 +6,7 @@ use Rattle.ned_tokens.specs.declared.token.Keyword.TheVariants as k
 use Rattle.ned_tokens.specs.declared.token.Mark.TheVariants as m
 use Rattle.ned_tokens.specs.declared.token.Token.{Token}
 use Rattle.ned_tokens.specs.declared.token.Token.TheVariants as token
-use Rattle.ned_tokens.specs.Rule.{Rule, token as one_token, ◌⊗◌, ◌◁◌, ◌▷◌, made, such_that, either, optional, many, many_is, optional_is}
+use Rattle.ned_tokens.specs.Rule.{Rule, token as one_token, ◌⊗◌, ◌◁◌, ◌▷◌, made, such_that, either, optional, many, many_is, optional_is, fold_left}
 use Rattle.ned_tokens.specs.Balanced.{balanced}
 use Rattle.ned_tokens.specs.Units.{unit_of}
 use Rattle.ned_spelling.specs.Tokens.{IsName}
@@ -19,6 +19,7 @@ use Rattle.ned_syntax.specs.declared.ast.ParameterWord.TheVariants as words
 use Rattle.ned_syntax.specs.declared.ast.Declaration.{Declaration}
 use Rattle.ned_syntax.specs.declared.ast.SectionLine.{SectionLine}
 use Rattle.ned_syntax.specs.declared.ast.Submodule.{Submodule}
+use Rattle.ned_syntax.specs.declared.ast.TypeDeclaration.{TypeDeclaration}
 use Rattle.ned_syntax.specs.declared.ast.NedFile.{NedFile}
 use Rattle.ned_syntax.specs.declared.properties.PropertyName.{PropertyName}
 use Rattle.ned_syntax.specs.declared.properties.PropertyName.TheVariants as names
@@ -30,7 +31,7 @@ use Rattle.ned_syntax.specs.declared.statistics.Except.TheVariants as except_is
 use Rattle.ned_syntax.specs.declared.statistics.Said.{Said}
 use Rattle.ned_syntax.specs.declared.parameters.Valued.{Valued}
 use Rattle.ned_syntax.specs.declared.parameters.Tail.{Tail}
-use Rattle.ned_syntax.specs.Grammar.{word, mark, name, name_of, expression, default_value, value_rule, in_parens, turn_of, bracketed, index, body, unit_effect, said_by_word, said, effect_of, property, modes, loose_text, no_value, source_value, record_value, source_tail, record_tail, source_word, record_word, source_part, record_part, part_or_other, other_part, record_or_other, any_part, part, next_part, nothing_said, over, over_all, statistic_body, optional_body, statistic_line, indexed_statistic, unnamed_statistic, named_or_not, line_or_ignored, statistic_tail, statistic_word, statistic, plain_name, line_of, plain_line, property_text, property_line, valued, tail, value_in, unit_in, parameter_word, volatile, any_declaration, is_measured_word, declaration, assignment, assigned_or_said, any_line, section_line, heading, section, base_name, optional_base, simple, submodule, listed, submodules, network, type_rule, file}
+use Rattle.ned_syntax.specs.Grammar.{word, mark, name, name_of, expression, default_value, value_rule, in_parens, turn_of, bracketed, index, body, unit_effect, said_by_word, said, effect_of, property, modes, loose_text, no_value, source_value, record_value, source_tail, record_tail, source_word, record_word, source_part, record_part, part_or_other, other_part, record_or_other, any_part, part, next_part, nothing_said, over, over_all, statistic_body, optional_body, statistic_line, indexed_statistic, unnamed_statistic, named_or_not, line_or_ignored, statistic_tail, statistic_word, statistic, plain_name, line_of, plain_line, property_text, property_line, valued, tail, value_in, unit_in, parameter_word, volatile, any_declaration, is_measured_word, declaration, assignment, assigned_or_said, any_line, section_line, heading, section, dotted, base_name, optional_base, simple, submodule, listed, submodules, network, type_rule, silent, silent_entry, entry, types_in, file}
 use Rattle.ned_spelling.proofs.Spellable.{Each, IfThere, CanBeExpression, CanBeGiven, CanBeUnit, CanBeDeclaration, CanBeAssignment, CanBeLine, CanBeSubmodule, CanBeType, CanBeFile}
 
 -- what sound tokens spell by the rule is so
@@ -350,10 +351,20 @@ keeps_section = before heading (each (after (mark m.Semi) keeps_line))
 
 -- ---- types
 
+-- the last of names
+last_can : (first : List ℕ) (others : List (Unit {0} × List ℕ)) → IsName first → Each (λ p. Any p.0 × IsName p.1) others → IsName (fold_left (λ _ _ last. last) first others)
+last_can first [] h all = h
+last_can first (p ∷ ps) h all = last_can p.1 ps all.0.1 all.1
+
+-- the last part of a dotted name
+keeps_dotted : Keeps dotted IsName
+unfolding dotted
+keeps_dotted = mapped (λ p h. last_can p.0 p.1 h.0 h.1) (then keeps_name (each (then (anything (mark m.Dot)) keeps_name)))
+
 -- a submodule
 keeps_submodule : Keeps submodule CanBeSubmodule
 unfolding submodule
-keeps_submodule = mapped (λ p h. h) (then keeps_name (before (mark m.Colon) (after (mark m.Semi) keeps_name)))
+keeps_submodule = mapped (λ p h. h) (then keeps_name (before (mark m.Colon) (after (mark m.Semi) keeps_dotted)))
 
 -- submodules, or none
 listed_can : (ss : Option (List Submodule)) → IfThere (Each CanBeSubmodule) ss → Each CanBeSubmodule (listed ss)
@@ -368,7 +379,7 @@ keeps_submodules = mapped listed_can (perhaps (before (word k.Submodules) (befor
 -- what it extends
 keeps_base : Keeps optional_base (IfThere IsName)
 unfolding optional_base base_name
-keeps_base = perhaps (before (word k.Extends) keeps_name)
+keeps_base = perhaps (before (word k.Extends) keeps_dotted)
 
 -- a type
 keeps_type : Keeps type_rule CanBeType
@@ -377,10 +388,21 @@ keeps_type = choice
     (mapped (λ p h. (h.0, (h.1.0, h.1.1, refl))) (before (word k.Simple) (then keeps_name (then keeps_base (before (mark m.Open) (after (mark m.Close) keeps_section))))))
     (mapped (λ p h. (h.0, (h.1, refl, refl))) (before (word k.Network) (then keeps_name (before (mark m.Open) (after (mark m.Close) keeps_submodules)))))
 
+-- a type, or what has no effect
+keeps_entry : Keeps entry (IfThere CanBeType)
+unfolding entry silent_entry
+keeps_entry = choice (mapped (λ x h. tt) (anything silent)) (mapped (λ d h. h) keeps_type)
+
+-- the types of a file
+types_can : (es : List (Option TypeDeclaration)) → Each (IfThere CanBeType) es → Each CanBeType (types_in es)
+types_can [] h = tt
+types_can (None ∷ es) h = types_can es h.1
+types_can (Some d ∷ es) h = (h.0, types_can es h.1)
+
 -- a file
 keeps_file : Keeps file CanBeFile
 unfolding file
-keeps_file = mapped (λ ts h. h) (each keeps_type)
+keeps_file = mapped (λ es h. types_can es h) (each keeps_entry)
 
 -- what a text declares can be declared
 pub file_can : (ts : List Token) (f : NedFile) → AreSound ts → file.Is ts f → CanBeFile f

@@ -39,7 +39,7 @@ use Rattle.ned_syntax.specs.declared.statistics.Part.TheVariants as part_is
 use Rattle.ned_syntax.specs.declared.parameters.Valued.{Valued}
 use Rattle.ned_tokens.specs.Words.{or_else}
 use Rattle.ned_tokens.specs.Balanced.{balanced}
-use Rattle.ned_syntax.specs.Grammar.{turn_of, effect_of, said_in, statistic_line, other_part, first_unit, unit_behind, value_in, unit_in, is_measured_word, valued, tail, parameter_word, volatile, any_declaration, declaration, assignment, source_word, source_value, source_tail, source_part, record_word, record_value, record_tail, record_part, no_value, record_or_other, any_part, part, next_part, statistic_body, optional_body, indexed_statistic, unnamed_statistic, named_or_not, statistic_tail, statistic_word, statistic, plain_name, plain_line, property_text, property_line, assigned_or_said, any_line, section_line, heading, section, base_name, optional_base, simple, submodule, submodules, network, type_rule, file, word, mark, name, is_word, is_mark, expression, default_value, value_rule, in_parens, property_name, bracketed, index, body, property, mode_word, question, mode_rule, next_mode, modes}
+use Rattle.ned_syntax.specs.Grammar.{turn_of, effect_of, said_in, statistic_line, other_part, first_unit, unit_behind, value_in, unit_in, is_measured_word, valued, tail, parameter_word, volatile, any_declaration, declaration, assignment, source_word, source_value, source_tail, source_part, record_word, record_value, record_tail, record_part, no_value, record_or_other, any_part, part, next_part, statistic_body, optional_body, indexed_statistic, unnamed_statistic, named_or_not, statistic_tail, statistic_word, statistic, plain_name, plain_line, property_text, property_line, assigned_or_said, any_line, section_line, heading, section, dotted, base_name, optional_base, simple, submodule, submodules, network, type_rule, silent_entry, entry, types_in, file, word, mark, name, is_word, is_mark, expression, default_value, value_rule, in_parens, property_name, bracketed, index, body, property, mode_word, question, mode_rule, next_mode, modes}
 use Rattle.ned_spelling.specs.Declarations.{listed_tokens, given_tokens, valued_tokens, unit_tokens, parameter_keyword, declaration_tokens, assignment_tokens, mode_name, question_tokens, mode_tokens, next_mode_tokens, record_tokens, statistic_tokens, line_tokens, section_line_tokens, submodule_tokens, base_tokens, kind_tokens, type_tokens, file_tokens}
 use Rattle.ned_spelling.proofs.Spellable.{Each, IfThere, CanBeExpression, CanBeGiven, CanBeUnit, CanBeDeclaration, CanBeAssignment, CanBeLine, CanBeSubmodule, CanBeParts, CanBeType, CanBeFile}
 
@@ -398,10 +398,15 @@ a_section ls h = before a_heading (each section_line section_line_tokens CanBeLi
 
 -- ---- types
 
+-- a name, as a dotted one of one part
+a_dotted : (text : List ℕ) → Spells dotted (token.Name text ∷ []) text
+unfolding dotted
+a_dotted text = mapped (then_none (mark m.Dot ⊗ name) (a_name text))
+
 -- a submodule
 a_submodule : (s : Submodule) → CanBeSubmodule s → Spells submodule (submodule_tokens s) s
 unfolding submodule
-a_submodule s h = mapped (then (a_name s.name) (before (a_mark m.Colon) (after (a_name s.type_name) (a_mark m.Semi))))
+a_submodule s h = mapped (then (a_name s.name) (before (a_mark m.Colon) (after (a_dotted s.type_name) (a_mark m.Semi))))
 
 -- the submodules
 the_submodules : (ss : List Submodule) → Each CanBeSubmodule ss → Spells submodules (token.Word k.Submodules ∷ token.Mark m.Colon ∷ listed_tokens submodule_tokens ss) ss
@@ -412,7 +417,7 @@ the_submodules ss h = mapped (some (before (a_word k.Submodules) (before (a_mark
 a_base : (base : Option (List ℕ)) → Spells optional_base (base_tokens base) base
 unfolding optional_base base_name
 a_base None = nothing base_name
-a_base (Some name) = some (before (a_word k.Extends) (a_name name))
+a_base (Some name) = some (before (a_word k.Extends) (a_dotted name))
 
 -- a type of these parts
 abbrev type_with : TypeKind → List ℕ → Option (List ℕ) → List SectionLine → List Submodule → TypeDeclaration
@@ -430,10 +435,34 @@ kind_spells kinds.Network text base ls ss h =
 a_type : (d : TypeDeclaration) → CanBeType d → Spells type_rule (type_tokens d) d
 a_type d h = kind_spells d.kind d.name d.base d.lines d.submodules h.1
 
+-- a type of a file
+an_entry : (d : TypeDeclaration) → CanBeType d → Spells entry (type_tokens d) (Some d)
+unfolding entry
+an_entry d h = that silent_entry (mapped (a_type d h))
+
+-- types as what a file has
+abbrev as_entries : List TypeDeclaration → List (Option TypeDeclaration)
+as_entries [] = []
+as_entries (d ∷ ds) = Some d ∷ as_entries ds
+
+-- all of them are its types
+types_again : (ds : List TypeDeclaration) → types_in (as_entries ds) ≡ ds
+types_again [] = refl
+types_again (d ∷ ds) = ap (λ (l : List TypeDeclaration). d ∷ l) (types_again ds)
+
+-- the types of a file
+the_entries : (ds : List TypeDeclaration) → Each CanBeType ds → Spells (many entry) (listed_tokens type_tokens ds) (as_entries ds)
+the_entries [] all = none entry
+the_entries (d ∷ ds) all = more (an_entry d all.0) (the_entries ds all.1)
+
+-- a file of these types
+abbrev file_with : List TypeDeclaration → NedFile
+file_with ds = record { types = ds }
+
 -- a file
 a_file : (f : NedFile) → CanBeFile f → Spells file (file_tokens f) f
 unfolding file
-a_file f h = mapped (each type_rule type_tokens CanBeType a_type f.types h)
+a_file f h = to (mapped (the_entries f.types h)) (ap file_with (types_again f.types))
 
 -- the standard tokens of a file spell it
 pub file_is : (f : NedFile) → CanBeFile f → file.Is (file_tokens f) f

@@ -16,7 +16,7 @@ use Rattle.ned_syntax.specs.declared.properties.PropertyName.{PropertyName}
 use Rattle.ned_syntax.specs.declared.properties.PropertyName.TheVariants as names
 use Rattle.ned_syntax.specs.declared.statistics.Except.{Except}
 use Rattle.ned_syntax.specs.declared.statistics.Except.TheVariants as except_is
-use Rattle.ned_syntax.specs.Grammar.{said_in, word, mark, name, in_parens, expression, default_value, value_rule, property_name, bracketed, index, body, property, mode_word, question, mode_rule, next_mode, modes, group, loose_token, piece, pieces, loose_text, no_value, source_value, record_value, source_tail, record_tail, source_word, record_word, source_part, record_part, other_part, record_or_other, any_part, part, next_part, statistic_body, optional_body, indexed_statistic, unnamed_statistic, named_or_not, statistic_tail, statistic_word, statistic, plain_name, plain_line, property_text, property_line, valued, tail, parameter_word, volatile, any_declaration, declaration, assignment, assigned_or_said, any_line, section_line, heading, section, base_name, optional_base, simple, submodule, submodules, network, type_rule, file, turn_of, property_name_of, mode_of, loose_of, source_of, record_of, statistic_of, plain_name_of, parameter_word_of, is_measured, is_source, is_record, is_statistic, plain_of}
+use Rattle.ned_syntax.specs.Grammar.{said_in, word, mark, name, in_parens, expression, default_value, value_rule, property_name, bracketed, index, body, property, mode_word, question, mode_rule, next_mode, modes, group, loose_token, piece, pieces, loose_text, no_value, source_value, record_value, source_tail, record_tail, source_word, record_word, source_part, record_part, other_part, record_or_other, any_part, part, next_part, statistic_body, optional_body, indexed_statistic, unnamed_statistic, named_or_not, statistic_tail, statistic_word, statistic, plain_name, plain_line, property_text, property_line, valued, tail, parameter_word, volatile, any_declaration, declaration, assignment, assigned_or_said, any_line, section_line, heading, section, dotted, base_name, optional_base, simple, submodule, submodules, network, type_rule, package_line, import_token, import_text, import_line, file_property, import_or_property, silent, silent_entry, entry, file, turn_of, property_name_of, mode_of, loose_of, source_of, record_of, statistic_of, plain_name_of, parameter_word_of, is_measured, is_source, is_record, is_statistic, plain_of, import_of}
 pub use Rattle.ned_values.proofs.GrammarLaws.{word-lawful, mark-lawful, name-lawful}
 pub use Rattle.ned_expressions.proofs.ExpressionLaws.{expression-lawful}
 use Rattle.ned_tokens.proofs.Laws.{Lawful, token-lawful, such_that-lawful, either-lawful, optional-lawful, then, before, after, mapped}
@@ -436,6 +436,37 @@ pub section-lawful : Lawful section
 unfolding section
 section-lawful = before heading-lawful (many-lawful section_line section_line-lawful section_line-full lines_apart) heading_apart
 
+-- ---- dotted names
+
+pub behind_dot-lawful : Lawful (mark m.Dot ⊗ name)
+unfolding mark
+behind_dot-lawful = then (mark-lawful m.Dot) name-lawful (λ t e. refl)
+
+pub behind_dot-full : (mark m.Dot ⊗ name).empty ≡ false
+unfolding mark
+behind_dot-full = refl
+
+behind_dots_apart : (t : Token) → (mark m.Dot ⊗ name).starts t ≡ true → (mark m.Dot ⊗ name).goes_on t ≡ false
+unfolding mark name
+behind_dots_apart t e = refl
+
+dots_apart : (t : Token) → (many (mark m.Dot ⊗ name)).starts t ≡ true → name.goes_on t ≡ false
+unfolding name
+dots_apart t e = refl
+
+pub dotted-lawful : Lawful dotted
+unfolding dotted
+dotted-lawful = mapped (then name-lawful (many-lawful (mark m.Dot ⊗ name) behind_dot-lawful behind_dot-full behind_dots_apart) dots_apart)
+
+dotted_ends : (t : Token) → (mark m.Semi).starts t ≡ true → dotted.goes_on t ≡ false
+unfolding dotted mark name
+dotted_ends (token.Mark m.Semi) e = refl
+dotted_ends (token.Mark _) e = absurd (false≢true e)
+dotted_ends _ e = absurd (false≢true e)
+
+pub dotted_line-lawful : Lawful (dotted ◁ mark m.Semi)
+dotted_line-lawful = after dotted-lawful (mark-lawful m.Semi) dotted_ends
+
 -- ---- types
 
 section_ends : (t : Token) → (mark m.Close).starts t ≡ true → (section).goes_on t ≡ false
@@ -446,14 +477,14 @@ section_ends _ e = absurd (false≢true e)
 
 pub base_name-lawful : Lawful base_name
 unfolding base_name word
-base_name-lawful = before (word-lawful k.Extends) name-lawful (λ t e. refl)
+base_name-lawful = before (word-lawful k.Extends) dotted-lawful (λ t e. refl)
 
 pub base-lawful : Lawful optional_base
 unfolding optional_base base_name word
 base-lawful = optional-lawful base_name base_name-lawful refl
 
 base_apart : (t : Token) → (mark m.Open ▷ (section ◁ mark m.Close)).starts t ≡ true → (optional_base).goes_on t ≡ false
-unfolding word mark name in_parens expression default_value value_rule property_name bracketed index body property mode_word question mode_rule next_mode modes group loose_token piece pieces loose_text no_value source_value record_value source_tail record_tail source_word record_word source_part record_part other_part record_or_other any_part part next_part statistic_body optional_body indexed_statistic unnamed_statistic named_or_not statistic_tail statistic_word statistic plain_name plain_line property_text property_line valued tail parameter_word volatile any_declaration declaration assignment assigned_or_said any_line section_line heading section base_name optional_base simple submodule submodules network type_rule file
+unfolding section dotted base_name optional_base word mark name
 base_apart (token.Mark m.Open) e = refl
 base_apart (token.Mark _) e = absurd (false≢true e)
 base_apart _ e = absurd (false≢true e)
@@ -468,14 +499,14 @@ simple-lawful = mapped (before (word-lawful k.Simple) (then name-lawful (then ba
 
 pub submodule-lawful : Lawful submodule
 unfolding submodule name mark
-submodule-lawful = mapped (then name-lawful (before (mark-lawful m.Colon) (after name-lawful (mark-lawful m.Semi) (λ t e. refl)) (λ t e. refl)) (λ t e. refl))
+submodule-lawful = mapped (then name-lawful (before (mark-lawful m.Colon) dotted_line-lawful (λ t e. refl)) (λ t e. refl))
 
 pub submodule-full : submodule.empty ≡ false
 unfolding word mark name in_parens expression default_value value_rule property_name bracketed index body property mode_word question mode_rule next_mode modes group loose_token piece pieces loose_text no_value source_value record_value source_tail record_tail source_word record_word source_part record_part other_part record_or_other any_part part next_part statistic_body optional_body indexed_statistic unnamed_statistic named_or_not statistic_tail statistic_word statistic plain_name plain_line property_text property_line valued tail parameter_word volatile any_declaration declaration assignment assigned_or_said any_line section_line heading section base_name optional_base simple submodule submodules network type_rule file
 submodule-full = refl
 
 submodules_apart : (t : Token) → (submodule).starts t ≡ true → (submodule).goes_on t ≡ false
-unfolding word mark name in_parens expression default_value value_rule property_name bracketed index body property mode_word question mode_rule next_mode modes group loose_token piece pieces loose_text no_value source_value record_value source_tail record_tail source_word record_word source_part record_part other_part record_or_other any_part part next_part statistic_body optional_body indexed_statistic unnamed_statistic named_or_not statistic_tail statistic_word statistic plain_name plain_line property_text property_line valued tail parameter_word volatile any_declaration declaration assignment assigned_or_said any_line section_line heading section base_name optional_base simple submodule submodules network type_rule file
+unfolding submodule dotted name mark
 submodules_apart t e = refl
 
 pub submodules-lawful : Lawful submodules
@@ -483,7 +514,7 @@ unfolding submodules word mark
 submodules-lawful = mapped (optional-lawful (word k.Submodules ▷ (mark m.Colon ▷ many submodule)) (before (word-lawful k.Submodules) (before (mark-lawful m.Colon) (many-lawful submodule submodule-lawful submodule-full submodules_apart) (λ t e. refl)) (λ t e. refl)) refl)
 
 submodules_end : (t : Token) → (mark m.Close).starts t ≡ true → (submodules).goes_on t ≡ false
-unfolding word mark name in_parens expression default_value value_rule property_name bracketed index body property mode_word question mode_rule next_mode modes group loose_token piece pieces loose_text no_value source_value record_value source_tail record_tail source_word record_word source_part record_part other_part record_or_other any_part part next_part statistic_body optional_body indexed_statistic unnamed_statistic named_or_not statistic_tail statistic_word statistic plain_name plain_line property_text property_line valued tail parameter_word volatile any_declaration declaration assignment assigned_or_said any_line section_line heading section base_name optional_base simple submodule submodules network type_rule file
+unfolding submodules submodule dotted name mark word
 submodules_end (token.Mark m.Close) e = refl
 submodules_end (token.Mark _) e = absurd (false≢true e)
 submodules_end _ e = absurd (false≢true e)
@@ -506,13 +537,94 @@ pub type-full : type_rule.empty ≡ false
 unfolding word mark name in_parens expression default_value value_rule property_name bracketed index body property mode_word question mode_rule next_mode modes group loose_token piece pieces loose_text no_value source_value record_value source_tail record_tail source_word record_word source_part record_part other_part record_or_other any_part part next_part statistic_body optional_body indexed_statistic unnamed_statistic named_or_not statistic_tail statistic_word statistic plain_name plain_line property_text property_line valued tail parameter_word volatile any_declaration declaration assignment assigned_or_said any_line section_line heading section base_name optional_base simple submodule submodules network type_rule file
 type-full = refl
 
-types_apart : (t : Token) → (type_rule).starts t ≡ true → (type_rule).goes_on t ≡ false
-unfolding word mark name in_parens expression default_value value_rule property_name bracketed index body property mode_word question mode_rule next_mode modes group loose_token piece pieces loose_text no_value source_value record_value source_tail record_tail source_word record_word source_part record_part other_part record_or_other any_part part next_part statistic_body optional_body indexed_statistic unnamed_statistic named_or_not statistic_tail statistic_word statistic plain_name plain_line property_text property_line valued tail parameter_word volatile any_declaration declaration assignment assigned_or_said any_line section_line heading section base_name optional_base simple submodule submodules network type_rule file
-types_apart t e = refl
+-- ---- what a file has besides types
+
+pub package_line-lawful : Lawful package_line
+unfolding package_line word
+package_line-lawful = mapped (before (word-lawful k.Package) dotted_line-lawful (λ t e. refl))
+
+pub import_token-lawful : Lawful import_token
+unfolding import_token
+import_token-lawful = token-lawful import_of
+
+pub import_token-full : import_token.empty ≡ false
+unfolding import_token
+import_token-full = refl
+
+import_tokens_apart : (t : Token) → import_token.starts t ≡ true → import_token.goes_on t ≡ false
+unfolding import_token
+import_tokens_apart t e = refl
+
+pub import_text-lawful : Lawful import_text
+unfolding import_text
+import_text-lawful = mapped (many-lawful import_token import_token-lawful import_token-full import_tokens_apart)
+
+import_ends : (t : Token) → (mark m.Semi).starts t ≡ true → import_text.goes_on t ≡ false
+unfolding import_text import_token mark
+import_ends (token.Mark m.Semi) e = refl
+import_ends (token.Mark _) e = absurd (false≢true e)
+import_ends _ e = absurd (false≢true e)
+
+pub import_line-lawful : Lawful import_line
+unfolding import_line word
+import_line-lawful = before (word-lawful k.Import) (after import_text-lawful (mark-lawful m.Semi) import_ends) (λ t e. refl)
+
+property_ends : (t : Token) → (mark m.Semi).starts t ≡ true → property.goes_on t ≡ false
+unfolding property property_name bracketed index in_parens body mark name
+property_ends (token.Mark m.Semi) e = refl
+property_ends (token.Mark _) e = absurd (false≢true e)
+property_ends _ e = absurd (false≢true e)
+
+pub file_property-lawful : Lawful file_property
+unfolding file_property
+file_property-lawful = mapped (after property-lawful (mark-lawful m.Semi) property_ends)
+
+import_apart : (t : Token) → file_property.starts t ≡ true → import_line.starts t ≡ false
+unfolding file_property property import_line word mark
+import_apart (token.Mark _) e = refl
+import_apart _ e = absurd (false≢true e)
+
+pub import_or_property-lawful : Lawful import_or_property
+unfolding import_or_property import_line file_property property word mark
+import_or_property-lawful = either-lawful import_line file_property import_line-lawful file_property-lawful refl refl import_apart
+
+package_apart : (t : Token) → import_or_property.starts t ≡ true → package_line.starts t ≡ false
+unfolding import_or_property file_property property import_line package_line word mark
+package_apart (token.Mark _) e = refl
+package_apart (token.Word k.Import) e = refl
+package_apart (token.Word _) e = absurd (false≢true e)
+package_apart _ e = absurd (false≢true e)
+
+pub silent-lawful : Lawful silent
+unfolding silent package_line import_or_property import_line file_property property word mark
+silent-lawful = either-lawful package_line import_or_property package_line-lawful import_or_property-lawful refl refl package_apart
+
+pub silent_entry-lawful : Lawful silent_entry
+unfolding silent_entry
+silent_entry-lawful = mapped silent-lawful
+
+silent_apart : (t : Token) → (made Some type_rule).starts t ≡ true → silent_entry.starts t ≡ false
+unfolding silent_entry silent import_or_property file_property property import_line package_line type_rule simple network word mark
+silent_apart (token.Word k.Simple) e = refl
+silent_apart (token.Word k.Network) e = refl
+silent_apart (token.Word _) e = absurd (false≢true e)
+silent_apart _ e = absurd (false≢true e)
+
+pub entry-lawful : Lawful entry
+unfolding entry silent_entry silent import_or_property file_property property import_line package_line type_rule simple network word mark
+entry-lawful = either-lawful silent_entry (made Some type_rule) silent_entry-lawful (mapped type-lawful) refl refl silent_apart
+
+pub entry-full : entry.empty ≡ false
+unfolding entry type_rule simple network word
+entry-full = refl
+
+entries_apart : (t : Token) → entry.starts t ≡ true → entry.goes_on t ≡ false
+unfolding entry silent_entry silent import_or_property file_property import_line import_text package_line dotted type_rule simple network optional_base section heading submodules name mark
+entries_apart t e = refl
 
 pub file-lawful : Lawful file
 unfolding file
-file-lawful = mapped (many-lawful type_rule type-lawful type-full types_apart)
+file-lawful = mapped (many-lawful entry entry-lawful entry-full entries_apart)
 
 pub source_word-lawful : Lawful source_word
 unfolding source_word

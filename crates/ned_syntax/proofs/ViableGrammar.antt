@@ -7,7 +7,7 @@ use Rattle.ned_tokens.specs.declared.token.Keyword.TheVariants as k
 use Rattle.ned_tokens.specs.declared.token.Mark.TheVariants as m
 use Rattle.ned_tokens.specs.declared.token.Token.{Token}
 use Rattle.ned_tokens.specs.declared.token.Token.TheVariants as token
-use Rattle.ned_tokens.specs.Rule.{◌⊗◌, ◌▷◌, made, such_that, optional, many}
+use Rattle.ned_tokens.specs.Rule.{◌⊗◌, ◌◁◌, ◌▷◌, made, such_that, optional, many}
 use Rattle.ned_tokens.specs.Balanced.{balanced_read}
 use Rattle.ned_tokens.specs.Viable.{CanGoOn}
 use Rattle.ned_syntax.specs.declared.ast.ParameterValue.TheVariants as given
@@ -27,7 +27,7 @@ use Rattle.ned_syntax.specs.declared.properties.Effect.{Effect}
 use Rattle.ned_syntax.specs.declared.properties.Effect.TheVariants as effects
 use Rattle.ned_syntax.specs.declared.statistics.Except.{Except}
 use Rattle.ned_syntax.specs.declared.statistics.Except.TheVariants as except_is
-use Rattle.ned_syntax.specs.Grammar.{word, mark, name, in_parens, expression, default_value, value_rule, property_name, bracketed, index, body, property, mode_word, question, mode_rule, next_mode, modes, group, loose_token, piece, pieces, loose_text, no_value, source_value, record_value, source_tail, record_tail, source_word, record_word, source_part, record_part, other_part, record_or_other, any_part, part, next_part, statistic_body, optional_body, indexed_statistic, unnamed_statistic, named_or_not, statistic_tail, statistic_word, statistic, plain_name, plain_line, property_text, property_line, valued, tail, parameter_word, volatile, any_declaration, declaration, assignment, assigned_or_said, any_line, section_line, heading, section, base_name, optional_base, simple, submodule, submodules, network, type_rule, file, turn_of, property_name_of, mode_of, loose_of, source_of, record_of, statistic_of, plain_name_of, parameter_word_of, is_measured, first_unit, unit_behind, declared}
+use Rattle.ned_syntax.specs.Grammar.{word, mark, name, in_parens, expression, default_value, value_rule, property_name, bracketed, index, body, property, mode_word, question, mode_rule, next_mode, modes, group, loose_token, piece, pieces, loose_text, no_value, source_value, record_value, source_tail, record_tail, source_word, record_word, source_part, record_part, other_part, record_or_other, any_part, part, next_part, statistic_body, optional_body, indexed_statistic, unnamed_statistic, named_or_not, statistic_tail, statistic_word, statistic, plain_name, plain_line, property_text, property_line, valued, tail, parameter_word, volatile, any_declaration, declaration, assignment, assigned_or_said, any_line, section_line, heading, section, dotted, base_name, optional_base, simple, submodule, submodules, network, type_rule, package_line, import_token, import_text, import_line, file_property, import_or_property, silent, silent_entry, entry, file, turn_of, import_of, property_name_of, mode_of, loose_of, source_of, record_of, statistic_of, plain_name_of, parameter_word_of, is_measured, first_unit, unit_behind, declared}
 use Rattle.ned_tokens.proofs.ViableLaws.{Viable, token-viable, such_that-viable, either-viable, optional-viable, many-viable, balanced-viable, then_on, before_on, after_on, mapped_on}
 use Rattle.ned_tokens.proofs.Laws.{mapped}
 use Rattle.ned_tokens.proofs.BalancedLaws.{balanced-lawful}
@@ -350,9 +350,16 @@ section_on : Viable section
 unfolding section
 section_on = before_on laws.heading-lawful heading_on (many-viable section_line laws.section_line-lawful laws.section_line-full section_line_on)
 
+dotted_on : Viable dotted
+unfolding dotted
+dotted_on = mapped_on (then_on laws.name-lawful name_on (many-viable (mark m.Dot ⊗ name) laws.behind_dot-lawful laws.behind_dot-full (then_on (laws.mark-lawful m.Dot) (mark_on m.Dot refl) name_on)))
+
+dotted_line_on : Viable (dotted ◁ mark m.Semi)
+dotted_line_on = after_on laws.dotted-lawful dotted_on (mark_on m.Semi refl)
+
 base_name_on : Viable base_name
 unfolding base_name
-base_name_on = before_on (laws.word-lawful k.Extends) (word_on k.Extends refl) name_on
+base_name_on = before_on (laws.word-lawful k.Extends) (word_on k.Extends refl) dotted_on
 
 base_on : Viable optional_base
 unfolding optional_base
@@ -364,7 +371,7 @@ simple_on = mapped_on (before_on (laws.word-lawful k.Simple) (word_on k.Simple r
 
 submodule_on : Viable submodule
 unfolding submodule
-submodule_on = mapped_on (then_on laws.name-lawful name_on (before_on (laws.mark-lawful m.Colon) (mark_on m.Colon refl) (after_on laws.name-lawful name_on (mark_on m.Semi refl))))
+submodule_on = mapped_on (then_on laws.name-lawful name_on (before_on (laws.mark-lawful m.Colon) (mark_on m.Colon refl) dotted_line_on))
 
 submodules_on : Viable submodules
 unfolding submodules
@@ -378,6 +385,38 @@ type_on : Viable type_rule
 unfolding type_rule
 type_on = either-viable simple network simple_on network_on
 
+package_line_on : Viable package_line
+unfolding package_line
+package_line_on = mapped_on (before_on (laws.word-lawful k.Package) (word_on k.Package refl) dotted_line_on)
+
+import_token_on : Viable import_token
+unfolding import_token
+import_token_on = token-viable import_of (token.Name letter) tt refl
+
+import_text_on : Viable import_text
+unfolding import_text
+import_text_on = mapped_on (many-viable import_token laws.import_token-lawful laws.import_token-full import_token_on)
+
+import_line_on : Viable import_line
+unfolding import_line
+import_line_on = before_on (laws.word-lawful k.Import) (word_on k.Import refl) (after_on laws.import_text-lawful import_text_on (mark_on m.Semi refl))
+
+file_property_on : Viable file_property
+unfolding file_property
+file_property_on = mapped_on (after_on laws.property-lawful property_on (mark_on m.Semi refl))
+
+import_or_property_on : Viable import_or_property
+unfolding import_or_property
+import_or_property_on = either-viable import_line file_property import_line_on file_property_on
+
+silent_on : Viable silent
+unfolding silent
+silent_on = either-viable package_line import_or_property package_line_on import_or_property_on
+
+entry_on : Viable entry
+unfolding entry silent_entry
+entry_on = either-viable silent_entry (made Some type_rule) (mapped_on silent_on) (mapped_on type_on)
+
 pub file_on : Viable file
 unfolding file
-file_on = mapped_on (many-viable type_rule laws.type-lawful laws.type-full type_on)
+file_on = mapped_on (many-viable entry laws.entry-lawful laws.entry-full entry_on)

@@ -1,6 +1,6 @@
 -- The grammar of NED over tokens, a definition for each rule (OMNeT++ Simulation Manual, "NED Language Grammar").
 -- `a ⊗ b` is a and then b; `a ▷ b` the same with the value of b, `a ◁ b` with that of a.
-use Rattle.std.specs.Prelude.{ℕ, Bool, true, false, ◌||◌, not, List, [], ◌∷◌, Option, Some, None, Ok, if◌then◌else◌, codes, is_some, unwrap_or}
+use Rattle.std.specs.Prelude.{ℕ, Bool, true, false, ◌||◌, not, List, [], ◌∷◌, Option, Some, None, Ok, if◌then◌else◌, codes, is_some, unwrap_or, nat_lt, ◌&&◌, ◌==◌}
 use Rattle.std.specs.Str.{bytes_eq}
 use Rattle.sim_values.specs.declared.value.Dimension.{Dimension}
 use Rattle.ned_tokens.specs.declared.token.Keyword.TheVariants as k
@@ -10,7 +10,8 @@ use Rattle.ned_tokens.specs.declared.token.Token.{Token}
 use Rattle.ned_tokens.specs.declared.token.Token.TheVariants as token
 use Rattle.ned_tokens.specs.Words.{or_else}
 use Rattle.ned_tokens.specs.Units.{unit_of}
-use Rattle.ned_tokens.specs.Rule.{Rule, Reading, ◌>>=◌, map_read, token as one_token, ◌⊗◌, ◌◁◌, ◌▷◌, made, such_that, either, optional, many}
+use Rattle.ned_tokens.specs.Rule.{Rule, Reading, ◌>>=◌, map_read, token as one_token, ◌⊗◌, ◌◁◌, ◌▷◌, made, such_that, either, optional, many, left}
+use Rattle.ned_tokens.specs.Lexing.{is_slash_next}
 use Rattle.ned_tokens.specs.Balanced.{Turn, opens, closes, stays, bars, balanced}
 use Rattle.ned_syntax.specs.declared.ast.ParameterValue.{ParameterValue}
 use Rattle.ned_syntax.specs.declared.ast.ParameterValue.TheVariants as given
@@ -446,29 +447,35 @@ heading = made (λ _. tt) (optional (word k.Parameters ▷ mark m.Colon))
 unfoldable pub section : Rule (List SectionLine)
 section = heading ▷ many section_line
 
+-- ---- dotted names
+
+-- dotted = name { "." name }, of which the last part counts
+unfoldable pub dotted : Rule Bytes
+dotted = left (λ _ _ last. last) (mark m.Dot) name
+
 -- ---- types
 
 -- "{" section "}"
 abbrev pub section_block : Rule (List SectionLine)
 section_block = mark m.Open ▷ (section ◁ mark m.Close)
 
--- "extends" name
+-- "extends" dotted
 unfoldable pub base_name : Rule Bytes
-base_name = word k.Extends ▷ name
+base_name = word k.Extends ▷ dotted
 
--- ["extends" name]
+-- ["extends" dotted]
 unfoldable pub optional_base : Rule (Option Bytes)
 optional_base = optional base_name
 
--- "simple" name ["extends" name] "{" [params] "}"
+-- "simple" name ["extends" dotted] "{" [params] "}"
 unfoldable pub simple : Rule TypeDeclaration
 simple = made (λ p. record { kind = kinds.Simple; name = p.0; base = p.1.0; lines = p.1.1; submodules = [] }) (word k.Simple ▷ (name ⊗ (optional_base ⊗ section_block)))
 
--- ":" name ";"
+-- ":" dotted ";"
 abbrev pub submodule_type : Rule Bytes
-submodule_type = mark m.Colon ▷ (name ◁ mark m.Semi)
+submodule_type = mark m.Colon ▷ (dotted ◁ mark m.Semi)
 
--- name ":" name ";"
+-- name ":" dotted ";"
 unfoldable pub submodule : Rule Submodule
 submodule = made (λ p. record { name = p.0; type_name = p.1 }) (name ⊗ submodule_type)
 
@@ -491,6 +498,69 @@ network = made (λ p. record { kind = kinds.Network; name = p.0; base = None; li
 unfoldable pub type_rule : Rule TypeDeclaration
 type_rule = either simple network
 
--- file = { type }
+-- ---- what a file has besides types, of which nothing has an effect
+
+-- "package" dotted ";"
+unfoldable pub package_line : Rule (Unit {0})
+package_line = made (λ _. tt) (word k.Package ▷ (dotted ◁ mark m.Semi))
+
+-- a byte of an import, and those behind it: ASCII, and neither `;` nor the beginning of a comment
+abbrev pub may_stand : ℕ → Bytes → Bool
+may_stand b bs = nat_lt b 128 && not (b == 59) && not (b == 47 && is_slash_next bs)
+
+-- bytes that are the same part of an import with quotes and without
+unfoldable pub is_import_text : Bytes → Bool
+is_import_text [] = true
+is_import_text (b ∷ bs) = if may_stand b bs then is_import_text bs else false
+
+-- A token of an import: any but `;`. A `"` means nothing there, so a text in quotes is one only where its bytes are such a part without quotes too.
+abbrev pub is_of_import : Token → Bool
+is_of_import (token.Mark m.Semi) = false
+is_of_import (token.Literal text) = is_import_text text
+is_of_import token.OddLiteral = false
+is_of_import token.OpenLiteral = false
+is_of_import token.Broken = false
+is_of_import (token.Stray b) = nat_lt b 128
+is_of_import _ = true
+
+abbrev pub import_of : Token → Option (Unit {0})
+import_of t = if is_of_import t then Some tt else None
+
+unfoldable pub import_token : Rule (Unit {0})
+import_token = one_token import_of
+
+-- any tokens but `;`, or none
+unfoldable pub import_text : Rule (Unit {0})
+import_text = made (λ _. tt) (many import_token)
+
+-- "import" anything-but-; ";"
+unfoldable pub import_line : Rule (Unit {0})
+import_line = word k.Import ▷ (import_text ◁ mark m.Semi)
+
+-- property ";"
+unfoldable pub file_property : Rule (Unit {0})
+file_property = made (λ _. tt) (property ◁ mark m.Semi)
+
+unfoldable pub import_or_property : Rule (Unit {0})
+import_or_property = either import_line file_property
+
+-- package | import | property ";"
+unfoldable pub silent : Rule (Unit {0})
+silent = either package_line import_or_property
+
+unfoldable pub silent_entry : Rule (Option TypeDeclaration)
+silent_entry = made (λ _. None) silent
+
+-- what a file has: a type, or what has no effect
+unfoldable pub entry : Rule (Option TypeDeclaration)
+entry = either silent_entry (made Some type_rule)
+
+-- the types among what a file has
+abbrev pub types_in : List (Option TypeDeclaration) → List TypeDeclaration
+types_in [] = []
+types_in (None ∷ es) = types_in es
+types_in (Some t ∷ es) = t ∷ types_in es
+
+-- file = { "package" dotted ";" | "import" anything-but-; ";" | property ";" | type }
 unfoldable pub file : Rule NedFile
-file = made (λ ts. record { types = ts }) (many type_rule)
+file = made (λ es. record { types = types_in es }) (many entry)

@@ -13,6 +13,8 @@ macro_rules! read {
 }
 
 pub mod ast;
+mod dotted;
+mod files;
 pub mod laws;
 mod leaves;
 mod literals;

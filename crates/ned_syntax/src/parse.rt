@@ -7,7 +7,7 @@ ghost use Rattle.ned_values.specs.ExpressionText.{Answers};
 ghost use Rattle.ned_syntax.specs.declared.ast.NedFile.{NedFile};
 
 use crate::ast::NedFile;
-use crate::types::whole_file;
+use crate::files::whole_file;
 use ned_tokens::lines::{blamed_line, tokenize};
 use ned_tokens::refusal::Refusal;
 use ned_tokens::token::Token;

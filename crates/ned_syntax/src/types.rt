@@ -1,10 +1,11 @@
-//! Types, and the whole of a file.
+//! Types.
 
 ghost use Rattle.std.specs.Prelude.{◌≡◌};
-ghost use Rattle.ned_tokens.specs.Rule.{Gives, Reads, begins, many, all_read};
+ghost use Rattle.ned_tokens.specs.Rule.{Reads, begins, many};
 ghost use Rattle.ned_syntax.specs.Grammar as grammar;
 
-use crate::ast::{NedFile, SectionLine, Submodule, TypeDeclaration, TypeKind};
+use crate::ast::{SectionLine, Submodule, TypeDeclaration, TypeKind};
+use crate::dotted::dotted;
 use crate::leaves::{begins_name, begins_word, ended, mark, name, word};
 use crate::parameters::section;
 use ned_tokens::refusal::Refusal;
@@ -22,13 +23,13 @@ fn section_block(alloc: Global, tokens: &[Token]) -> Result<(Items<SectionLine>,
     ended(lines, Mark::Close, rest)
 }
 
-/// `base_name = "extends" name`.
+/// `base_name = "extends" dotted`.
 #[tactic(auto, unfolding(crate::specs::Grammar::base_name))]
 fn base_name(alloc: Global, tokens: &[Token]) -> Result<(Text, &[Token]), Refusal>
     ensures { Reads grammar.base_name tokens.now result }
 {
     let rest = read!(word(Keyword::Extends, tokens));
-    name(alloc, rest)
+    dotted(alloc, rest)
 }
 
 /// `optional_base = [ base_name ]`.
@@ -64,12 +65,12 @@ fn simple(alloc: Global, tokens: &[Token]) -> Result<(TypeDeclaration, &[Token])
     ))
 }
 
-/// `submodule_type = ":" name ";"`.
+/// `submodule_type = ":" dotted ";"`.
 fn submodule_type(alloc: Global, tokens: &[Token]) -> Result<(Text, &[Token]), Refusal>
     ensures { Reads grammar.submodule_type tokens.now result }
 {
     let rest = read!(mark(Mark::Colon, tokens));
-    let (type_name, rest) = read!(name(alloc, rest));
+    let (type_name, rest) = read!(dotted(alloc, rest));
     ended(type_name, Mark::Semi, rest)
 }
 
@@ -157,7 +158,10 @@ fn network(alloc: Global, tokens: &[Token]) -> Result<(TypeDeclaration, &[Token]
 
 /// `type = simple | network`.
 #[tactic(auto, unfolding(crate::specs::Grammar::type_rule, crate::specs::Grammar::simple, crate::specs::Grammar::word))]
-fn type_declaration(alloc: Global, tokens: &[Token]) -> Result<(TypeDeclaration, &[Token]), Refusal>
+pub(crate) fn type_declaration(
+    alloc: Global,
+    tokens: &[Token],
+) -> Result<(TypeDeclaration, &[Token]), Refusal>
     ensures { Reads grammar.type_rule tokens.now result }
 {
     if begins_word(Keyword::Simple, tokens) {
@@ -168,35 +172,8 @@ fn type_declaration(alloc: Global, tokens: &[Token]) -> Result<(TypeDeclaration,
 }
 
 #[tactic(auto, unfolding(crate::specs::Grammar::type_rule, crate::specs::Grammar::simple, crate::specs::Grammar::network, crate::specs::Grammar::word))]
-fn begins_type(tokens: &[Token]) -> bool
+pub(crate) fn begins_type(tokens: &[Token]) -> bool
     ensures { result ≡ begins grammar.type_rule.starts tokens.now }
 {
     begins_word(Keyword::Simple, tokens) || begins_word(Keyword::Network, tokens)
-}
-
-/// `{ type }`.
-fn type_list(alloc: Global, tokens: &[Token]) -> Result<(Items<TypeDeclaration>, &[Token]), Refusal>
-    ensures { Reads (many grammar.type_rule) tokens.now result }
-{
-    let mut types = Items::new(alloc);
-    let mut rest = tokens;
-    'items: while begins_type(rest) {
-        let (next, after) = read!(type_declaration(alloc, rest));
-        types.push(next)?;
-        rest = after;
-    }
-    Ok((types, rest))
-}
-
-/// A whole file.
-/// `file = { type }`.
-#[tactic(auto, unfolding(crate::specs::Grammar::file))]
-pub(crate) fn whole_file(alloc: Global, tokens: &[Token]) -> Result<NedFile, Refusal>
-    ensures { Gives (λ x. x) result (all_read grammar.file tokens.now) }
-{
-    let (types, rest) = read!(type_list(alloc, tokens));
-    match rest {
-        [] => Ok(NedFile { types }),
-        _ => Err(Refusal::At(rest.len())),
-    }
 }
