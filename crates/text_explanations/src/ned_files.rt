@@ -26,7 +26,7 @@ pub enum Sign {
     Submodule,
     /// `int NAME`, or another word of a parameter.
     Parameter,
-    /// `extends NAME`.
+    /// `extends NAME`, or a dotted name with that last part.
     Base,
     /// `NAME` or `int NAME`, a line of a parameter.
     Name,
@@ -66,6 +66,19 @@ fn may_stand(tokens: &[Token], at: usize, sign: Sign) -> bool {
     }
 }
 
+/// Whether the dotted name with which tokens begin has that last part.
+fn is_last_part(tokens: &[Token], name: &[u8]) -> bool {
+    let mut is_last = false;
+    for token in tokens {
+        match token {
+            Token::Name(part) => is_last = part.is(name),
+            Token::Mark(Mark::Dot) => is_last = false,
+            _ => break,
+        }
+    }
+    is_last
+}
+
 /// Whether tokens begin with what the sign says of the name.
 fn begins_with(tokens: &[Token], sign: Sign, name: &[u8]) -> bool {
     match (sign, tokens) {
@@ -73,55 +86,57 @@ fn begins_with(tokens: &[Token], sign: Sign, name: &[u8]) -> bool {
         (Sign::Parameter, [Token::Word(word), Token::Name(found), ..]) => {
             is_parameter_word(*word) && found.is(name)
         }
-        (Sign::Base, [Token::Word(Keyword::Extends), Token::Name(found), ..]) => found.is(name),
+        (Sign::Base, [Token::Word(Keyword::Extends), base @ ..]) => is_last_part(base, name),
         (Sign::Name, [Token::Name(found), ..]) => found.is(name),
         _ => false,
     }
 }
 
-/// How many parentheses and braces are open.
+/// Where a token stands.
 #[derive(Clone, Copy)]
-struct Open {
+struct Place {
+    /// How many parentheses are open.
     parens: u64,
-    /// Braces outside of parentheses.
+    /// How many braces are open, outside of parentheses.
     braces: u64,
+    /// In an import, behind its word.
+    import: bool,
+    /// Directly behind a `@`.
+    property: bool,
 }
 
-impl Open {
-    /// What is open behind a mark.
-    fn behind_mark(self, mark: Mark) -> Open {
-        let Open { parens, braces } = self;
-        if mark == Mark::LeftParen {
-            Open {
-                parens: parens.saturating_add(1),
-                braces,
-            }
-        } else if mark == Mark::RightParen {
-            Open {
-                parens: parens.saturating_sub(1),
-                braces,
-            }
-        } else if mark == Mark::Open && parens == 0 {
-            Open {
-                parens,
-                braces: braces.saturating_add(1),
-            }
-        } else if mark == Mark::Close && parens == 0 {
-            Open {
-                parens,
-                braces: braces.saturating_sub(1),
-            }
-        } else {
-            self
-        }
+impl Place {
+    /// Whether a type can begin there, or a package or an import.
+    fn is_outside(self) -> bool {
+        self.parens == 0 && self.braces == 0 && !self.import && !self.property
     }
 
-    /// What is open behind a token.
-    fn behind(self, token: &Token) -> Open {
-        match token {
-            Token::Mark(mark) => self.behind_mark(*mark),
-            _ => self,
+    /// The place behind a mark, outside of imports.
+    fn behind_mark(self, mark: Mark) -> Place {
+        let mut next = self;
+        if mark == Mark::LeftParen {
+            next.parens = self.parens.saturating_add(1);
+        } else if mark == Mark::RightParen {
+            next.parens = self.parens.saturating_sub(1);
+        } else if mark == Mark::Open && self.parens == 0 {
+            next.braces = self.braces.saturating_add(1);
+        } else if mark == Mark::Close && self.parens == 0 {
+            next.braces = self.braces.saturating_sub(1);
         }
+        next.property = mark == Mark::At;
+        next
+    }
+
+    /// The place behind a token.
+    fn behind(self, token: &Token) -> Place {
+        let mut next = self;
+        match token {
+            Token::Mark(mark) if self.import => next.import = *mark != Mark::Semi,
+            Token::Mark(mark) => return self.behind_mark(*mark),
+            Token::Word(Keyword::Import) if self.is_outside() => next.import = true,
+            _ => next.property = false,
+        }
+        next
     }
 }
 
@@ -138,18 +153,20 @@ fn is_head(token: &Token) -> bool {
     }
 }
 
-/// The tokens that begin types: those at which no brace is open.
+/// The tokens that begin types.
 fn heads_of(alloc: Global, tokens: &[Token]) -> Result<Vec<usize>, NoMemory> {
     let mut heads = Vec::new(alloc);
-    let mut open = Open {
+    let mut place = Place {
         parens: 0,
         braces: 0,
+        import: false,
+        property: false,
     };
     for (at, token) in tokens.iter().enumerate() {
-        if open.braces == 0 && is_head(token) {
+        if place.is_outside() && is_head(token) {
             heads.push(at)?;
         }
-        open = open.behind(token);
+        place = place.behind(token);
     }
     Ok(heads)
 }

@@ -10,7 +10,7 @@ use std::alloc::Global;
 use std::fmt::Write;
 
 /// What a text can go on with: how it is written, and how it is called where it isn't a word or a mark.
-const GOES_ON: [(&str, &str); 26] = [
+const GOES_ON: [(&str, &str); 28] = [
     (";", ""),
     ("}", ""),
     ("{", ""),
@@ -25,6 +25,8 @@ const GOES_ON: [(&str, &str); 26] = [
     ("submodules", ""),
     ("simple", ""),
     ("network", ""),
+    ("package", ""),
+    ("import", ""),
     ("extends", ""),
     ("bool", ""),
     ("int", ""),
@@ -45,6 +47,20 @@ fn can_go_on(alloc: Global, tokens: &[Token]) -> Result<bool, NoMemory> {
         None | Some(0) => true,
         Some(_) => false,
     })
+}
+
+/// What ends a text that goes on with anything: an import ends with `;`, a property's body with `)`.
+fn end_of_any(
+    alloc: Global,
+    tokens: &mut Items<Token>,
+) -> Result<(&'static str, &'static str), NoMemory> {
+    tokens.push(token_of(alloc, ";")?)?;
+    let left = tokens_left(alloc, tokens.as_slice())?;
+    let _added = tokens.pop();
+    match left {
+        None => Ok((";", "")),
+        Some(_) => Ok((")", "")),
+    }
 }
 
 /// Whether an expression can begin so, and other things too.
@@ -73,6 +89,10 @@ fn wanted(
             found.push(it)?;
         }
         let _added = tokens.pop();
+    }
+    if found.len() == GOES_ON.len() {
+        found.clear();
+        found.push(end_of_any(alloc, tokens)?)?;
     }
     Ok(said_once(found))
 }

@@ -74,7 +74,9 @@ fn tell_stray(told: &mut String, byte: u8) -> Result<(), NoMemory> {
 pub fn is_for_later(word: Keyword) -> bool {
     !matches!(
         word,
-        Keyword::Simple
+        Keyword::Package
+            | Keyword::Import
+            | Keyword::Simple
             | Keyword::Network
             | Keyword::Parameters
             | Keyword::Volatile
