@@ -99,9 +99,19 @@ fn tell_submodules(told: &mut String, submodules: &[Submodule]) -> Result<(), Al
     Ok(())
 }
 
+/// Tells what a type extends.
+fn tell_base(told: &mut String, base: &Option<Text>) -> Result<(), AllocError> {
+    match base {
+        Some(base) => write!(told, "extends {} ", written(base)),
+        None => Ok(()),
+    }
+}
+
 /// Tells what a type declares.
 fn tell_type(told: &mut String, it: &TypeDeclaration) -> Result<(), AllocError> {
-    write!(told, "{:?} {} {{ ", it.kind, written(&it.name))?;
+    write!(told, "{:?} {} ", it.kind, written(&it.name))?;
+    tell_base(told, &it.base)?;
+    told.push_str("{ ")?;
     tell_lines(told, it.lines.as_slice())?;
     tell_submodules(told, it.submodules.as_slice())?;
     told.push_str("} ")
