@@ -477,7 +477,7 @@ submodule_type = mark m.Colon ▷ (dotted ◁ mark m.Semi)
 
 -- name ":" dotted ";"
 unfoldable pub submodule : Rule Submodule
-submodule = made (λ p. record { name = p.0; type_name = p.1 }) (name ⊗ submodule_type)
+submodule = made (λ p. record { name = p.0; type_name = p.1; body = [] }) (name ⊗ submodule_type)
 
 abbrev pub listed : {X : Type 0} → Option (List X) → List X
 listed None = []

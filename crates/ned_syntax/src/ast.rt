@@ -72,10 +72,12 @@ pub enum SectionLine {
 }
 
 /// A submodule, as declared.
-#[derive(Debug, Drop)]
+#[derive(Drop)]
 pub struct Submodule {
     pub name: Text,
     pub type_name: Text,
+    /// The lines of its body, which give its parameters values; none where it has no body.
+    pub body: Items<SectionLine>,
 }
 
 /// The word that declares a type.

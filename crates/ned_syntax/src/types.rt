@@ -85,6 +85,7 @@ fn submodule(alloc: Global, tokens: &[Token]) -> Result<(Submodule, &[Token]), R
         Submodule {
             name: own,
             type_name,
+            body: Items::new(alloc),
         },
         rest,
     ))

@@ -108,6 +108,7 @@ fn copy_submodule(alloc: Global, submodule: &Submodule) -> Result<Submodule, All
     Ok(Submodule {
         name: submodule.name.copy(alloc)?,
         type_name: submodule.type_name.copy(alloc)?,
+        body: copy_lines(alloc, submodule.body.as_slice())?,
     })
 }
 

@@ -64,7 +64,7 @@ tick = record {
 
 -- `NAME: Tick;`
 abbrev pub tick_named : List ℕ → Submodule
-tick_named name = record { name = name; type_name = codes "Tick" }
+tick_named name = record { name = name; type_name = codes "Tick"; body = [] }
 
 -- `network N` with Ticks of these names
 abbrev pub network : List (List ℕ) → TypeDeclaration
