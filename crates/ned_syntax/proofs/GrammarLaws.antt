@@ -16,7 +16,7 @@ use Rattle.ned_syntax.specs.declared.properties.PropertyName.{PropertyName}
 use Rattle.ned_syntax.specs.declared.properties.PropertyName.TheVariants as names
 use Rattle.ned_syntax.specs.declared.statistics.Except.{Except}
 use Rattle.ned_syntax.specs.declared.statistics.Except.TheVariants as except_is
-use Rattle.ned_syntax.specs.Grammar.{said_in, word, mark, name, in_parens, expression, default_value, value_rule, property_name, bracketed, index, body, property, mode_word, question, mode_rule, next_mode, modes, group, loose_token, piece, pieces, loose_text, no_value, source_value, record_value, source_tail, record_tail, source_word, record_word, source_part, record_part, other_part, record_or_other, any_part, part, next_part, statistic_body, optional_body, indexed_statistic, unnamed_statistic, named_or_not, statistic_tail, statistic_word, statistic, plain_name, plain_line, property_text, property_line, valued, tail, parameter_word, volatile, any_declaration, declaration, assignment, assigned_or_said, any_line, section_line, heading, section, dotted, base_name, optional_base, simple, submodule, submodules, network, type_rule, package_line, import_token, import_text, import_line, file_property, import_or_property, silent, silent_entry, entry, file, turn_of, property_name_of, mode_of, loose_of, source_of, record_of, statistic_of, plain_name_of, parameter_word_of, is_measured, is_source, is_record, is_statistic, plain_of, import_of}
+use Rattle.ned_syntax.specs.Grammar.{said_in, word, mark, name, in_parens, expression, default_value, value_rule, property_name, bracketed, index, body, property, mode_word, question, mode_rule, next_mode, modes, group, loose_token, piece, pieces, loose_text, no_value, source_value, record_value, source_tail, record_tail, source_word, record_word, source_part, record_part, other_part, record_or_other, any_part, part, next_part, statistic_body, optional_body, indexed_statistic, unnamed_statistic, named_or_not, statistic_tail, statistic_word, statistic, plain_name, plain_line, property_text, property_line, valued, tail, parameter_word, volatile, any_declaration, declaration, assignment, assigned_or_said, any_line, section_line, heading, section, dotted, base_name, optional_base, simple, ignored_property, assigned_or_ignored, any_body_line, body_line, body_section, optional_semi, braced_body, no_body, submodule_body, submodule, submodules, network, type_rule, package_line, import_token, import_text, import_line, file_property, import_or_property, silent, silent_entry, entry, file, turn_of, property_name_of, mode_of, loose_of, source_of, record_of, statistic_of, plain_name_of, parameter_word_of, is_measured, is_source, is_record, is_statistic, plain_of, import_of}
 pub use Rattle.ned_values.proofs.GrammarLaws.{word-lawful, mark-lawful, name-lawful}
 pub use Rattle.ned_expressions.proofs.ExpressionLaws.{expression-lawful}
 use Rattle.ned_tokens.proofs.Laws.{Lawful, token-lawful, such_that-lawful, either-lawful, optional-lawful, then, before, after, mapped}
@@ -497,31 +497,134 @@ pub simple-lawful : Lawful simple
 unfolding simple word mark name
 simple-lawful = mapped (before (word-lawful k.Simple) (then name-lawful (then base-lawful block-lawful base_apart) (λ t e. refl)) (λ t e. refl))
 
+-- ---- the bodies of submodules
+
+pub ignored_property-lawful : Lawful ignored_property
+unfolding ignored_property
+ignored_property-lawful = mapped property-lawful
+
+assigned_apart : (t : Token) → ignored_property.starts t ≡ true → (made lines.Assignment assignment).starts t ≡ false
+unfolding ignored_property property assignment name mark
+assigned_apart (token.Name text) e = absurd (false≢true e)
+assigned_apart _ e = refl
+
+pub assigned_or_ignored-lawful : Lawful assigned_or_ignored
+unfolding assigned_or_ignored assignment name ignored_property property mark
+assigned_or_ignored-lawful = either-lawful (made lines.Assignment assignment) ignored_property (mapped assignment-lawful) ignored_property-lawful refl refl assigned_apart
+
+declared_apart : (t : Token) → assigned_or_ignored.starts t ≡ true → (made lines.Declaration declaration).starts t ≡ false
+unfolding assigned_or_ignored assignment name ignored_property property mark declaration any_declaration volatile parameter_word word
+declared_apart (token.Word _) e = absurd (false≢true e)
+declared_apart _ e = refl
+
+pub any_body_line-lawful : Lawful any_body_line
+unfolding any_body_line declaration any_declaration volatile parameter_word word assigned_or_ignored assignment name ignored_property property mark
+any_body_line-lawful = either-lawful (made lines.Declaration declaration) assigned_or_ignored (mapped declaration-lawful) assigned_or_ignored-lawful refl refl declared_apart
+
+body_line_ends : (t : Token) → (mark m.Semi).starts t ≡ true → any_body_line.goes_on t ≡ false
+unfolding word mark name in_parens expression default_value value_rule property_name bracketed index body property valued tail parameter_word volatile any_declaration declaration assignment any_body_line assigned_or_ignored ignored_property
+body_line_ends (token.Mark m.Semi) e = refl
+body_line_ends (token.Mark _) e = absurd (false≢true e)
+body_line_ends _ e = absurd (false≢true e)
+
+pub body_line-lawful : Lawful body_line
+unfolding body_line
+body_line-lawful = after any_body_line-lawful (mark-lawful m.Semi) body_line_ends
+
+pub body_line-full : body_line.empty ≡ false
+unfolding body_line any_body_line assigned_or_ignored ignored_property property mark
+body_line-full = refl
+
+body_lines_apart : (t : Token) → body_line.starts t ≡ true → body_line.goes_on t ≡ false
+unfolding body_line mark
+body_lines_apart t e = refl
+
+body_heading_apart : (t : Token) → (many body_line).starts t ≡ true → heading.goes_on t ≡ false
+unfolding heading word mark name property parameter_word volatile any_declaration declaration assignment body_line any_body_line assigned_or_ignored ignored_property
+body_heading_apart (token.Word k.Parameters) e = absurd (false≢true e)
+body_heading_apart (token.Word _) e = refl
+body_heading_apart _ e = refl
+
+pub body_section-lawful : Lawful body_section
+unfolding body_section
+body_section-lawful = before heading-lawful (many-lawful body_line body_line-lawful body_line-full body_lines_apart) body_heading_apart
+
+body_section_ends : (t : Token) → (mark m.Close).starts t ≡ true → body_section.goes_on t ≡ false
+unfolding body_section heading word mark name property parameter_word volatile any_declaration declaration assignment body_line any_body_line assigned_or_ignored ignored_property
+body_section_ends (token.Mark m.Close) e = refl
+body_section_ends (token.Mark _) e = absurd (false≢true e)
+body_section_ends _ e = absurd (false≢true e)
+
+pub body_block-lawful : Lawful (mark m.Open ▷ (body_section ◁ mark m.Close))
+unfolding mark
+body_block-lawful = before (mark-lawful m.Open) (after body_section-lawful (mark-lawful m.Close) body_section_ends) (λ t e. refl)
+
+pub optional_semi-lawful : Lawful optional_semi
+unfolding optional_semi mark
+optional_semi-lawful = mapped (optional-lawful (mark m.Semi) (mark-lawful m.Semi) refl)
+
+pub braced_body-lawful : Lawful braced_body
+unfolding braced_body body_section heading mark
+braced_body-lawful = after body_block-lawful optional_semi-lawful (λ t e. refl)
+
+pub no_body-lawful : Lawful no_body
+unfolding no_body
+no_body-lawful = mapped (mark-lawful m.Semi)
+
+no_body_apart : (t : Token) → braced_body.starts t ≡ true → no_body.starts t ≡ false
+unfolding braced_body no_body mark
+no_body_apart (token.Mark m.Open) e = refl
+no_body_apart (token.Mark _) e = absurd (false≢true e)
+no_body_apart _ e = absurd (false≢true e)
+
+pub submodule_body-lawful : Lawful submodule_body
+unfolding submodule_body no_body braced_body mark
+submodule_body-lawful = either-lawful no_body braced_body no_body-lawful braced_body-lawful refl refl no_body_apart
+
+body_apart : (t : Token) → submodule_body.starts t ≡ true → dotted.goes_on t ≡ false
+unfolding submodule_body no_body braced_body dotted mark name
+body_apart (token.Mark m.Semi) e = refl
+body_apart (token.Mark m.Open) e = refl
+body_apart (token.Mark _) e = absurd (false≢true e)
+body_apart _ e = absurd (false≢true e)
+
 pub submodule-lawful : Lawful submodule
 unfolding submodule name mark
-submodule-lawful = mapped (then name-lawful (before (mark-lawful m.Colon) dotted_line-lawful (λ t e. refl)) (λ t e. refl))
+submodule-lawful = mapped (then name-lawful (before (mark-lawful m.Colon) (then dotted-lawful submodule_body-lawful body_apart) (λ t e. refl)) (λ t e. refl))
 
 pub submodule-full : submodule.empty ≡ false
-unfolding word mark name in_parens expression default_value value_rule property_name bracketed index body property mode_word question mode_rule next_mode modes group loose_token piece pieces loose_text no_value source_value record_value source_tail record_tail source_word record_word source_part record_part other_part record_or_other any_part part next_part statistic_body optional_body indexed_statistic unnamed_statistic named_or_not statistic_tail statistic_word statistic plain_name plain_line property_text property_line valued tail parameter_word volatile any_declaration declaration assignment assigned_or_said any_line section_line heading section base_name optional_base simple submodule submodules network type_rule file
+unfolding submodule name
 submodule-full = refl
 
-submodules_apart : (t : Token) → (submodule).starts t ≡ true → (submodule).goes_on t ≡ false
-unfolding submodule dotted name mark
-submodules_apart t e = refl
+submodules_apart : (t : Token) → submodule.starts t ≡ true → submodule.goes_on t ≡ false
+unfolding submodule submodule_body no_body braced_body body_section heading optional_semi dotted name mark
+submodules_apart (token.Name _) e = refl
+submodules_apart _ e = absurd (false≢true e)
 
 pub submodules-lawful : Lawful submodules
 unfolding submodules word mark
 submodules-lawful = mapped (optional-lawful (word k.Submodules ▷ (mark m.Colon ▷ many submodule)) (before (word-lawful k.Submodules) (before (mark-lawful m.Colon) (many-lawful submodule submodule-lawful submodule-full submodules_apart) (λ t e. refl)) (λ t e. refl)) refl)
 
-submodules_end : (t : Token) → (mark m.Close).starts t ≡ true → (submodules).goes_on t ≡ false
-unfolding submodules submodule dotted name mark word
-submodules_end (token.Mark m.Close) e = refl
-submodules_end (token.Mark _) e = absurd (false≢true e)
-submodules_end _ e = absurd (false≢true e)
+-- ---- networks
+
+section_apart : (t : Token) → submodules.starts t ≡ true → section.goes_on t ≡ false
+unfolding submodules section heading section_line any_line assigned_or_said property_line assignment declaration any_declaration volatile parameter_word word mark name
+section_apart (token.Word k.Submodules) e = refl
+section_apart (token.Word _) e = absurd (false≢true e)
+section_apart _ e = absurd (false≢true e)
+
+pub network_parts-lawful : Lawful (section ⊗ submodules)
+network_parts-lawful = then section-lawful submodules-lawful section_apart
+
+network_ends : (t : Token) → (mark m.Close).starts t ≡ true → (section ⊗ submodules).goes_on t ≡ false
+unfolding submodules submodule submodule_body no_body braced_body body_section optional_semi dotted section heading section_line any_line assigned_or_said property_line assignment declaration any_declaration volatile parameter_word word mark name
+network_ends (token.Mark m.Close) e = refl
+network_ends (token.Mark _) e = absurd (false≢true e)
+network_ends _ e = absurd (false≢true e)
 
 pub network-lawful : Lawful network
 unfolding network word mark name
-network-lawful = mapped (before (word-lawful k.Network) (then name-lawful (before (mark-lawful m.Open) (after submodules-lawful (mark-lawful m.Close) submodules_end) (λ t e. refl)) (λ t e. refl)) (λ t e. refl))
+network-lawful = mapped (before (word-lawful k.Network) (then name-lawful (before (mark-lawful m.Open) (after network_parts-lawful (mark-lawful m.Close) network_ends) (λ t e. refl)) (λ t e. refl)) (λ t e. refl))
 
 simple_apart : (t : Token) → network.starts t ≡ true → simple.starts t ≡ false
 unfolding word mark name in_parens expression default_value value_rule property_name bracketed index body property mode_word question mode_rule next_mode modes group loose_token piece pieces loose_text no_value source_value record_value source_tail record_tail source_word record_word source_part record_part other_part record_or_other any_part part next_part statistic_body optional_body indexed_statistic unnamed_statistic named_or_not statistic_tail statistic_word statistic plain_name plain_line property_text property_line valued tail parameter_word volatile any_declaration declaration assignment assigned_or_said any_line section_line heading section base_name optional_base simple submodule submodules network type_rule file

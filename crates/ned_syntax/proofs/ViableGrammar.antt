@@ -27,7 +27,7 @@ use Rattle.ned_syntax.specs.declared.properties.Effect.{Effect}
 use Rattle.ned_syntax.specs.declared.properties.Effect.TheVariants as effects
 use Rattle.ned_syntax.specs.declared.statistics.Except.{Except}
 use Rattle.ned_syntax.specs.declared.statistics.Except.TheVariants as except_is
-use Rattle.ned_syntax.specs.Grammar.{word, mark, name, in_parens, expression, default_value, value_rule, property_name, bracketed, index, body, property, mode_word, question, mode_rule, next_mode, modes, group, loose_token, piece, pieces, loose_text, no_value, source_value, record_value, source_tail, record_tail, source_word, record_word, source_part, record_part, other_part, record_or_other, any_part, part, next_part, statistic_body, optional_body, indexed_statistic, unnamed_statistic, named_or_not, statistic_tail, statistic_word, statistic, plain_name, plain_line, property_text, property_line, valued, tail, parameter_word, volatile, any_declaration, declaration, assignment, assigned_or_said, any_line, section_line, heading, section, dotted, base_name, optional_base, simple, submodule, submodules, network, type_rule, package_line, import_token, import_text, import_line, file_property, import_or_property, silent, silent_entry, entry, file, turn_of, import_of, property_name_of, mode_of, loose_of, source_of, record_of, statistic_of, plain_name_of, parameter_word_of, is_measured, first_unit, unit_behind, declared}
+use Rattle.ned_syntax.specs.Grammar.{word, mark, name, in_parens, expression, default_value, value_rule, property_name, bracketed, index, body, property, mode_word, question, mode_rule, next_mode, modes, group, loose_token, piece, pieces, loose_text, no_value, source_value, record_value, source_tail, record_tail, source_word, record_word, source_part, record_part, other_part, record_or_other, any_part, part, next_part, statistic_body, optional_body, indexed_statistic, unnamed_statistic, named_or_not, statistic_tail, statistic_word, statistic, plain_name, plain_line, property_text, property_line, valued, tail, parameter_word, volatile, any_declaration, declaration, assignment, assigned_or_said, any_line, section_line, heading, section, dotted, base_name, optional_base, simple, ignored_property, assigned_or_ignored, any_body_line, body_line, body_section, optional_semi, braced_body, no_body, submodule_body, submodule, submodules, network, type_rule, package_line, import_token, import_text, import_line, file_property, import_or_property, silent, silent_entry, entry, file, turn_of, import_of, property_name_of, mode_of, loose_of, source_of, record_of, statistic_of, plain_name_of, parameter_word_of, is_measured, first_unit, unit_behind, declared}
 use Rattle.ned_tokens.proofs.ViableLaws.{Viable, token-viable, such_that-viable, either-viable, optional-viable, many-viable, balanced-viable, then_on, before_on, after_on, mapped_on}
 use Rattle.ned_tokens.proofs.Laws.{mapped}
 use Rattle.ned_tokens.proofs.BalancedLaws.{balanced-lawful}
@@ -369,9 +369,45 @@ simple_on : Viable simple
 unfolding simple
 simple_on = mapped_on (before_on (laws.word-lawful k.Simple) (word_on k.Simple refl) (then_on laws.name-lawful name_on (then_on laws.base-lawful base_on (before_on (laws.mark-lawful m.Open) (mark_on m.Open refl) (after_on laws.section-lawful section_on (mark_on m.Close refl))))))
 
+ignored_property_on : Viable ignored_property
+unfolding ignored_property
+ignored_property_on = mapped_on property_on
+
+assigned_or_ignored_on : Viable assigned_or_ignored
+unfolding assigned_or_ignored
+assigned_or_ignored_on = either-viable (made lines.Assignment assignment) ignored_property (mapped_on assignment_on) ignored_property_on
+
+any_body_line_on : Viable any_body_line
+unfolding any_body_line
+any_body_line_on = either-viable (made lines.Declaration declaration) assigned_or_ignored (mapped_on declaration_on) assigned_or_ignored_on
+
+body_line_on : Viable body_line
+unfolding body_line
+body_line_on = after_on laws.any_body_line-lawful any_body_line_on (mark_on m.Semi refl)
+
+body_section_on : Viable body_section
+unfolding body_section
+body_section_on = before_on laws.heading-lawful heading_on (many-viable body_line laws.body_line-lawful laws.body_line-full body_line_on)
+
+optional_semi_on : Viable optional_semi
+unfolding optional_semi
+optional_semi_on = mapped_on (optional-viable (mark m.Semi) (mark_on m.Semi refl))
+
+braced_body_on : Viable braced_body
+unfolding braced_body
+braced_body_on = after_on laws.body_block-lawful (before_on (laws.mark-lawful m.Open) (mark_on m.Open refl) (after_on laws.body_section-lawful body_section_on (mark_on m.Close refl))) optional_semi_on
+
+no_body_on : Viable no_body
+unfolding no_body
+no_body_on = mapped_on (mark_on m.Semi refl)
+
+submodule_body_on : Viable submodule_body
+unfolding submodule_body
+submodule_body_on = either-viable no_body braced_body no_body_on braced_body_on
+
 submodule_on : Viable submodule
 unfolding submodule
-submodule_on = mapped_on (then_on laws.name-lawful name_on (before_on (laws.mark-lawful m.Colon) (mark_on m.Colon refl) dotted_line_on))
+submodule_on = mapped_on (then_on laws.name-lawful name_on (before_on (laws.mark-lawful m.Colon) (mark_on m.Colon refl) (then_on laws.dotted-lawful dotted_on submodule_body_on)))
 
 submodules_on : Viable submodules
 unfolding submodules
@@ -379,7 +415,7 @@ submodules_on = mapped_on (optional-viable (word k.Submodules ▷ (mark m.Colon 
 
 network_on : Viable network
 unfolding network
-network_on = mapped_on (before_on (laws.word-lawful k.Network) (word_on k.Network refl) (then_on laws.name-lawful name_on (before_on (laws.mark-lawful m.Open) (mark_on m.Open refl) (after_on laws.submodules-lawful submodules_on (mark_on m.Close refl)))))
+network_on = mapped_on (before_on (laws.word-lawful k.Network) (word_on k.Network refl) (then_on laws.name-lawful name_on (before_on (laws.mark-lawful m.Open) (mark_on m.Open refl) (after_on laws.network_parts-lawful (then_on laws.section-lawful section_on submodules_on) (mark_on m.Close refl)))))
 
 type_on : Viable type_rule
 unfolding type_rule

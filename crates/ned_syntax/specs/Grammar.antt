@@ -471,13 +471,53 @@ optional_base = optional base_name
 unfoldable pub simple : Rule TypeDeclaration
 simple = made (λ p. record { kind = kinds.Simple; name = p.0; base = p.1.0; lines = p.1.1; submodules = [] }) (word k.Simple ▷ (name ⊗ (optional_base ⊗ section_block)))
 
--- ":" dotted ";"
-abbrev pub submodule_type : Rule Bytes
-submodule_type = mark m.Colon ▷ (dotted ◁ mark m.Semi)
+-- ---- the body of a submodule, which gives its parameters values
 
--- name ":" dotted ";"
+-- a property as a line of a body, where none has an effect
+unfoldable pub ignored_property : Rule SectionLine
+ignored_property = made (λ _. lines.Ignored) property
+
+unfoldable pub assigned_or_ignored : Rule SectionLine
+assigned_or_ignored = either (made lines.Assignment assignment) ignored_property
+
+unfoldable pub any_body_line : Rule SectionLine
+any_body_line = either (made lines.Declaration declaration) assigned_or_ignored
+
+-- param ";" | property ";"
+unfoldable pub body_line : Rule SectionLine
+body_line = any_body_line ◁ mark m.Semi
+
+-- ["parameters" ":"] { param ";" | property ";" }
+unfoldable pub body_section : Rule (List SectionLine)
+body_section = heading ▷ many body_line
+
+-- "{" body_section "}"
+abbrev pub body_block : Rule (List SectionLine)
+body_block = mark m.Open ▷ (body_section ◁ mark m.Close)
+
+-- [";"]
+unfoldable pub optional_semi : Rule (Unit {0})
+optional_semi = made (λ _. tt) (optional (mark m.Semi))
+
+-- "{" body_section "}" [";"]
+unfoldable pub braced_body : Rule (List SectionLine)
+braced_body = body_block ◁ optional_semi
+
+-- ";" in place of a body
+unfoldable pub no_body : Rule (List SectionLine)
+no_body = made (λ _. []) (mark m.Semi)
+
+-- ";" | "{" body_section "}" [";"]
+unfoldable pub submodule_body : Rule (List SectionLine)
+submodule_body = either no_body braced_body
+
+-- ":" dotted submodule_body
+abbrev pub submodule_type : Rule (Bytes × List SectionLine)
+submodule_type = mark m.Colon ▷ (dotted ⊗ submodule_body)
+
+-- name ":" dotted ( ";" | "{" body_section "}" [";"] )
 unfoldable pub submodule : Rule Submodule
-submodule = made (λ p. record { name = p.0; type_name = p.1; body = [] }) (name ⊗ submodule_type)
+submodule = made (λ p. record { name = p.0; type_name = p.1.0; body = p.1.1 }) (name ⊗ submodule_type)
 
 abbrev pub listed : {X : Type 0} → Option (List X) → List X
 listed None = []
@@ -487,13 +527,13 @@ listed (Some xs) = xs
 unfoldable pub submodules : Rule (List Submodule)
 submodules = made listed (optional (word k.Submodules ▷ (mark m.Colon ▷ many submodule)))
 
--- "{" submodules "}"
-abbrev pub submodules_block : Rule (List Submodule)
-submodules_block = mark m.Open ▷ (submodules ◁ mark m.Close)
+-- "{" section submodules "}"
+abbrev pub network_block : Rule (List SectionLine × List Submodule)
+network_block = mark m.Open ▷ ((section ⊗ submodules) ◁ mark m.Close)
 
--- "network" name "{" [submodules] "}"
+-- "network" name "{" [params] [submodules] "}"
 unfoldable pub network : Rule TypeDeclaration
-network = made (λ p. record { kind = kinds.Network; name = p.0; base = None; lines = []; submodules = p.1 }) (word k.Network ▷ (name ⊗ submodules_block))
+network = made (λ p. record { kind = kinds.Network; name = p.0; base = None; lines = p.1.0; submodules = p.1.1 }) (word k.Network ▷ (name ⊗ network_block))
 
 unfoldable pub type_rule : Rule TypeDeclaration
 type_rule = either simple network

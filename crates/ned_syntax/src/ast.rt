@@ -59,7 +59,7 @@ pub struct Statistic {
     pub modes: Items<RecordedMode>,
 }
 
-/// A line of a type's parameter section.
+/// A line of a type's parameter section, or of a submodule's body, where no property has an effect.
 #[derive(Drop)]
 pub enum SectionLine {
     Declaration(Declaration),
@@ -76,7 +76,8 @@ pub enum SectionLine {
 pub struct Submodule {
     pub name: Text,
     pub type_name: Text,
-    /// The lines of its body, which give its parameters values; none where it has no body.
+    /// The lines of its body, which give its parameters values: declarations, assignments and ignored properties; none where
+    /// it has no body.
     pub body: Items<SectionLine>,
 }
 

@@ -13,6 +13,7 @@ macro_rules! read {
 }
 
 pub mod ast;
+mod bodies;
 mod dotted;
 mod files;
 pub mod laws;

@@ -180,7 +180,10 @@ fn is_measured(declaration: &Declaration) -> bool
 
 /// `declaration = any_declaration`, where a `double` has a unit.
 #[tactic(auto, unfolding(crate::specs::Grammar::declaration))]
-fn declaration(alloc: Global, tokens: &[Token]) -> Result<(Declaration, &[Token]), Refusal>
+pub(crate) fn declaration(
+    alloc: Global,
+    tokens: &[Token],
+) -> Result<(Declaration, &[Token]), Refusal>
     ensures { Reads grammar.declaration tokens.now result }
 {
     let (declaration, rest) = read!(any_declaration(alloc, tokens));
@@ -201,7 +204,7 @@ fn assigned(name: Text, tail: Tail) -> Assignment
 
 /// `assignment = name tail`.
 #[tactic(auto, unfolding(crate::specs::Grammar::assignment))]
-fn assignment(alloc: Global, tokens: &[Token]) -> Result<(Assignment, &[Token]), Refusal>
+pub(crate) fn assignment(alloc: Global, tokens: &[Token]) -> Result<(Assignment, &[Token]), Refusal>
     ensures { Reads grammar.assignment tokens.now result }
 {
     let (name, rest) = read!(name(alloc, tokens));
@@ -245,7 +248,7 @@ fn assigned_or_said(alloc: Global, tokens: &[Token]) -> Result<(SectionLine, &[T
 }
 
 #[tactic(auto, unfolding(crate::specs::Grammar::declaration, crate::specs::Grammar::any_declaration, crate::specs::Grammar::volatile, crate::specs::Grammar::parameter_word, crate::specs::Grammar::word))]
-fn begins_declaration(tokens: &[Token]) -> bool
+pub(crate) fn begins_declaration(tokens: &[Token]) -> bool
     ensures { result ≡ begins grammar.declaration.starts tokens.now }
 {
     matches!(
@@ -304,7 +307,7 @@ fn section_lines(alloc: Global, tokens: &[Token]) -> Result<(Items<SectionLine>,
 
 /// `heading = [ "parameters" ":" ]`.
 #[tactic(auto, unfolding(crate::specs::Grammar::heading, crate::specs::Grammar::word))]
-fn heading(tokens: &[Token]) -> Result<&[Token], Refusal>
+pub(crate) fn heading(tokens: &[Token]) -> Result<&[Token], Refusal>
     ensures { Gives (λ rest. (tt, rest.now)) result (grammar.heading.read tokens.now) }
 {
     if !begins_word(Keyword::Parameters, tokens) {

@@ -5,6 +5,7 @@ ghost use Rattle.ned_tokens.specs.Rule.{Reads, begins, many};
 ghost use Rattle.ned_syntax.specs.Grammar as grammar;
 
 use crate::ast::{SectionLine, Submodule, TypeDeclaration, TypeKind};
+use crate::bodies::submodule_body;
 use crate::dotted::dotted;
 use crate::leaves::{begins_name, begins_word, ended, mark, name, word};
 use crate::parameters::section;
@@ -65,13 +66,17 @@ fn simple(alloc: Global, tokens: &[Token]) -> Result<(TypeDeclaration, &[Token])
     ))
 }
 
-/// `submodule_type = ":" dotted ";"`.
-fn submodule_type(alloc: Global, tokens: &[Token]) -> Result<(Text, &[Token]), Refusal>
+/// `submodule_type = ":" dotted submodule_body`.
+fn submodule_type(
+    alloc: Global,
+    tokens: &[Token],
+) -> Result<((Text, Items<SectionLine>), &[Token]), Refusal>
     ensures { Reads grammar.submodule_type tokens.now result }
 {
     let rest = read!(mark(Mark::Colon, tokens));
     let (type_name, rest) = read!(dotted(alloc, rest));
-    ended(type_name, Mark::Semi, rest)
+    let (body, rest) = read!(submodule_body(alloc, rest));
+    Ok(((type_name, body), rest))
 }
 
 /// `submodule = name submodule_type`.
@@ -80,12 +85,12 @@ fn submodule(alloc: Global, tokens: &[Token]) -> Result<(Submodule, &[Token]), R
     ensures { Reads grammar.submodule tokens.now result }
 {
     let (own, rest) = read!(name(alloc, tokens));
-    let (type_name, rest) = read!(submodule_type(alloc, rest));
+    let ((type_name, body), rest) = read!(submodule_type(alloc, rest));
     Ok((
         Submodule {
             name: own,
             type_name,
-            body: Items::new(alloc),
+            body,
         },
         rest,
     ))
@@ -125,32 +130,33 @@ fn submodules(alloc: Global, tokens: &[Token]) -> Result<(Items<Submodule>, &[To
     submodule_list(alloc, rest)
 }
 
-/// `submodules_block = "{" submodules "}"`.
-fn submodules_block(
+/// `network_block = "{" section submodules "}"`.
+fn network_block(
     alloc: Global,
     tokens: &[Token],
-) -> Result<(Items<Submodule>, &[Token]), Refusal>
-    ensures { Reads grammar.submodules_block tokens.now result }
+) -> Result<((Items<SectionLine>, Items<Submodule>), &[Token]), Refusal>
+    ensures { Reads grammar.network_block tokens.now result }
 {
     let rest = read!(mark(Mark::Open, tokens));
+    let (lines, rest) = read!(section(alloc, rest));
     let (submodules, rest) = read!(submodules(alloc, rest));
-    ended(submodules, Mark::Close, rest)
+    ended((lines, submodules), Mark::Close, rest)
 }
 
-/// `network = "network" name submodules_block`.
+/// `network = "network" name network_block`.
 #[tactic(auto, unfolding(crate::specs::Grammar::network))]
 fn network(alloc: Global, tokens: &[Token]) -> Result<(TypeDeclaration, &[Token]), Refusal>
     ensures { Reads grammar.network tokens.now result }
 {
     let rest = read!(word(Keyword::Network, tokens));
     let (name, rest) = read!(name(alloc, rest));
-    let (submodules, rest) = read!(submodules_block(alloc, rest));
+    let ((lines, submodules), rest) = read!(network_block(alloc, rest));
     Ok((
         TypeDeclaration {
             kind: TypeKind::Network,
             name,
             base: None,
-            lines: Items::new(alloc),
+            lines,
             submodules,
         },
         rest,
