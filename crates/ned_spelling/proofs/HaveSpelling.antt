@@ -24,8 +24,8 @@ use Rattle.ned_syntax.specs.declared.ast.TypeKind.{TypeKind}
 use Rattle.ned_syntax.specs.declared.ast.TypeKind.TheVariants as kinds
 use Rattle.ned_syntax.specs.declared.ast.TypeDeclaration.{TypeDeclaration}
 use Rattle.ned_syntax.specs.declared.ast.NedFile.{NedFile}
-use Rattle.ned_spelling.specs.Declarations.{listed_tokens, given_tokens, valued_tokens, unit_tokens, declaration_tokens, mode_name, question_tokens, mode_tokens, next_mode_tokens, record_tokens, statistic_tokens, line_tokens, section_line_tokens, submodule_tokens, base_tokens, kind_tokens, type_tokens, file_tokens}
-use Rattle.ned_spelling.proofs.Spellable.{Each, IfThere, CanBeExpression, CanBeGiven, CanBeDeclaration, CanBeStatistic, CanBeLine, CanBeSubmodule, CanBeParts, CanBeType, CanBeFile}
+use Rattle.ned_spelling.specs.Declarations.{listed_tokens, given_tokens, valued_tokens, unit_tokens, declaration_tokens, mode_name, question_tokens, mode_tokens, next_mode_tokens, record_tokens, statistic_tokens, line_tokens, section_line_tokens, section_tokens, body_tokens, submodule_tokens, submodules_tokens, base_tokens, kind_tokens, type_tokens, file_tokens}
+use Rattle.ned_spelling.proofs.Spellable.{Each, IfThere, CanBeExpression, CanBeGiven, CanBeDeclaration, CanBeStatistic, CanBeLine, CanBeBodyLine, CanBeSubmodule, CanBeParts, CanBeType, CanBeFile}
 
 -- two lists in a row
 have-append : (ts us : List Token) → HaveSpelling ts → HaveSpelling us → HaveSpelling (ts ++ us)
@@ -118,9 +118,34 @@ have_section_line line h = have-append (line_tokens line) (token.Mark m.Semi ∷
 
 -- ---- types
 
+-- a line of a body is a line
+pub body_line_is_line : (line : SectionLine) → CanBeBodyLine line → CanBeLine line
+body_line_is_line (lines.Declaration d) h = h
+body_line_is_line (lines.Assignment a) h = h
+body_line_is_line (lines.Statistic s) h = absurd h
+body_line_is_line (lines.Class text) h = absurd h
+body_line_is_line lines.Ignored h = tt
+
+-- a line of a body with its `;`
+have_body_line : (line : SectionLine) → CanBeBodyLine line → HaveSpelling (section_line_tokens line)
+have_body_line line h = have_section_line line (body_line_is_line line h)
+
+-- the body of a submodule
+have_body : (ls : List SectionLine) → Each CanBeBodyLine ls → HaveSpelling (body_tokens ls)
+have_body [] h = (tt, tt)
+have_body (line ∷ ls) h = (tt, (tt, (tt, have-append (listed_tokens section_line_tokens (line ∷ ls)) (token.Mark m.Close ∷ []) (have_listed section_line_tokens CanBeBodyLine have_body_line (line ∷ ls) h) (tt, tt))))
+
 -- a submodule
 have_submodule : (s : Submodule) → CanBeSubmodule s → HaveSpelling (submodule_tokens s)
-have_submodule s h = (h.0, (tt, (h.1, (tt, tt))))
+have_submodule s h = (h.0, (tt, (h.1, have_body s.body h.2)))
+
+-- a parameter section
+have_section : (ls : List SectionLine) → Each CanBeLine ls → HaveSpelling (section_tokens ls)
+have_section ls h = (tt, (tt, have_listed section_line_tokens CanBeLine have_section_line ls h))
+
+-- the submodules of a network
+have_submodules : (ss : List Submodule) → Each CanBeSubmodule ss → HaveSpelling (submodules_tokens ss)
+have_submodules ss h = (tt, (tt, have_listed submodule_tokens CanBeSubmodule have_submodule ss h))
 
 -- what a type extends
 have_base : (base : Option (List ℕ)) → IfThere IsName base → HaveSpelling (base_tokens base)
@@ -130,9 +155,11 @@ have_base (Some name) h = (tt, (h, tt))
 -- a type of each kind
 have_kind : (kind : TypeKind) (d : TypeDeclaration) → IsName d.name → CanBeParts kind d → HaveSpelling (kind_tokens kind d)
 have_kind kinds.Simple d h parts =
-    let section = have-append (listed_tokens section_line_tokens d.lines) (token.Mark m.Close ∷ []) (have_listed section_line_tokens CanBeLine have_section_line d.lines parts.1) (tt, tt) in
-    (tt, (h, have-append (base_tokens d.base) (token.Mark m.Open ∷ token.Word k.Parameters ∷ token.Mark m.Colon ∷ (listed_tokens section_line_tokens d.lines ++ token.Mark m.Close ∷ [])) (have_base d.base parts.0) (tt, (tt, (tt, section)))))
-have_kind kinds.Network d h parts = (tt, (h, (tt, (tt, (tt, have-append (listed_tokens submodule_tokens d.submodules) (token.Mark m.Close ∷ []) (have_listed submodule_tokens CanBeSubmodule have_submodule d.submodules parts.0) (tt, tt))))))
+    let section = have-append (section_tokens d.lines) (token.Mark m.Close ∷ []) (have_section d.lines parts.1) (tt, tt) in
+    (tt, (h, have-append (base_tokens d.base) (token.Mark m.Open ∷ (section_tokens d.lines ++ token.Mark m.Close ∷ [])) (have_base d.base parts.0) (tt, section)))
+have_kind kinds.Network d h parts =
+    let both = have-append (section_tokens d.lines) (submodules_tokens d.submodules) (have_section d.lines parts.0) (have_submodules d.submodules parts.1) in
+    (tt, (h, (tt, have-append (section_tokens d.lines ++ submodules_tokens d.submodules) (token.Mark m.Close ∷ []) both (tt, tt))))
 
 -- a type
 have_type : (d : TypeDeclaration) → CanBeType d → HaveSpelling (type_tokens d)

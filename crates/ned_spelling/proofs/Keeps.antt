@@ -31,8 +31,8 @@ use Rattle.ned_syntax.specs.declared.statistics.Except.TheVariants as except_is
 use Rattle.ned_syntax.specs.declared.statistics.Said.{Said}
 use Rattle.ned_syntax.specs.declared.parameters.Valued.{Valued}
 use Rattle.ned_syntax.specs.declared.parameters.Tail.{Tail}
-use Rattle.ned_syntax.specs.Grammar.{word, mark, name, name_of, expression, default_value, value_rule, in_parens, turn_of, bracketed, index, body, unit_effect, said_by_word, said, effect_of, property, modes, loose_text, no_value, source_value, record_value, source_tail, record_tail, source_word, record_word, source_part, record_part, part_or_other, other_part, record_or_other, any_part, part, next_part, nothing_said, over, over_all, statistic_body, optional_body, statistic_line, indexed_statistic, unnamed_statistic, named_or_not, line_or_ignored, statistic_tail, statistic_word, statistic, plain_name, line_of, plain_line, property_text, property_line, valued, tail, value_in, unit_in, parameter_word, volatile, any_declaration, is_measured_word, declaration, assignment, assigned_or_said, any_line, section_line, heading, section, dotted, base_name, optional_base, simple, submodule, listed, submodules, network, type_rule, silent, silent_entry, entry, types_in, file}
-use Rattle.ned_spelling.proofs.Spellable.{Each, IfThere, CanBeExpression, CanBeGiven, CanBeUnit, CanBeDeclaration, CanBeAssignment, CanBeLine, CanBeSubmodule, CanBeType, CanBeFile}
+use Rattle.ned_syntax.specs.Grammar.{word, mark, name, name_of, expression, default_value, value_rule, in_parens, turn_of, bracketed, index, body, unit_effect, said_by_word, said, effect_of, property, modes, loose_text, no_value, source_value, record_value, source_tail, record_tail, source_word, record_word, source_part, record_part, part_or_other, other_part, record_or_other, any_part, part, next_part, nothing_said, over, over_all, statistic_body, optional_body, statistic_line, indexed_statistic, unnamed_statistic, named_or_not, line_or_ignored, statistic_tail, statistic_word, statistic, plain_name, line_of, plain_line, property_text, property_line, valued, tail, value_in, unit_in, parameter_word, volatile, any_declaration, is_measured_word, declaration, assignment, assigned_or_said, any_line, section_line, heading, section, dotted, base_name, optional_base, simple, ignored_property, assigned_or_ignored, any_body_line, body_line, body_section, optional_semi, braced_body, no_body, submodule_body, submodule, listed, submodules, network, type_rule, silent, silent_entry, entry, types_in, file}
+use Rattle.ned_spelling.proofs.Spellable.{Each, IfThere, CanBeExpression, CanBeGiven, CanBeUnit, CanBeDeclaration, CanBeAssignment, CanBeLine, CanBeBodyLine, CanBeSubmodule, CanBeType, CanBeFile}
 
 -- what sound tokens spell by the rule is so
 record Keeps {X : Type 0} (r : Rule X) (P : X → Type 0) : Type 0 where
@@ -361,10 +361,25 @@ keeps_dotted : Keeps dotted IsName
 unfolding dotted
 keeps_dotted = mapped (λ p h. last_can p.0 p.1 h.0 h.1) (then keeps_name (each (then (anything (mark m.Dot)) keeps_name)))
 
+-- a line of a body
+keeps_body_line : Keeps any_body_line CanBeBodyLine
+unfolding any_body_line assigned_or_ignored ignored_property
+keeps_body_line = choice (mapped (λ d h. h) keeps_declaration) (choice (mapped (λ a h. h) keeps_assignment) (mapped (λ x h. tt) (anything property)))
+
+-- the lines of a body
+keeps_body_section : Keeps body_section (Each CanBeBodyLine)
+unfolding body_section body_line
+keeps_body_section = before heading (each (after (mark m.Semi) keeps_body_line))
+
+-- the body of a submodule
+keeps_submodule_body : Keeps submodule_body (Each CanBeBodyLine)
+unfolding submodule_body no_body braced_body
+keeps_submodule_body = choice (mapped (λ x h. tt) (anything (mark m.Semi))) (after optional_semi (before (mark m.Open) (after (mark m.Close) keeps_body_section)))
+
 -- a submodule
 keeps_submodule : Keeps submodule CanBeSubmodule
 unfolding submodule
-keeps_submodule = mapped (λ p h. h) (then keeps_name (before (mark m.Colon) (after (mark m.Semi) keeps_dotted)))
+keeps_submodule = mapped (λ p h. (h.0, h.1.0, h.1.1)) (then keeps_name (before (mark m.Colon) (then keeps_dotted keeps_submodule_body)))
 
 -- submodules, or none
 listed_can : (ss : Option (List Submodule)) → IfThere (Each CanBeSubmodule) ss → Each CanBeSubmodule (listed ss)
@@ -386,7 +401,7 @@ keeps_type : Keeps type_rule CanBeType
 unfolding type_rule simple network
 keeps_type = choice
     (mapped (λ p h. (h.0, (h.1.0, h.1.1, refl))) (before (word k.Simple) (then keeps_name (then keeps_base (before (mark m.Open) (after (mark m.Close) keeps_section))))))
-    (mapped (λ p h. (h.0, (h.1, refl, refl))) (before (word k.Network) (then keeps_name (before (mark m.Open) (after (mark m.Close) keeps_submodules)))))
+    (mapped (λ p h. (h.0, (h.1.0, h.1.1, refl))) (before (word k.Network) (then keeps_name (before (mark m.Open) (after (mark m.Close) (then keeps_section keeps_submodules))))))
 
 -- a type, or what has no effect
 keeps_entry : Keeps entry (IfThere CanBeType)

@@ -68,14 +68,22 @@ CanBeLine (lines.Statistic s) = CanBeStatistic s
 CanBeLine (lines.Class text) = IsName text
 CanBeLine lines.Ignored = Unit {0}
 
--- two names
-abbrev pub CanBeSubmodule : Submodule → Type 0
-CanBeSubmodule s = IsName s.name × IsName s.type_name
+-- A body has no statistics and no class.
+abbrev pub CanBeBodyLine : SectionLine → Type 0
+CanBeBodyLine (lines.Declaration d) = CanBeDeclaration d
+CanBeBodyLine (lines.Assignment a) = CanBeAssignment a
+CanBeBodyLine (lines.Statistic s) = ⊥
+CanBeBodyLine (lines.Class text) = ⊥
+CanBeBodyLine lines.Ignored = Unit {0}
 
--- A simple module has no submodules, a network no lines and no base.
+-- two names and a body
+abbrev pub CanBeSubmodule : Submodule → Type 0
+CanBeSubmodule s = IsName s.name × IsName s.type_name × Each CanBeBodyLine s.body
+
+-- A simple module has no submodules, a network no base.
 abbrev pub CanBeParts : TypeKind → TypeDeclaration → Type 0
 CanBeParts kinds.Simple d = IfThere IsName d.base × Each CanBeLine d.lines × (d.submodules ≡ [])
-CanBeParts kinds.Network d = Each CanBeSubmodule d.submodules × (d.lines ≡ []) × (d.base ≡ None)
+CanBeParts kinds.Network d = Each CanBeLine d.lines × Each CanBeSubmodule d.submodules × (d.base ≡ None)
 
 -- a name, and the parts of the kind
 abbrev pub CanBeType : TypeDeclaration → Type 0

@@ -39,9 +39,9 @@ use Rattle.ned_syntax.specs.declared.statistics.Part.TheVariants as part_is
 use Rattle.ned_syntax.specs.declared.parameters.Valued.{Valued}
 use Rattle.ned_tokens.specs.Words.{or_else}
 use Rattle.ned_tokens.specs.Balanced.{balanced}
-use Rattle.ned_syntax.specs.Grammar.{turn_of, effect_of, said_in, statistic_line, other_part, first_unit, unit_behind, value_in, unit_in, is_measured_word, valued, tail, parameter_word, volatile, any_declaration, declaration, assignment, source_word, source_value, source_tail, source_part, record_word, record_value, record_tail, record_part, no_value, record_or_other, any_part, part, next_part, statistic_body, optional_body, indexed_statistic, unnamed_statistic, named_or_not, statistic_tail, statistic_word, statistic, plain_name, plain_line, property_text, property_line, assigned_or_said, any_line, section_line, heading, section, dotted, base_name, optional_base, simple, submodule, submodules, network, type_rule, silent_entry, entry, types_in, file, word, mark, name, is_word, is_mark, expression, default_value, value_rule, in_parens, property_name, bracketed, index, body, property, mode_word, question, mode_rule, next_mode, modes}
-use Rattle.ned_spelling.specs.Declarations.{listed_tokens, given_tokens, valued_tokens, unit_tokens, parameter_keyword, declaration_tokens, assignment_tokens, mode_name, question_tokens, mode_tokens, next_mode_tokens, record_tokens, statistic_tokens, line_tokens, section_line_tokens, submodule_tokens, base_tokens, kind_tokens, type_tokens, file_tokens}
-use Rattle.ned_spelling.proofs.Spellable.{Each, IfThere, CanBeExpression, CanBeGiven, CanBeUnit, CanBeDeclaration, CanBeAssignment, CanBeLine, CanBeSubmodule, CanBeParts, CanBeType, CanBeFile}
+use Rattle.ned_syntax.specs.Grammar.{turn_of, effect_of, said_in, statistic_line, other_part, first_unit, unit_behind, value_in, unit_in, is_measured_word, valued, tail, parameter_word, volatile, any_declaration, declaration, assignment, source_word, source_value, source_tail, source_part, record_word, record_value, record_tail, record_part, no_value, record_or_other, any_part, part, next_part, statistic_body, optional_body, indexed_statistic, unnamed_statistic, named_or_not, statistic_tail, statistic_word, statistic, plain_name, plain_line, property_text, property_line, assigned_or_said, any_line, section_line, heading, section, dotted, base_name, optional_base, simple, ignored_property, assigned_or_ignored, any_body_line, body_line, body_section, optional_semi, braced_body, no_body, submodule_body, submodule, submodules, network, type_rule, silent_entry, entry, types_in, file, word, mark, name, is_word, is_mark, expression, default_value, value_rule, in_parens, property_name, bracketed, index, body, property, mode_word, question, mode_rule, next_mode, modes}
+use Rattle.ned_spelling.specs.Declarations.{listed_tokens, given_tokens, valued_tokens, unit_tokens, parameter_keyword, declaration_tokens, assignment_tokens, mode_name, question_tokens, mode_tokens, next_mode_tokens, record_tokens, statistic_tokens, line_tokens, section_line_tokens, section_tokens, body_tokens, submodule_tokens, submodules_tokens, base_tokens, kind_tokens, type_tokens, file_tokens}
+use Rattle.ned_spelling.proofs.Spellable.{Each, IfThere, CanBeExpression, CanBeGiven, CanBeUnit, CanBeDeclaration, CanBeAssignment, CanBeLine, CanBeBodyLine, CanBeSubmodule, CanBeParts, CanBeType, CanBeFile}
 
 -- these tokens spell this value by the rule
 record Spells {X : Type 0} (r : Rule X) (ts : List Token) (x : X) : Type 0 where
@@ -392,7 +392,7 @@ unfolding heading
 a_heading = mapped (some (before (a_word k.Parameters) (a_mark m.Colon)))
 
 -- the lines of a section
-a_section : (ls : List SectionLine) → Each CanBeLine ls → Spells section (token.Word k.Parameters ∷ token.Mark m.Colon ∷ listed_tokens section_line_tokens ls) ls
+a_section : (ls : List SectionLine) → Each CanBeLine ls → Spells section (section_tokens ls) ls
 unfolding section
 a_section ls h = before a_heading (each section_line section_line_tokens CanBeLine a_section_line ls h)
 
@@ -403,13 +403,56 @@ a_dotted : (text : List ℕ) → Spells dotted (token.Name text ∷ []) text
 unfolding dotted
 a_dotted text = mapped (then_none (mark m.Dot ⊗ name) (a_name text))
 
+-- `@ignored` in a body
+an_ignored_property : Spells ignored_property (line_tokens lines.Ignored) lines.Ignored
+unfolding ignored_property property property_name index body
+an_ignored_property = mapped (before (a_mark m.At) (mapped (then other_name (then (nothing bracketed) (nothing in_parens)))))
+  where
+    other_name : Spells property_name (token.Name (codes "ignored") ∷ []) names.Other
+    other_name = one (token.Name (codes "ignored")) refl
+
+-- a line of a body
+a_body_line : (line : SectionLine) → CanBeBodyLine line → Spells any_body_line (line_tokens line) line
+unfolding any_body_line assigned_or_ignored
+a_body_line (lines.Declaration d) h = this assigned_or_ignored (mapped (a_declaration d h))
+a_body_line (lines.Assignment a) h = that (made lines.Declaration declaration) (this ignored_property (mapped (an_assignment a h)))
+a_body_line (lines.Statistic s) h = absurd h
+a_body_line (lines.Class text) h = absurd h
+a_body_line lines.Ignored h = that (made lines.Declaration declaration) (that (made lines.Assignment assignment) an_ignored_property)
+
+-- a line of a body with its `;`
+a_whole_body_line : (line : SectionLine) → CanBeBodyLine line → Spells body_line (section_line_tokens line) line
+unfolding body_line
+a_whole_body_line line h = after (a_body_line line h) (a_mark m.Semi)
+
+-- the lines of a body
+a_body_section : (ls : List SectionLine) → Each CanBeBodyLine ls → Spells body_section (section_tokens ls) ls
+unfolding body_section
+a_body_section ls h = before a_heading (each body_line section_line_tokens CanBeBodyLine a_whole_body_line ls h)
+
+-- no `;` behind a body
+no_semi : Spells optional_semi [] tt
+unfolding optional_semi
+no_semi = mapped (nothing (mark m.Semi))
+
+-- a body in braces
+a_braced_body : (ls : List SectionLine) → Each CanBeBodyLine ls → Spells braced_body (token.Mark m.Open ∷ (section_tokens ls ++ token.Mark m.Close ∷ [])) ls
+unfolding braced_body
+a_braced_body ls h = subst (λ (ts : List Token). Spells braced_body ts ls) (append-nil (token.Mark m.Open ∷ (section_tokens ls ++ token.Mark m.Close ∷ []))) (after (before (a_mark m.Open) (after (a_body_section ls h) (a_mark m.Close))) no_semi)
+
+-- the body of a submodule
+a_submodule_body : (ls : List SectionLine) → Each CanBeBodyLine ls → Spells submodule_body (body_tokens ls) ls
+unfolding submodule_body no_body
+a_submodule_body [] h = this braced_body (mapped (a_mark m.Semi))
+a_submodule_body (line ∷ ls) h = that no_body (a_braced_body (line ∷ ls) h)
+
 -- a submodule
 a_submodule : (s : Submodule) → CanBeSubmodule s → Spells submodule (submodule_tokens s) s
 unfolding submodule
-a_submodule s h = mapped (then (a_name s.name) (before (a_mark m.Colon) (after (a_dotted s.type_name) (a_mark m.Semi))))
+a_submodule s h = mapped (then (a_name s.name) (before (a_mark m.Colon) (then (a_dotted s.type_name) (a_submodule_body s.body h.2))))
 
 -- the submodules
-the_submodules : (ss : List Submodule) → Each CanBeSubmodule ss → Spells submodules (token.Word k.Submodules ∷ token.Mark m.Colon ∷ listed_tokens submodule_tokens ss) ss
+the_submodules : (ss : List Submodule) → Each CanBeSubmodule ss → Spells submodules (submodules_tokens ss) ss
 unfolding submodules
 the_submodules ss h = mapped (some (before (a_word k.Submodules) (before (a_mark m.Colon) (each submodule submodule_tokens CanBeSubmodule a_submodule ss h))))
 
@@ -428,8 +471,8 @@ kind_spells : (kind : TypeKind) (text : List ℕ) (base : Option (List ℕ)) (ls
 unfolding type_rule simple network
 kind_spells kinds.Simple text base ls ss h = this network (to (mapped (before (a_word k.Simple) (then (a_name text) (then (a_base base) (before (a_mark m.Open) (after (a_section ls h.1) (a_mark m.Close))))))) (ap (type_with kinds.Simple text base ls) (sym h.2)))
 kind_spells kinds.Network text base ls ss h =
-    let empty = ap (λ (b : Option (List ℕ)). type_with kinds.Network text b [] ss) (sym h.2) ∙ ap (λ (l : List SectionLine). type_with kinds.Network text base l ss) (sym h.1) in
-    that simple (to (mapped (before (a_word k.Network) (then (a_name text) (before (a_mark m.Open) (after (the_submodules ss h.0) (a_mark m.Close)))))) empty)
+    let empty = ap (λ (b : Option (List ℕ)). type_with kinds.Network text b ls ss) (sym h.2) in
+    that simple (to (mapped (before (a_word k.Network) (then (a_name text) (before (a_mark m.Open) (after (then (a_section ls h.0) (the_submodules ss h.1)) (a_mark m.Close)))))) empty)
 
 -- a type
 a_type : (d : TypeDeclaration) → CanBeType d → Spells type_rule (type_tokens d) d

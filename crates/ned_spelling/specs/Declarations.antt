@@ -118,19 +118,32 @@ section_line_tokens line = line_tokens line ++ token.Mark m.Semi ∷ []
 
 -- ---- types
 
--- name ":" name ";"
+-- the parameter section
+abbrev pub section_tokens : List SectionLine → List Token
+section_tokens ls = token.Word k.Parameters ∷ token.Mark m.Colon ∷ listed_tokens section_line_tokens ls
+
+-- A body without lines is written as a `;`.
+abbrev pub body_tokens : List SectionLine → List Token
+body_tokens [] = token.Mark m.Semi ∷ []
+body_tokens (line ∷ ls) = token.Mark m.Open ∷ (section_tokens (line ∷ ls) ++ token.Mark m.Close ∷ [])
+
+-- name ":" name body
 abbrev pub submodule_tokens : Submodule → List Token
-submodule_tokens s = token.Name s.name ∷ token.Mark m.Colon ∷ token.Name s.type_name ∷ token.Mark m.Semi ∷ []
+submodule_tokens s = token.Name s.name ∷ token.Mark m.Colon ∷ token.Name s.type_name ∷ body_tokens s.body
+
+-- the submodules of a network
+abbrev pub submodules_tokens : List Submodule → List Token
+submodules_tokens ss = token.Word k.Submodules ∷ token.Mark m.Colon ∷ listed_tokens submodule_tokens ss
 
 -- what a type extends
 abbrev pub base_tokens : Option (List ℕ) → List Token
 base_tokens None = []
 base_tokens (Some name) = token.Word k.Extends ∷ token.Name name ∷ []
 
--- A simple module has a base and parameters, a network has submodules.
+-- A simple module has a base and parameters, a network has parameters and submodules.
 abbrev pub kind_tokens : TypeKind → TypeDeclaration → List Token
-kind_tokens kinds.Simple d = token.Word k.Simple ∷ token.Name d.name ∷ (base_tokens d.base ++ token.Mark m.Open ∷ token.Word k.Parameters ∷ token.Mark m.Colon ∷ (listed_tokens section_line_tokens d.lines ++ token.Mark m.Close ∷ []))
-kind_tokens kinds.Network d = token.Word k.Network ∷ token.Name d.name ∷ token.Mark m.Open ∷ token.Word k.Submodules ∷ token.Mark m.Colon ∷ (listed_tokens submodule_tokens d.submodules ++ token.Mark m.Close ∷ [])
+kind_tokens kinds.Simple d = token.Word k.Simple ∷ token.Name d.name ∷ (base_tokens d.base ++ token.Mark m.Open ∷ (section_tokens d.lines ++ token.Mark m.Close ∷ []))
+kind_tokens kinds.Network d = token.Word k.Network ∷ token.Name d.name ∷ token.Mark m.Open ∷ ((section_tokens d.lines ++ submodules_tokens d.submodules) ++ token.Mark m.Close ∷ [])
 
 -- a type, as its kind has it
 abbrev pub type_tokens : TypeDeclaration → List Token

@@ -12,7 +12,7 @@ use Rattle.ned_syntax.specs.declared.ast.TypeKind.TheVariants as kinds
 use Rattle.ned_syntax.specs.declared.ast.NedFile.{NedFile}
 use Rattle.ned_spelling.specs.Declarations.{spelled}
 
--- a simple module with a line of each kind, one that extends it, and a network
+-- a simple module with a line of each kind, one that extends it, and a network with a line and a submodule with a body
 abbrev pub example : NedFile
 example = record {
   types =
@@ -31,12 +31,25 @@ example = record {
         submodules = [];
       }
       ∷ record { kind = kinds.Simple; name = codes "Slow"; base = Some (codes "Source"); lines = []; submodules = [] }
-      ∷ record { kind = kinds.Network; name = codes "Net"; base = None; lines = []; submodules = record { name = codes "a"; type_name = codes "Source" } ∷ [] }
+      ∷ record {
+        kind = kinds.Network;
+        name = codes "Net";
+        base = None;
+        lines = lines.Declaration (record { name = codes "size"; word = words.Int; unit = None; value = Some (given.Fixed (expressions.Literal (values.Whole (pos 2)))) }) ∷ [];
+        submodules =
+            record { name = codes "a"; type_name = codes "Source"; body = [] }
+            ∷ record {
+              name = codes "b";
+              type_name = codes "Source";
+              body = lines.Assignment (record { name = codes "offset"; value = Some (given.Fixed (expressions.Literal (values.Whole (pos 3)))) }) ∷ lines.Ignored ∷ [];
+            }
+            ∷ [];
+      }
       ∷ [];
 }
 
 abbrev pub example_text : List ℕ
-example_text = codes "simple Source {\nparameters: double interval @unit(ps) = default(1000000000000ps);\nint offset = - 5;\nlabel = \"a\\tb\";\n@class(Src);\n@ignored;\n@statistic[sent](source = packetSent;\nrecord = count, sum?);\n}\nsimple Slow extends Source {\nparameters: }\nnetwork Net {\nsubmodules: a: Source;\n}\n"
+example_text = codes "simple Source {\nparameters: double interval @unit(ps) = default(1000000000000ps);\nint offset = - 5;\nlabel = \"a\\tb\";\n@class(Src);\n@ignored;\n@statistic[sent](source = packetSent;\nrecord = count, sum?);\n}\nsimple Slow extends Source {\nparameters: }\nnetwork Net {\nparameters: int size = 2;\nsubmodules: a: Source;\nb: Source {\nparameters: offset = 3;\n@ignored;\n}\n}\n"
 
 -- The example is spelled so.
 abbrev pub ExampleIsSpelled : Type 0
