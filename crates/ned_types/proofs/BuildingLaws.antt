@@ -44,7 +44,7 @@ named_flat all name (a ∷ ts) =
     ap (λ (n : List ℕ). bytes_eq n name || t.is_type_named name (map (i.flat_type all) ts)) (flat_name all a)
     ∙ ap (λ (b : Bool). bytes_eq a.name name || b) (named_flat all name ts)
 
-duplicate_flat : (all ts : List TypeDeclaration) → t.has_duplicate (map (i.flat_type all) ts) ≡ t.has_duplicate ts
+pub duplicate_flat : (all ts : List TypeDeclaration) → t.has_duplicate (map (i.flat_type all) ts) ≡ t.has_duplicate ts
 duplicate_flat all [] = refl
 duplicate_flat all (a ∷ ts) =
     ap (λ (n : List ℕ). (t.is_built_in n || t.is_type_named n (map (i.flat_type all) ts)) || t.has_duplicate (map (i.flat_type all) ts)) (flat_name all a)
@@ -78,34 +78,6 @@ simple_among all name (a ∷ ts) s = go s.1 (λ is. simple_among all name ts (s.
     go : IsAmong s.0 (map (i.flat_type all) (a ∷ ts)) → (IsAmong s.0 (map (i.flat_type all) ts) → IsSimpleType name ts) → IsSimpleType name (a ∷ ts)
     go (inl e) more = (a, inl refl, sym (flat_name all a) ∙ ap (λ (u : TypeDeclaration). u.name) (sym e) ∙ s.2, sym (flat_kind all a) ∙ ap (λ (u : TypeDeclaration). u.kind) (sym e) ∙ s.3)
     go (inr is) more = let found = more is in (found.0, inr found.1, found.2, found.3)
-
--- ---- the kinds of submodules are those among the types
-
-simple_flat : (all : List TypeDeclaration) (name : List ℕ) (ts : List TypeDeclaration) → t.is_simple (t.type_named name (map (i.flat_type all) ts)) ≡ t.is_simple (t.type_named name ts)
-simple_flat all name [] = refl
-simple_flat all name (a ∷ ts) =
-    ap (λ (n : List ℕ). t.is_simple (if bytes_eq n name then Some (i.flat_type all a) else t.type_named name (map (i.flat_type all) ts))) (flat_name all a)
-    ∙ by (bytes_eq a.name name) (simple_flat all name ts)
-  where
-    by : (b : Bool) → t.is_simple (t.type_named name (map (i.flat_type all) ts)) ≡ t.is_simple (t.type_named name ts)
-        → t.is_simple (if b then Some (i.flat_type all a) else t.type_named name (map (i.flat_type all) ts)) ≡ t.is_simple (if b then Some a else t.type_named name ts)
-    by true later = ap t.is_simple_kind (flat_kind all a)
-    by false later = later
-
-kinds_flat : (all types : List TypeDeclaration) (ss : List Submodule) → t.has_other_kind (map (i.flat_type all) types) ss ≡ t.has_other_kind types ss
-kinds_flat all types [] = refl
-kinds_flat all types (s ∷ ss) =
-    ap (λ (b : Bool). not b || t.has_other_kind (map (i.flat_type all) types) ss) (simple_flat all s.type_name types)
-    ∙ ap (λ (b : Bool). not (t.is_submodule_simple types s) || b) (kinds_flat all types ss)
-
-clash_among : (all types ts : List TypeDeclaration) → list_any (λ a. t.clashes (map (i.flat_type all) types) a) ts ≡ list_any (λ a. t.clashes types a) ts
-clash_among all types [] = refl
-clash_among all types (a ∷ ts) =
-    ap (λ (b : Bool). (t.section_clashes a.lines || (t.repeats_submodule a.submodules || b)) || list_any (λ c. t.clashes (map (i.flat_type all) types) c) ts) (kinds_flat all types a.submodules)
-    ∙ ap (λ (b : Bool). t.clashes types a || b) (clash_among all types ts)
-
-pub clash_flat : (types : List TypeDeclaration) → t.has_clash (i.flat_types types) ≡ list_any (λ a. t.clashes types a) (i.flat_types types)
-clash_flat types = clash_among types types (i.flat_types types)
 
 -- ---- no fault
 

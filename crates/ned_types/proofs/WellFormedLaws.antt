@@ -1,5 +1,5 @@
 -- Types have no clash exactly where they are well formed.
-use Rattle.std.proofs.Common.{◌≡◌, ◌≢◌, inl, inr, ℕ, Bool, true, false, not, ◌||◌, ◌&&◌, List, [], ◌∷◌, Some, refl, sym, ap, subst, ◌∙◌, if◌then◌else◌}
+use Rattle.std.proofs.Common.{◌≡◌, ◌≢◌, inl, inr, ℕ, Bool, true, false, not, ◌||◌, ◌&&◌, ◌⊎◌, List, [], ◌∷◌, ◌++◌, Some, refl, sym, ap, subst, ◌∙◌, if◌then◌else◌}
 use Rattle.std.specs.Prelude.{is_some}
 use Rattle.std.specs.List.{list_any}
 use Rattle.std.specs.Str.{bytes_eq}
@@ -13,7 +13,7 @@ use Rattle.ned_syntax.specs.declared.ast.TypeDeclaration.{TypeDeclaration}
 use Rattle.ned_syntax.specs.declared.ast.TypeKind.{TypeKind}
 use Rattle.ned_syntax.specs.declared.ast.TypeKind.TheVariants.{Simple, Network}
 use Rattle.ned_types.specs.Types as t
-use Rattle.ned_types.specs.WellFormed.{IsAmong, StandsBefore, IsParameter, IsSoundSection, IsSimpleType, IsWellFormed}
+use Rattle.ned_types.specs.WellFormed.{IsAmong, StandsBefore, IsParameter, IsSoundSection, IsSoundBody, IsSimpleType, IsWellFormed}
 
 -- ---- tests
 
@@ -237,25 +237,163 @@ sound_made lines s =
     (any_made (λ x. t.is_undeclared lines x) lines (λ l is. and_made (is_some (t.value_in l)) _ (λ give. false_not _ (declared_is (t.name_in l) lines (s.given l is give)))))
     (pairs_made {X = SectionLine} (λ l. Unit {0}) IsFixedOnce (λ x ls. t.is_fixed (t.value_in x) && t.is_given (t.name_in x) ls) t.gives_again refl (λ x ls. refl) (λ x ls q h. fixed_made x ls h) lines (λ l is. tt) s.fixed))
 
+-- ---- bodies
+
+among_first : {X : Type 0} (x : X) (xs ys : List X) → IsAmong x xs → IsAmong x (xs ++ ys)
+among_first x [] ys is = absurd is
+among_first x (z ∷ xs) ys (inl e) = inl e
+among_first x (z ∷ xs) ys (inr is) = inr (among_first x xs ys is)
+
+among_second : {X : Type 0} (x : X) (xs ys : List X) → IsAmong x ys → IsAmong x (xs ++ ys)
+among_second x [] ys is = is
+among_second x (z ∷ xs) ys is = inr (among_second x xs ys is)
+
+among_either : {X : Type 0} (x : X) (xs ys : List X) → IsAmong x (xs ++ ys) → IsAmong x xs ⊎ IsAmong x ys
+among_either x [] ys is = inr is
+among_either x (z ∷ xs) ys (inl e) = inl (inl e)
+among_either x (z ∷ xs) ys (inr is) = by (among_either x xs ys is)
+  where
+    by : IsAmong x xs ⊎ IsAmong x ys → IsAmong x (z ∷ xs) ⊎ IsAmong x ys
+    by (inl first) = inl (inr first)
+    by (inr second) = inr second
+
+before_across : {X : Type 0} (x y : X) (xs ys : List X) → IsAmong x xs → IsAmong y ys → StandsBefore x y (xs ++ ys)
+before_across x y [] ys is here = absurd is
+before_across x y (z ∷ xs) ys (inl e) here = inl (e, among_second y xs ys here)
+before_across x y (z ∷ xs) ys (inr is) here = inr (before_across x y xs ys is here)
+
+before_second : {X : Type 0} (x y : X) (xs ys : List X) → StandsBefore x y ys → StandsBefore x y (xs ++ ys)
+before_second x y [] ys is = is
+before_second x y (z ∷ xs) ys is = inr (before_second x y xs ys is)
+
+later_among : {X : Type 0} (x y : X) (xs : List X) → StandsBefore x y xs → IsAmong y xs
+later_among x y [] is = absurd is
+later_among x y (z ∷ xs) (inl p) = inr p.1
+later_among x y (z ∷ xs) (inr is) = inr (later_among x y xs is)
+
+-- what holds of the pairs of two lists and of those across holds of the pairs of both lists together
+before_either : {X : Type 0} (R : X → X → Type 0) (xs ys : List X) → ((x y : X) → StandsBefore x y xs → R x y) → ((x y : X) → IsAmong x xs → IsAmong y ys → R x y) → ((x y : X) → StandsBefore x y ys → R x y) → (x y : X) → StandsBefore x y (xs ++ ys) → R x y
+before_either R [] ys first across second x y is = second x y is
+before_either R (z ∷ xs) ys first across second x y (inl p) = by (among_either y xs ys p.1)
+  where
+    by : IsAmong y xs ⊎ IsAmong y ys → R x y
+    by (inl is) = first x y (inl (p.0, is))
+    by (inr is) = across x y (inl p.0) is
+before_either R (z ∷ xs) ys first across second x y (inr is) = before_either R xs ys (λ v w b. first v w (inr b)) (λ v w a b. across v w (inr a) b) second x y is
+
+more_lines : (name : List ℕ) (lines body : List SectionLine) → IsParameter name lines → IsParameter name (lines ++ body)
+more_lines name lines body p = (p.0, among_first (line.Declaration p.0) lines body p.1, p.2)
+
+-- a parameter that isn't declared in the body is declared before it
+fewer_lines : (name : List ℕ) (lines body : List SectionLine) → ((d : Declaration) → IsAmong (line.Declaration d) body → ⊥) → IsParameter name (lines ++ body) → IsParameter name lines
+fewer_lines name lines body none p = by (among_either (line.Declaration p.0) lines body p.1)
+  where
+    by : IsAmong (line.Declaration p.0) lines ⊎ IsAmong (line.Declaration p.0) body → IsParameter name lines
+    by (inl is) = (p.0, is, p.2)
+    by (inr is) = absurd (none p.0 is)
+
+no_declaration : (l : SectionLine) → ((d : Declaration) → l ≡ line.Declaration d → ⊥) → t.is_declaration l ≡ false
+no_declaration (line.Declaration d) h = absurd (h d refl)
+no_declaration (line.Assignment a) h = refl
+no_declaration (line.Statistic s) h = refl
+no_declaration (line.Class c) h = refl
+no_declaration line.Ignored h = refl
+
+-- what is told of a line of a body
+abbrev IsFit : List SectionLine → SectionLine → Type 0
+IsFit lines l = (t.is_declaration l ≡ false) × (t.is_undeclared lines l ≡ false) × (t.is_refixed lines l ≡ false)
+
+fit_told : (lines body : List SectionLine) → t.has_unfit lines body ≡ false → (l : SectionLine) → IsAmong l body → IsFit lines l
+fit_told lines body h l is =
+    let first = or_parts (t.is_declaration l) (t.is_undeclared lines l || t.is_refixed lines l) (any_told (λ x. t.is_unfit lines x) body h l is) in
+    let rest = or_parts (t.is_undeclared lines l) (t.is_refixed lines l) first.1 in
+    (first.0, rest.0, rest.1)
+
+refixed_told : (lines : List SectionLine) (l k : SectionLine) → IsAmong l lines → t.is_refixed lines k ≡ false → IsFixedOnce l k
+refixed_told lines l k is h = λ fix give e.
+    let none = and_told (is_some (t.value_in k)) _ h give in
+    let other = and_told (t.is_fixed (t.value_in l)) _ (any_told (λ x. t.gives_fixed (t.name_in k) x) lines none l is) fix in
+    false≢true (sym other ∙ names_same (t.name_in l) (t.name_in k) (sym e))
+
+refixed_made : (lines : List SectionLine) (k : SectionLine) → ((l : SectionLine) → IsAmong l lines → IsFixedOnce l k) → t.is_refixed lines k ≡ false
+refixed_made lines k h = and_made (is_some (t.value_in k)) _ (λ give. any_made (λ x. t.gives_fixed (t.name_in k) x) lines (λ l is. and_made (t.is_fixed (t.value_in l)) _ (λ fix. apart_names (t.name_in l) (t.name_in k) (h l is fix give))))
+
+body_told : (lines body : List SectionLine) → IsSoundSection lines → t.body_clashes lines body ≡ false → IsSoundBody lines body
+body_told lines body s h = record {
+  undeclaring = undeclaring;
+  section = record {
+    names = λ d e is. before_either AreOthers lines body others (λ l k first second d e p q. no_second e k q second) (λ l k both d e p q. no_second e k q (later_among l k body both)) (line.Declaration d) (line.Declaration e) is d e refl refl;
+    given = λ l is give. given l give (among_either l lines body is);
+    fixed = λ l k is. before_either IsFixedOnce lines body s.fixed (λ x y first second. refixed_told lines x y first (fit y second).2) again l k is;
+  };
+}
+  where
+    parts : (t.has_unfit lines body ≡ false) × (t.gives_again body ≡ false)
+    parts = or_parts (t.has_unfit lines body) (t.gives_again body) h
+
+    fit : (l : SectionLine) → IsAmong l body → IsFit lines l
+    fit = fit_told lines body parts.0
+
+    undeclaring : (d : Declaration) → IsAmong (line.Declaration d) body → ⊥
+    undeclaring d is = false≢true (sym (fit (line.Declaration d) is).0)
+
+    no_second : (e : Declaration) (k : SectionLine) → k ≡ line.Declaration e → IsAmong k body → {X : Type 0} → X
+    no_second e k q is = absurd (undeclaring e (subst (λ (x : SectionLine). IsAmong x body) q is))
+
+    others : (l k : SectionLine) → StandsBefore l k lines → AreOthers l k
+    others l k is d e p q = s.names d e (subst (λ (x : SectionLine). StandsBefore x (line.Declaration e) lines) p (subst (λ (x : SectionLine). StandsBefore l x lines) q is))
+
+    given : (l : SectionLine) → is_some (t.value_in l) ≡ true → IsAmong l lines ⊎ IsAmong l body → IsParameter (t.name_in l) (lines ++ body)
+    given l give (inl is) = more_lines (t.name_in l) lines body (s.given l is give)
+    given l give (inr is) = more_lines (t.name_in l) lines body (declared_found (t.name_in l) lines (not_false _ (and_told (is_some (t.value_in l)) _ (fit l is).1 give)))
+
+    again : (l k : SectionLine) → StandsBefore l k body → IsFixedOnce l k
+    again l k is = pairs_told {X = SectionLine} IsFixedOnce (λ x ls. t.is_fixed (t.value_in x) && t.is_given (t.name_in x) ls) t.gives_again (λ x ls. refl) fixed_told body parts.1 l k is
+
+body_made : (lines body : List SectionLine) → IsSoundBody lines body → t.body_clashes lines body ≡ false
+body_made lines body b =
+    or_false (t.has_unfit lines body) _
+    (any_made (λ l. t.is_unfit lines l) body (λ l is. or_false (t.is_declaration l) _ (no_declaration l (λ d e. b.undeclaring d (subst (λ (x : SectionLine). IsAmong x body) e is))) (or_false (t.is_undeclared lines l) _ (declared l is) (refixed_made lines l (λ k in-lines. b.section.fixed k l (before_across k l lines body in-lines is))))))
+    (pairs_made {X = SectionLine} (λ l. Unit {0}) IsFixedOnce (λ x ls. t.is_fixed (t.value_in x) && t.is_given (t.name_in x) ls) t.gives_again refl (λ x ls. refl) (λ x ls q h. fixed_made x ls h) body (λ l is. tt) (λ l k is. b.section.fixed l k (before_second l k lines body is)))
+  where
+    declared : (l : SectionLine) → IsAmong l body → t.is_undeclared lines l ≡ false
+    declared l is = and_made (is_some (t.value_in l)) _ (λ give. false_not _ (declared_is (t.name_in l) lines (fewer_lines (t.name_in l) lines body b.undeclaring (b.section.given l (among_second l lines body is) give))))
+
+-- the body of a submodule clashes with its type where it clashes with the lines of the one type of that name
+unfit_by : (types : List TypeDeclaration) (s : Submodule) (u : TypeDeclaration) → ((a b : TypeDeclaration) → StandsBefore a b types → a.name ≢ b.name) → IsAmong u types → u.name ≡ s.type_name → t.has_unfit_body types s ≡ t.body_clashes u.lines s.body
+unfit_by types s u apart is e = ap (t.clashes_with s.body) (ap (λ (n : List ℕ). t.type_named n types) (sym e) ∙ type_is types u apart is)
+
 -- ---- all rules
 
 pub well_formed : (types : List TypeDeclaration) → t.has_duplicate types ≡ false → t.has_clash types ≡ false → IsWellFormed types
 well_formed types duplicate clash = record {
-  names = types_apart types duplicate;
+  names = apart;
   own = types_own types duplicate;
   parameters = λ a is. sound_told a.lines (section a is);
-  submodules = λ a is. submodules_apart a.submodules (or_parts (t.repeats_submodule a.submodules) _ (members a is)).0;
-  simple = λ a is. all_simple types a.submodules (or_parts (t.repeats_submodule a.submodules) _ (members a is)).1;
+  submodules = λ a is. submodules_apart a.submodules (members a is).0;
+  simple = λ a is. all_simple types a.submodules (members a is).1;
+  bodies = λ a is s in-a u in-types e. body_told u.lines s.body (sound_told u.lines (section u in-types)) (sym (unfit_by types s u apart in-types e) ∙ any_told (λ r. t.has_unfit_body types r) a.submodules (members a is).2 s in-a);
 }
   where
+    apart : (a b : TypeDeclaration) → StandsBefore a b types → a.name ≢ b.name
+    apart = types_apart types duplicate
+
     parts : (a : TypeDeclaration) → IsAmong a types → (t.section_clashes a.lines ≡ false) × (t.submodules_clash types a.submodules ≡ false)
     parts a is = or_parts (t.section_clashes a.lines) (t.submodules_clash types a.submodules) (any_told (λ x. t.clashes types x) types clash a is)
 
     section : (a : TypeDeclaration) → IsAmong a types → t.section_clashes a.lines ≡ false
     section a is = (parts a is).0
 
-    members : (a : TypeDeclaration) → IsAmong a types → t.submodules_clash types a.submodules ≡ false
-    members a is = (parts a is).1
+    members : (a : TypeDeclaration) → IsAmong a types → (t.repeats_submodule a.submodules ≡ false) × (t.has_other_kind types a.submodules ≡ false) × (t.bodies_clash types a.submodules ≡ false)
+    members a is =
+        let first = or_parts (t.repeats_submodule a.submodules) (t.has_other_kind types a.submodules || t.bodies_clash types a.submodules) (parts a is).1 in
+        let rest = or_parts (t.has_other_kind types a.submodules) (t.bodies_clash types a.submodules) first.1 in
+        (first.0, rest.0, rest.1)
 
 pub no_clash : (types : List TypeDeclaration) → IsWellFormed types → t.has_clash types ≡ false
-no_clash types w = any_made (λ x. t.clashes types x) types (λ a is. or_false (t.section_clashes a.lines) _ (sound_made a.lines (w.parameters a is)) (or_false (t.repeats_submodule a.submodules) _ (no_repeat a.submodules (w.submodules a is)) (no_other_kind types w a is)))
+no_clash types w = any_made (λ x. t.clashes types x) types (λ a is. or_false (t.section_clashes a.lines) _ (sound_made a.lines (w.parameters a is)) (or_false (t.repeats_submodule a.submodules) _ (no_repeat a.submodules (w.submodules a is)) (or_false (t.has_other_kind types a.submodules) _ (no_other_kind types w a is) (any_made (λ s. t.has_unfit_body types s) a.submodules (fit a is)))))
+  where
+    fit : (a : TypeDeclaration) → IsAmong a types → (s : Submodule) → IsAmong s a.submodules → t.has_unfit_body types s ≡ false
+    fit a is s in-a =
+        let found = w.simple a is s in-a in
+        unfit_by types s found.0 w.names found.1 found.2 ∙ body_made found.0.lines s.body (w.bodies a is s in-a found.0 found.1 found.2)

@@ -1,4 +1,4 @@
--- Types that extend others, worked by hand.
+-- Types that extend others, and bodies of submodules, worked by hand.
 use Rattle.std.specs.Prelude.{◌≡◌, ℕ, pos, false, List, [], ◌∷◌, ◌++◌, Option, Some, None, codes}
 use Rattle.sim_values.specs.declared.value.Value.TheVariants as values
 use Rattle.sim_values.specs.declared.value.Dimension.TheVariants as dimension
@@ -10,8 +10,10 @@ use Rattle.ned_syntax.specs.declared.ast.ParameterWord.TheVariants as word
 use Rattle.ned_syntax.specs.declared.ast.SectionLine.{SectionLine}
 use Rattle.ned_syntax.specs.declared.ast.SectionLine.TheVariants as line
 use Rattle.ned_syntax.specs.declared.ast.Statistic.{Statistic}
+use Rattle.ned_syntax.specs.declared.ast.Submodule.{Submodule}
 use Rattle.ned_syntax.specs.declared.ast.TypeDeclaration.{TypeDeclaration}
-use Rattle.ned_syntax.specs.declared.ast.TypeKind.TheVariants.{Simple}
+use Rattle.ned_syntax.specs.declared.ast.TypeKind.TheVariants.{Simple, Network}
+use Rattle.ned_types.specs.declared.table.TypeFault.{TypeFault}
 use Rattle.ned_types.specs.declared.table.TypeFault.TheVariants.{DuplicateType, UnknownType, InheritanceCircle, KindClash}
 use Rattle.ned_types.specs.Flat.{class_of, last_value, statistics_of}
 use Rattle.ned_types.specs.Inheritance.{flat_type}
@@ -61,6 +63,34 @@ heir name base = type_with name (Some base) []
 abbrev pub classed : List ℕ → List ℕ → TypeDeclaration
 classed name base = type_with name (Some base) (line.Class (codes "Own") ∷ [])
 
+-- `gap = default(VALUE);`, so many ps
+abbrev pub default_gap : ℕ → SectionLine
+default_gap n = gap_is (parameter_value.Default (expression.Literal (values.Quantity dimension.Time (pos n))))
+
+-- `gap = VALUE;`, so many ps
+abbrev pub fixed_gap : ℕ → SectionLine
+fixed_gap n = gap_is (time_of n)
+
+-- `NAME = 1s;`
+abbrev pub second_for : List ℕ → SectionLine
+second_for name = line.Assignment (record { name = name; value = Some (time_of 1000000000000) })
+
+-- `double NAME @unit(s);`
+abbrev pub double_named : List ℕ → SectionLine
+double_named name = line.Declaration (record { name = name; word = word.Double; unit = Some dimension.Time; value = None })
+
+-- `network N { parameters: LINES submodules: SUBMODULES }`
+abbrev pub network_of : List SectionLine → List Submodule → TypeDeclaration
+network_of lines submodules = record { kind = Network; name = codes "N"; base = None; lines = lines; submodules = submodules }
+
+-- `t: TYPE { LINES }`
+abbrev pub t_with : List ℕ → List SectionLine → Submodule
+t_with name body = record { name = codes "t"; type_name = name; body = body }
+
+-- why `t: TYPE { LINES }` makes no model, with Tick, Slow, and Fast, which extends Tick and gives nothing
+abbrev pub fault_with : List ℕ → List SectionLine → Option TypeFault
+fault_with name body = fault_of (network_of [] (t_with name body ∷ []) ∷ slow ∷ tick ∷ heir (codes "Fast") (codes "Tick") ∷ [])
+
 -- the members of the base and then its own, the class of the base, its own value, and its own statistic in the place of
 -- the base's; and so also where the base stands behind it
 pub record ExampleIsFlat : Type 0 where
@@ -86,3 +116,24 @@ pub record ExampleFaults : Type 0 where
   pub second : fault_of (heir (codes "A") (codes "A") ∷ heir (codes "B") (codes "Zed") ∷ []) ≡ Some UnknownType
   pub third : fault_of (heir (codes "B") (codes "Zed") ∷ heir (codes "A") (codes "A") ∷ []) ≡ Some UnknownType
   pub fourth : fault_of (heir (codes "B") (codes "Zed") ∷ tick ∷ tick ∷ []) ≡ Some DuplicateType
+
+-- values in a body are for parameters that the type or what it extends declares, and stand behind no fixed value; a body
+-- declares nothing; and the parameters of the network around the submodule are not those of the submodule
+pub record ExampleBodies : Type 0 where
+  pub empty : fault_with (codes "Tick") [] ≡ None
+  pub fixed : fault_with (codes "Tick") (fixed_gap 5 ∷ []) ≡ None
+  pub default : fault_with (codes "Tick") (default_gap 5 ∷ line.Ignored ∷ []) ≡ None
+  pub inherited : fault_with (codes "Fast") (fixed_gap 5 ∷ []) ≡ None
+  pub later : fault_with (codes "Tick") (default_gap 5 ∷ fixed_gap 6 ∷ []) ≡ None
+  pub twice : fault_with (codes "Tick") (fixed_gap 5 ∷ fixed_gap 6 ∷ []) ≡ Some KindClash
+  pub behind : fault_with (codes "Tick") (fixed_gap 5 ∷ default_gap 6 ∷ []) ≡ Some KindClash
+  pub fixed_before : fault_with (codes "Slow") (fixed_gap 5 ∷ []) ≡ Some KindClash
+  pub default_after : fault_with (codes "Slow") (default_gap 5 ∷ []) ≡ Some KindClash
+  pub unknown : fault_with (codes "Tick") (second_for (codes "gab") ∷ []) ≡ Some KindClash
+  pub declared_again : fault_with (codes "Tick") (double_named (codes "gap") ∷ []) ≡ Some KindClash
+  pub declared : fault_with (codes "Tick") (double_named (codes "own") ∷ second_for (codes "own") ∷ []) ≡ Some KindClash
+  pub around : fault_of (network_of (double_named (codes "own") ∷ []) (t_with (codes "Tick") (second_for (codes "own") ∷ []) ∷ []) ∷ tick ∷ []) ≡ Some KindClash
+  pub network : flat_type (network_of (double_named (codes "own") ∷ []) [] ∷ tick ∷ []) (network_of (double_named (codes "own") ∷ []) []) ≡ network_of (double_named (codes "own") ∷ []) []
+  pub section : fault_of (network_of (double_named (codes "own") ∷ second_for (codes "own") ∷ []) [] ∷ []) ≡ None
+  pub section_unknown : fault_of (network_of (second_for (codes "own") ∷ []) [] ∷ []) ≡ Some KindClash
+  pub section_twice : fault_of (network_of (double_named (codes "own") ∷ double_named (codes "own") ∷ []) [] ∷ []) ≡ Some KindClash

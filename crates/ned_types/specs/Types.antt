@@ -103,6 +103,43 @@ abbrev pub gives_again : List SectionLine → Bool
 gives_again [] = false
 gives_again (l ∷ ls) = (is_fixed (value_in l) && is_given (name_in l) ls) || gives_again ls
 
+-- ---- bodies of submodules
+
+-- whether the line gives the parameter a fixed value
+abbrev pub gives_fixed : List ℕ → SectionLine → Bool
+gives_fixed name l = is_fixed (value_in l) && bytes_eq (name_in l) name
+
+abbrev pub is_fixed_in : List ℕ → List SectionLine → Bool
+is_fixed_in name lines = list_any (λ l. gives_fixed name l) lines
+
+-- whether the line gives a value to a parameter that has a fixed one in these lines
+abbrev pub is_refixed : List SectionLine → SectionLine → Bool
+is_refixed lines l = is_some (value_in l) && is_fixed_in (name_in l) lines
+
+-- whether a line can't stand in a body over these lines of a type: it declares a parameter, or gives a value to one that
+-- isn't declared there or has a fixed value there
+abbrev pub is_unfit : List SectionLine → SectionLine → Bool
+is_unfit lines l = is_declaration l || (is_undeclared lines l || is_refixed lines l)
+
+abbrev pub has_unfit : List SectionLine → List SectionLine → Bool
+has_unfit lines body = list_any (λ l. is_unfit lines l) body
+
+-- whether a body can't stand over these lines of a type
+abbrev pub body_clashes : List SectionLine → List SectionLine → Bool
+body_clashes lines body = has_unfit lines body || gives_again body
+
+-- the same of the body of a submodule, over the lines of its type
+abbrev pub clashes_with : List SectionLine → Option TypeDeclaration → Bool
+clashes_with body None = false
+clashes_with body (Some t) = body_clashes t.lines body
+
+abbrev pub has_unfit_body : List TypeDeclaration → Submodule → Bool
+has_unfit_body types s = clashes_with s.body (type_named s.type_name types)
+
+-- whether the body of a submodule can't stand over the lines of its type
+abbrev pub bodies_clash : List TypeDeclaration → List Submodule → Bool
+bodies_clash types submodules = list_any (λ s. has_unfit_body types s) submodules
+
 -- ---- submodules
 
 -- whether it is a simple type
@@ -135,10 +172,10 @@ abbrev pub section_clashes : List SectionLine → Bool
 section_clashes lines = redeclares lines || (gives_undeclared lines || gives_again lines)
 
 abbrev pub submodules_clash : List TypeDeclaration → List Submodule → Bool
-submodules_clash types submodules = repeats_submodule submodules || has_other_kind types submodules
+submodules_clash types submodules = repeats_submodule submodules || (has_other_kind types submodules || bodies_clash types submodules)
 
--- whether a member of the type is declared twice, a value is given to an undeclared parameter or after a fixed one, or
--- a submodule is of another kind than simple
+-- whether a member of the type is declared twice, a value is given to an undeclared parameter or after a fixed one, a
+-- submodule is of another kind than simple, or the body of a submodule clashes with its type
 abbrev pub clashes : List TypeDeclaration → TypeDeclaration → Bool
 clashes types t = section_clashes t.lines || submodules_clash types t.submodules
 

@@ -1,6 +1,6 @@
 -- Types that make a model, by the rules of the language.
 -- OMNeT++ Simulation Manual, "Simple Modules", "Submodules", "Parameters".
-use Rattle.std.specs.Prelude.{◌≡◌, ◌≢◌, ◌⊎◌, ℕ, true, false, List, [], ◌∷◌, is_some}
+use Rattle.std.specs.Prelude.{◌≡◌, ◌≢◌, ◌⊎◌, ℕ, true, false, List, [], ◌∷◌, ◌++◌, is_some}
 use Rattle.ned_syntax.specs.declared.ast.Declaration.{Declaration}
 use Rattle.ned_syntax.specs.declared.ast.SectionLine.{SectionLine}
 use Rattle.ned_syntax.specs.declared.ast.SectionLine.TheVariants as line
@@ -32,6 +32,13 @@ pub record IsSoundSection (lines : List SectionLine) : Type 0 where
   -- behind a fixed value a parameter is given no other.
   pub fixed : (l k : SectionLine) → StandsBefore l k lines → is_fixed (value_in l) ≡ true → is_some (value_in k) ≡ true → name_in k ≢ name_in l
 
+-- THE RULES of the body of a submodule, whose type has these lines:
+pub record IsSoundBody (lines body : List SectionLine) : Type 0 where
+  -- it declares no parameter;
+  pub undeclaring : (d : Declaration) → IsAmong (line.Declaration d) body → ⊥
+  -- and behind the lines of the type it makes a sound section.
+  pub section : IsSoundSection (lines ++ body)
+
 -- no two submodules have one name
 abbrev pub HaveOwnNames : List Submodule → Type 0
 HaveOwnNames submodules = (s r : Submodule) → StandsBefore s r submodules → s.name ≢ r.name
@@ -50,5 +57,7 @@ pub record IsWellFormed (types : List TypeDeclaration) : Type 0 where
   pub parameters : (t : TypeDeclaration) → IsAmong t types → IsSoundSection t.lines
   -- no two submodules of a type have one name;
   pub submodules : (t : TypeDeclaration) → IsAmong t types → HaveOwnNames t.submodules
-  -- and the type of each is a simple type among these.
+  -- the type of each is a simple type among these;
   pub simple : (t : TypeDeclaration) → IsAmong t types → (s : Submodule) → IsAmong s t.submodules → IsSimpleType s.type_name types
+  -- and the body of each is sound behind the lines of its type.
+  pub bodies : (t : TypeDeclaration) → IsAmong t types → (s : Submodule) → IsAmong s t.submodules → (u : TypeDeclaration) → IsAmong u types → u.name ≡ s.type_name → IsSoundBody u.lines s.body

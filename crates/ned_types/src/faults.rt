@@ -1,7 +1,7 @@
 //! Why declared types make no model.
 
-ghost use Rattle.std.specs.Prelude.{◌≡◌, ◌||◌, ◌↔◌, None, IfOk};
-ghost use Rattle.ned_types.specs.Types.{is_built_in, is_type_named, names_unknown, is_submodule_known, clashes, section_clashes, submodules_clash, is_submodule_simple, is_simple, repeats_submodule, has_other_kind, redeclares, declares, is_declaration, is_declared, is_undeclared, gives_undeclared, gives_again, gives, is_given, is_fixed, name_in, value_in};
+ghost use Rattle.std.specs.Prelude.{◌≡◌, ◌||◌, ◌↔◌, false, None, IfOk};
+ghost use Rattle.ned_types.specs.Types.{has_duplicate, is_built_in, is_type_named, names_unknown, is_submodule_known, has_clash, clashes, section_clashes, submodules_clash, is_submodule_simple, is_simple, repeats_submodule, has_other_kind, redeclares, declares, is_declaration, is_declared, is_undeclared, gives_undeclared, gives_again, gives, is_given, is_fixed, name_in, value_in};
 ghost use Rattle.ned_types.specs.Inheritance.{flat_types};
 ghost use Rattle.ned_types.specs.Building.{Builds, AnswersTable, CanBuild};
 ghost use Rattle.ned_types.specs.WellFormed.{IsWellFormed};
@@ -10,6 +10,7 @@ ghost use Rattle.std.specs.Option.{option_copied};
 ghost use Rattle.ned_types.specs.Named.{later_fault};
 ghost use Rattle.ned_types.specs.Seen.{is_one_named, names_in};
 
+use crate::bodies::bodies_clash;
 use crate::inheritance::{flat_types, has_circle, has_other_base, has_unknown_base};
 use crate::named::{NamedTypes, by_name};
 use crate::table::TypeFault;
@@ -32,7 +33,7 @@ pub(crate) fn flattened(
     built(alloc, types)
 }
 
-#[tactic(auto, using(crate::proofs::BuildingLaws::clash_flat))]
+#[tactic(auto, using(crate::proofs::BuildingLaws::duplicate_flat))]
 fn built(alloc: Global, types: &[TypeDeclaration]) -> Result<Items<TypeDeclaration>, TypeFault>
     ensures { Builds types.now result }
 {
@@ -43,7 +44,7 @@ fn built(alloc: Global, types: &[TypeDeclaration]) -> Result<Items<TypeDeclarati
         return Err(fault);
     }
     let flat = flat_types(alloc, &named, types)?;
-    if has_clash(alloc, &named, flat.as_slice())? {
+    if has_clash(alloc, flat.as_slice())? {
         return Err(TypeFault::KindClash);
     }
     Ok(flat)
@@ -102,8 +103,20 @@ fn is_submodule_known(named: &NamedTypes<'_>, submodule: &Submodule) -> bool
     is_taken(submodule.type_name.as_bytes(), named)
 }
 
-/// Whether one of the types has a clash.
-fn has_clash(
+/// Whether one of the types, which have names of their own, has a clash.
+fn has_clash(alloc: Global, types: &[TypeDeclaration]) -> Result<bool, AllocError>
+    requires { has_duplicate types.now ≡ false }
+    ensures { IfOk result (λ clash. clash ≡ has_clash types.now) }
+{
+    let Some(named) = by_name(alloc, types)? else {
+        unreachable!()
+    };
+    let clash = one_clashes(alloc, &named, types)?;
+    Ok(clash)
+}
+
+/// Whether one of these types has a clash.
+fn one_clashes(
     alloc: Global,
     named: &NamedTypes<'_>,
     types: &[TypeDeclaration],
@@ -150,7 +163,7 @@ fn submodules_clash(
     if repeats_submodule(alloc, submodules)? {
         return Ok(true);
     }
-    Ok(has_other_kind(named, submodules))
+    Ok(has_other_kind(named, submodules) || bodies_clash(named, submodules))
 }
 
 /// Whether a parameter is declared twice.
@@ -167,7 +180,7 @@ fn redeclares(lines: &[SectionLine]) -> bool
     false
 }
 
-fn is_declaration(line: &SectionLine) -> bool
+pub(crate) fn is_declaration(line: &SectionLine) -> bool
     ensures { result ≡ is_declaration line.now }
 {
     matches!(line, SectionLine::Declaration(_))
@@ -219,14 +232,14 @@ fn gives_undeclared(lines: &[SectionLine]) -> bool
     lines.iter().any(|line| is_undeclared(lines, line))
 }
 
-fn is_undeclared(lines: &[SectionLine], line: &SectionLine) -> bool
+pub(crate) fn is_undeclared(lines: &[SectionLine], line: &SectionLine) -> bool
     ensures { result ≡ is_undeclared lines.now line.now }
 {
     value_in(line).is_some() && !is_declared(name_in(line), lines)
 }
 
 /// Whether a parameter with a fixed value is given another one.
-fn gives_again(lines: &[SectionLine]) -> bool
+pub(crate) fn gives_again(lines: &[SectionLine]) -> bool
     ensures { result ≡ gives_again lines.now }
 {
     let mut rest = lines;
@@ -240,7 +253,7 @@ fn gives_again(lines: &[SectionLine]) -> bool
 }
 
 /// Whether the line gives a fixed value.
-fn fixes(line: &SectionLine) -> bool
+pub(crate) fn fixes(line: &SectionLine) -> bool
     ensures { result ≡ is_fixed (value_in line.now) }
 {
     matches!(value_in(line), Some(ParameterValue::Fixed(_)))

@@ -1,6 +1,7 @@
 //! The types of a model: the table of all declared types, and what each is when it stands alone.
 #![tactic(auto)]
 
+mod bodies;
 mod copies;
 pub mod faults;
 pub mod flat;

@@ -32,7 +32,7 @@ pub enum TypeFault {
     #[error("InheritanceCircle")]
     InheritanceCircle,
     /// What a type extends is no simple type, a member is declared twice, a value is given to an undeclared parameter or after a fixed
-    /// one, or a submodule's type is no simple type.
+    /// one, by a section or by the body of a submodule, a body declares a parameter, or a submodule's type is no simple type.
     #[error("KindClash")]
     KindClash,
     #[error("NoMemory")]
