@@ -83,7 +83,7 @@ fn tell_line(told: &mut String, line: &SectionLine) -> Result<(), AllocError> {
     }
 }
 
-/// Tells the lines of a type's parameter section.
+/// Tells the lines of a parameter section, or of a submodule's body.
 fn tell_lines(told: &mut String, lines: &[SectionLine]) -> Result<(), AllocError> {
     for line in lines {
         tell_line(told, line)?;
@@ -91,10 +91,26 @@ fn tell_lines(told: &mut String, lines: &[SectionLine]) -> Result<(), AllocError
     Ok(())
 }
 
+/// Tells the lines of a submodule's body, where there are some.
+fn tell_body(told: &mut String, lines: &[SectionLine]) -> Result<(), AllocError> {
+    if lines.is_empty() {
+        return told.push_str("; ");
+    }
+    told.push_str(" { ")?;
+    tell_lines(told, lines)?;
+    told.push_str("} ")
+}
+
+/// Tells a submodule.
+fn tell_submodule(told: &mut String, it: &Submodule) -> Result<(), AllocError> {
+    write!(told, "{}: {}", written(&it.name), written(&it.type_name))?;
+    tell_body(told, it.body.as_slice())
+}
+
 /// Tells the submodules of a type.
 fn tell_submodules(told: &mut String, submodules: &[Submodule]) -> Result<(), AllocError> {
     for it in submodules {
-        write!(told, "{}: {}; ", written(&it.name), written(&it.type_name))?;
+        tell_submodule(told, it)?;
     }
     Ok(())
 }
