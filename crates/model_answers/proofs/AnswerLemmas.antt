@@ -5,11 +5,9 @@ use Rattle.std.proofs.lemmas.Slice.Eq.{bytes_eq-Decides}
 use Rattle.sim_values.specs.declared.value.Value.{Value}
 use Rattle.module_api.specs.declared.call.Parameter.{Parameter}
 use Rattle.module_api.specs.Values.{value_of}
-use Rattle.ini_config.specs.declared.lines.Entry.{Entry}
 use Rattle.ned_syntax.specs.declared.ast.Declaration.{Declaration}
 use Rattle.ned_syntax.specs.declared.ast.SectionLine.{SectionLine}
 use Rattle.ned_syntax.specs.declared.ast.SectionLine.TheVariants as line
-use Rattle.ned_syntax.specs.declared.ast.TypeDeclaration.{TypeDeclaration}
 use Rattle.ned_types.specs.Flat.{declaration_named}
 use Rattle.model_answers.specs.declared.answer.Answer.{Answer}
 use Rattle.model_answers.specs.declared.answer.Answer.TheVariants as answer
@@ -17,9 +15,11 @@ use Rattle.model_answers.specs.declared.answer.Question.{Question}
 use Rattle.model_answers.specs.declared.answer.Question.TheVariants as question
 use Rattle.model_answers.specs.declared.model.Model.{Model}
 use Rattle.model_answers.specs.declared.record.Record.{Record}
-use Rattle.model_answers.specs.Answering.{answer_of, answer_for, parameters_of, with_lines, with_value, lines_of, declared_answer, param_answer, inside_answer}
-use Rattle.model_answers.specs.Models.{entries_in, type_at, type_of_record}
-use Rattle.model_answers.specs.Records.{record_at, own_name, path_by, path_up, path_of, path_under}
+use Rattle.model_answers.specs.Answering.{answer_of, answer_for, parameters_of, with_lines, with_value, lines_at, declared_answer, param_answer, inside_answer}
+use Rattle.model_answers.specs.Models.{type_at, type_of_record}
+use Rattle.model_answers.specs.Records.{above_by, record_at, own_name, path_around, path_by, path_up, path_of, path_under}
+use Rattle.model_answers.specs.Scenes.{Site}
+use Rattle.model_answers.specs.Sites.{site_at, site_by}
 
 -- ---- records
 
@@ -67,6 +67,25 @@ path_of_more : (rs more : List Record) → AreNested 0 rs → (id : ℕ) → id 
 unfolding path_of
 path_of_more rs more h id l = path_up_more rs more h 32 id l
 
+-- what is around it, by that of the module around it
+by_above : (f g : ℕ → List ℕ) (o : Option Record) → ((r : Record) → o ≡ Some r → f r.parent ≡ g r.parent) → above_by f o ≡ above_by g o
+by_above f g None h = refl
+by_above f g (Some r) h = h r refl
+
+-- the path of the module around it stays
+path_around_more : (rs more : List Record) → AreNested 0 rs → (id : ℕ) → id ≤ length rs → path_around (rs ++ more) id ≡ path_around rs id
+unfolding path_around
+path_around_more rs more h id l =
+    ap (above_by (path_up 31 (rs ++ more))) (record_at_more rs more id l)
+    ∙ by_above (path_up 31 (rs ++ more)) (path_up 31 rs) (record_at rs id) (λ r e. path_up_more rs more h 31 r.parent (parent_within rs id r h l e))
+
+-- where it stands stays
+site_at_more : (m : Model) (rs more : List Record) → AreNested 0 rs → (id : ℕ) → id ≤ length rs → site_at m (rs ++ more) id ≡ site_at m rs id
+site_at_more m rs more h id l =
+    ap (λ path. option_and_then (site_by m path (path_around (rs ++ more) id)) (record_at (rs ++ more) id)) (path_of_more rs more h id l)
+    ∙ ap (λ above. option_and_then (site_by m (path_of rs id) above) (record_at (rs ++ more) id)) (path_around_more rs more h id l)
+    ∙ ap (option_and_then (site_by m (path_of rs id) (path_around rs id))) (record_at_more rs more id l)
+
 -- its type stays
 type_at_more : (m : Model) (rs more : List Record) (id : ℕ) → id ≤ length rs → type_at m (rs ++ more) id ≡ type_at m rs id
 type_at_more m rs more id l = ap (option_and_then (type_of_record m)) (record_at_more rs more id l)
@@ -88,9 +107,7 @@ answer_more m rs more h question.Root l = refl
 answer_more m rs more h (question.Build id) l =
     ap (λ path. inside_answer m path (type_at m (rs ++ more) id)) (path_of_more rs more h id l)
     ∙ ap (inside_answer m (path_of rs id)) (type_at_more m rs more id l)
-answer_more m rs more h (question.Param id name) l =
-    ap (λ path. param_answer m path (type_at m (rs ++ more) id) name) (path_of_more rs more h id l)
-    ∙ ap (λ t. param_answer m (path_of rs id) t name) (type_at_more m rs more id l)
+answer_more m rs more h (question.Param id name) l = ap (λ site. param_answer site name) (site_at_more m rs more h id l)
 answer_more m rs more h (question.GateSize id name) l = refl
 answer_more m rs more h (question.BeyondLimit time) l = refl
 answer_more m rs more h (question.InjectionBefore due last) l = refl
@@ -149,19 +166,19 @@ shown answers name (line.Class c ∷ ls) = shown answers name ls
 shown answers name (line.Ignored ∷ ls) = shown answers name ls
 
 -- what is not declared has no value
-given_declared : (entries : List Entry) (path : List ℕ) (ls : List SectionLine) (found : Option Declaration) → given found (declared_answer entries path ls found) ≡ value_in (declared_answer entries path ls found)
-given_declared entries path ls None = refl
-given_declared entries path ls (Some d) = refl
+given_declared : (site : Site) (found : Option Declaration) → given found (declared_answer site found) ≡ value_in (declared_answer site found)
+given_declared site None = refl
+given_declared site (Some d) = refl
 
--- what has no type has no value
-given_typed : (m : Model) (path : List ℕ) (t : Option TypeDeclaration) (name : List ℕ) → given (declaration_named name (lines_of t)) (param_answer m path t name) ≡ value_in (param_answer m path t name)
-given_typed m path None name = refl
-given_typed m path (Some t) name = given_declared (entries_in m) path t.lines (declaration_named name t.lines)
+-- what stands nowhere has no value
+given_placed : (site : Option Site) (name : List ℕ) → given (declaration_named name (lines_at site)) (param_answer site name) ≡ value_in (param_answer site name)
+given_placed None name = refl
+given_placed (Some site) name = given_declared site (declaration_named name site.own.lines)
 
 -- a call shows the value of a parameter just where the model answers it
 pub value_answered : (m : Model) (records : List Record) (id : ℕ) (name : List ℕ) → value_of name (parameters_of m records id) ≡ value_in (answer_of m records (question.Param id name))
 value_answered m records id name =
-    shown (answer_for m records id) name (lines_of (type_at m records id)) ∙ given_typed m (path_of records id) (type_at m records id) name
+    shown (answer_for m records id) name (lines_at (site_at m records id)) ∙ given_placed (site_at m records id) name
 
 -- models that answer alike show the same value
 pub same_value : (m n : Model) (records : List Record) (id : ℕ) (name : List ℕ) → answer_of m records (question.Param id name) ≡ answer_of n records (question.Param id name) → value_of name (parameters_of m records id) ≡ value_of name (parameters_of n records id)
@@ -182,5 +199,5 @@ told_by (Some d) answer.Absent v e = cc
 -- a value that a call shows is the model's answer
 pub told_value : (m : Model) (records : List Record) (id : ℕ) (name : List ℕ) (v : Value) → value_of name (parameters_of m records id) ≡ Some v → answer_for m records id name ≡ answer.Value v
 told_value m records id name v h =
-    let ls : List SectionLine = lines_of (type_at m records id) in
+    let ls : List SectionLine = lines_at (site_at m records id) in
     told_by (declaration_named name ls) (answer_for m records id name) v (sym (shown (answer_for m records id) name ls) ∙ h)

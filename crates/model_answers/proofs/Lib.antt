@@ -1,4 +1,5 @@
 pub mod AnswerLemmas
+pub mod Around
 pub mod Networks
 pub mod RecordLemmas
 pub mod QuestionLemmas

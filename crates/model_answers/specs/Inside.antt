@@ -1,6 +1,5 @@
 -- What is inside of a compound module.
 use Rattle.std.specs.Prelude.{ℕ, List, [], ◌∷◌, ◌++◌, Option, Some, None, Result, Ok, Err}
-use Rattle.ini_config.specs.declared.lines.Entry.{Entry}
 use Rattle.ned_syntax.specs.declared.ast.SectionLine.{SectionLine}
 use Rattle.ned_syntax.specs.declared.ast.SectionLine.TheVariants as line
 use Rattle.ned_syntax.specs.declared.ast.Submodule.{Submodule}
@@ -14,27 +13,33 @@ use Rattle.model_answers.specs.declared.answer.ModelFault.{ModelFault}
 use Rattle.model_answers.specs.declared.answer.ModelFault.TheVariants.{UnknownType}
 use Rattle.model_answers.specs.declared.inside.PlacedFault.{PlacedFault}
 use Rattle.model_answers.specs.declared.model.Model.{Model}
-use Rattle.model_answers.specs.Models.{entries_in, named_type}
+use Rattle.model_answers.specs.Models.{named_type}
 use Rattle.model_answers.specs.Parameters.{parameter_value}
 use Rattle.model_answers.specs.Records.{path_under}
+use Rattle.model_answers.specs.Scenes.{Site, Told}
+use Rattle.model_answers.specs.Sites.{submodule_site}
 
 abbrev pub fault_of_value : Result Value ModelFault → Option ModelFault
 fault_of_value (Ok v) = None
 fault_of_value (Err fault) = Some fault
 
--- the fault of the parameter that a line declares in a section of these lines, in the module of that path
-abbrev pub fault_at : List Entry → List ℕ → List SectionLine → SectionLine → Option ModelFault
-fault_at entries path lines (line.Declaration d) = fault_of_value (parameter_value entries path lines d.name)
-fault_at entries path lines _ = None
+-- the fault of the parameter that a line declares, in a module that stands there
+abbrev pub fault_at : Site → SectionLine → Option ModelFault
+fault_at site (line.Declaration d) = fault_of_value (parameter_value site d.name)
+fault_at site _ = None
 
 abbrev pub first_of : Option ModelFault → Option ModelFault → Option ModelFault
 first_of (Some fault) other = Some fault
 first_of None other = other
 
--- the first fault of the parameters, in the order of their declaration
-abbrev pub fault_in : List Entry → List ℕ → List SectionLine → List SectionLine → Option ModelFault
-fault_in entries path lines [] = None
-fault_in entries path lines (l ∷ ls) = first_of (fault_at entries path lines l) (fault_in entries path lines ls)
+-- the first fault of the parameters that these lines declare, in their order
+abbrev pub fault_in : Site → List SectionLine → Option ModelFault
+fault_in site [] = None
+fault_in site (l ∷ ls) = first_of (fault_at site l) (fault_in site ls)
+
+-- the first fault of the parameters of the module that stands there, in the order of their declaration
+abbrev pub fault_of_site : Site → Option ModelFault
+fault_of_site site = fault_in site site.own.lines
 
 abbrev pub class_by : TypeKind → List ℕ → Option (List ℕ)
 class_by Simple class = Some class
@@ -48,14 +53,14 @@ abbrev pub built_without : List ℕ → List ℕ → TypeDeclaration → Option 
 built_without path name t (Some fault) = Err (record { path = path; fault = fault })
 built_without path name t None = Ok (record { name = name; index = None; class = class_to_build t })
 
--- a submodule of that path and name, by its type
-abbrev pub built_of : List Entry → List ℕ → List ℕ → Option TypeDeclaration → Result Built PlacedFault
-built_of entries path name None = Err (record { path = path; fault = UnknownType })
-built_of entries path name (Some t) = built_without path name t (fault_in entries path t.lines t.lines)
+-- a submodule of a module, with its path and by its type
+abbrev pub built_of : Model → Told → List ℕ → Submodule → Option TypeDeclaration → Result Built PlacedFault
+built_of m around path s None = Err (record { path = path; fault = UnknownType })
+built_of m around path s (Some t) = built_without path s.name t (fault_of_site (submodule_site m around path s t))
 
--- one submodule of the module of that path, or its first fault: its type, then its parameters
-abbrev pub built_one : Model → List ℕ → Submodule → Result Built PlacedFault
-built_one m path s = built_of (entries_in m) (path_under path s.name) s.name (named_type m s.type_name)
+-- one submodule of a module, or its first fault: its type, then its parameters
+abbrev pub built_one : Model → Told → Submodule → Result Built PlacedFault
+built_one m around s = built_of m around (path_under around.path s.name) s (named_type m s.type_name)
 
 abbrev pub and_then : Result Built PlacedFault → Result (List Built) PlacedFault → Result (List Built) PlacedFault
 and_then (Err fault) rest = Err fault
@@ -63,9 +68,9 @@ and_then (Ok b) (Err fault) = Err fault
 and_then (Ok b) (Ok bs) = Ok (b ∷ bs)
 
 -- the submodules in the order of their declaration, or the first fault
-abbrev pub built_all : Model → List ℕ → List Submodule → Result (List Built) PlacedFault
-built_all m path [] = Ok []
-built_all m path (s ∷ ss) = and_then (built_one m path s) (built_all m path ss)
+abbrev pub built_all : Model → Told → List Submodule → Result (List Built) PlacedFault
+built_all m around [] = Ok []
+built_all m around (s ∷ ss) = and_then (built_one m around s) (built_all m around ss)
 
 -- these, and then the others
 abbrev pub with_front : List Built → Result (List Built) PlacedFault → Result (List Built) PlacedFault

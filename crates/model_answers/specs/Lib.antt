@@ -1,6 +1,7 @@
 pub mod Records
 pub mod Models
 pub mod Scenes
+pub mod Sites
 pub mod Parameters
 pub mod Injections
 pub mod Inside

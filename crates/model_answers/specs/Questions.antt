@@ -1,5 +1,5 @@
 -- Questions that are the same.
-use Rattle.std.specs.Prelude.{ℕ, ◌==◌, Bool, true, false, ◌&&◌, bytes_eq}
+use Rattle.std.specs.Prelude.{◌==◌, Bool, true, false, ◌&&◌, bytes_eq}
 use Rattle.model_answers.specs.declared.answer.Question.{Question}
 use Rattle.model_answers.specs.declared.answer.Question.TheVariants.{Root, Build, Param, GateSize, BeyondLimit, InjectionBefore}
 

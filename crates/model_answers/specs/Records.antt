@@ -32,3 +32,11 @@ path_up (suc depth) records id = path_by (path_up depth records) (record_at reco
 -- the full path of a module: modules are nested at most 32 deep
 unfoldable pub path_of : List Record → ℕ → List ℕ
 path_of records id = path_up 32 records id
+
+abbrev pub above_by : (ℕ → List ℕ) → Option Record → List ℕ
+above_by path_above None = []
+above_by path_above (Some r) = path_above r.parent
+
+-- the path of the module around the one of that id, which is nested at most 31 deep; empty where there is none
+unfoldable pub path_around : List Record → ℕ → List ℕ
+path_around records id = above_by (path_up 31 records) (record_at records id)

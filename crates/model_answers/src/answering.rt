@@ -5,19 +5,20 @@ ghost use Rattle.answer_engine.specs.Tables.{IsKept};
 ghost use Rattle.model_answers.specs.Answering.{answer_in, answer_of, is_beyond, root_answer, inside_answer, inside_of, param_answer, parameters_of, with_line, with_lines};
 ghost use Rattle.model_answers.specs.Injections.{injection_before};
 ghost use Rattle.model_answers.specs.declared.answer.Answer.TheVariants as answer;
-ghost use Rattle.model_answers.specs.Models.{entries_in, network_of, type_at, time_limit_of};
+ghost use Rattle.model_answers.specs.Models.{network_of, type_at, time_limit_of};
 ghost use Rattle.model_answers.specs.Records.{path_of};
-ghost use Rattle.model_answers.specs.Scenes.{setting_at};
+ghost use Rattle.model_answers.specs.Scenes.{setting_at, site_of};
+ghost use Rattle.model_answers.specs.Sites.{site_at};
 ghost use Rattle.parameter_values.specs.Values.{rules_of};
 ghost use Rattle.std.specs.Option.{option_copied};
 
 use crate::answer::{Answer, Question};
 use crate::injection::{Due, Turn, injection_before};
-use crate::inside::built_all;
+use crate::inside::{built_all, first_fault};
 use crate::model::Model;
 use crate::parameters::{no_values, parameter_value};
-use crate::record::{Record, path_of};
-use crate::scene::Placed;
+use crate::record::{Record, module_path, path_of};
+use crate::scene::{Placed, Told};
 use answer_engine::table::Table;
 use module_api::call::Parameter;
 use ned_syntax::ast::{SectionLine, TypeDeclaration, TypeKind};
@@ -39,7 +40,7 @@ pub fn answer(
     ensures { IfOk result (λ found. found ≡ answer_of model.now records.now question.now) }
 {
     match question {
-        Question::Root => root_answer(alloc, model.network()),
+        Question::Root => root_answer(alloc, model),
         Question::Build(id) => inside_answer(alloc, model, records, *id),
         Question::Param(id, name) => param_answer(alloc, model, records, *id, name.as_bytes()),
         Question::GateSize(_, _) => Ok(Answer::Absent),
@@ -75,13 +76,19 @@ fn injection_answer(
     }
 }
 
-/// Which network is run.
-fn root_answer(alloc: Global, network: Option<&TypeDeclaration>) -> Result<Answer, NoMemory>
-    ensures { IfOk result (λ found. found ≡ root_answer (option_copied network.entry)) }
+/// Which network is run, or the first fault of its parameters.
+fn root_answer(alloc: Global, model: &Model) -> Result<Answer, NoMemory>
+    ensures { IfOk result (λ found. found ≡ root_answer model.now (network_of model.now)) }
 {
-    match network {
-        Some(declared) => Ok(Answer::Root(declared.name.copy(alloc)?)),
-        None => Ok(Answer::Absent),
+    let Some(declared) = model.network() else {
+        return Ok(Answer::Absent);
+    };
+    let placed = Placed::of_network(model, declared.name.as_bytes(), declared);
+    let fault = first_fault(alloc, &placed)?;
+    let name = declared.name.copy(alloc)?;
+    match fault {
+        Some(fault) => Ok(Answer::Fault(name, fault)),
+        None => Ok(Answer::Root(name)),
     }
 }
 
@@ -115,7 +122,8 @@ fn inside_of(
 ) -> Result<Answer, NoMemory>
     ensures { IfOk result (λ found. found ≡ inside_of model.now path.now declared.now) }
 {
-    match built_all(alloc, model, path, declared.submodules.as_slice())? {
+    let around = Told::of_type(path, declared);
+    match built_all(alloc, model, around, declared.submodules.as_slice())? {
         Ok(inside) => Ok(Answer::Inside(inside)),
         Err(found) => Ok(Answer::Fault(found.path, found.fault)),
     }
@@ -129,16 +137,11 @@ fn param_answer(
     id: u32,
     name: &[u8],
 ) -> Result<Answer, NoMemory>
-    ensures { IfOk result (λ found. found ≡ param_answer model.now (path_of records.now id) (type_at model.now records.now id) name.now) }
+    ensures { IfOk result (λ found. found ≡ param_answer (site_at model.now records.now id) name.now) }
 {
-    let Some(declared) = model.type_at(records, id) else {
+    let path = module_path(alloc, records, id)?;
+    let Some(placed) = Placed::at(model, records, id, &path) else {
         return Ok(Answer::Absent);
-    };
-    let path = path_of(alloc, records, id)?;
-    let placed = Placed {
-        model,
-        path: path.as_bytes(),
-        lines: declared.lines.as_slice(),
     };
     let mut values = no_values(alloc, &placed);
     answer_in(alloc, &placed, &mut values, name)
@@ -152,15 +155,15 @@ fn answer_in(
     name: &[u8],
 ) -> Result<Answer, NoMemory>
     requires { IsKept (rules_of (setting_at placed.now)) values.old.entries }
-    ensures value { IfOk result (λ found. found ≡ answer_in (entries_in placed.now.model.now) placed.now.path.now placed.now.lines.now name.now) }
+    ensures value { IfOk result (λ found. found ≡ answer_in (site_of placed.now) name.now) }
     ensures kept { IsKept (rules_of (setting_at placed.now)) values.new.entries }
 {
-    let Some(declaration) = declaration_named(name, placed.lines) else {
+    let Some(declaration) = declaration_named(name, placed.own.lines) else {
         return Ok(Answer::Absent);
     };
     match parameter_value(alloc, placed, values, declaration.name.as_bytes())? {
         Ok(value) => Ok(Answer::Value(value)),
-        Err(fault) => Ok(Answer::Fault(Text::from_bytes(alloc, placed.path)?, fault)),
+        Err(fault) => Ok(Answer::Fault(Text::from_bytes(alloc, placed.own.path)?, fault)),
     }
 }
 
@@ -174,14 +177,9 @@ pub fn parameters_of(
     ensures { IfOk result (λ parameters. parameters ≡ parameters_of model.now records.now id) }
 {
     let mut parameters = Items::new(alloc);
-    let Some(declared) = model.type_at(records, id) else {
+    let path = module_path(alloc, records, id)?;
+    let Some(placed) = Placed::at(model, records, id, &path) else {
         return Ok(parameters);
-    };
-    let path = path_of(alloc, records, id)?;
-    let placed = Placed {
-        model,
-        path: path.as_bytes(),
-        lines: declared.lines.as_slice(),
     };
     push_lines(&mut parameters, alloc, &placed)?;
     Ok(parameters)
@@ -193,10 +191,10 @@ fn push_lines(
     alloc: Global,
     placed: &Placed<'_>,
 ) -> Result<(), NoMemory>
-    ensures { OnOk result (parameters.new ≡ parameters.old ++ with_lines (answer_in (entries_in placed.now.model.now) placed.now.path.now placed.now.lines.now) placed.now.lines.now) }
+    ensures { OnOk result (parameters.new ≡ parameters.old ++ with_lines (answer_in (site_of placed.now)) placed.now.own.lines.now) }
 {
     let mut values = no_values(alloc, placed);
-    for line in placed.lines {
+    for line in placed.own.lines {
         push_line(parameters, alloc, placed, &mut values, line)?;
     }
     Ok(())
@@ -211,7 +209,7 @@ fn push_line(
     line: &SectionLine,
 ) -> Result<(), NoMemory>
     requires { IsKept (rules_of (setting_at placed.now)) values.old.entries }
-    ensures pushed { OnOk result (parameters.new ≡ parameters.old ++ with_line (answer_in (entries_in placed.now.model.now) placed.now.path.now placed.now.lines.now) line.now []) }
+    ensures pushed { OnOk result (parameters.new ≡ parameters.old ++ with_line (answer_in (site_of placed.now)) line.now []) }
     ensures kept { IsKept (rules_of (setting_at placed.now)) values.new.entries }
 {
     let SectionLine::Declaration(declaration) = line else {

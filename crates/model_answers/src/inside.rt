@@ -1,17 +1,16 @@
 //! What is inside of a compound module.
 
 ghost use Rattle.std.specs.Prelude.{◌≡◌, IfOk};
-ghost use Rattle.model_answers.specs.Inside.{built_one, built_all, fault_in, fault_at, class_to_build};
+ghost use Rattle.model_answers.specs.Inside.{built_one, built_all, fault_of_site, fault_at, class_to_build};
 ghost use Rattle.answer_engine.specs.Tables.{IsKept};
-ghost use Rattle.model_answers.specs.Models.{entries_in};
-ghost use Rattle.model_answers.specs.Scenes.{setting_at};
+ghost use Rattle.model_answers.specs.Scenes.{setting_at, site_of, told_of};
 ghost use Rattle.parameter_values.specs.Values.{rules_of};
 
 use crate::answer::{Built, ModelFault};
 use crate::model::Model;
 use crate::parameters::{no_values, parameter_value};
 use crate::record::path_under;
-use crate::scene::Placed;
+use crate::scene::{Placed, Told};
 use answer_engine::table::Table;
 use ned_syntax::ast::{SectionLine, Submodule, TypeDeclaration, TypeKind};
 use ned_types::flat::class_of;
@@ -31,11 +30,11 @@ pub struct PlacedFault {
 
 /// The first fault of the parameters of that module, in the order of their declaration. What one of them comes to is noted
 /// for those that refer to it.
-fn fault_in(alloc: Global, placed: &Placed<'_>) -> Result<Option<ModelFault>, NoMemory>
-    ensures { IfOk result (λ fault. fault ≡ fault_in (entries_in placed.now.model.now) placed.now.path.now placed.now.lines.now placed.now.lines.now) }
+pub fn first_fault(alloc: Global, placed: &Placed<'_>) -> Result<Option<ModelFault>, NoMemory>
+    ensures { IfOk result (λ fault. fault ≡ fault_of_site (site_of placed.now)) }
 {
     let mut values = no_values(alloc, placed);
-    for line in placed.lines {
+    for line in placed.own.lines {
         if let Some(fault) = fault_at(alloc, placed, &mut values, line)? {
             return Ok(Some(fault));
         }
@@ -51,7 +50,7 @@ fn fault_at(
     line: &SectionLine,
 ) -> Result<Option<ModelFault>, NoMemory>
     requires { IsKept (rules_of (setting_at placed.now)) values.old.entries }
-    ensures fault { IfOk result (λ fault. fault ≡ fault_at (entries_in placed.now.model.now) placed.now.path.now placed.now.lines.now line.now) }
+    ensures fault { IfOk result (λ fault. fault ≡ fault_at (site_of placed.now) line.now) }
     ensures kept { IsKept (rules_of (setting_at placed.now)) values.new.entries }
 {
     let SectionLine::Declaration(declaration) = line else {
@@ -73,28 +72,24 @@ fn class_to_build(alloc: Global, declared: &TypeDeclaration) -> Result<Option<Te
     }
 }
 
-/// One submodule of the module of that path, or its first fault.
+/// One submodule of the module that is told of, or its first fault.
 fn built_one(
     alloc: Global,
     model: &Model,
-    path: &[u8],
+    around: Told<'_>,
     submodule: &Submodule,
 ) -> Result<Result<Built, PlacedFault>, NoMemory>
-    ensures { IfOk result (λ made. made ≡ built_one model.now path.now submodule.now) }
+    ensures { IfOk result (λ made. made ≡ built_one model.now (told_of around.entry) submodule.now) }
 {
-    let path = path_under(alloc, path, submodule.name.as_bytes())?;
+    let path = path_under(alloc, around.path, submodule.name.as_bytes())?;
     let Some(declared) = model.types.find(submodule.type_name.as_bytes()) else {
         return Ok(Err(PlacedFault {
             path,
             fault: ModelFault::UnknownType,
         }));
     };
-    let placed = Placed {
-        model,
-        path: path.as_bytes(),
-        lines: declared.lines.as_slice(),
-    };
-    if let Some(fault) = fault_in(alloc, &placed)? {
+    let placed = Placed::of_submodule(model, around, path.as_bytes(), submodule, declared);
+    if let Some(fault) = first_fault(alloc, &placed)? {
         return Ok(Err(PlacedFault { path, fault }));
     }
     let class = class_to_build(alloc, declared)?;
@@ -105,18 +100,18 @@ fn built_one(
     }))
 }
 
-/// The submodules of the module of that path, or the first fault.
+/// The submodules of the module that is told of, or the first fault.
 pub fn built_all(
     alloc: Global,
     model: &Model,
-    path: &[u8],
+    around: Told<'_>,
     submodules: &[Submodule],
 ) -> Result<Result<Items<Built>, PlacedFault>, NoMemory>
-    ensures { IfOk result (λ made. made ≡ built_all model.now path.now submodules.now) }
+    ensures { IfOk result (λ made. made ≡ built_all model.now (told_of around.entry) submodules.now) }
 {
     let mut inside = Items::new(alloc);
     for submodule in submodules {
-        match built_one(alloc, model, path, submodule)? {
+        match built_one(alloc, model, around, submodule)? {
             Ok(built) => inside.push(built)?,
             Err(fault) => return Ok(Err(fault)),
         }

@@ -1,9 +1,10 @@
 //! The model of a run.
 
-ghost use Rattle.std.specs.Prelude.{◌≡◌, IfOk};
+ghost use Rattle.std.specs.Prelude.{◌≡◌, IfOk, Some};
 ghost use Rattle.std.specs.Option.{option_copied};
 ghost use Rattle.model_answers.specs.Models.{network_of, type_at, type_of_record, inner_type, as_network, type_by_last_name, time_limit_of};
 ghost use Rattle.model_answers.specs.Records.{record_at};
+ghost use Rattle.ned_types.specs.Flat.{submodule_named};
 
 use crate::injection::Injection;
 use crate::record::{Record, record_at};
@@ -11,7 +12,7 @@ use ini_config::entries::{network_entry, time_limit_entry};
 use ini_config::lines::IniText;
 use ini_config::speaks::last_name;
 use ini_entries::copies::copy_names;
-use ned_syntax::ast::{TypeDeclaration, TypeKind};
+use ned_syntax::ast::{Submodule, TypeDeclaration, TypeKind};
 use ned_types::table::TypeTable;
 use sim_values::NoMemory;
 use sim_values::text::Text;
@@ -75,19 +76,30 @@ impl Model {
         if record.parent == 0 {
             return self.network();
         }
-        self.inner_type(
-            record.name.as_bytes(),
-            (id as usize).saturating_sub(FIRST_SUBMODULE),
-        )
+        self.inner_type(record.name.as_bytes(), id)
     }
 
-    /// The type of the network's submodule of that name, which is looked for at that place first.
-    fn inner_type(&self, name: &[u8], place: usize) -> Option<&TypeDeclaration>
+    /// The type of the network's submodule of that name, which has that id.
+    fn inner_type(&self, name: &[u8], id: u32) -> Option<&TypeDeclaration>
         ensures { option_copied result ≡ inner_type self.now (network_of self.now) name.now }
     {
         let network = self.network()?;
-        let submodule = self.types.submodule_near(network, place, name)?;
+        let submodule = self.submodule_of(network, name, id)?;
         self.types.find(submodule.type_name.as_bytes())
+    }
+
+    /// The network's submodule of that name. It is looked for first where one of that id stands.
+    pub fn submodule_of<'m>(
+        &'m self,
+        network: &'m TypeDeclaration,
+        name: &[u8],
+        id: u32,
+    ) -> Option<&'m Submodule>
+        requires { network_of self.now ≡ Some network.now }
+        ensures { option_copied result ≡ submodule_named name.now network.now.submodules }
+    {
+        let place = (id as usize).saturating_sub(FIRST_SUBMODULE);
+        self.types.submodule_near(network, place, name)
     }
 }
 

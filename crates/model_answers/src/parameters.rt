@@ -2,9 +2,8 @@
 
 ghost use Rattle.std.specs.Prelude.{◌≡◌, IfOk};
 ghost use Rattle.answer_engine.specs.Tables.{IsKept};
-ghost use Rattle.model_answers.specs.Models.{entries_in};
 ghost use Rattle.model_answers.specs.Parameters.{fault_of, parameter_value, told};
-ghost use Rattle.model_answers.specs.Scenes.{own_key, setting_at};
+ghost use Rattle.model_answers.specs.Scenes.{own_key, setting_at, site_of};
 ghost use Rattle.parameter_values.specs.Values.{rules_of, value_at};
 
 use crate::answer::ModelFault;
@@ -48,7 +47,7 @@ pub fn parameter_value(
     name: &[u8],
 ) -> Result<Result<Value, ModelFault>, NoMemory>
     requires { IsKept (rules_of (setting_at placed.now)) values.old.entries }
-    ensures value { IfOk result (λ found. found ≡ parameter_value (entries_in placed.now.model.now) placed.now.path.now placed.now.lines.now name.now) }
+    ensures value { IfOk result (λ found. found ≡ parameter_value (site_of placed.now) name.now) }
     ensures kept { IsKept (rules_of (setting_at placed.now)) values.new.entries }
 {
     let Some(parameter) = placed.named(name) else {
@@ -95,7 +94,7 @@ pub fn lone_value(
     placed: &Placed<'_>,
     name: &[u8],
 ) -> Result<Result<Value, ModelFault>, NoMemory>
-    ensures { IfOk result (λ found. found ≡ parameter_value (entries_in placed.now.model.now) placed.now.path.now placed.now.lines.now name.now) }
+    ensures { IfOk result (λ found. found ≡ parameter_value (site_of placed.now) name.now) }
 {
     let mut values = no_values(alloc, placed);
     parameter_value(alloc, placed, &mut values, name)

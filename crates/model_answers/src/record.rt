@@ -1,8 +1,8 @@
 //! Records of the modules that were created, and their paths.
 
-ghost use Rattle.std.specs.Prelude.{◌≡◌, IfOk, OnOk, ◌++◌};
+ghost use Rattle.std.specs.Prelude.{◌≡◌, ◌≤◌, IfOk, OnOk, ◌++◌, length, take};
 ghost use Rattle.std.specs.Option.{option_copied};
-ghost use Rattle.model_answers.specs.Records.{record_at, own_name, path_up, path_of, path_under, index_of};
+ghost use Rattle.model_answers.specs.Records.{record_at, own_name, path_up, path_of, path_around, path_under, index_of};
 
 use itoa::Buffer;
 use sim_values::text::Text;
@@ -83,6 +83,62 @@ pub fn path_of(alloc: Global, records: &[Record], id: u32) -> Result<Text, Alloc
     let mut path = Vec::new(alloc);
     push_path(&mut path, MAX_NESTING, records, id)?;
     Ok(Text::from_vec(path))
+}
+
+/// The full path of a module. It begins with that of the module around it.
+#[derive(Drop)]
+pub struct ModulePath {
+    /// The full path.
+    whole: Text,
+    /// How long the path of the module around it is, 0 where there is none.
+    around: usize,
+    ghost within: { around ≤ length whole },
+}
+
+impl ModulePath {
+    /// The full path.
+    pub fn whole(&self) -> &[u8]
+        ensures { result.now ≡ self.now.whole }
+    {
+        self.whole.as_bytes()
+    }
+
+    /// The path of the module around it, empty where there is none.
+    pub fn around(&self) -> &[u8]
+        ensures { result.now ≡ take self.now.around self.now.whole }
+    {
+        &self.whole.as_bytes()[..self.around]
+    }
+}
+
+#[tactic(auto, unfolding(crate::specs::Records::path_of, crate::specs::Records::path_around))]
+/// The full path of the module of that id, with that of the module around it.
+pub fn module_path(alloc: Global, records: &[Record], id: u32) -> Result<ModulePath, AllocError>
+    ensures whole { IfOk result (λ path. path.whole ≡ path_of records.now id) }
+    ensures around { IfOk result (λ path. take path.around path.whole ≡ path_around records.now id) }
+{
+    let mut whole = Vec::new(alloc);
+    let Some(of) = record_at(records, id) else {
+        return Ok(ModulePath {
+            whole: Text::from_vec(whole),
+            around: 0,
+        });
+    };
+    if of.parent == 0 {
+        push_own_name(&mut whole, of.name.as_bytes(), of.index)?;
+        return Ok(ModulePath {
+            whole: Text::from_vec(whole),
+            around: 0,
+        });
+    }
+    push_path(&mut whole, MAX_NESTING - 1, records, of.parent)?;
+    let around = whole.len();
+    whole.push(b'.')?;
+    push_own_name(&mut whole, of.name.as_bytes(), of.index)?;
+    Ok(ModulePath {
+        whole: Text::from_vec(whole),
+        around,
+    })
 }
 
 /// The path of a submodule of that name in the module of that path.

@@ -5,4 +5,4 @@ use Rattle.model_answers.specs.Scenes.{own_key, setting_in}
 use Rattle.model_answers.proofs.laws.is_followed.Goals as goal
 
 pub returns : goal.returns
-returns c = λ entries path lines name. ap told (is_followed (setting_in entries path lines) (own_key name))
+returns c = λ site name. ap told (is_followed (setting_in site) (own_key name))
