@@ -690,17 +690,20 @@ impl Core {
         ensures flow { IfOk result (λ turn. flow_of turn self.new ≡ rooted found self.old) }
         ensures few { length self.new.records ≤ 1 }
     {
-        let Answer::Root(name) = found else {
-            return Ok(Turn::Break(Text::empty(alloc), Fault::UnknownType));
-        };
-        self.records.push(Record {
-            parent: 0,
-            name,
-            index: None,
-            class: None,
-        })?;
-        self.live.push(1)?;
-        Ok(Turn::GoOn)
+        match found {
+            Answer::Root(name) => {
+                self.records.push(Record {
+                    parent: 0,
+                    name,
+                    index: None,
+                    class: None,
+                })?;
+                self.live.push(1)?;
+                Ok(Turn::GoOn)
+            }
+            Answer::Fault(network, fault) => Ok(Turn::Break(network, fault_of(fault))),
+            _ => Ok(Turn::Break(Text::empty(alloc), Fault::UnknownType)),
+        }
     }
 
     /// Asks which network is run, and creates it.

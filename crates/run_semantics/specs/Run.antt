@@ -26,8 +26,10 @@ use Rattle.run_semantics.specs.Upcoming.{Upcoming, Comes, Nothing, upcoming}
 abbrev pub network_record : List ℕ → Record
 network_record name = record { parent = 0; name = name; index = None; class = None }
 
+-- the network, or the fault of one of its parameters
 abbrev pub rooted : Answer → World → Flow
 rooted (answer.Root name) w = On (record w { records = network_record name ∷ []; live = 1 ∷ [] })
+rooted (answer.Fault path f) w = Broken w path (model_fault f)
 rooted _ w = Broken w [] fault.UnknownType
 
 abbrev pub record_under : ℕ → Built → Record
