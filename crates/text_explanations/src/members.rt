@@ -1,10 +1,12 @@
-//! What is wrong with the parameters of a type, with those of the types that it extends.
+//! What is wrong with the parameters of a type, with those of the types that it extends, and with the bodies of its submodules.
 
 use crate::bases::with_bases;
-use crate::names::shown;
-use crate::ned_files::{Declared, ReadFile, Sign, all_types, line_of, read_files, type_named};
+use crate::names::{shown, tell_near};
+use crate::ned_files::{
+    Declared, ReadFile, Sign, all_types, line_in_body, line_of, read_files, type_named,
+};
 use crate::sources::Sources;
-use ned_syntax::ast::{ParameterValue, SectionLine};
+use ned_syntax::ast::{ParameterValue, SectionLine, Submodule};
 use ned_types::faults::{name_in, value_in};
 use sim_values::NoMemory;
 use std::alloc::Global;
@@ -225,6 +227,116 @@ pub fn tell_section(
                 shown(it.of.name.as_bytes())
             )?;
             tell_words(told, clash, !bases.is_empty(), it.of.name.as_bytes())?;
+            return Ok(true);
+        }
+    }
+    Ok(false)
+}
+
+/// What is wrong with a line of a body behind these, where the submodule's type and what it extends are those, the nearest first.
+fn clash_in_body<'a>(
+    along: &[Declared<'a>],
+    before: &[SectionLine],
+    line: &SectionLine,
+) -> Option<Clash<'a>> {
+    let name = name_in(line);
+    let declared = declared_in(along, name);
+    if is_declaration(line) {
+        return Some(Clash::Declared(declared));
+    }
+    if value_in(line).is_none() {
+        return None;
+    }
+    if declared.is_none() {
+        return Some(Clash::Undeclared);
+    }
+    fixed_before(along, before, name)
+}
+
+/// The names of the parameters that types declare.
+fn declared_names<'a>(alloc: Global, along: &[Declared<'a>]) -> Result<Vec<&'a [u8]>, NoMemory> {
+    let mut names = Vec::new(alloc);
+    for it in along {
+        for line in it.of.lines.as_slice() {
+            if is_declaration(line) {
+                names.push(name_in(line))?;
+            }
+        }
+    }
+    Ok(names)
+}
+
+/// Adds in words what is wrong with a parameter in the body of a submodule of that type.
+fn tell_body_words(
+    alloc: Global,
+    told: &mut String,
+    clash: Clash<'_>,
+    along: &[Declared<'_>],
+    type_name: &[u8],
+    name: &[u8],
+) -> Result<(), NoMemory> {
+    match clash {
+        Clash::Declared(Some(base)) => write!(
+            told,
+            "can't be declared in its body, and '{}' declares it: leave out the word before it",
+            shown(base.of.name.as_bytes())
+        )?,
+        Clash::Declared(None) => write!(
+            told,
+            "can't be declared in its body: declare it in the type '{}'",
+            shown(type_name)
+        )?,
+        Clash::Undeclared => {
+            write!(
+                told,
+                "is given a value, and its type '{}' doesn't declare it",
+                shown(type_name)
+            )?;
+            let names = declared_names(alloc, along)?;
+            tell_near(told, name, names.as_slice())?;
+        }
+        Clash::Fixed(_) => tell_words(told, clash, false, type_name)?,
+    }
+    Ok(())
+}
+
+/// Adds what is wrong with the body of a submodule, where its type and what that extends are these, the nearest first. Answers whether
+/// something is.
+pub fn tell_body(
+    alloc: Global,
+    told: &mut String,
+    sources: &Sources<'_>,
+    files: &[ReadFile],
+    along: &[Declared<'_>],
+    it: &Declared<'_>,
+    submodule: &Submodule,
+) -> Result<bool, NoMemory> {
+    let lines = submodule.body.as_slice();
+    let own = submodule.name.as_bytes();
+    for (at, line) in lines.iter().enumerate() {
+        let before = match lines.get(..at) {
+            Some(before) => before,
+            None => lines,
+        };
+        if let Some(clash) = clash_in_body(along, before, line) {
+            let name = name_in(line);
+            let (sign, behind) = sign_of(clash, before, name);
+            write!(
+                told,
+                "{}:{}: the parameter '{}' of the submodule '{}' ",
+                sources.path(it.file),
+                line_in_body(files, it, own, sign, name, behind),
+                shown(name),
+                shown(own)
+            )?;
+            tell_body_words(
+                alloc,
+                told,
+                clash,
+                along,
+                submodule.type_name.as_bytes(),
+                name,
+            )?;
             return Ok(true);
         }
     }

@@ -22,7 +22,7 @@ pub struct ReadFile {
 /// What stands at a place.
 #[derive(Clone, Copy)]
 pub enum Sign {
-    /// `NAME :`, a submodule.
+    /// `NAME :`, a submodule, behind `submodules:`, another submodule or a body.
     Submodule,
     /// `int NAME`, or another word of a parameter.
     Parameter,
@@ -58,10 +58,23 @@ fn begins_line(tokens: &[Token], at: usize) -> bool {
     }
 }
 
+/// Whether a name at that place may be that of a submodule, and not one in an expression with a condition.
+fn begins_submodule(tokens: &[Token], at: usize) -> bool {
+    match token_before(tokens, at, 1) {
+        Some(Token::Mark(Mark::Semi | Mark::Close)) => true,
+        Some(Token::Mark(Mark::Colon)) => matches!(
+            token_before(tokens, at, 2),
+            Some(Token::Word(Keyword::Submodules))
+        ),
+        _ => false,
+    }
+}
+
 /// Whether the place is one for that sign.
 fn may_stand(tokens: &[Token], at: usize, sign: Sign) -> bool {
     match sign {
         Sign::Name => begins_line(tokens, at),
+        Sign::Submodule => begins_submodule(tokens, at),
         _ => true,
     }
 }
@@ -212,30 +225,52 @@ impl ReadFile {
         }
     }
 
-    /// The line where the type of that number says that of a name, behind so many such places.
-    pub fn line_of(&self, number: usize, sign: Sign, name: &[u8], behind: usize) -> usize {
+    /// The first token, from that one on, where the sign says that of a name, behind so many such places.
+    fn place_of(&self, from: usize, sign: Sign, name: &[u8], behind: usize) -> Option<usize> {
         let mut left = behind;
         let tokens = self.list.tokens.as_slice();
-        for (at, line) in self
-            .list
-            .lines
-            .as_slice()
-            .iter()
-            .enumerate()
-            .skip(self.head(number))
-        {
-            let rest = match tokens.get(at..) {
-                Some(rest) => rest,
-                None => tokens,
-            };
+        for (at, _token) in tokens.iter().enumerate().skip(from) {
+            let rest = tokens.get(at..)?;
             if may_stand(tokens, at, sign) && begins_with(rest, sign, name) {
                 if left == 0 {
-                    return *line;
+                    return Some(at);
                 }
                 left -= 1;
             }
         }
-        self.line_of_type(number)
+        None
+    }
+
+    /// The line of a token, or that of the type of that number where there is none.
+    fn line_at(&self, place: Option<usize>, number: usize) -> usize {
+        match place.and_then(|at| self.list.lines.get(at)) {
+            Some(line) => *line,
+            None => self.line_of_type(number),
+        }
+    }
+
+    /// The line where the type of that number says that of a name, behind so many such places.
+    pub fn line_of(&self, number: usize, sign: Sign, name: &[u8], behind: usize) -> usize {
+        let place = self.place_of(self.head(number), sign, name, behind);
+        self.line_at(place, number)
+    }
+
+    /// The line where the body of a submodule of that type says that of a name, behind so many such places.
+    pub fn line_in_body(
+        &self,
+        number: usize,
+        submodule: &[u8],
+        sign: Sign,
+        name: &[u8],
+        behind: usize,
+    ) -> usize {
+        let head = self.place_of(self.head(number), Sign::Submodule, submodule, 0);
+        let body = match head {
+            Some(at) => at.saturating_add(1),
+            None => self.head(number),
+        };
+        let place = self.place_of(body, sign, name, behind);
+        self.line_at(place.or(head), number)
     }
 }
 
@@ -316,6 +351,21 @@ pub fn line_of(
 ) -> usize {
     match files.get(it.file) {
         Some(read) => read.line_of(it.number, sign, name, behind),
+        None => 1,
+    }
+}
+
+/// The line where the body of a submodule of a type says something of a name.
+pub fn line_in_body(
+    files: &[ReadFile],
+    it: &Declared<'_>,
+    submodule: &[u8],
+    sign: Sign,
+    name: &[u8],
+    behind: usize,
+) -> usize {
+    match files.get(it.file) {
+        Some(read) => read.line_in_body(it.number, submodule, sign, name, behind),
         None => 1,
     }
 }

@@ -1,7 +1,9 @@
 //! Why the types of the files don't go together.
 
-use crate::bases::{bases_along, bases_of, tell_circle, tell_other_base, tell_unknown_base};
-use crate::members::tell_section;
+use crate::bases::{
+    bases_along, bases_of, tell_circle, tell_other_base, tell_unknown_base, with_bases,
+};
+use crate::members::{tell_body, tell_section};
 use crate::names::{shown, tell_near};
 use crate::ned_files::{
     Declared, ReadFile, Sign, all_types, line_of, line_of_type, names_of, read_files, type_named,
@@ -188,6 +190,26 @@ fn tell_submodules(
     Ok(false)
 }
 
+/// Adds what is wrong with the bodies of the submodules of a type. Answers whether something is.
+fn tell_bodies(
+    alloc: Global,
+    told: &mut String,
+    sources: &Sources<'_>,
+    files: &[ReadFile],
+    types: &[Declared<'_>],
+    it: &Declared<'_>,
+) -> Result<bool, NoMemory> {
+    for submodule in it.of.submodules.as_slice() {
+        if let Some(of) = type_named(types, submodule.type_name.as_bytes()) {
+            let along = with_bases(alloc, types, of)?;
+            if tell_body(alloc, told, sources, files, along.as_slice(), it, submodule)? {
+                return Ok(true);
+            }
+        }
+    }
+    Ok(false)
+}
+
 /// Adds why members clash. Answers whether they do.
 fn tell_clash(
     alloc: Global,
@@ -201,6 +223,7 @@ fn tell_clash(
         let along = bases_along(alloc, types, bases, at)?;
         if tell_section(told, sources, files, along.as_slice(), it)?
             || tell_submodules(told, sources, files, types, it)?
+            || tell_bodies(alloc, told, sources, files, types, it)?
         {
             return Ok(true);
         }
