@@ -7,7 +7,7 @@ use model_answers::answer::ModelFault;
 use model_answers::model::Model;
 use model_answers::parameters::lone_value;
 use model_answers::record::path_under;
-use model_answers::scene::Placed;
+use model_answers::scene::{Placed, Told as ToldModule};
 use model_texts::begin::model_of;
 use ned_syntax::ast::{
     Declaration, Expression, ParameterValue, ParameterWord, SectionLine, TypeDeclaration,
@@ -17,7 +17,7 @@ use sim_values::NoMemory;
 use sim_values::value::Dimension;
 use std::alloc::Global;
 use std::fmt::Write;
-use text_explanations::members::tell_place_of_value;
+use text_explanations::members::{tell_place_in_body, tell_place_of_value};
 use text_explanations::names::{shown, tell_list};
 use text_explanations::sources::Sources;
 
@@ -37,15 +37,39 @@ fn told_fault(answer: &str) -> Option<Told<'_>> {
     Some(Told { path, name })
 }
 
-/// The type of the module of that path: the network, or a submodule of it.
-fn type_of<'a>(model: &'a Model, path: &str) -> Option<&'a TypeDeclaration> {
+/// A module, with its type and the name of the network.
+#[derive(Clone, Copy)]
+struct Found<'a> {
+    placed: Placed<'a>,
+    of: &'a TypeDeclaration,
+    network: &'a [u8],
+}
+
+/// The module of that path: the network, or a submodule of it.
+fn found_at<'a>(model: &'a Model, path: &'a str) -> Option<Found<'a>> {
     let network = model.network()?;
-    match path.split_once('.') {
-        None => Some(network),
-        Some((_, name)) => {
-            let submodule = submodule_named(name.as_bytes(), network.submodules.as_slice())?;
-            model.types.find(submodule.type_name.as_bytes())
-        }
+    let Some((root, name)) = path.split_once('.') else {
+        return Some(Found {
+            placed: Placed::of_network(model, path.as_bytes(), network),
+            of: network,
+            network: network.name.as_bytes(),
+        });
+    };
+    let submodule = submodule_named(name.as_bytes(), network.submodules.as_slice())?;
+    let of = model.types.find(submodule.type_name.as_bytes())?;
+    let around = ToldModule::of_type(root.as_bytes(), network);
+    Some(Found {
+        placed: Placed::of_submodule(model, around, path.as_bytes(), submodule, of),
+        of,
+        network: network.name.as_bytes(),
+    })
+}
+
+/// What the NED files give a parameter of that name of a module: its body goes before its type.
+fn given<'a>(placed: &Placed<'a>, name: &[u8]) -> Option<&'a ParameterValue> {
+    match last_value(name, placed.own.body) {
+        Some(value) => Some(value),
+        None => last_value(name, placed.own.lines),
     }
 }
 
@@ -69,12 +93,12 @@ fn blamed<'a>(
     fault: ModelFault,
 ) -> Result<Option<&'a Declaration>, NoMemory> {
     let mut first = None;
-    for line in placed.lines {
+    for line in placed.own.lines {
         if let SectionLine::Declaration(declaration) = line {
             let name = declaration.name.as_bytes();
             let value = lone_value(alloc, placed, name)?;
             if value.is_err_and(|found| found == fault) {
-                if last_value(name, placed.lines).is_none() {
+                if given(placed, name).is_none() {
                     return Ok(Some(declaration));
                 }
                 first = first.or(Some(declaration));
@@ -102,10 +126,10 @@ fn given_in_ned<'a>(
     placed: &Placed<'a>,
     name: &[u8],
 ) -> Result<Option<&'a Expression>, NoMemory> {
-    match last_value(name, placed.lines) {
+    match given(placed, name) {
         Some(ParameterValue::Fixed(expression)) => Ok(Some(expression)),
         Some(ParameterValue::Default(expression)) => {
-            let full = path_under(alloc, placed.path, name)?;
+            let full = path_under(alloc, placed.own.path, name)?;
             let model = placed.model;
             let entry = value_for(model.ini.lines(), model.chain.as_slice(), full.as_bytes());
             Ok(match entry {
@@ -129,7 +153,7 @@ fn tell_wrong_in_ned(
     match fault {
         ModelFault::Unassigned => write!(
             told,
-            "the value of '{path}.{name}' refers to something that has no value: 'x' and 'this.x' are the parameter x of the same type, and all else has none yet"
+            "the value of '{path}.{name}' refers to something that has no value: in a type 'x' and 'this.x' are its own parameter x, in a body 'x' is the network's, and 'parent.x' is so in both; all else has none yet"
         )?,
         ModelFault::Circle => write!(
             told,
@@ -174,28 +198,47 @@ fn tell_wrong(
     Ok(())
 }
 
+/// Adds where the NED files give a parameter of that name its value: `path:line: `.
+fn tell_place(
+    alloc: Global,
+    told: &mut String,
+    sources: &Sources<'_>,
+    found: &Found<'_>,
+    path: &str,
+    name: &[u8],
+) -> Result<(), NoMemory> {
+    if last_value(name, found.placed.own.body).is_none() {
+        return tell_place_of_value(alloc, told, sources, found.of.name.as_bytes(), name);
+    }
+    match path.split_once('.') {
+        Some((_, own)) => tell_place_in_body(
+            alloc,
+            told,
+            sources,
+            found.network,
+            own.as_bytes(),
+            name,
+        ),
+        None => Ok(()),
+    }
+}
+
 /// Adds which parameter has no value, or one with that fault.
 fn tell_parameter(
     alloc: Global,
     told: &mut String,
     sources: &Sources<'_>,
-    model: &Model,
     fault: &Told<'_>,
-    of: &TypeDeclaration,
+    it: &Found<'_>,
     found: ModelFault,
 ) -> Result<(), NoMemory> {
-    let placed = Placed {
-        model,
-        path: fault.path.as_bytes(),
-        lines: of.lines.as_slice(),
-    };
-    let Some(declaration) = blamed(alloc, &placed, found)? else {
+    let Some(declaration) = blamed(alloc, &it.placed, found)? else {
         return Ok(());
     };
     let name = declaration.name.as_bytes();
     let kind = kind_of(declaration);
-    if let Some(expression) = given_in_ned(alloc, &placed, name)? {
-        tell_place_of_value(alloc, told, sources, of.name.as_bytes(), name)?;
+    if let Some(expression) = given_in_ned(alloc, &it.placed, name)? {
+        tell_place(alloc, told, sources, it, fault.path, name)?;
         return tell_wrong_in_ned(told, fault.path, shown(name), kind, found, expression);
     }
     write!(told, "{}: ", sources.ini_path)?;
@@ -224,19 +267,19 @@ fn tell_declared(
     tell_list(told, names.as_slice())
 }
 
-/// Adds what is behind a fault of a module of that type.
+/// Adds what is behind a fault of that module.
 fn tell_fault(
     alloc: Global,
     told: &mut String,
     sources: &Sources<'_>,
-    model: &Model,
     fault: &Told<'_>,
-    of: &TypeDeclaration,
+    it: &Found<'_>,
     classes: &[&[u8]],
 ) -> Result<(), NoMemory> {
     if let Some(found) = parameter_fault(fault.name) {
-        return tell_parameter(alloc, told, sources, model, fault, of, found);
+        return tell_parameter(alloc, told, sources, fault, it, found);
     }
+    let of = it.of;
     match fault.name {
         "NoParameter" => tell_declared(alloc, told, fault.path, of),
         "UnknownClass" => {
@@ -283,8 +326,8 @@ pub fn fault_line(
     let Ok(model) = model_of(alloc, sources.texts, sources.ini, sources.config.as_bytes()) else {
         return Ok(told);
     };
-    if let Some(of) = type_of(&model, fault.path) {
-        tell_fault(alloc, &mut told, sources, &model, &fault, of, classes)?;
+    if let Some(it) = found_at(&model, fault.path) {
+        tell_fault(alloc, &mut told, sources, &fault, &it, classes)?;
     }
     Ok(told)
 }

@@ -8,6 +8,7 @@ use crate::ned_files::{
 use crate::sources::Sources;
 use ned_syntax::ast::{ParameterValue, SectionLine, Submodule};
 use ned_types::faults::{name_in, value_in};
+use ned_types::flat::submodule_named;
 use sim_values::NoMemory;
 use std::alloc::Global;
 use std::fmt::Write;
@@ -85,6 +86,36 @@ pub fn tell_place_of_value(
             write!(told, "{}:{line}: ", sources.path(it.file))?;
             break;
         }
+    }
+    Ok(())
+}
+
+/// Adds where the body of a submodule of a type gives a parameter its value: `path:line: `.
+pub fn tell_place_in_body(
+    alloc: Global,
+    told: &mut String,
+    sources: &Sources<'_>,
+    of: &[u8],
+    submodule: &[u8],
+    name: &[u8],
+) -> Result<(), NoMemory> {
+    let files = read_files(alloc, sources)?;
+    let types = all_types(alloc, files.as_slice())?;
+    let Some(it) = type_named(types.as_slice(), of) else {
+        return Ok(());
+    };
+    let Some(inside) = submodule_named(submodule, it.of.submodules.as_slice()) else {
+        return Ok(());
+    };
+    let lines = inside.body.as_slice();
+    let before = match giving(lines, name) {
+        Some(at) => lines.get(..at),
+        None => None,
+    };
+    if let Some(before) = before {
+        let behind = mentions_of(before, name);
+        let line = line_in_body(files.as_slice(), &it, submodule, Sign::Name, name, behind);
+        write!(told, "{}:{line}: ", sources.path(it.file))?;
     }
     Ok(())
 }
