@@ -1,5 +1,5 @@
 -- What is the same by what it holds is one.
-use Rattle.std.proofs.Common.{◌≡◌, ℕ, ℤ, ◌==◌, int_eq, Bool, true, false, ◌&&◌, List, [], ◌∷◌, Option, Some, None, refl, sym, ap, ◌∙◌, subst, eqb-true, bytes_eq, length, rules}
+use Rattle.std.proofs.Common.{◌≡◌, ℕ, ◌==◌, int_eq, Bool, true, false, ◌&&◌, List, [], ◌∷◌, Option, Some, None, refl, sym, ap, ◌∙◌, subst, eqb-true, bytes_eq, length, rules}
 use Rattle.std.specs.Bool.{Decides}
 use Rattle.std.specs.Cmp.{booleans_Decides}
 use Rattle.std.proofs.lemmas.Bool.Decides.{Decides-int_eq, Decides-eqb}

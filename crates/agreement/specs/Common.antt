@@ -1,5 +1,6 @@
 -- What two models have in common.
-use Rattle.std.specs.Prelude.{◌≡◌, Bool, true, false}
+use Rattle.std.specs.Prelude.{◌≡◌, Bool, true, false, ◌&&◌, List, [], ◌∷◌}
+use Rattle.model_answers.specs.declared.answer.Asked.{Asked}
 use Rattle.model_answers.specs.declared.answer.Question.{Question}
 use Rattle.model_answers.specs.declared.answer.Question.TheVariants.{Root, Build, Param, GateSize, BeyondLimit, InjectionBefore}
 use Rattle.model_answers.specs.declared.model.Model.{Model}
@@ -19,3 +20,8 @@ is_about c (Param id name) = false
 is_about c (GateSize id name) = false
 is_about c (BeyondLimit time) = c.limit
 is_about c (InjectionBefore due last) = c.injections
+
+-- whether these questions are
+abbrev pub are_about : Common → List Asked → Bool
+are_about c [] = true
+are_about c (a ∷ rest) = is_about c a.question && are_about c rest

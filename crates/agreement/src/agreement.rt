@@ -1,10 +1,11 @@
 //! Up to which event of a run two models agree.
 
-ghost use Rattle.std.specs.Prelude.{◌≡◌, IfOk};
+ghost use Rattle.std.specs.Prelude.{◌≡◌, IfOk, Some, None};
 ghost use Rattle.std.specs.Bool.{Decides};
 ghost use Rattle.model_answers.specs.Answering.{answer_of};
-ghost use Rattle.question_log.specs.Entries.{asked_of, noted_in};
-ghost use Rattle.run_semantics.specs.Agreement.{IsAgreement};
+ghost use Rattle.model_answers.specs.declared.answer.Question.TheVariants.{BeyondLimit, InjectionBefore};
+ghost use Rattle.question_log.specs.Entries.{asked_in, noted_in};
+ghost use Rattle.run_semantics.specs.Agreement.{Agrees, IsAgreement};
 ghost use Rattle.agreement.specs.Common.{IsCommon};
 ghost use Rattle.agreement.specs.Narrowing.{Narrows};
 
@@ -15,7 +16,7 @@ use model_answers::answering::answer;
 use model_answers::injection::Due;
 use model_answers::model::Model;
 use model_answers::record::Record;
-use question_log::entry::Entry;
+use question_log::entry::{Entry, first_injection};
 use sim_values::NoMemory;
 use std::alloc::Global;
 
@@ -40,7 +41,30 @@ fn agrees(
     Ok(same_answer(&first, &second))
 }
 
-/// Whether two models give the question that is noted so the same answer, with the modules of these records.
+/// Whether two models give both questions of an event's time the same answers: which injection goes before an event that is due then, where none was
+/// delivered yet, and whether the time limit allows that time.
+fn agrees_on_both(
+    alloc: Global,
+    common: Common,
+    one: &Model,
+    other: &Model,
+    records: &[Record],
+    due: Due,
+) -> Result<bool, NoMemory>
+    requires { IsCommon one.now other.now common }
+    ensures { IfOk result (λ same. Decides same
+        ((answer_of one.now records.now (InjectionBefore (Some due) None) ≡ answer_of other.now records.now (InjectionBefore (Some due) None))
+        × (answer_of one.now records.now (BeyondLimit due.time) ≡ answer_of other.now records.now (BeyondLimit due.time)))) }
+{
+    let first = Question::InjectionBefore(Some(due), None);
+    if !agrees(alloc, common, one, other, records, &first)? {
+        return Ok(false);
+    }
+    let limit = Question::BeyondLimit(due.time.ps());
+    agrees(alloc, common, one, other, records, &limit)
+}
+
+/// Whether two models give the questions that are noted so the same answers, with the modules of these records.
 fn agrees_on(
     alloc: Global,
     common: Common,
@@ -50,21 +74,26 @@ fn agrees_on(
     entry: &Entry,
 ) -> Result<bool, NoMemory>
     requires { IsCommon one.now other.now common }
-    ensures { IfOk result (λ same. Decides same
-        (answer_of one.now records.now (asked_of entry.now).question ≡ answer_of other.now records.now (asked_of entry.now).question)) }
+    ensures { IfOk result (λ same. Decides same (Agrees one.now other.now records.now (asked_in entry.now))) }
 {
+    if common.is_about_all(entry) {
+        return Ok(true);
+    }
     match entry {
         Entry::BeyondLimit { time, .. } => {
             let question = Question::BeyondLimit(*time);
             agrees(alloc, common, one, other, records, &question)
         }
         Entry::FirstInjection { time, priority, .. } => {
+            let question = first_injection(*time, *priority);
+            agrees(alloc, common, one, other, records, &question)
+        }
+        Entry::Both { time, priority, .. } => {
             let due = Due {
                 time: *time,
                 priority: *priority,
             };
-            let question = Question::InjectionBefore(Some(due), None);
-            agrees(alloc, common, one, other, records, &question)
+            agrees_on_both(alloc, common, one, other, records, due)
         }
         Entry::Other { question, .. } => {
             agrees(alloc, common, one, other, records, question.get())
@@ -72,7 +101,8 @@ fn agrees_on(
     }
 }
 
-/// What a question leaves of the events up to this one on which two models agree: those before its own, where they give it different answers.
+/// What the questions of an entry leave of the events up to this one on which two models agree: those before its own, where they give one of them different
+/// answers.
 fn narrowed(
     alloc: Global,
     common: Common,
@@ -83,7 +113,7 @@ fn narrowed(
     valid: u64,
 ) -> Result<Option<u64>, NoMemory>
     requires { IsCommon one.now other.now common }
-    ensures { IfOk result (λ left. Narrows one.now other.now records.now (asked_of entry.now) valid left) }
+    ensures { IfOk result (λ left. Narrows one.now other.now records.now (asked_in entry.now) valid left) }
 {
     let event = entry.event();
     if event > valid {

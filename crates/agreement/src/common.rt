@@ -1,11 +1,13 @@
 //! What two models have in common.
 
 ghost use Rattle.std.specs.Prelude.{◌≡◌, true};
-ghost use Rattle.agreement.specs.Common.{is_about, IsCommon};
+ghost use Rattle.question_log.specs.Entries.{asked_in};
+ghost use Rattle.agreement.specs.Common.{is_about, are_about, IsCommon};
 
 use crate::same::same_injections;
 use model_answers::answer::Question;
 use model_answers::model::Model;
+use question_log::entry::Entry;
 
 /// What two models have in common. A run asks about it for each event, and such a question needs no look at the models.
 #[derive(Clone, Copy)]
@@ -25,6 +27,18 @@ impl Common {
             Question::BeyondLimit(_) => self.limit,
             Question::InjectionBefore(_, _) => self.injections,
             _ => false,
+        }
+    }
+
+    /// Whether all questions that are noted so are about that alone.
+    pub fn is_about_all(self, entry: &Entry) -> bool
+        ensures { result ≡ are_about self (asked_in entry.now) }
+    {
+        match entry {
+            Entry::BeyondLimit { .. } => self.limit,
+            Entry::FirstInjection { .. } => self.injections,
+            Entry::Both { .. } => self.injections && self.limit,
+            Entry::Other { question, .. } => self.is_about(question.get()),
         }
     }
 }

@@ -1,5 +1,5 @@
 -- A question that is in the set was asked before, and the reverse.
-use Rattle.std.proofs.Common.{◌≡◌, ℕ, ◌==◌, Bool, true, false, ◌&&◌, ◌||◌, List, [], ◌∷◌, ◌++◌, refl, sym, ap, ◌∙◌, if◌then◌else◌, append-nil}
+use Rattle.std.proofs.Common.{◌≡◌, ℕ, Bool, true, false, ◌||◌, List, [], ◌∷◌, ◌++◌, refl, sym, ap, ◌∙◌, if◌then◌else◌, append-nil}
 use Rattle.std.specs.List.{list_any}
 use Rattle.model_answers.specs.contracts.answer.QuestionPartialEq as equality
 use Rattle.model_answers.specs.declared.answer.Asked.{Asked}
@@ -7,9 +7,6 @@ use Rattle.model_answers.specs.declared.answer.Question.{Question}
 use Rattle.model_answers.specs.declared.answer.Question.TheVariants.{Root, Build, Param, GateSize, BeyondLimit, InjectionBefore}
 use Rattle.model_answers.specs.Questions.{same_question, is_of_modules}
 use Rattle.run_semantics.specs.World.{is_asked, noted}
-use Rattle.std.proofs.lemmas.List.{map-append}
-use Rattle.question_log.specs.declared.entry.Entry.{Entry}
-use Rattle.question_log.specs.Entries.{asked_of, noted_in}
 use Rattle.question_log.specs.Keys.{about_modules}
 
 -- what the set compares by
@@ -119,9 +116,3 @@ keys_without event q asked more keys e k m =
     k ∙ sym (append-nil (about_modules asked))
     ∙ sym (ap about_modules m ∙ about_joined asked (record { event = event; question = q } ∷ [])
     ∙ ap (λ b. about_modules asked ++ (if b then q ∷ [] else [])) e)
-
--- one entry more is one question more
-pub noted_more : (event : ℕ) (q : Question) (entry : Entry) (entries more : List Entry) → more ≡ entries ++ entry ∷ []
-    → asked_of entry ≡ record { event = event; question = q } → noted_in more ≡ noted_in entries ++ record { event = event; question = q } ∷ []
-noted_more event q entry entries more m e =
-    ap noted_in m ∙ map-append asked_of entries (entry ∷ []) ∙ ap (λ a. noted_in entries ++ a ∷ []) e

@@ -1,6 +1,7 @@
 //! What a run has asked of its model.
 #![tactic(auto)]
 
+pub mod asked_list;
 pub mod cutting;
 pub mod entry;
 pub mod log;

@@ -1,17 +1,15 @@
 //! The questions of a run, in the order in which they were asked.
 
-ghost use Rattle.std.specs.Prelude.{◌≡◌, [], ◌∷◌, ◌++◌, true, false, OnOk, OnErr, drop, length, take};
+ghost use Rattle.std.specs.Prelude.{◌≡◌, [], ◌∷◌, ◌++◌, true, false, OnOk, OnErr, MatchOption, length, take};
 ghost use Rattle.model_answers.specs.Questions.{is_of_modules};
 ghost use Rattle.run_semantics.specs.World.{noted};
-ghost use Rattle.question_log.specs.Entries.{noted_in, asked_of};
-ghost use Rattle.question_log.specs.Keys.{about_modules};
+ghost use Rattle.question_log.specs.Entries.{noted_in};
 
-use crate::cutting::cut_items;
-use crate::entry::{Entry, noted};
+use crate::asked_list::AskedList;
+use crate::entry::Entry;
 use indexmap::IndexSet;
-use model_answers::answer::Question;
+use model_answers::answer::{Asked, Question};
 use sim_values::NoMemory;
-use sqlite_items::Items;
 use std::alloc::Global;
 use std::marker::Model;
 
@@ -19,7 +17,7 @@ use std::marker::Model;
 /// asked it; it is looked for in time that doesn't grow with their number. Contracts see the list.
 #[derive(Drop)]
 pub struct QuestionLog {
-    entries: Items<Entry>,
+    asked: AskedList,
     /// The questions about modules among them.
     about_modules: IndexSet<Question>,
 }
@@ -27,14 +25,13 @@ pub struct QuestionLog {
 impl Model for QuestionLog {
     ghost use Rattle.std.specs.Prelude.{List};
     ghost use Rattle.model_answers.specs.declared.answer.Asked.{Asked};
-    ghost use Rattle.question_log.specs.Entries.{noted_in};
     ghost use Rattle.question_log.specs.Keys.{AreKeysOf};
 
     ghost Value = { List Asked };
 
-    ghost view = { λ l. noted_in l.entries };
+    ghost view = { λ l. l.asked };
 
-    ghost invariant = { λ l. AreKeysOf (noted_in l.entries) l.about_modules.keys };
+    ghost invariant = { λ l. AreKeysOf l.asked l.about_modules.keys };
 }
 
 impl QuestionLog {
@@ -43,7 +40,7 @@ impl QuestionLog {
         ensures { result ≡ [] }
     {
         QuestionLog {
-            entries: Items::new(alloc),
+            asked: AskedList::new(alloc),
             about_modules: IndexSet::new(alloc),
         }
     }
@@ -52,14 +49,14 @@ impl QuestionLog {
     pub fn len(&self) -> usize
         ensures { result ≡ length self.now }
     {
-        self.entries.len()
+        self.asked.len()
     }
 
     /// What is noted of the questions.
     pub fn entries(&self) -> &[Entry]
         ensures { noted_in result.now ≡ self.now }
     {
-        self.entries.as_slice()
+        self.asked.entries()
     }
 
     /// Notes that a question about modules is asked in that event. One that was asked before is not noted again.
@@ -72,11 +69,11 @@ impl QuestionLog {
             return Ok(());
         }
         let key = question.copy(alloc)?;
-        self.entries.push(noted(alloc, event, question)?)?;
+        self.asked.push(alloc, event, question)?;
         match self.about_modules.insert(key) {
             Ok(_) => Ok(()),
             Err(failed) => {
-                self.entries.pop();
+                self.asked.pop();
                 Err(failed.into())
             }
         }
@@ -93,7 +90,7 @@ impl QuestionLog {
         ensures ok { OnOk result (self.new ≡ self.old ++ record { event = event; question = question } ∷ []) }
         ensures err { OnErr result (self.new ≡ self.old) }
     {
-        self.entries.push(noted(alloc, event, question)?)?;
+        self.asked.push(alloc, event, question)?;
         Ok(())
     }
 
@@ -101,44 +98,21 @@ impl QuestionLog {
     pub fn cut(&mut self, left: usize)
         ensures { self.new ≡ take left self.old }
     {
-        let forgotten = count_behind(self.entries.as_slice(), left);
-        let kept = self.about_modules.len() - forgotten;
-        self.about_modules.truncate(kept);
-        cut_items(&mut self.entries, left);
-    }
-}
-
-/// How many questions about modules stand behind the first ones, of which there are so many.
-fn count_behind(entries: &[Entry], first: usize) -> usize
-    ensures { result ≡ length (about_modules (noted_in (drop first entries.now))) }
-{
-    if first >= entries.len() {
-        return 0;
-    }
-    let (_, behind) = entries.split_at(first);
-    count_about(behind)
-}
-
-/// How many questions are about modules.
-fn count_about(entries: &[Entry]) -> usize
-    ensures { result ≡ length (about_modules (noted_in entries.now)) }
-{
-    let mut count = 0;
-    for entry in entries {
-        if is_about_modules(entry) {
-            count += 1;
+        while self.len() > left {
+            self.pop();
         }
     }
-    count
-}
 
-/// Whether what is noted is a question about modules.
-fn is_about_modules(entry: &Entry) -> bool
-    ensures { result ≡ is_of_modules (asked_of entry.now).question }
-{
-    match entry {
-        Entry::BeyondLimit { .. } | Entry::FirstInjection { .. } => false,
-        Entry::Other { question, .. } => is_of_modules(question.get()),
+    /// Forgets the last question.
+    fn pop(&mut self) -> Option<Asked>
+        ensures { MatchOption result ((self.old ≡ []) × (self.new ≡ [])) (λ last. self.old ≡ self.new ++ last ∷ []) }
+    {
+        let last = self.asked.pop()?;
+        if is_of_modules(&last.question) {
+            let fewer = self.about_modules.len() - 1;
+            self.about_modules.truncate(fewer);
+        }
+        Some(last)
     }
 }
 

@@ -2,7 +2,7 @@ use Rattle.std.proofs.Common.{◌≡◌, suc, ◌∷◌, [], List, Some, None, s
 use Rattle.std.proofs.Math.Seq.{drop-cons}
 use Rattle.std.proofs.lemmas.List.{drop_all}
 use Rattle.question_log.specs.declared.entry.Entry.{Entry}
-use Rattle.question_log.specs.Entries.{asked_of, noted_in}
+use Rattle.question_log.specs.Entries.{asked_in, noted_in}
 use Rattle.run_semantics.specs.Agreement.{IsAgreement}
 use Rattle.agreement.specs.Narrowing.{Narrows}
 use Rattle.agreement.proofs.Agreed.{none_left}
@@ -10,7 +10,7 @@ use Rattle.agreement.proofs.agreement.agreement.Goals as goal
 
 pub returns-in-None : goal.returns-in-None
 returns-in-None c =
-    let narrows = subst (Narrows c.args.one.now c.args.other.now c.args.records.now (asked_of c.entry-item.result) c.loop-entry.valid) c.in-None.is c.in_ok-left.ensures in
+    let narrows = subst (Narrows c.args.one.now c.args.other.now c.args.records.now (asked_in c.entry-item.result) c.loop-entry.valid) c.in-None.is c.in_ok-left.ensures in
     let behind : List Entry = drop (suc c.loop-entry.entry-index) c.args.asked.now in
     let here : drop c.loop-entry.entry-index c.args.asked.now ≡ c.entry-item.result ∷ behind =
     drop-cons c.args.asked.now c.loop-entry.entry-index c.entry-item.result c.loop-entry-test.true ∙ ap (λ (e : Entry). e ∷ behind) (sym c.entry-item.is) in
