@@ -1,0 +1,134 @@
+-- What calls show of a module stays the same when more modules are created, and tables of it stay right.
+use Rattle.std.proofs.Common.{◌≡◌, ℕ, zero, suc, ◌==◌, nat_lt, cond, Bool, true, false, List, [], ◌∷◌, ◌++◌, Option, Some, None, Result, Ok, Err, OnOk, OnErr, refl, sym, ap, ◌∙◌, subst, append_assoc, append-nil, slice_get, eqb-true}
+use Rattle.std.specs.Option.{option_and_then}
+use Rattle.model_answers.specs.declared.model.Model.{Model}
+use Rattle.model_answers.specs.declared.record.Record.{Record}
+use Rattle.model_answers.specs.Answering.{param_answer, with_lines, lines_at}
+use Rattle.model_answers.specs.Records.{record_at, own_name, above_by, path_around, path_by, path_up, path_of, path_under}
+use Rattle.model_answers.specs.Sites.{site_by}
+use Rattle.module_tree.specs.Boxes.{Seated, box_of, with_box, without_box}
+use Rattle.shown_modules.specs.declared.Shown.{Shown}
+use Rattle.shown_modules.specs.declared.ShownModules.{ShownModules}
+use Rattle.shown_modules.specs.Tables.{shown_of, whole_by, is_whole, IsShown, AreEach, AreShown}
+
+-- ---- modules that were created with all that are around them
+
+-- what stands in the first of two lists
+get_more : (around : ℕ → Bool) (xs ys : List Record) (k : ℕ) → whole_by around (slice_get xs k) ≡ true → slice_get (xs ++ ys) k ≡ slice_get xs k
+get_more around [] ys k h = cc
+get_more around (x ∷ xs) ys zero h = refl
+get_more around (x ∷ xs) ys (suc k) h = get_more around xs ys k h
+
+-- its record stays
+record_more : (around : ℕ → Bool) (rs more : List Record) (id : ℕ) → whole_by around (record_at rs id) ≡ true → record_at (rs ++ more) id ≡ record_at rs id
+record_more around rs more zero h = refl
+record_more around rs more (suc k) h = get_more around rs more k h
+
+-- a path, by that of the module around it
+by_path : (f g : ℕ → List ℕ) (around : ℕ → Bool) → ((id : ℕ) → around id ≡ true → f id ≡ g id) → (o : Option Record) → whole_by around o ≡ true → path_by f o ≡ path_by g o
+by_path f g around same None h = refl
+by_path f g around same (Some r) h = by (r.parent == 0) h
+  where
+    by : (t : Bool) → cond t true (around r.parent) ≡ true
+        → cond t (own_name r.name r.index) (path_under (f r.parent) (own_name r.name r.index)) ≡ cond t (own_name r.name r.index) (path_under (g r.parent) (own_name r.name r.index))
+    by true h = refl
+    by false h = ap (λ path. path_under path (own_name r.name r.index)) (same r.parent h)
+
+-- the names above it stay
+path_more : (rs more : List Record) (depth id : ℕ) → is_whole depth rs id ≡ true → path_up depth (rs ++ more) id ≡ path_up depth rs id
+path_more rs more zero id h = refl
+path_more rs more (suc depth) id h =
+    ap (path_by (path_up depth (rs ++ more))) (record_more (is_whole depth rs) rs more id h)
+    ∙ by_path (path_up depth (rs ++ more)) (path_up depth rs) (is_whole depth rs) (λ above k. path_more rs more depth above k) (record_at rs id) h
+
+-- nothing is above the id zero
+above_none : (rs more : List Record) (depth : ℕ) → path_up depth (rs ++ more) 0 ≡ path_up depth rs 0
+above_none rs more zero = refl
+above_none rs more (suc depth) = refl
+
+-- the names above a record stay
+above_same : (rs more : List Record) (depth : ℕ) (o : Option Record) → whole_by (is_whole depth rs) o ≡ true → above_by (path_up depth (rs ++ more)) o ≡ above_by (path_up depth rs) o
+above_same rs more depth None h = refl
+above_same rs more depth (Some r) h = by (r.parent == 0) refl h
+  where
+    by : (t : Bool) → (r.parent == 0) ≡ t → cond t true (is_whole depth rs r.parent) ≡ true → path_up depth (rs ++ more) r.parent ≡ path_up depth rs r.parent
+    by true e h = subst (λ id. path_up depth (rs ++ more) id ≡ path_up depth rs id) (sym (eqb-true r.parent 0 e)) (above_none rs more depth)
+    by false e h = path_more rs more depth r.parent h
+
+-- the path of the module around it stays
+above_more : (rs more : List Record) (depth id : ℕ) → is_whole (suc depth) rs id ≡ true → above_by (path_up depth (rs ++ more)) (record_at (rs ++ more) id) ≡ above_by (path_up depth rs) (record_at rs id)
+above_more rs more depth id h =
+    ap (above_by (path_up depth (rs ++ more))) (record_more (is_whole depth rs) rs more id h)
+    ∙ above_same rs more depth (record_at rs id) h
+
+-- what calls show of it, by its path, that of the module around it, and its record
+abbrev shown_at : Model → List ℕ → List ℕ → Option Record → Shown
+shown_at m path above r = record {
+  path = path;
+  parameters = with_lines (λ name. param_answer (option_and_then (site_by m path above) r) name) (lines_at (option_and_then (site_by m path above) r));
+}
+
+shown_by : (m : Model) (rs more : List Record) (depth id : ℕ) → is_whole (suc depth) rs id ≡ true
+    → shown_at m (path_up (suc depth) rs id) (above_by (path_up depth rs) (record_at rs id)) (record_at rs id)
+    ≡ shown_at m (path_up (suc depth) (rs ++ more) id) (above_by (path_up depth (rs ++ more)) (record_at (rs ++ more) id)) (record_at (rs ++ more) id)
+shown_by m rs more depth id h =
+    ap (λ path. shown_at m path (above_by (path_up depth rs) (record_at rs id)) (record_at rs id)) (sym (path_more rs more (suc depth) id h))
+    ∙ ap (λ above. shown_at m (path_up (suc depth) (rs ++ more) id) above (record_at rs id)) (sym (above_more rs more depth id h))
+    ∙ ap (shown_at m (path_up (suc depth) (rs ++ more) id) (above_by (path_up depth (rs ++ more)) (record_at (rs ++ more) id))) (sym (record_more (is_whole depth rs) rs more id h))
+
+-- it stays
+pub whole_lasts : (m : Model) (rs : List Record) (id : ℕ) → is_whole 32 rs id ≡ true → IsShown m rs id (shown_of m rs id)
+unfolding path_of path_around
+whole_lasts m rs id h more = shown_by m rs more 31 id h
+
+-- ---- tables
+
+-- more modules are created
+shown_more : (m : Model) (rs more : List Record) (id : ℕ) (shown : Shown) → IsShown m rs id shown → IsShown m (rs ++ more) id shown
+shown_more m rs more id shown h others = h (more ++ others) ∙ ap (λ all. shown_of m all id) (sym (append_assoc rs more others))
+
+each_more : (m : Model) (rs more : List Record) (ss : List (Seated Shown)) → AreEach m rs ss → AreEach m (rs ++ more) ss
+each_more m rs more [] h = tt
+each_more m rs more (s ∷ ss) h = (shown_more m rs more s.id s.box h.0, each_more m rs more ss h.1)
+
+pub shown_on : (m : Model) (rs more : List Record) (t : ShownModules) → AreShown m rs t → AreShown m (rs ++ more) t
+shown_on m rs more t h = each_more m rs more t.entries.seats h
+
+-- the one of an id
+pub one_shown : (m : Model) (rs : List Record) (id : ℕ) (ss : List (Seated Shown)) (shown : Shown) → AreEach m rs ss → box_of id ss ≡ Some shown → IsShown m rs id shown
+one_shown m rs id [] shown h e = cc
+one_shown m rs id (s ∷ ss) shown h e = by (s.id == id) refl (one_shown m rs id ss shown h.1) e
+  where
+    by : (t : Bool) → (s.id == id) ≡ t → (box_of id ss ≡ Some shown → IsShown m rs id shown) → cond t (Some s.box) (box_of id ss) ≡ Some shown → IsShown m rs id shown
+    by true t later e =
+        let same : s.box ≡ shown = cc in
+        subst (IsShown m rs id) same (subst (λ i. IsShown m rs i s.box) (eqb-true s.id id t) h.0)
+    by false t later e = later e
+
+-- now
+pub now_shown : (m : Model) (rs : List Record) (id : ℕ) (shown : Shown) → IsShown m rs id shown → shown ≡ shown_of m rs id
+now_shown m rs id shown h = h [] ∙ ap (λ all. shown_of m all id) (append-nil rs)
+
+-- without it
+pub each_without : (m : Model) (rs : List Record) (id : ℕ) (ss : List (Seated Shown)) → AreEach m rs ss → AreEach m rs (without_box id ss)
+each_without m rs id [] h = tt
+each_without m rs id (s ∷ ss) h = by (s.id == id) (each_without m rs id ss h.1)
+  where
+    by : (t : Bool) → AreEach m rs (without_box id ss) → AreEach m rs (cond t ss (s ∷ without_box id ss))
+    by true later = h.1
+    by false later = (h.0, later)
+
+-- with one more
+pub each_with : (m : Model) (rs : List Record) (id : ℕ) (shown : Shown) (ss : List (Seated Shown)) → IsShown m rs id shown → AreEach m rs ss → AreEach m rs (with_box id shown ss)
+each_with m rs id shown [] k h = (k, tt)
+each_with m rs id shown (s ∷ ss) k h = by (nat_lt id s.id) (each_with m rs id shown ss k h.1)
+  where
+    by : (t : Bool) → AreEach m rs (with_box id shown ss) → AreEach m rs (cond t (record { id = id; box = shown } ∷ s ∷ ss) (s ∷ with_box id shown ss))
+    by true later = (k, h)
+    by false later = (h.0, later)
+
+-- with one more, where there was memory for it
+pub each_placed : {A E : Type 0} (m : Model) (rs : List Record) (id : ℕ) (shown : Shown) (before after : List (Seated Shown)) (placed : Result A E) → OnOk placed (after ≡ with_box id shown before) → OnErr placed (after ≡ before)
+    → IsShown m rs id shown → AreEach m rs before → AreEach m rs after
+each_placed m rs id shown before after (Ok x) ok err k h = subst (AreEach m rs) (sym ok) (each_with m rs id shown before k h)
+each_placed m rs id shown before after (Err e) ok err k h = subst (AreEach m rs) (sym err) h
