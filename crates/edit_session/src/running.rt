@@ -18,6 +18,7 @@ use model_answers::model::Model;
 use module_api::catalogue::Catalogue;
 use module_api::simple_module::SimpleModule;
 use run_semantics::outcome::{Fault, Outcome};
+use shown_modules::ShownModules;
 use sim_values::NoMemory;
 use std::alloc::Global;
 use std::marker::PhantomData;
@@ -252,8 +253,9 @@ impl<C: Catalogue> Runner<C> {
             let left = world_in SimpleModule-box self.new.kernel in
             IfOk result (λ outcome. HasGoneOn C.behaviour model.now self.old.interval from self.old.positions self.new.positions left outcome) }
     {
+        let mut shown = ShownModules::new(alloc);
         for _k in self.kernel.count()..limit {
-            if let Some(outcome) = self.kernel.step(alloc, model)? {
+            if let Some(outcome) = self.kernel.step(alloc, model, &mut shown)? {
                 return Ok(outcome);
             }
             let due = is_multiple(self.interval, self.kernel.count());

@@ -13,3 +13,4 @@ pub mod Positions
 pub mod Growing
 pub mod Lasting
 pub mod Loading
+pub mod Shown

@@ -8,6 +8,7 @@ ghost use Rattle.run_semantics.specs.World.{empty, asked, timed};
 ghost use Rattle.run_semantics.specs.Perform.{flow_of, perform, perform_all, scheduled, scheduled_at, ask_all, question_of, fault_of_read, parameter_fault, read_fault, acted, answered, broken};
 ghost use Rattle.run_semantics.specs.Ending.{is_last_action, perform_last, perform_last_all, acted_last, answered_last, with_finished};
 ghost use Rattle.run_semantics.specs.Event.{call_of};
+ghost use Rattle.kernel.specs.Calls.{call_with};
 ghost use Rattle.kernel.specs.Lookups.{was_told};
 ghost use Rattle.kernel.specs.Upcoming.{asked_in, first_is_after_limit, injection_asked, looked, with_injection_asked, upcoming_of, Begins};
 ghost use Rattle.run_semantics.specs.Upcoming.{Comes, first_due, first_of};
@@ -21,7 +22,7 @@ use crate::position::{Lengths, Position};
 use event_set::pending::{Happening, Pending};
 use event_set::set::EventSet;
 use model_answers::answer::{Answer, Built, Question};
-use model_answers::answering::{answer, is_beyond, parameters_of};
+use model_answers::answering::{answer, is_beyond};
 use model_answers::injection::{Due, Injection, Turn as InjectionTurn, injection_before};
 use model_answers::model::Model as NetworkModel;
 use model_answers::record::{Record, index_of, path_of, submodule_path};
@@ -34,6 +35,7 @@ use question_log::log::QuestionLog;
 use run_semantics::outcome::{Fault, Outcome, Turn, fault_of};
 use run_semantics::signals::SignalNames;
 use run_semantics::traces::{Emission, Instance, Scalar};
+use shown_modules::{Shown, shown_of};
 use sim_time::SimTime;
 use sim_values::NoMemory;
 use sim_values::text::Text;
@@ -217,17 +219,24 @@ impl Core {
     ) -> Result<Call, NoMemory>
         ensures { IfOk result (λ call. call ≡ call_of model.now id prompt self.now) }
     {
-        let records = self.records.as_slice();
-        Ok(Call {
+        let shown = shown_of(alloc, model, self.records.as_slice(), id)?;
+        Ok(self.call_shown(alloc, id, prompt, shown))
+    }
+
+    /// What a module is told, where this is what calls show of it.
+    pub fn call_shown(&self, alloc: Global, id: u32, prompt: Prompt, shown: Shown) -> Call
+        ensures { result ≡ call_with id prompt shown self.now }
+    {
+        Call {
             time: self.clock,
             event: self.count,
             id,
-            path: path_of(alloc, records, id)?,
-            index: index_of(records, id),
-            parameters: parameters_of(alloc, model, records, id)?,
+            path: shown.path,
+            index: index_of(self.records.as_slice(), id),
+            parameters: shown.parameters,
             gates: Items::new(alloc),
             prompt,
-        })
+        }
     }
 
     // ---- actions

@@ -8,6 +8,7 @@ ghost use Rattle.run_semantics.specs.World.{empty, HasRoom};
 ghost use Rattle.run_semantics.specs.Perform.{flow_of, On};
 ghost use Rattle.run_semantics.specs.Event.{call_module, call_of, message_of, with_state};
 ghost use Rattle.run_semantics.specs.Upcoming.{arrival, target_of, upcoming};
+ghost use Rattle.shown_modules.specs.Tables.{AreShown};
 ghost use Rattle.kernel.specs.Upcoming.{looked, upcoming_of, LooksOn};
 ghost use Rattle.run_semantics.specs.Run.{Running, Part, stage_of, settled, prepared, ready, placed, standing, parts_from, most_stages, one_stage, stages_from, initialize_all, start, next_stage, stopped};
 ghost use Rattle.run_semantics.specs.Ending.{call_last, finish_all, ending};
@@ -34,6 +35,7 @@ use module_tree::Tree;
 use question_log::entry::Entry;
 use run_semantics::outcome::{Fault, Outcome, Turn};
 use run_semantics::traces::{Emission, Instance, Scalar};
+use shown_modules::{Shown, ShownModules, lasts};
 use sim_values::NoMemory;
 use sim_values::text::Text;
 use std::alloc::{AllocFailed, Global};
@@ -215,7 +217,25 @@ impl<C: Catalogue> Kernel<C> {
         Some(reply)
     }
 
-    /// One call of the module of that id. A call of what isn't there is passed over.
+    /// Calls the module that the call names, and does what its reply says. A call of what isn't there is passed over.
+    #[tactic(auto, using(crate::proofs::Lasting::growth_same))]
+    fn carry_out(&mut self, alloc: Global, model: &Model, call: &Call) -> Result<Turn, NoMemory>
+        requires callable { IsCallable C.behaviour SimpleModule-box 1000 self.old }
+        requires told { call.now ≡ call_of model.now call.now.id call.now.prompt (world_in SimpleModule-box self.old) }
+        ensures kept { KeepsBoxes C.behaviour SimpleModule-box self.old self.new }
+        ensures step { IfOk result (λ turn. flow_of turn (world_in SimpleModule-box self.new)
+            ≡ call_module C.behaviour model.now call.now.id call.now.prompt (world_in SimpleModule-box self.old)) }
+        ensures grown { IsGrownFrom (world_in SimpleModule-box self.old)
+            (world_in SimpleModule-box self.new) }
+    {
+        let Some(reply) = self.reply_of(alloc, call) else {
+            return Ok(Turn::GoOn);
+        };
+        let reply = reply?;
+        self.core.follow(alloc, model, call, &reply)
+    }
+
+    /// One call of the module of that id.
     #[tactic(auto, using(crate::proofs::Lasting::growth_same))]
     fn call_module(
         &mut self,
@@ -232,11 +252,34 @@ impl<C: Catalogue> Kernel<C> {
             (world_in SimpleModule-box self.new) }
     {
         let call = self.core.call(alloc, model, id, prompt)?;
-        let Some(reply) = self.reply_of(alloc, &call) else {
-            return Ok(Turn::GoOn);
-        };
-        let reply = reply?;
-        self.core.follow(alloc, model, &call, &reply)
+        self.carry_out(alloc, model, &call)
+    }
+
+    /// One call of the module of that id. What calls show of it is taken out of the table for the call, and put back behind it.
+    #[tactic(auto, using(crate::proofs::Lasting::growth_same))]
+    fn call_shown(
+        &mut self,
+        alloc: Global,
+        model: &Model,
+        shown: &mut ShownModules,
+        id: u32,
+        prompt: Prompt,
+    ) -> Result<Turn, NoMemory>
+        requires callable { IsCallable C.behaviour SimpleModule-box 1000 self.old }
+        requires shown { AreShown model.now (world_in SimpleModule-box self.old).records shown.old }
+        ensures kept { KeepsBoxes C.behaviour SimpleModule-box self.old self.new }
+        ensures step { IfOk result (λ turn. flow_of turn (world_in SimpleModule-box self.new)
+            ≡ call_module C.behaviour model.now id prompt (world_in SimpleModule-box self.old)) }
+        ensures grown { IsGrownFrom (world_in SimpleModule-box self.old)
+            (world_in SimpleModule-box self.new) }
+        ensures shown { AreShown model.now (world_in SimpleModule-box self.new).records shown.new }
+    {
+        let found = shown.take(alloc, model, self.core.records(), id)?;
+        let lasts = lasts(self.core.records(), id);
+        let call = self.core.call_shown(alloc, id, prompt, found);
+        let turn = self.carry_out(alloc, model, &call);
+        shown.put_back(lasts, id, shown_in(call));
+        turn
     }
 
     // ---- event zero
@@ -407,12 +450,18 @@ impl<C: Catalogue> Kernel<C> {
         Ok((look, Next::Nothing))
     }
 
-    /// The next event, or how the run ends.
+    /// The next event, or how the run ends. What calls show of modules is taken from the table, or found and put in there.
     #[tactic(auto, using(crate::proofs::Lasting::growth_same))]
-    pub fn step(&mut self, alloc: Global, model: &Model) -> Result<Option<Outcome>, NoMemory>
+    pub fn step(
+        &mut self,
+        alloc: Global,
+        model: &Model,
+        shown: &mut ShownModules,
+    ) -> Result<Option<Outcome>, NoMemory>
         requires room { HasRoom (world_in SimpleModule-box self.old) }
         requires count { (world_in SimpleModule-box self.old).count + 1 < 2 ^ 64 }
         requires kinds { HasKinds C.behaviour SimpleModule-box self.old }
+        requires shown { AreShown model.now (world_in SimpleModule-box self.old).records shown.old }
         ensures kinds { HasKinds C.behaviour SimpleModule-box self.new }
         ensures kept { KeepsBoxes C.behaviour SimpleModule-box self.old self.new }
         ensures room { OnOk result (HasRoom (world_in SimpleModule-box self.new)) }
@@ -420,6 +469,7 @@ impl<C: Catalogue> Kernel<C> {
             ≡ next_stage C.behaviour model.now (Running (world_in SimpleModule-box self.old))) }
         ensures grown { IsGrownFrom (world_in SimpleModule-box self.old)
             (world_in SimpleModule-box self.new) }
+        ensures shown { AreShown model.now (world_in SimpleModule-box self.new).records shown.new }
     {
         if self.core.is_ended() {
             return Ok(Some(Outcome::Ended));
@@ -429,7 +479,7 @@ impl<C: Catalogue> Kernel<C> {
             Ok(event) => {
                 let id = event.id;
                 let prompt = Prompt::Message(message_of(alloc, event));
-                let turn = self.call_module(alloc, model, id, prompt)?;
+                let turn = self.call_shown(alloc, model, shown, id, prompt)?;
                 Ok(self.settle(turn))
             }
             Err(outcome) => Ok(Some(outcome)),
@@ -638,6 +688,23 @@ fn serve(held: &mut Box<dyn SimpleModule>, alloc: Global, call: &Call) -> Result
         Prompt::Message(_) => held.handle_message(alloc, call),
         Prompt::Finish => held.finish(alloc, call),
     }
+}
+
+/// What the call shows of its module that does not change from one call to the next.
+fn shown_in(call: Call) -> Shown
+    ensures { result ≡ record { path = call.path; parameters = call.parameters } }
+{
+    let Call {
+        time: _,
+        event: _,
+        id: _,
+        path,
+        index: _,
+        parameters,
+        gates: _,
+        prompt: _,
+    } = call;
+    Shown { path, parameters }
 }
 
 /// How many stages a module has.

@@ -1,5 +1,6 @@
 use Rattle.std.proofs.Common.{◌≡◌, ◌++◌, ◌+◌, arith, rules, refl, sym, ap, ◌∙◌, subst, suc}
 use Rattle.checkpoints.specs.Stored.{AreBelow}
+use Rattle.shown_modules.specs.Tables.{AreShown}
 use Rattle.kernel.specs.Kernels.{seats_in, world_in, HasKinds}
 use Rattle.kernel.specs.Positions.{position_of}
 use Rattle.run_semantics.specs.Run.{Running, after}
@@ -86,6 +87,7 @@ loop-k-preserved g c =
       good = subst (λ K. AreGood b m (seats_in (λ b. (g.dyn-1.0.entry b.vtable).1) K) (world_in (λ b. (g.dyn-1.0.entry b.vtable).1) K) new) same
           (good_stored b m (seats_in (λ b. (g.dyn-1.0.entry b.vtable).1) c.step.new.self) v c.is_multiple-due.result old new (λ _. going_at b m (suc k) v going) c.in_ok-outcome.ensures.room refl c.in_ok-keep_if.ensures.ok good);
       interval = c.in_ok-keep_if.ensures.kept.1 ∙ c.loop-k.invariant.interval;
+      shown = subst (λ K. AreShown m (world_in (λ b. (g.dyn-1.0.entry b.vtable).1) K).records c.step.new.shown) same c.step.ensures.shown;
       stored = subst (λ n. StoredAt i from c.args.self.now.positions new n) one
           (stored_next i from k c.args.self.now.positions old new (position_of v) c.loop-k.invariant.from count (c.in_ok-keep_if.ensures.ok ∙ ap (λ t. old ++ kept_if t (position_of v)) due) c.loop-k.invariant.stored);
     }

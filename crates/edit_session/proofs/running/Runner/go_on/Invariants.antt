@@ -1,6 +1,7 @@
 use Rattle.std.proofs.Common.{◌≡◌, ◌≤◌}
 use Rattle.run_semantics.specs.World.{HasRoom}
 use Rattle.run_semantics.specs.Run.{Running, after}
+use Rattle.shown_modules.specs.Tables.{AreShown}
 use Rattle.kernel.specs.Kernels.{world_in, HasKinds}
 use Rattle.edit_session.specs.Kept.{HasGood}
 use Rattle.edit_session.proofs.Going.{StoredAt}
@@ -18,5 +19,6 @@ invariant-loop-k g l =
       kinds : HasKinds g.C.Catalogue.behaviour (λ b. (g.dyn-1.0.entry b.vtable).1) l.self.kernel;
       good : HasGood g.C.Catalogue.behaviour l.model (λ b. (g.dyn-1.0.entry b.vtable).1) l.self;
       interval : l.self.interval ≡ l.fn.self.interval;
+      shown : AreShown l.model world.records l.shown;
       stored : StoredAt l.fn.self.interval first.count l.fn.self.positions l.self.positions l._k;
     }

@@ -1,51 +1,11 @@
-use Rattle.std.proofs.Common.{Ok, None, sym, ap, ◌∙◌, subst}
-use Rattle.module_api.specs.declared.call.Call.{Call}
-use Rattle.model_answers.specs.Answering.{parameters_of}
-use Rattle.run_semantics.specs.World.{World}
-use Rattle.run_semantics.specs.Perform.{On, answered}
-use Rattle.kernel.specs.Seats.{world_of, IsCalled, IsServed}
-use Rattle.kernel.specs.Kernels.{seats_in}
-use Rattle.kernel.specs.Positions.{IsGrownFrom}
-use Rattle.kernel.proofs.Lasting.{growth_is, boxed_grows}
-use Rattle.kernel.proofs.Calling.{ok_step, served_kept, passed_over, called_is}
+use Rattle.kernel.specs.Kernels.{world_in}
+use Rattle.kernel.proofs.Calling.{ok_step}
+use Rattle.kernel.proofs.Shown.{told_itself, named_step}
 use Rattle.kernel.proofs.kernel.Kernel.call_module.Goals as goal
 
-pub returns-in_default-clause-step : goal.returns-in_default-clause-step
-returns-in_default-clause-step g c =
-    ap (λ core. On (world_of core (seats_in (λ b. (g.dyn-1.0.entry b.vtable).1) c.reply_of.new.self))) c.reply_of.ensures.core
-    ∙ passed_over g.C.Catalogue.behaviour c.args.model.now c.args.id c.args.prompt c.args.self.now.core (seats_in (λ b. (g.dyn-1.0.entry b.vtable).1) c.args.self.now) (seats_in (λ b. (g.dyn-1.0.entry b.vtable).1) c.reply_of.new.self) (subst (λ (k : Call). IsServed k.id (seats_in (λ b. (g.dyn-1.0.entry b.vtable).1) c.args.self.now) (seats_in (λ b. (g.dyn-1.0.entry b.vtable).1) c.reply_of.new.self) k None) c.in_ok-call.ensures (rw c.in_default.is at c.reply_of.ensures.served))
-
-pub returns-in_err-reply-clause-kept : goal.returns-in_err-reply-clause-kept
-returns-in_err-reply-clause-kept g c =
-    served_kept g.C.Catalogue.behaviour c.args.id (seats_in (λ b. (g.dyn-1.0.entry b.vtable).1) c.args.self.now) (seats_in (λ b. (g.dyn-1.0.entry b.vtable).1) c.reply_of.new.self) _ c.reply_of.result (subst (λ (k : Call). IsServed k.id (seats_in (λ b. (g.dyn-1.0.entry b.vtable).1) c.args.self.now) (seats_in (λ b. (g.dyn-1.0.entry b.vtable).1) c.reply_of.new.self) k c.reply_of.result) c.in_ok-call.ensures c.reply_of.ensures.served) c.requires.callable.kinds
-
-pub follow-requires-clause-told : goal.follow-requires-clause-told
-follow-requires-clause-told g c =
-    ap (λ (k : Call). k.parameters) c.in_ok-call.ensures
-    ∙ ap (parameters_of c.args.model.now c.args.self.now.core.records) (sym (ap (λ (k : Call). k.id) c.in_ok-call.ensures))
-    ∙ ap (λ (w : World). parameters_of c.args.model.now w.records c.in_ok-call.call.id) (sym c.reply_of.ensures.core)
-
-pub returns-clause-kept : goal.returns-clause-kept
-returns-clause-kept g c =
-    served_kept g.C.Catalogue.behaviour c.args.id (seats_in (λ b. (g.dyn-1.0.entry b.vtable).1) c.args.self.now) (seats_in (λ b. (g.dyn-1.0.entry b.vtable).1) c.reply_of.new.self) _ c.reply_of.result (subst (λ (k : Call). IsServed k.id (seats_in (λ b. (g.dyn-1.0.entry b.vtable).1) c.args.self.now) (seats_in (λ b. (g.dyn-1.0.entry b.vtable).1) c.reply_of.new.self) k c.reply_of.result) c.in_ok-call.ensures c.reply_of.ensures.served) c.requires.callable.kinds
+pub carry_out-requires-clause-told : goal.carry_out-requires-clause-told
+carry_out-requires-clause-told g c = told_itself c.args.model.now c.args.id c.args.prompt c.args.self.now.core c.in_ok-call.call c.in_ok-call.ensures
 
 pub returns-clause-step : goal.returns-clause-step
-returns-clause-step g c = ok_step c.follow.result c.follow.ensures.flow (λ turn step.
-    called_is g.C.Catalogue.behaviour c.args.model.now c.args.id c.args.prompt c.args.self.now.core c.follow.new.self (seats_in (λ b. (g.dyn-1.0.entry b.vtable).1) c.args.self.now) (seats_in (λ b. (g.dyn-1.0.entry b.vtable).1) c.reply_of.new.self)
-    c.in_ok-reply.reply turn c.requires.callable.kinds
-    (subst (λ (k : Call). IsCalled k.id (seats_in (λ b. (g.dyn-1.0.entry b.vtable).1) c.args.self.now) (seats_in (λ b. (g.dyn-1.0.entry b.vtable).1) c.reply_of.new.self) k (Ok c.in_ok-reply.reply)) c.in_ok-call.ensures (rw c.in_ok-reply.was at c.in-Some.ensures.served))
-    (step
-    ∙ ap (λ (k : Call). answered c.args.model.now k.id c.in_ok-reply.reply c.reply_of.new.self.core) c.in_ok-call.ensures
-    ∙ ap (answered c.args.model.now c.args.id c.in_ok-reply.reply) c.reply_of.ensures.core))
-
-pub returns-in_default-clause-grown : goal.returns-in_default-clause-grown
-returns-in_default-clause-grown g c =
-    boxed_grows c.args.self.now.core c.reply_of.new.self.core (seats_in (λ b. (g.dyn-1.0.entry b.vtable).1) c.args.self.now) (seats_in (λ b. (g.dyn-1.0.entry b.vtable).1) c.reply_of.new.self) (growth_is c.args.self.now.core c.reply_of.new.self.core c.reply_of.ensures.core)
-
-pub returns-in_err-reply-clause-grown : goal.returns-in_err-reply-clause-grown
-returns-in_err-reply-clause-grown g c =
-    boxed_grows c.args.self.now.core c.reply_of.new.self.core (seats_in (λ b. (g.dyn-1.0.entry b.vtable).1) c.args.self.now) (seats_in (λ b. (g.dyn-1.0.entry b.vtable).1) c.reply_of.new.self) (growth_is c.args.self.now.core c.reply_of.new.self.core c.reply_of.ensures.core)
-
-pub returns-clause-grown : goal.returns-clause-grown
-returns-clause-grown g c =
-    boxed_grows c.args.self.now.core c.follow.new.self (seats_in (λ b. (g.dyn-1.0.entry b.vtable).1) c.args.self.now) (seats_in (λ b. (g.dyn-1.0.entry b.vtable).1) c.reply_of.new.self) (subst (λ (w : World). IsGrownFrom w c.follow.new.self) c.reply_of.ensures.core c.follow.ensures.grown)
+returns-clause-step g c = ok_step c.carry_out.result c.carry_out.ensures.step (λ turn step.
+    named_step g.C.Catalogue.behaviour c.args.model.now c.args.id c.args.prompt (world_in (λ b. (g.dyn-1.0.entry b.vtable).1) c.args.self.now) (world_in (λ b. (g.dyn-1.0.entry b.vtable).1) c.carry_out.new.self) c.in_ok-call.call turn c.in_ok-call.ensures step)
