@@ -469,7 +469,7 @@ optional_base = optional base_name
 
 -- "simple" name ["extends" dotted] "{" [params] "}"
 unfoldable pub simple : Rule TypeDeclaration
-simple = made (λ p. record { kind = kinds.Simple; name = p.0; base = p.1.0; lines = p.1.1; submodules = [] }) (word k.Simple ▷ (name ⊗ (optional_base ⊗ section_block)))
+simple = made (λ p. record { kind = kinds.Simple; name = p.0; base = p.1.0; interfaces = []; lines = p.1.1; gates = []; submodules = [] }) (word k.Simple ▷ (name ⊗ (optional_base ⊗ section_block)))
 
 -- ---- the body of a submodule, which gives its parameters values
 
@@ -533,7 +533,7 @@ network_block = mark m.Open ▷ ((section ⊗ submodules) ◁ mark m.Close)
 
 -- "network" name "{" [params] [submodules] "}"
 unfoldable pub network : Rule TypeDeclaration
-network = made (λ p. record { kind = kinds.Network; name = p.0; base = None; lines = p.1.0; submodules = p.1.1 }) (word k.Network ▷ (name ⊗ network_block))
+network = made (λ p. record { kind = kinds.Network; name = p.0; base = None; interfaces = []; lines = p.1.0; gates = []; submodules = p.1.1 }) (word k.Network ▷ (name ⊗ network_block))
 
 unfoldable pub type_rule : Rule TypeDeclaration
 type_rule = either simple network

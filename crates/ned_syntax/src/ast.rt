@@ -81,11 +81,60 @@ pub struct Submodule {
     pub body: Items<SectionLine>,
 }
 
+/// The way that messages take through a gate.
+#[derive(Clone, Copy, Debug, PartialEq, Eq)]
+pub enum GateDirection {
+    Input,
+    Output,
+    /// Both: a gate of each direction.
+    Inout,
+}
+
+/// Whether a gate is a single one or a vector of gates.
+#[derive(Drop)]
+pub enum GateSize {
+    Single,
+    /// `[]`: a vector whose size is given elsewhere.
+    Open,
+    /// `[e]`: a vector of that size.
+    Sized(Expression),
+}
+
+/// A gate that a type declares.
+#[derive(Drop)]
+pub struct GateDeclaration {
+    pub name: Text,
+    pub direction: GateDirection,
+    pub size: GateSize,
+    /// It may stay unconnected: `@loose`, or `@directIn`.
+    pub loose: bool,
+}
+
+/// A line without a direction: more of a gate that is declared elsewhere.
+#[derive(Drop)]
+pub struct GateRefinement {
+    pub name: Text,
+    /// `[e]`: the size of the vector.
+    pub size: Option<Expression>,
+    /// It may stay unconnected: `@loose`, or `@directIn`.
+    pub loose: bool,
+}
+
+/// A line of a gate section.
+#[derive(Drop)]
+pub enum GateLine {
+    Declaration(GateDeclaration),
+    Refinement(GateRefinement),
+}
+
 /// The word that declares a type.
 #[derive(Clone, Copy, Debug, PartialEq, Eq)]
 pub enum TypeKind {
     Simple,
     Network,
+    Channel,
+    ModuleInterface,
+    ChannelInterface,
 }
 
 /// A type, as declared.
@@ -93,9 +142,12 @@ pub enum TypeKind {
 pub struct TypeDeclaration {
     pub kind: TypeKind,
     pub name: Text,
-    /// The type that it extends.
+    /// The type that it extends; none for an interface.
     pub base: Option<Text>,
+    /// The interfaces that it keeps: those behind `like`, and behind `extends` where it is an interface itself.
+    pub interfaces: Items<Text>,
     pub lines: Items<SectionLine>,
+    pub gates: Items<GateLine>,
     pub submodules: Items<Submodule>,
 }
 
