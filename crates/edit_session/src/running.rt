@@ -253,9 +253,10 @@ impl<C: Catalogue> Runner<C> {
             let left = world_in SimpleModule-box self.new.kernel in
             IfOk result (λ outcome. HasGoneOn C.behaviour model.now self.old.interval from self.old.positions self.new.positions left outcome) }
     {
+        let last_time = model.time_limit();
         let mut shown = ShownModules::new(alloc);
         for _k in self.kernel.count()..limit {
-            if let Some(outcome) = self.kernel.step(alloc, model, &mut shown)? {
+            if let Some(outcome) = self.kernel.step(alloc, model, last_time, &mut shown)? {
                 return Ok(outcome);
             }
             let due = is_multiple(self.interval, self.kernel.count());

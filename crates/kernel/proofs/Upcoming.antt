@@ -1,6 +1,8 @@
 -- What comes next in a run, step by step.
 use Rattle.std.proofs.Common.{◌≡◌, ℕ, suc, zero, ◌+◌, ◌<◌, true, false, Bool, List, [], ◌∷◌, Option, Some, None, refl, ap, ◌∙◌, sym, arith, append-nil, if◌then◌else◌}
 use Rattle.model_answers.specs.declared.model.Model.{Model}
+use Rattle.model_answers.specs.Answering.{is_beyond}
+use Rattle.model_answers.specs.Models.{time_limit_of}
 use Rattle.module_api.specs.Behaviour.{Behaviour}
 use Rattle.run_semantics.specs.declared.outcome.Outcome.TheVariants.{Ended, NoMoreEvents, TimeLimit}
 use Rattle.event_set.specs.declared.pending.Pending.{Pending}
@@ -24,11 +26,11 @@ where_met : (c : Bool) (s t : Stage) → c ≡ true → (if c then s else t) ≡
 where_met c s t e = ap (λ (x : Bool). if x then s else t) e
 
 -- an event begins: it makes the next stage
-pub next_begins : (b : Behaviour) (m : Model) (w after : World) (p : Pending) → w.ended ≡ false → (h : BeginsWith m (upcoming m w) p after)
+pub next_begins : (b : Behaviour) (m : Model) (limit : Option ℕ) (w after : World) (p : Pending) → limit ≡ time_limit_of m → w.ended ≡ false → (h : BeginsWith limit (upcoming m w) p after)
     → next_stage b m (Running w) ≡ settled (event b m p h.rest h.world)
-next_begins b m w after p going h =
+next_begins b m limit w after p of_model going h =
     unless w.ended (Over w Ended) (went b m w (upcoming m w)) going
-    ∙ ap (went b m w) h.comes ∙ unless (is_after_limit m h.world.records p) (Over w TimeLimit) (settled (event b m p h.rest h.world)) h.in_time
+    ∙ ap (went b m w) h.comes ∙ unless (is_after_limit m h.world.records p) (Over w TimeLimit) (settled (event b m p h.rest h.world)) (ap (λ (l : Option ℕ). is_beyond l p.time) (sym of_model) ∙ h.in_time)
 
 -- nothing comes
 pub next_none : (b : Behaviour) (m : Model) (w after : World) → w.ended ≡ false → HasNone (upcoming m w) w after → next_stage b m (Running w) ≡ Over after NoMoreEvents
@@ -36,10 +38,11 @@ next_none b m w after going h =
     unless w.ended (Over w Ended) (went b m w (upcoming m w)) going ∙ ap (went b m w) h.none ∙ ap (λ (u : World). Over u NoMoreEvents) (sym h.same)
 
 -- what comes is too late
-pub next_too_late : (b : Behaviour) (m : Model) (w after : World) → w.ended ≡ false → IsTooLate m (upcoming m w) w after → next_stage b m (Running w) ≡ Over after TimeLimit
-next_too_late b m w after going h =
+pub next_too_late : (b : Behaviour) (m : Model) (limit : Option ℕ) (w after : World) → limit ≡ time_limit_of m → w.ended ≡ false → IsTooLate limit (upcoming m w) w after
+    → next_stage b m (Running w) ≡ Over after TimeLimit
+next_too_late b m limit w after of_model going h =
     unless w.ended (Over w Ended) (went b m w (upcoming m w)) going
-    ∙ ap (went b m w) h.comes ∙ where_met (is_after_limit m h.world.records h.event) (Over w TimeLimit) (settled (event b m h.event h.rest h.world)) h.late
+    ∙ ap (went b m w) h.comes ∙ where_met (is_after_limit m h.world.records h.event) (Over w TimeLimit) (settled (event b m h.event h.rest h.world)) (ap (λ (l : Option ℕ). is_beyond l h.event.time) (sym of_model) ∙ h.late)
     ∙ ap (λ (u : World). Over u TimeLimit) (sym h.same)
 
 -- ---- looks
@@ -71,8 +74,8 @@ next_beside (next.Arrival p) w = refl
 next_beside next.Nothing w = refl
 
 -- it is counted, and nothing is inserted
-pub begins_counted : (m : Model) (n : Next) (w after : World) (look : Look) (p : Pending) → BeginsWith m (upcoming_of n (looked w look)) p after
+pub begins_counted : (limit : Option ℕ) (n : Next) (w after : World) (look : Look) (p : Pending) → BeginsWith limit (upcoming_of n (looked w look)) p after
     → (after.next ≡ w.next) × (after.count ≡ w.count + 1)
-begins_counted m n w after look p h =
+begins_counted limit n w after look p h =
     let same : h.world ≡ looked w look = sym (ap beside h.comes) ∙ next_beside n (looked w look) in
     (ap (λ (u : World). u.next) h.begins ∙ ap (λ (u : World). u.next) same, ap (λ (u : World). u.count) h.begins ∙ ap (λ (u : World). u.count + 1) same)

@@ -4,15 +4,13 @@ use Rattle.model_answers.specs.declared.answer.Answer.{Answer}
 use Rattle.model_answers.specs.declared.answer.Asked.{Asked}
 use Rattle.model_answers.specs.declared.answer.Question.TheVariants.{InjectionBefore}
 use Rattle.model_answers.specs.declared.model.Model.{Model}
-use Rattle.model_answers.specs.declared.record.Record.{Record}
-use Rattle.model_answers.specs.Answering.{answer_of}
+use Rattle.model_answers.specs.Answering.{answer_of, is_beyond}
 use Rattle.run_semantics.specs.declared.outcome.Outcome.{Outcome}
 use Rattle.run_semantics.specs.declared.outcome.Outcome.TheVariants.{NoMoreEvents, TimeLimit}
 use Rattle.event_set.specs.declared.pending.Pending.{Pending}
 use Rattle.run_semantics.specs.World.{World, asked_next}
 use Rattle.run_semantics.specs.Event.{begun}
 use Rattle.run_semantics.specs.Upcoming.{Upcoming, Comes, Nothing, first_due, first_of, upcoming_in}
-use Rattle.run_semantics.specs.Run.{is_after_limit}
 use Rattle.kernel.specs.declared.core_part.Look.{Look}
 use Rattle.kernel.specs.declared.core_part.LookedAt.{LookedAt}
 use Rattle.kernel.specs.declared.core_part.Next.{Next}
@@ -44,17 +42,17 @@ abbrev pub LooksOn : Model → World → Option Next → World → Type 0
 LooksOn m w (Some n) w' = (left : ℕ) → upcoming_in (suc left) m w.pending w ≡ upcoming_of n w'
 LooksOn m w None w' = (left : ℕ) → upcoming_in (suc left) m w.pending w ≡ upcoming_in left m w.pending w'
 
--- whether the first of these events is later than the option sim-time-limit allows
-abbrev pub first_is_after_limit : Model → List Record → List Pending → Bool
-first_is_after_limit m records [] = false
-first_is_after_limit m records (p ∷ rest) = is_after_limit m records p
+-- whether the first of these events is later than this limit
+abbrev pub first_is_beyond : Option ℕ → List Pending → Bool
+first_is_beyond limit [] = false
+first_is_beyond limit (p ∷ rest) = is_beyond limit p.time
 
--- an event begins, where it is not too late
-pub record BeginsWith (m : Model) (u : Upcoming) (p : Pending) (after : World) : Type 0 where
+-- an event begins, where it is not later than this limit
+pub record BeginsWith (limit : Option ℕ) (u : Upcoming) (p : Pending) (after : World) : Type 0 where
   pub world : World
   pub rest : List Pending
   pub comes : u ≡ Comes world p rest
-  pub in_time : is_after_limit m world.records p ≡ false
+  pub in_time : is_beyond limit p.time ≡ false
   pub begins : after ≡ begun p rest world
 
 -- nothing comes
@@ -64,17 +62,17 @@ pub record HasNone (u : Upcoming) (before after : World) : Type 0 where
   pub same : after ≡ before
 
 -- what comes is too late
-pub record IsTooLate (m : Model) (u : Upcoming) (before after : World) : Type 0 where
+pub record IsTooLate (limit : Option ℕ) (u : Upcoming) (before after : World) : Type 0 where
   pub world : World
   pub event : Pending
   pub rest : List Pending
   pub comes : u ≡ Comes world event rest
-  pub late : is_after_limit m world.records event ≡ true
+  pub late : is_beyond limit event.time ≡ true
   pub same : after ≡ before
 
--- WHAT BEGINS: an event; or nothing, and then the world is what it was
-abbrev pub Begins : Model → Upcoming → World → Result Pending Outcome → World → Type 0
-Begins m u before (Ok p) after = BeginsWith m u p after
-Begins m u before (Err NoMoreEvents) after = HasNone u before after
-Begins m u before (Err TimeLimit) after = IsTooLate m u before after
-Begins m u before (Err _) after = ⊥
+-- WHAT BEGINS, where the time limit is this one: an event; or nothing, and then the world is what it was
+abbrev pub Begins : Option ℕ → Upcoming → World → Result Pending Outcome → World → Type 0
+Begins limit u before (Ok p) after = BeginsWith limit u p after
+Begins limit u before (Err NoMoreEvents) after = HasNone u before after
+Begins limit u before (Err TimeLimit) after = IsTooLate limit u before after
+Begins limit u before (Err _) after = ⊥

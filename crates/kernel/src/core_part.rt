@@ -10,7 +10,7 @@ ghost use Rattle.run_semantics.specs.Ending.{is_last_action, perform_last, perfo
 ghost use Rattle.run_semantics.specs.Event.{call_of};
 ghost use Rattle.kernel.specs.Calls.{call_with};
 ghost use Rattle.kernel.specs.Lookups.{was_told};
-ghost use Rattle.kernel.specs.Upcoming.{asked_in, first_is_after_limit, injection_asked, looked, with_injection_asked, upcoming_of, Begins};
+ghost use Rattle.kernel.specs.Upcoming.{asked_in, first_is_beyond, injection_asked, looked, with_injection_asked, upcoming_of, Begins};
 ghost use Rattle.run_semantics.specs.Upcoming.{Comes, first_due, first_of};
 ghost use Rattle.model_answers.specs.Injections.{turn_of};
 ghost use Rattle.model_answers.specs.declared.answer.Answer.TheVariants as answers;
@@ -615,41 +615,41 @@ impl Core {
         self.questions.note_time(alloc, self.count + 1, question)
     }
 
-    /// Begins an event that is none of those to come, or tells that it is too late.
+    /// Begins an event that is none of those to come, or tells that it is later than the time limit.
     #[tactic(auto, using(crate::proofs::Lasting::growth_same))]
     fn begin_arrival(
         &mut self,
         alloc: Global,
-        model: &NetworkModel,
+        limit: Option<u64>,
         look: Look,
         event: Pending,
     ) -> Result<Result<Pending, Outcome>, NoMemory>
         requires { self.old.count + 1 < 2 ^ 64 }
         ensures begins { let world = looked self.old look in
-            IfOk result (λ begins. Begins model.now (Comes world event world.pending) self.old begins self.new) }
+            IfOk result (λ begins. Begins limit (Comes world event world.pending) self.old begins self.new) }
         ensures grown { IsGrownFrom self.old self.new }
     {
-        if is_beyond(model, event.time.ps()) {
+        if is_beyond(limit, event.time.ps()) {
             return Ok(Err(Outcome::TimeLimit));
         }
         self.begin_event(alloc, look, event.time)?;
         Ok(Ok(event))
     }
 
-    /// Begins the first of the events to come, or tells that it is too late, or that there is none.
+    /// Begins the first of the events to come, or tells that it is later than the time limit, or that there is none.
     #[tactic(auto, using(crate::proofs::Lasting::growth_same))]
     fn begin_first(
         &mut self,
         alloc: Global,
-        model: &NetworkModel,
+        limit: Option<u64>,
         look: Look,
     ) -> Result<Result<Pending, Outcome>, NoMemory>
         requires { self.old.count + 1 < 2 ^ 64 }
         ensures begins { let world = looked self.old look in
-            IfOk result (λ begins. Begins model.now (first_of world world.pending) self.old begins self.new) }
+            IfOk result (λ begins. Begins limit (first_of world world.pending) self.old begins self.new) }
         ensures grown { IsGrownFrom self.old self.new }
     {
-        if self.is_after_limit(model) {
+        if self.is_first_beyond(limit) {
             return Ok(Err(Outcome::TimeLimit));
         }
         let Some(event) = self.pending.take_first() else {
@@ -659,33 +659,33 @@ impl Core {
         Ok(Ok(event))
     }
 
-    /// Whether the first event to come is later than the option sim-time-limit allows.
-    fn is_after_limit(&self, model: &NetworkModel) -> bool
-        ensures { result ≡ first_is_after_limit model.now self.now.records self.now.pending }
+    /// Whether the first event to come is later than the time limit.
+    fn is_first_beyond(&self, limit: Option<u64>) -> bool
+        ensures { result ≡ first_is_beyond limit self.now.pending }
     {
         match self.pending.first() {
-            Some(coming) => is_beyond(model, coming.time.ps()),
+            Some(coming) => is_beyond(limit, coming.time.ps()),
             None => false,
         }
     }
 
-    /// Begins what comes next, or tells how the run ends instead.
+    /// Begins what comes next, or tells how the run ends instead. The limit is that of times, in picoseconds.
     #[tactic(auto, using(crate::proofs::Lasting::growth_same))]
     pub fn begin(
         &mut self,
         alloc: Global,
-        model: &NetworkModel,
+        limit: Option<u64>,
         look: Look,
         next: Next,
     ) -> Result<Result<Pending, Outcome>, NoMemory>
         requires { self.old.count + 1 < 2 ^ 64 }
         ensures begins { let world = looked self.old look in
-            IfOk result (λ begins. Begins model.now (upcoming_of next world) self.old begins self.new) }
+            IfOk result (λ begins. Begins limit (upcoming_of next world) self.old begins self.new) }
         ensures grown { IsGrownFrom self.old self.new }
     {
         match next {
-            Next::First => self.begin_first(alloc, model, look),
-            Next::Arrival(event) => self.begin_arrival(alloc, model, look, event),
+            Next::First => self.begin_first(alloc, limit, look),
+            Next::Arrival(event) => self.begin_arrival(alloc, limit, look, event),
             Next::Nothing => Ok(Err(Outcome::NoMoreEvents)),
         }
     }

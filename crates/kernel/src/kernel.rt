@@ -2,6 +2,7 @@
 
 ghost use Rattle.std.specs.Prelude.{◌≡◌, ◌+◌, ◌^◌, ◌<◌, ◌≤◌, OnOk, OnErr, IfOk, IfErr, [], length, max, slice_get, drop, option_map, unwrap_or};
 ghost use Rattle.module_api.specs.Meaning.{IsOfKind, Answered, IsSameModule};
+ghost use Rattle.model_answers.specs.Models.{time_limit_of};
 ghost use Rattle.module_tree.specs.Boxes.{nothing};
 ghost use Rattle.question_log.specs.Entries.{noted_in};
 ghost use Rattle.run_semantics.specs.World.{empty, HasRoom};
@@ -450,17 +451,20 @@ impl<C: Catalogue> Kernel<C> {
         Ok((look, Next::Nothing))
     }
 
-    /// The next event, or how the run ends. What calls show of modules is taken from the table, or found and put in there.
+    /// The next event, or how the run ends. The caller has looked up once what stays the same for all events: the model's time
+    /// limit, in picoseconds, and what calls show of modules, which is taken from the table, or found and put in there.
     #[tactic(auto, using(crate::proofs::Lasting::growth_same))]
     pub fn step(
         &mut self,
         alloc: Global,
         model: &Model,
+        limit: Option<u64>,
         shown: &mut ShownModules,
     ) -> Result<Option<Outcome>, NoMemory>
         requires room { HasRoom (world_in SimpleModule-box self.old) }
         requires count { (world_in SimpleModule-box self.old).count + 1 < 2 ^ 64 }
         requires kinds { HasKinds C.behaviour SimpleModule-box self.old }
+        requires limit { limit ≡ time_limit_of model.now }
         requires shown { AreShown model.now (world_in SimpleModule-box self.old).records shown.old }
         ensures kinds { HasKinds C.behaviour SimpleModule-box self.new }
         ensures kept { KeepsBoxes C.behaviour SimpleModule-box self.old self.new }
@@ -475,7 +479,7 @@ impl<C: Catalogue> Kernel<C> {
             return Ok(Some(Outcome::Ended));
         }
         let (look, next) = self.upcoming(alloc, model)?;
-        match self.core.begin(alloc, model, look, next)? {
+        match self.core.begin(alloc, limit, look, next)? {
             Ok(event) => {
                 let id = event.id;
                 let prompt = Prompt::Message(message_of(alloc, event));

@@ -44,17 +44,16 @@ pub fn answer(
         Question::Build(id) => inside_answer(alloc, model, records, *id),
         Question::Param(id, name) => param_answer(alloc, model, records, *id, name.as_bytes()),
         Question::GateSize(_, _) => Ok(Answer::Absent),
-        Question::BeyondLimit(time) => Ok(Answer::Beyond(is_beyond(model, *time))),
+        Question::BeyondLimit(time) => Ok(Answer::Beyond(is_beyond(model.time_limit(), *time))),
         Question::InjectionBefore(due, last) => injection_answer(alloc, model, *due, *last),
     }
 }
 
-/// Whether a time, in picoseconds, is later than the option sim-time-limit allows. A time equal to the
-/// limit is not.
-pub fn is_beyond(model: &Model, time: u64) -> bool
-    ensures { result ≡ is_beyond (time_limit_of model.now) time }
+/// Whether a time is later than this limit, where there is one, both in picoseconds. A time equal to the limit is not.
+pub fn is_beyond(limit: Option<u64>, time: u64) -> bool
+    ensures { result ≡ is_beyond limit time }
 {
-    match model.time_limit() {
+    match limit {
         Some(limit) => limit < time,
         None => false,
     }
