@@ -167,8 +167,10 @@ impl<C: Catalogue> Runner<C> {
 
     /// Stores the position where the run stands, if it is due. Where memory runs out the stored ones stay.
     fn keep_if(&mut self, alloc: Global, due: bool) -> Result<(), NoMemory>
-        requires below { due ≡ true → AreBelow (world_in SimpleModule-box self.old.kernel).count self.old.positions }
-        ensures kept { (self.new.kernel ≡ self.old.kernel) × (self.new.interval ≡ self.old.interval) }
+        requires below { due ≡ true
+            → AreBelow (world_in SimpleModule-box self.old.kernel).count self.old.positions }
+        ensures kept { (self.new.kernel ≡ self.old.kernel)
+            × (self.new.interval ≡ self.old.interval) }
         ensures ok { let position = position_of (world_in SimpleModule-box self.old.kernel) in
             OnOk result (self.new.positions ≡ self.old.positions ++ kept_if due position) }
         ensures err { OnErr result (self.new.positions ≡ self.old.positions) }
@@ -192,7 +194,8 @@ impl<C: Catalogue> Runner<C> {
             (start ≡ start_of limit (counts_of self.old.positions))
             × IsBack C.behaviour model.now SimpleModule-box limit self.old self.new start) }
         ensures err { OnErr result (counts_of self.new.positions
-            ≡ up_to_event (start_of limit (counts_of self.old.positions)) (counts_of self.old.positions)) }
+            ≡ up_to_event (start_of limit (counts_of self.old.positions))
+            (counts_of self.old.positions)) }
     {
         let _model = model;
         let Some(position) = self.positions.at_most(limit) else {
@@ -221,7 +224,8 @@ impl<C: Catalogue> Runner<C> {
     /// nothing changes.
     pub fn cut_back(&mut self) -> Option<u64>
         requires { HasKinds C.behaviour SimpleModule-box self.old.kernel }
-        ensures seats { seats_in SimpleModule-box self.new.kernel ≡ seats_in SimpleModule-box self.old.kernel }
+        ensures seats { seats_in SimpleModule-box self.new.kernel
+            ≡ seats_in SimpleModule-box self.old.kernel }
         ensures interval { self.new.interval ≡ self.old.interval }
         ensures positions { self.new.positions ≡ self.old.positions }
         ensures rising { AreRising self.old.positions }
@@ -251,7 +255,8 @@ impl<C: Catalogue> Runner<C> {
             (ran_in SimpleModule-box outcome self.new.kernel)) }
         ensures stored { let from = (world_in SimpleModule-box self.old.kernel).count in
             let left = world_in SimpleModule-box self.new.kernel in
-            IfOk result (λ outcome. HasGoneOn C.behaviour model.now self.old.interval from self.old.positions self.new.positions left outcome) }
+            IfOk result (λ outcome. HasGoneOn C.behaviour model.now self.old.interval from
+            self.old.positions self.new.positions left outcome) }
     {
         let last_time = model.time_limit();
         let mut shown = ShownModules::new(alloc);
@@ -304,7 +309,8 @@ impl<C: Catalogue> Runner<C> {
             ≡ ran_in SimpleModule-box outcome self.new.kernel) }
         ensures left { OnOk result (counts_of self.new.positions
             ≡ positions_after C.behaviour model.now limit self.old.interval []) }
-        ensures stopped { HasStored C.behaviour model.now limit self.old.interval [] (counts_of self.new.positions) }
+        ensures stopped { HasStored C.behaviour model.now limit self.old.interval []
+            (counts_of self.new.positions) }
     {
         match self.kernel.start(alloc, model)? {
             Some(outcome) => self.kernel.finish(alloc, model, outcome),
@@ -334,9 +340,11 @@ impl<C: Catalogue> Runner<C> {
         ensures advances { let world = world_in SimpleModule-box self.old.kernel in
             let kept = kept_boxes phase (length world.modules) in
             let left = world_in SimpleModule-box self.new.kernel in
-            IfOk result (λ advance. Advances C.behaviour model.now limit self.old.interval kept phase [] left
+            IfOk result (λ advance.
+            Advances C.behaviour model.now limit self.old.interval kept phase [] left
             (counts_of self.new.positions) advance) }
-        ensures stopped { HasStored C.behaviour model.now limit self.old.interval [] (counts_of self.new.positions) }
+        ensures stopped { HasStored C.behaviour model.now limit self.old.interval []
+            (counts_of self.new.positions) }
     {
         match self.stand(alloc, model, phase)? {
             Standing::Over(outcome) => Ok(Advance::Ends(None, outcome)),
@@ -367,9 +375,12 @@ impl<C: Catalogue> Runner<C> {
         ensures advances { let world = world_in SimpleModule-box self.old.kernel in
             let kept = kept_boxes phase (length world.modules) in
             let left = world_in SimpleModule-box self.new.kernel in
-            IfOk result (λ advance. Advances C.behaviour model.now limit self.old.interval kept phase (counts_of self.old.positions) left
+            IfOk result (λ advance.
+            Advances C.behaviour model.now limit self.old.interval kept phase
+            (counts_of self.old.positions) left
             (counts_of self.new.positions) advance) }
-        ensures stopped { HasStored C.behaviour model.now limit self.old.interval (counts_of self.old.positions)
+        ensures stopped { HasStored C.behaviour model.now limit self.old.interval
+            (counts_of self.old.positions)
             (counts_of self.new.positions) }
     {
         match self.go_back(alloc, model, limit)? {

@@ -195,7 +195,8 @@ impl<C: Catalogue> Session<C> {
         requires sound { IsSound C.behaviour SimpleModule-box self.now }
 
         // The model of the change is the one that the edit makes; it tells up to which event the last run stays valid.
-        ensures changed { IfOk result (λ change. IsChangeOf C.behaviour SimpleModule-box self.now edit change) }
+        ensures changed { IfOk result (λ change.
+            IsChangeOf C.behaviour SimpleModule-box self.now edit change) }
 
         // A refusal has its reason, in its order; none comes where the edit makes a model, unless memory runs out.
         ensures refused { let before = editing_of SimpleModule-box self.now in
@@ -226,7 +227,8 @@ impl<C: Catalogue> Session<C> {
         ensures valid { let before = editing_of SimpleModule-box self.now in
             IfOk result (λ valid. IsValidTo C.behaviour before.model model.now before.known valid) }
         ensures known { IfOk result (λ valid.
-            IsKnown C.behaviour model.now (world_in SimpleModule-box self.now.runner.kernel) valid) }
+            IsKnown C.behaviour model.now
+            (world_in SimpleModule-box self.now.runner.kernel) valid) }
         ensures good { let kernel = self.now.runner.kernel in
             IfOk result (λ valid. AreGood C.behaviour model.now (seats_in SimpleModule-box kernel)
             (world_in SimpleModule-box kernel) (kept_up_to valid self.now.runner.positions)) }
@@ -249,10 +251,12 @@ impl<C: Catalogue> Session<C> {
     /// positions those stay up to which the last run stays valid.
     pub fn accept(&mut self, change: Change) -> Edited
         requires sound { IsSound C.behaviour SimpleModule-box self.old }
-        requires changed { (edit : Edit) × IsChangeOf C.behaviour SimpleModule-box self.old edit change }
+        requires changed { (edit : Edit)
+            × IsChangeOf C.behaviour SimpleModule-box self.old edit change }
         ensures sound { IsSound C.behaviour SimpleModule-box self.new }
         ensures told { result ≡ change.edited }
-        ensures left { editing_of SimpleModule-box self.new ≡ edited_by (editing_of SimpleModule-box self.old) change }
+        ensures left { editing_of SimpleModule-box self.new
+            ≡ edited_by (editing_of SimpleModule-box self.old) change }
     {
         let Change { model, edited } = change;
         self.model = model;
@@ -301,11 +305,13 @@ impl<C: Catalogue> Session<C> {
         // It waits exactly while a box is missing that isn't declined.
         ensures waits { let before = editing_of SimpleModule-box self.old in
             let after = editing_of SimpleModule-box self.new in
-            IfOk result (λ progress. IfWant progress (λ request. WaitsFor before limit request after)) }
+            IfOk result (λ progress.
+            IfWant progress (λ request. WaitsFor before limit request after)) }
 
         // After want of memory no run waits, and none is done; the positions that it stored stay.
         ensures memory { let before = editing_of SimpleModule-box self.old in
-            OnErr result (IsGivenUp C.behaviour before limit (editing_of SimpleModule-box self.new)) }
+            OnErr result (IsGivenUp C.behaviour before limit
+            (editing_of SimpleModule-box self.new)) }
     {
         match self.run_through(limit) {
             Ok(progress) => Ok(progress),
@@ -320,7 +326,8 @@ impl<C: Catalogue> Session<C> {
     /// The same, but that after want of memory nothing is said of what is known.
     fn run_through(&mut self, limit: u64) -> Result<Progress, NoMemory>
         requires sound { IsSound C.behaviour SimpleModule-box self.old }
-        ensures model { (self.new.model ≡ self.old.model) × (self.new.runner.interval ≡ self.old.runner.interval) }
+        ensures model { (self.new.model ≡ self.old.model)
+            × (self.new.runner.interval ≡ self.old.runner.interval) }
         ensures kinds { HasKinds C.behaviour SimpleModule-box self.new.runner.kernel }
         ensures good { HasGood C.behaviour self.new.model SimpleModule-box self.new.runner }
         ensures stored { HasStored C.behaviour self.old.model limit self.old.runner.interval
@@ -332,7 +339,8 @@ impl<C: Catalogue> Session<C> {
             IsFreshRun C.behaviour before limit report after)) }
         ensures waits { let before = editing_of SimpleModule-box self.old in
             let after = editing_of SimpleModule-box self.new in
-            IfOk result (λ progress. IfWant progress (λ request. WaitsFor before limit request after)) }
+            IfOk result (λ progress.
+            IfWant progress (λ request. WaitsFor before limit request after)) }
     {
         let phase = self.phase;
         self.give_up();
@@ -548,7 +556,11 @@ fn report_of(
 ) -> Result<Report, NoMemory>
     requires { starts_within start count }
     ensures { IfOk result (λ report. report
-        ≡ record { outcome = outcome.now; started_from = start; executed = events_behind start count }) }
+        ≡ record {
+          outcome = outcome.now;
+          started_from = start;
+          executed = events_behind start count;
+        }) }
 {
     let executed = match start {
         Some(event) => count - event,

@@ -21,7 +21,8 @@ pub fn save_one(
     alloc: Global,
     id: u32,
 ) -> Result<Option<Instance>, NoMemory>
-    ensures { IfOk result (λ saved. saved ≡ instance_at id (module_in id (seats_held SimpleModule-box boxes.now))) }
+    ensures { IfOk result (λ saved.
+        saved ≡ instance_at id (module_in id (seats_held SimpleModule-box boxes.now))) }
 {
     match boxes.get(id) {
         Some(held) => Ok(Some(instance_of(held, alloc, id)?)),
@@ -51,7 +52,8 @@ fn add_one(
     saved: &mut Items<Instance>,
 ) -> Result<(), NoMemory>
     ensures { OnOk result (saved.new
-        ≡ saved.old ++ listed (instance_at id (module_in id (seats_held SimpleModule-box boxes.now)))) }
+        ≡ saved.old
+        ++ listed (instance_at id (module_in id (seats_held SimpleModule-box boxes.now)))) }
 {
     if let Some(instance) = save_one(boxes, alloc, id)? {
         saved.push(instance)?;
@@ -73,7 +75,8 @@ pub fn load_one(
     ensures loaded { IsLoaded id (seats_held SimpleModule-box boxes.old)
         (seats_held SimpleModule-box boxes.new) }
     ensures kept { (b : Behaviour) → AreOfKinds b (seats_held SimpleModule-box boxes.old)
-        → AreKept b (seats_held SimpleModule-box boxes.old) (seats_held SimpleModule-box boxes.new) }
+        → AreKept b (seats_held SimpleModule-box boxes.old)
+        (seats_held SimpleModule-box boxes.new) }
 {
     let mut held = boxes.take(id).unwrap();
     let loaded = load(&mut held, alloc, state);

@@ -317,7 +317,8 @@ impl Core {
     /// One action of the module of that id.
     fn perform(&mut self, alloc: Global, id: u32, action: &Action) -> Result<Turn, NoMemory>
         requires { self.old.next + 1 < 2 ^ 128 }
-        ensures flow { IfOk result (λ turn. flow_of turn self.new ≡ perform id action.now self.old) }
+        ensures flow { IfOk result (λ turn.
+            flow_of turn self.new ≡ perform id action.now self.old) }
         ensures err { OnErr result (self.new ≡ self.old) }
     {
         match action {
@@ -488,7 +489,8 @@ impl Core {
     #[tactic(auto, using(crate::proofs::Lasting::growth_same))]
     fn act_last(&mut self, alloc: Global, id: u32, actions: &[Action]) -> Result<Turn, NoMemory>
         requires { self.old.next + 1000 < 2 ^ 128 }
-        ensures flow { IfOk result (λ turn. flow_of turn self.new ≡ acted_last id actions.now self.old) }
+        ensures flow { IfOk result (λ turn.
+            flow_of turn self.new ≡ acted_last id actions.now self.old) }
         ensures grown { IsGrownFrom self.old self.new }
     {
         if actions.len() > MAX_ACTIONS {
@@ -579,7 +581,8 @@ impl Core {
     fn begin_event(&mut self, alloc: Global, look: Look, time: SimTime) -> Result<(), NoMemory>
         requires { self.old.count + 1 < 2 ^ 64 }
         ensures begun { let world = looked self.old look in
-            OnOk result (self.new ≡ timed (BeyondLimit time) (record world { clock = time; count = world.count + 1 })) }
+            OnOk result (self.new ≡ timed (BeyondLimit time)
+            (record world { clock = time; count = world.count + 1 })) }
         ensures grown { IsGrownFrom self.old self.new }
     {
         let Look { delivered, asked } = look;
@@ -595,7 +598,10 @@ impl Core {
     fn note_looks(&mut self, alloc: Global, looks: &[LookedAt]) -> Result<(), NoMemory>
         requires { self.old.count + 1 < 2 ^ 64 }
         ensures noted { OnOk result (self.new
-            ≡ record self.old { questions = self.old.questions ++ asked_in (self.old.count + 1) looks.now }) }
+            ≡ record self.old {
+              questions = self.old.questions
+                  ++ asked_in (self.old.count + 1) looks.now;
+            }) }
         ensures grown { IsGrownFrom self.old self.new }
     {
         for look in looks {
@@ -608,7 +614,10 @@ impl Core {
     fn note_look(&mut self, alloc: Global, look: &LookedAt) -> Result<(), NoMemory>
         requires { self.old.count + 1 < 2 ^ 64 }
         ensures noted { OnOk result (self.new
-            ≡ record self.old { questions = self.old.questions ++ asked_in (self.old.count + 1) (look.now ∷ []) }) }
+            ≡ record self.old {
+              questions = self.old.questions
+                  ++ asked_in (self.old.count + 1) (look.now ∷ []);
+            }) }
         ensures err { OnErr result (self.new ≡ self.old) }
     {
         let question = Question::InjectionBefore(look.due, look.last);
@@ -626,7 +635,8 @@ impl Core {
     ) -> Result<Result<Pending, Outcome>, NoMemory>
         requires { self.old.count + 1 < 2 ^ 64 }
         ensures begins { let world = looked self.old look in
-            IfOk result (λ begins. Begins limit (Comes world event world.pending) self.old begins self.new) }
+            IfOk result (λ begins.
+            Begins limit (Comes world event world.pending) self.old begins self.new) }
         ensures grown { IsGrownFrom self.old self.new }
     {
         if is_beyond(limit, event.time.ps()) {
@@ -646,7 +656,8 @@ impl Core {
     ) -> Result<Result<Pending, Outcome>, NoMemory>
         requires { self.old.count + 1 < 2 ^ 64 }
         ensures begins { let world = looked self.old look in
-            IfOk result (λ begins. Begins limit (first_of world world.pending) self.old begins self.new) }
+            IfOk result (λ begins.
+            Begins limit (first_of world world.pending) self.old begins self.new) }
         ensures grown { IsGrownFrom self.old self.new }
     {
         if self.is_first_beyond(limit) {
@@ -830,7 +841,8 @@ impl Core {
 
     /// The position of the world that it makes with these modules.
     pub fn position(&self, alloc: Global, modules: Items<Instance>) -> Result<Position, NoMemory>
-        ensures { IfOk result (λ position. position ≡ position_of (record self.now { modules = modules })) }
+        ensures { IfOk result (λ position.
+            position ≡ position_of (record self.now { modules = modules })) }
     {
         let coming = self.pending.copy(alloc)?;
         Ok(Position {

@@ -222,10 +222,12 @@ impl<C: Catalogue> Kernel<C> {
     #[tactic(auto, using(crate::proofs::Lasting::growth_same))]
     fn carry_out(&mut self, alloc: Global, model: &Model, call: &Call) -> Result<Turn, NoMemory>
         requires callable { IsCallable C.behaviour SimpleModule-box 1000 self.old }
-        requires told { call.now ≡ call_of model.now call.now.id call.now.prompt (world_in SimpleModule-box self.old) }
+        requires told { call.now
+            ≡ call_of model.now call.now.id call.now.prompt (world_in SimpleModule-box self.old) }
         ensures kept { KeepsBoxes C.behaviour SimpleModule-box self.old self.new }
         ensures step { IfOk result (λ turn. flow_of turn (world_in SimpleModule-box self.new)
-            ≡ call_module C.behaviour model.now call.now.id call.now.prompt (world_in SimpleModule-box self.old)) }
+            ≡ call_module C.behaviour model.now call.now.id call.now.prompt
+            (world_in SimpleModule-box self.old)) }
         ensures grown { IsGrownFrom (world_in SimpleModule-box self.old)
             (world_in SimpleModule-box self.new) }
     {
@@ -309,7 +311,8 @@ impl<C: Catalogue> Kernel<C> {
             OnOk result ((world_in SimpleModule-box self.new).next ≤ before.next + 1000) }
         ensures step { let before = world_in SimpleModule-box self.old in
             IfOk result (λ turn. flow_of turn (world_in SimpleModule-box self.new)
-            ≡ initialize_at C.behaviour model.now stage before (part_in id (standing before.modules))) }
+            ≡ initialize_at C.behaviour model.now stage before
+            (part_in id (standing before.modules))) }
     {
         let Some(stages) = self.stages_at(id) else {
             return Ok(Turn::GoOn);
@@ -424,7 +427,8 @@ impl<C: Catalogue> Kernel<C> {
     ) -> Result<Option<Next>, NoMemory>
         requires count { (world_in SimpleModule-box self.now).count + 1 < 2 ^ 64 }
         ensures { let world = world_in SimpleModule-box self.now in
-            IfOk result (λ next. LooksOn model.now (looked world look.old) next (looked world look.new)) }
+            IfOk result (λ next.
+            LooksOn model.now (looked world look.old) next (looked world look.new)) }
     {
         let Some(injection) = self.core.ask_injection(alloc, model, look)? else {
             return Ok(Some(Next::First));
@@ -599,7 +603,8 @@ impl<C: Catalogue> Kernel<C> {
 
     /// The position of its world. The kernel stays as it is.
     pub fn position(&self, alloc: Global) -> Result<Position, NoMemory>
-        ensures position { IfOk result (λ position. position ≡ position_of (world_in SimpleModule-box self.now)) }
+        ensures position { IfOk result (λ position.
+            position ≡ position_of (world_in SimpleModule-box self.now)) }
         ensures back { let world = world_in SimpleModule-box self.now in
             IfOk result (λ position. world_back position world ≡ world) }
     {
@@ -616,7 +621,8 @@ impl<C: Catalogue> Kernel<C> {
             ≡ world_back position.now (world_in SimpleModule-box self.old)) }
         ensures err { OnErr result (IsSameBesideModules (world_in SimpleModule-box self.new)
             (world_in SimpleModule-box self.old)) }
-        ensures again { CanTake C.behaviour position.now.modules (seats_in SimpleModule-box self.new) }
+        ensures again { CanTake C.behaviour position.now.modules
+            (seats_in SimpleModule-box self.new) }
         ensures same { world_back position.now (world_in SimpleModule-box self.new)
             ≡ world_back position.now (world_in SimpleModule-box self.old) }
     {
@@ -653,11 +659,13 @@ impl<C: Catalogue> Kernel<C> {
     /// The box of that module takes its state.
     fn load(&mut self, alloc: Global, saved: &Instance) -> Result<(), NoMemory>
         requires kinds { HasKinds C.behaviour SimpleModule-box self.old }
-        requires takes { Takes saved.now.state (module_in saved.now.id (seats_in SimpleModule-box self.old)) }
+        requires takes { Takes saved.now.state
+            (module_in saved.now.id (seats_in SimpleModule-box self.old)) }
         ensures core { self.new.core ≡ self.old.core }
         ensures kept { KeepsBoxes C.behaviour SimpleModule-box self.old self.new }
         ensures ok { OnOk result ((world_in SimpleModule-box self.new).modules
-            ≡ with_state saved.now.id saved.now.state (world_in SimpleModule-box self.old).modules) }
+            ≡ with_state saved.now.id saved.now.state
+            (world_in SimpleModule-box self.old).modules) }
     {
         load_one(&mut self.boxes, alloc, saved.id, saved.state.as_bytes())
     }

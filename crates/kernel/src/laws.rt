@@ -13,7 +13,8 @@ ghost use Rattle.kernel.specs.Positions.{position_of, cut_to, world_back, IsGrow
 /// was taken.
 #[tactic(auto, using(crate::proofs::Positions::back_when_grown))]
 pub fn positions_stay_good()
-    ensures { (before after : World) → IsGrownFrom before after → world_back (position_of before) after ≡ before }
+    ensures { (before after : World)
+        → IsGrownFrom before after → world_back (position_of before) after ≡ before }
 {}
 
 /// A world that went back can go back farther, and so can one whose lists alone were cut: it is as if that had not been.

@@ -77,7 +77,8 @@ pub trait Client<O: Out + Drop> {
         requires kept { keeps self.old }
         ensures kept { keeps self.new }
         ensures label { label self.new ≡ label self.old }
-        ensures asked { IfOk result (λ next. IfSome next (λ a. asked self.new ≡ asked self.old ++ a ∷ [])) }
+        ensures asked { IfOk result (λ next.
+            IfSome next (λ a. asked self.new ≡ asked self.old ++ a ∷ [])) }
         ensures less { IfOk result (λ next. IfSome next (λ _. left self.new < left self.old)) }
         ensures none { IfOk result (λ next. next ≡ None → asked self.new ≡ asked self.old) }
         ensures over { IfOk result (λ next. next ≡ None → stops self.new why.End) }
@@ -116,7 +117,8 @@ pub trait Client<O: Out + Drop> {
         ensures label { label self.new ≡ label self.old }
         ensures stuck { OnErr result (stops self.new why.Gone) }
         ensures heard { OnOk result (heard self.new ≡ heard self.old
-            ++ Files pages.config.bytes (O.taken pages.scalars).bytes (O.taken pages.vectors).bytes ∷ []) }
+            ++ Files pages.config.bytes (O.taken pages.scalars).bytes
+            (O.taken pages.vectors).bytes ∷ []) }
         ensures gone { OnErr result (heard self.new ≡ heard self.old) }
         ensures asked { asked self.new ≡ asked self.old }
         ensures left { left self.new ≡ left self.old };
@@ -184,7 +186,8 @@ impl<O: Out + Drop, K: Client<O> + Drop> Server<O, K> {
         ensures running { self.new.running ≡ self.old.running }
         ensures asked { K.asked self.new.client ≡ K.asked self.old.client }
         ensures left { K.left self.new.client ≡ K.left self.old.client }
-        ensures heard { HearsAnswer answer.now (K.heard self.old.client) (K.heard self.new.client) result }
+        ensures heard { HearsAnswer answer.now (K.heard self.old.client)
+            (K.heard self.new.client) result }
     {
         match self.client.hear(answer) {
             Ok(()) => Next::GoOn,
@@ -246,7 +249,8 @@ impl<O: Out + Drop, K: Client<O> + Drop> Server<O, K> {
         ensures running { self.new.running ≡ None }
         ensures asked { K.asked self.new.client ≡ K.asked self.old.client }
         ensures left { K.left self.new.client ≡ K.left self.old.client }
-        ensures heard { HearsAnswer (codes "refused NoMemory") (K.heard self.old.client) (K.heard self.new.client) result }
+        ensures heard { HearsAnswer (codes "refused NoMemory") (K.heard self.old.client)
+            (K.heard self.new.client) result }
     {
         self.running = None;
         self.hear(b"refused NoMemory".as_slice())
@@ -336,7 +340,8 @@ impl<O: Out + Drop, K: Client<O> + Drop> Server<O, K> {
         requires sound { IsServer stock SimpleModule-box self.old }
         requires idle { self.old.running ≡ None }
         requires done { IsSome (editing_at SimpleModule-box self.old.desk).done }
-        requires config { pages.config.bytes ≡ (editing_at SimpleModule-box self.old.desk).model.config }
+        requires config { pages.config.bytes
+            ≡ (editing_at SimpleModule-box self.old.desk).model.config }
         requires scalars { O.taken pages.scalars ≡ untouched }
         requires vectors { O.taken pages.vectors ≡ untouched }
         requires kept { K.keeps self.old.client }
@@ -371,7 +376,8 @@ impl<O: Out + Drop, K: Client<O> + Drop> Server<O, K> {
         ensures written { let editing = editing_at SimpleModule-box self.now.desk in
             OnOk result (AreFilled stock editing.model editing.done
             (O.taken pages.new.scalars).bytes (O.taken pages.new.vectors).bytes) }
-        ensures failed { IfErr result (λ fault. HasFailed fault.0 fault.1 (O.taken pages.new.scalars) (O.taken pages.new.vectors)) }
+        ensures failed { IfErr result (λ fault.
+            HasFailed fault.0 fault.1 (O.taken pages.new.scalars) (O.taken pages.new.vectors)) }
     {
         match self.desk.scalars(&mut pages.scalars) {
             Ok(()) => match self.desk.vectors(&mut pages.vectors) {
