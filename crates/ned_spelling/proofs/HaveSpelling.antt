@@ -2,7 +2,6 @@
 use Rattle.std.proofs.Common.{ℕ, Bool, true, false, List, [], ◌∷◌, ◌++◌, Option, Some, None, refl}
 use Rattle.sim_values.specs.declared.value.Dimension.{Dimension}
 use Rattle.sim_values.specs.declared.value.Dimension.TheVariants as dimension
-use Rattle.ned_tokens.specs.declared.token.Keyword.TheVariants as k
 use Rattle.ned_tokens.specs.declared.token.Mark.TheVariants as m
 use Rattle.ned_tokens.specs.declared.token.Token.{Token}
 use Rattle.ned_tokens.specs.declared.token.Token.TheVariants as token
@@ -20,12 +19,16 @@ use Rattle.ned_syntax.specs.declared.ast.Statistic.{Statistic}
 use Rattle.ned_syntax.specs.declared.ast.SectionLine.{SectionLine}
 use Rattle.ned_syntax.specs.declared.ast.SectionLine.TheVariants as lines
 use Rattle.ned_syntax.specs.declared.ast.Submodule.{Submodule}
+use Rattle.ned_syntax.specs.declared.ast.GateSize.{GateSize}
+use Rattle.ned_syntax.specs.declared.ast.GateSize.TheVariants as sizes
+use Rattle.ned_syntax.specs.declared.ast.GateLine.{GateLine}
+use Rattle.ned_syntax.specs.declared.ast.GateLine.TheVariants as gate_lines
 use Rattle.ned_syntax.specs.declared.ast.TypeKind.{TypeKind}
 use Rattle.ned_syntax.specs.declared.ast.TypeKind.TheVariants as kinds
 use Rattle.ned_syntax.specs.declared.ast.TypeDeclaration.{TypeDeclaration}
 use Rattle.ned_syntax.specs.declared.ast.NedFile.{NedFile}
-use Rattle.ned_spelling.specs.Declarations.{listed_tokens, given_tokens, valued_tokens, unit_tokens, declaration_tokens, mode_name, question_tokens, mode_tokens, next_mode_tokens, record_tokens, statistic_tokens, line_tokens, section_line_tokens, section_tokens, body_tokens, submodule_tokens, submodules_tokens, base_tokens, kind_tokens, type_tokens, file_tokens}
-use Rattle.ned_spelling.proofs.Spellable.{Each, IfThere, CanBeExpression, CanBeGiven, CanBeDeclaration, CanBeStatistic, CanBeLine, CanBeBodyLine, CanBeSubmodule, CanBeParts, CanBeType, CanBeFile}
+use Rattle.ned_spelling.specs.Declarations.{listed_tokens, given_tokens, valued_tokens, unit_tokens, declaration_tokens, mode_name, question_tokens, mode_tokens, next_mode_tokens, record_tokens, statistic_tokens, line_tokens, section_line_tokens, section_tokens, body_tokens, submodule_tokens, submodules_tokens, base_tokens, head_tokens, bracket_tokens, size_tokens, refined_size_tokens, loose_tokens, gate_tokens, gate_line_tokens, gates_tokens, kind_tokens, type_tokens, file_tokens}
+use Rattle.ned_spelling.proofs.Spellable.{Each, IfThere, CanBeExpression, CanBeGiven, CanBeDeclaration, CanBeStatistic, CanBeLine, CanBeBodyLine, CanBeSubmodule, CanBeSize, CanBeGate, CanBeParts, CanBeType, CanBeFile}
 
 -- two lists in a row
 have-append : (ts us : List Token) → HaveSpelling ts → HaveSpelling us → HaveSpelling (ts ++ us)
@@ -152,14 +155,66 @@ have_base : (base : Option (List ℕ)) → IfThere IsName base → HaveSpelling 
 have_base None h = tt
 have_base (Some name) h = (tt, (h, tt))
 
+-- ---- gates
+
+-- a size in brackets
+have_brackets : (e : Expression) → CanBeExpression e → HaveSpelling (bracket_tokens e)
+have_brackets e h = (tt, have-append (expression_tokens e) (token.Mark m.RightBracket ∷ []) (have_expression e h) (tt, tt))
+
+-- a size, where there is one
+have_size : (size : GateSize) → CanBeSize size → HaveSpelling (size_tokens size)
+have_size sizes.Single h = tt
+have_size sizes.Open h = (tt, (tt, tt))
+have_size (sizes.Sized e) h = have_brackets e h
+
+have_refined_size : (size : Option Expression) → IfThere CanBeExpression size → HaveSpelling (refined_size_tokens size)
+have_refined_size None h = tt
+have_refined_size (Some e) h = have_brackets e h
+
+-- `@loose`, or nothing
+have_loose : (b : Bool) → HaveSpelling (loose_tokens b)
+unfolding keyword_of head_word section_word member_word value_word
+have_loose true = (tt, ((refl, refl, refl), tt))
+have_loose false = tt
+
+-- a gate
+have_gate : (g : GateLine) → CanBeGate g → HaveSpelling (gate_tokens g)
+have_gate (gate_lines.Declaration g) h = (tt, (h.0, have-append (size_tokens g.size) (loose_tokens g.loose) (have_size g.size h.1) (have_loose g.loose)))
+have_gate (gate_lines.Refinement g) h = (h.0, have-append (refined_size_tokens g.size) (loose_tokens g.loose) (have_refined_size g.size h.1) (have_loose g.loose))
+
+-- a gate with its `;`
+have_gate_line : (g : GateLine) → CanBeGate g → HaveSpelling (gate_line_tokens g)
+have_gate_line g h = have-append (gate_tokens g) (token.Mark m.Semi ∷ []) (have_gate g h) (tt, tt)
+
+-- the gates
+have_gates : (gs : List GateLine) → Each CanBeGate gs → HaveSpelling (gates_tokens gs)
+have_gates [] h = tt
+have_gates (g ∷ gs) h = (tt, (tt, have_listed gate_line_tokens CanBeGate have_gate_line (g ∷ gs) h))
+
+-- ---- types of each kind
+
+-- the head of a type
+have_head : (d : TypeDeclaration) → IsName d.name → IfThere IsName d.base → HaveSpelling (head_tokens d)
+have_head d h base = (h, have_base d.base base)
+
+-- what stands in braces
+have_block : (ts : List Token) → HaveSpelling ts → HaveSpelling (token.Mark m.Open ∷ (ts ++ token.Mark m.Close ∷ []))
+have_block ts h = (tt, have-append ts (token.Mark m.Close ∷ []) h (tt, tt))
+
+-- a head, and what stands in braces behind it
+have_parts : (d : TypeDeclaration) (ts : List Token) → HaveSpelling (head_tokens d) → HaveSpelling ts → HaveSpelling (head_tokens d ++ token.Mark m.Open ∷ (ts ++ token.Mark m.Close ∷ []))
+have_parts d ts h k = have-append (head_tokens d) (token.Mark m.Open ∷ (ts ++ token.Mark m.Close ∷ [])) h (have_block ts k)
+
 -- a type of each kind
 have_kind : (kind : TypeKind) (d : TypeDeclaration) → IsName d.name → CanBeParts kind d → HaveSpelling (kind_tokens kind d)
 have_kind kinds.Simple d h parts =
-    let section = have-append (section_tokens d.lines) (token.Mark m.Close ∷ []) (have_section d.lines parts.1) (tt, tt) in
-    (tt, (h, have-append (base_tokens d.base) (token.Mark m.Open ∷ (section_tokens d.lines ++ token.Mark m.Close ∷ [])) (have_base d.base parts.0) (tt, section)))
+    let inside = have-append (section_tokens d.lines) (gates_tokens d.gates) (have_section d.lines parts.1) (have_gates d.gates parts.2) in
+    (tt, have_parts d (section_tokens d.lines ++ gates_tokens d.gates) (have_head d h parts.0) inside)
 have_kind kinds.Network d h parts =
-    let both = have-append (section_tokens d.lines) (submodules_tokens d.submodules) (have_section d.lines parts.0) (have_submodules d.submodules parts.1) in
-    (tt, (h, (tt, have-append (section_tokens d.lines ++ submodules_tokens d.submodules) (token.Mark m.Close ∷ []) both (tt, tt))))
+    let last = have-append (gates_tokens d.gates) (submodules_tokens d.submodules) (have_gates d.gates parts.2) (have_submodules d.submodules parts.3) in
+    let inside = have-append (section_tokens d.lines) (gates_tokens d.gates ++ submodules_tokens d.submodules) (have_section d.lines parts.1) last in
+    (tt, have_parts d (section_tokens d.lines ++ (gates_tokens d.gates ++ submodules_tokens d.submodules)) (have_head d h parts.0) inside)
+have_kind _ d h parts = absurd parts
 
 -- a type
 have_type : (d : TypeDeclaration) → CanBeType d → HaveSpelling (type_tokens d)

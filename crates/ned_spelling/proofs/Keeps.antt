@@ -18,7 +18,8 @@ use Rattle.ned_syntax.specs.declared.ast.ParameterWord.{ParameterWord}
 use Rattle.ned_syntax.specs.declared.ast.ParameterWord.TheVariants as words
 use Rattle.ned_syntax.specs.declared.ast.Declaration.{Declaration}
 use Rattle.ned_syntax.specs.declared.ast.SectionLine.{SectionLine}
-use Rattle.ned_syntax.specs.declared.ast.Submodule.{Submodule}
+use Rattle.ned_syntax.specs.declared.ast.GateSize.{GateSize}
+use Rattle.ned_syntax.specs.declared.heads.Head.{Head}
 use Rattle.ned_syntax.specs.declared.ast.TypeDeclaration.{TypeDeclaration}
 use Rattle.ned_syntax.specs.declared.ast.NedFile.{NedFile}
 use Rattle.ned_syntax.specs.declared.properties.PropertyName.{PropertyName}
@@ -31,8 +32,8 @@ use Rattle.ned_syntax.specs.declared.statistics.Except.TheVariants as except_is
 use Rattle.ned_syntax.specs.declared.statistics.Said.{Said}
 use Rattle.ned_syntax.specs.declared.parameters.Valued.{Valued}
 use Rattle.ned_syntax.specs.declared.parameters.Tail.{Tail}
-use Rattle.ned_syntax.specs.Grammar.{word, mark, name, name_of, expression, default_value, value_rule, in_parens, turn_of, bracketed, index, body, unit_effect, said_by_word, said, effect_of, property, modes, loose_text, no_value, source_value, record_value, source_tail, record_tail, source_word, record_word, source_part, record_part, part_or_other, other_part, record_or_other, any_part, part, next_part, nothing_said, over, over_all, statistic_body, optional_body, statistic_line, indexed_statistic, unnamed_statistic, named_or_not, line_or_ignored, statistic_tail, statistic_word, statistic, plain_name, line_of, plain_line, property_text, property_line, valued, tail, value_in, unit_in, parameter_word, volatile, any_declaration, is_measured_word, declaration, assignment, assigned_or_said, any_line, section_line, heading, section, dotted, base_name, optional_base, simple, ignored_property, assigned_or_ignored, any_body_line, body_line, body_section, optional_semi, braced_body, no_body, submodule_body, submodule, listed, submodules, network, type_rule, silent, silent_entry, entry, types_in, file}
-use Rattle.ned_spelling.proofs.Spellable.{Each, IfThere, CanBeExpression, CanBeGiven, CanBeUnit, CanBeDeclaration, CanBeAssignment, CanBeLine, CanBeBodyLine, CanBeSubmodule, CanBeType, CanBeFile}
+use Rattle.ned_syntax.specs.Grammar.{word, mark, name, name_of, expression, default_value, value_rule, in_parens, turn_of, bracketed, index, body, unit_effect, said_by_word, said, effect_of, property, modes, loose_text, no_value, source_value, record_value, source_tail, record_tail, source_word, record_word, source_part, record_part, part_or_other, other_part, record_or_other, any_part, part, next_part, nothing_said, over, over_all, statistic_body, optional_body, statistic_line, indexed_statistic, unnamed_statistic, named_or_not, line_or_ignored, statistic_tail, statistic_word, statistic, plain_name, line_of, plain_line, property_text, property_line, valued, tail, value_in, unit_in, parameter_word, volatile, any_declaration, is_measured_word, declaration, assignment, assigned_or_said, any_line, section_line, heading, section, dotted, direction, open_size, size_value, size_tail, vector_size, size_or_single, gate_size, size_in_brackets, refined_size, declared_gate, refined_gate, any_gate, gate_line, gate_section, gates, base_name, optional_base, head, gated_block, simple, ignored_property, assigned_or_ignored, any_body_line, body_line, body_section, optional_semi, braced_body, no_body, submodule_body, submodule, listed, submodules, network_block, network, type_rule, silent, silent_entry, entry, types_in, file}
+use Rattle.ned_spelling.proofs.Spellable.{Each, IfThere, CanBeExpression, CanBeGiven, CanBeUnit, CanBeDeclaration, CanBeAssignment, CanBeLine, CanBeBodyLine, CanBeSubmodule, CanBeSize, CanBeGate, CanBeType, CanBeFile}
 
 -- what sound tokens spell by the rule is so
 record Keeps {X : Type 0} (r : Rule X) (P : X → Type 0) : Type 0 where
@@ -177,9 +178,11 @@ said_can property (t ∷ u ∷ ts) h = tt
 
 -- what a property says
 effect_can : (property : PropertyName) (text : Option (List ℕ)) (tokens : Option (List Token)) → IfThere AreSound tokens → CanBeEffect (effect_of property text tokens)
-effect_can property (Some text) tokens h = tt
-effect_can property None None h = tt
-effect_can property None (Some ts) h = said_can property ts h
+effect_can names.Unit None (Some ts) h = said_can names.Unit ts h
+effect_can names.Class None (Some ts) h = said_can names.Class ts h
+effect_can names.Statistic None (Some ts) h = said_can names.Statistic ts h
+effect_can names.Other None (Some ts) h = said_can names.Other ts h
+effect_can _ _ _ h = tt
 
 -- a property as a line
 line_can : (e : Effect) → CanBeEffect e → CanBeLine (line_of e)
@@ -381,27 +384,72 @@ keeps_submodule : Keeps submodule CanBeSubmodule
 unfolding submodule
 keeps_submodule = mapped (λ p h. (h.0, h.1.0, h.1.1)) (then keeps_name (before (mark m.Colon) (then keeps_dotted keeps_submodule_body)))
 
--- submodules, or none
-listed_can : (ss : Option (List Submodule)) → IfThere (Each CanBeSubmodule) ss → Each CanBeSubmodule (listed ss)
-listed_can None h = tt
-listed_can (Some ss) h = h
+-- what is listed, or nothing
+listed_can : {X : Type 0} (P : X → Type 0) (xs : Option (List X)) → IfThere (Each P) xs → Each P (listed xs)
+listed_can P None h = tt
+listed_can P (Some xs) h = h
 
 -- the submodules
 keeps_submodules : Keeps submodules (Each CanBeSubmodule)
 unfolding submodules
-keeps_submodules = mapped listed_can (perhaps (before (word k.Submodules) (before (mark m.Colon) (each keeps_submodule))))
+keeps_submodules = mapped (listed_can CanBeSubmodule) (perhaps (before (word k.Submodules) (before (mark m.Colon) (each keeps_submodule))))
+
+-- ---- gates
+
+-- the size of a vector
+keeps_size_value : Keeps size_value CanBeExpression
+unfolding size_value
+keeps_size_value = after (mark m.RightBracket) keeps_expression
+
+-- a size, or that of a single gate
+single_can : (size : Option GateSize) → IfThere CanBeSize size → CanBeSize (size_or_single size)
+single_can None h = tt
+single_can (Some size) h = h
+
+-- the size of a gate
+keeps_gate_size : Keeps gate_size CanBeSize
+unfolding gate_size vector_size size_tail open_size
+keeps_gate_size = mapped single_can (perhaps (before (mark m.LeftBracket) (choice (mapped (λ x h. tt) (anything (mark m.RightBracket))) (mapped (λ e h. h) keeps_size_value))))
+
+-- the size that a refinement says
+keeps_refined_size : Keeps refined_size (IfThere CanBeExpression)
+unfolding refined_size size_in_brackets
+keeps_refined_size = perhaps (before (mark m.LeftBracket) keeps_size_value)
+
+-- a gate
+keeps_gate : Keeps any_gate CanBeGate
+unfolding any_gate declared_gate refined_gate
+keeps_gate = choice
+    (mapped (λ p h. (h.1.0, h.1.1.0)) (then (anything direction) (then keeps_name (then keeps_gate_size (anything (many property))))))
+    (mapped (λ p h. (h.0, h.1.0)) (then keeps_name (then keeps_refined_size (anything (many property)))))
+
+-- the gates
+keeps_gates : Keeps gates (Each CanBeGate)
+unfolding gates gate_section gate_line
+keeps_gates = mapped (listed_can CanBeGate) (perhaps (before (word k.Gates) (before (mark m.Colon) (each (after (mark m.Semi) keeps_gate)))))
+
+-- ---- heads and types
 
 -- what it extends
 keeps_base : Keeps optional_base (IfThere IsName)
 unfolding optional_base base_name
 keeps_base = perhaps (before (word k.Extends) keeps_dotted)
 
+-- a name and a base
+abbrev CanBeHead : Head → Type 0
+CanBeHead h = IsName h.name × IfThere IsName h.base
+
+-- the head of a type
+keeps_head : Keeps head CanBeHead
+unfolding head
+keeps_head = mapped (λ p h. (h.0, h.1)) (then keeps_name keeps_base)
+
 -- a type
 keeps_type : Keeps type_rule CanBeType
-unfolding type_rule simple network
+unfolding type_rule simple network gated_block network_block
 keeps_type = choice
-    (mapped (λ p h. (h.0, (h.1.0, h.1.1, refl))) (before (word k.Simple) (then keeps_name (then keeps_base (before (mark m.Open) (after (mark m.Close) keeps_section))))))
-    (mapped (λ p h. (h.0, (h.1.0, h.1.1, refl))) (before (word k.Network) (then keeps_name (before (mark m.Open) (after (mark m.Close) (then keeps_section keeps_submodules))))))
+    (mapped (λ p h. (h.0.0, (h.0.1, h.1.0, h.1.1, refl, refl))) (before (word k.Simple) (then keeps_head (before (mark m.Open) (after (mark m.Close) (then keeps_section keeps_gates))))))
+    (mapped (λ p h. (h.0.0, (h.0.1, h.1.0, h.1.1.0, h.1.1.1, refl))) (before (word k.Network) (then keeps_head (before (mark m.Open) (after (mark m.Close) (then keeps_section (then keeps_gates keeps_submodules)))))))
 
 -- a type, or what has no effect
 keeps_entry : Keeps entry (IfThere CanBeType)

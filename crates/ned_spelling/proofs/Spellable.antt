@@ -16,6 +16,10 @@ use Rattle.ned_syntax.specs.declared.ast.Statistic.{Statistic}
 use Rattle.ned_syntax.specs.declared.ast.SectionLine.{SectionLine}
 use Rattle.ned_syntax.specs.declared.ast.SectionLine.TheVariants as lines
 use Rattle.ned_syntax.specs.declared.ast.Submodule.{Submodule}
+use Rattle.ned_syntax.specs.declared.ast.GateSize.{GateSize}
+use Rattle.ned_syntax.specs.declared.ast.GateSize.TheVariants as sizes
+use Rattle.ned_syntax.specs.declared.ast.GateLine.{GateLine}
+use Rattle.ned_syntax.specs.declared.ast.GateLine.TheVariants as gate_lines
 use Rattle.ned_syntax.specs.declared.ast.TypeKind.{TypeKind}
 use Rattle.ned_syntax.specs.declared.ast.TypeKind.TheVariants as kinds
 use Rattle.ned_syntax.specs.declared.ast.TypeDeclaration.{TypeDeclaration}
@@ -80,10 +84,21 @@ CanBeBodyLine lines.Ignored = Unit {0}
 abbrev pub CanBeSubmodule : Submodule → Type 0
 CanBeSubmodule s = IsName s.name × IsName s.type_name × Each CanBeBodyLine s.body
 
--- A simple module has no submodules, a network no base.
+-- a size, where the gate is a vector of one
+abbrev pub CanBeSize : GateSize → Type 0
+CanBeSize (sizes.Sized e) = CanBeExpression e
+CanBeSize _ = Unit {0}
+
+-- a name and a size
+abbrev pub CanBeGate : GateLine → Type 0
+CanBeGate (gate_lines.Declaration g) = IsName g.name × CanBeSize g.size
+CanBeGate (gate_lines.Refinement g) = IsName g.name × IfThere CanBeExpression g.size
+
+-- A simple module has no submodules, and neither it nor a network keeps an interface. No other kind is read.
 abbrev pub CanBeParts : TypeKind → TypeDeclaration → Type 0
-CanBeParts kinds.Simple d = IfThere IsName d.base × Each CanBeLine d.lines × (d.submodules ≡ [])
-CanBeParts kinds.Network d = Each CanBeLine d.lines × Each CanBeSubmodule d.submodules × (d.base ≡ None)
+CanBeParts kinds.Simple d = IfThere IsName d.base × Each CanBeLine d.lines × Each CanBeGate d.gates × (d.submodules ≡ []) × (d.interfaces ≡ [])
+CanBeParts kinds.Network d = IfThere IsName d.base × Each CanBeLine d.lines × Each CanBeGate d.gates × Each CanBeSubmodule d.submodules × (d.interfaces ≡ [])
+CanBeParts _ d = ⊥
 
 -- a name, and the parts of the kind
 abbrev pub CanBeType : TypeDeclaration → Type 0

@@ -1,5 +1,5 @@
 -- The standard tokens of declarations say them.
-use Rattle.std.proofs.Common.{◌≡◌, ℕ, Bool, true, false, List, [], ◌∷◌, ◌++◌, Option, Some, None, inl, inr, refl, sym, ap, ◌∙◌, subst, append-nil, codes}
+use Rattle.std.proofs.Common.{◌≡◌, ℕ, Bool, true, false, List, [], ◌∷◌, ◌++◌, Option, Some, None, inl, inr, refl, sym, ap, subst, append-nil, codes}
 use Rattle.sim_values.specs.declared.value.Dimension.{Dimension}
 use Rattle.sim_values.specs.declared.value.Dimension.TheVariants as dimension
 use Rattle.ned_tokens.specs.declared.token.Keyword.{Keyword}
@@ -27,6 +27,12 @@ use Rattle.ned_syntax.specs.declared.ast.Statistic.{Statistic}
 use Rattle.ned_syntax.specs.declared.ast.SectionLine.{SectionLine}
 use Rattle.ned_syntax.specs.declared.ast.SectionLine.TheVariants as lines
 use Rattle.ned_syntax.specs.declared.ast.Submodule.{Submodule}
+use Rattle.ned_syntax.specs.declared.ast.GateDirection.{GateDirection}
+use Rattle.ned_syntax.specs.declared.ast.GateDirection.TheVariants as directions
+use Rattle.ned_syntax.specs.declared.ast.GateSize.{GateSize}
+use Rattle.ned_syntax.specs.declared.ast.GateSize.TheVariants as sizes
+use Rattle.ned_syntax.specs.declared.ast.GateLine.{GateLine}
+use Rattle.ned_syntax.specs.declared.ast.GateLine.TheVariants as gate_lines
 use Rattle.ned_syntax.specs.declared.ast.TypeKind.{TypeKind}
 use Rattle.ned_syntax.specs.declared.ast.TypeKind.TheVariants as kinds
 use Rattle.ned_syntax.specs.declared.ast.TypeDeclaration.{TypeDeclaration}
@@ -39,9 +45,9 @@ use Rattle.ned_syntax.specs.declared.statistics.Part.TheVariants as part_is
 use Rattle.ned_syntax.specs.declared.parameters.Valued.{Valued}
 use Rattle.ned_tokens.specs.Words.{or_else}
 use Rattle.ned_tokens.specs.Balanced.{balanced}
-use Rattle.ned_syntax.specs.Grammar.{turn_of, effect_of, said_in, statistic_line, other_part, first_unit, unit_behind, value_in, unit_in, is_measured_word, valued, tail, parameter_word, volatile, any_declaration, declaration, assignment, source_word, source_value, source_tail, source_part, record_word, record_value, record_tail, record_part, no_value, record_or_other, any_part, part, next_part, statistic_body, optional_body, indexed_statistic, unnamed_statistic, named_or_not, statistic_tail, statistic_word, statistic, plain_name, plain_line, property_text, property_line, assigned_or_said, any_line, section_line, heading, section, dotted, base_name, optional_base, simple, ignored_property, assigned_or_ignored, any_body_line, body_line, body_section, optional_semi, braced_body, no_body, submodule_body, submodule, submodules, network, type_rule, silent_entry, entry, types_in, file, word, mark, name, is_word, is_mark, expression, default_value, value_rule, in_parens, property_name, bracketed, index, body, property, mode_word, question, mode_rule, next_mode, modes}
-use Rattle.ned_spelling.specs.Declarations.{listed_tokens, given_tokens, valued_tokens, unit_tokens, parameter_keyword, declaration_tokens, assignment_tokens, mode_name, question_tokens, mode_tokens, next_mode_tokens, record_tokens, statistic_tokens, line_tokens, section_line_tokens, section_tokens, body_tokens, submodule_tokens, submodules_tokens, base_tokens, kind_tokens, type_tokens, file_tokens}
-use Rattle.ned_spelling.proofs.Spellable.{Each, IfThere, CanBeExpression, CanBeGiven, CanBeUnit, CanBeDeclaration, CanBeAssignment, CanBeLine, CanBeBodyLine, CanBeSubmodule, CanBeParts, CanBeType, CanBeFile}
+use Rattle.ned_syntax.specs.Grammar.{turn_of, effect_of, said_in, statistic_line, other_part, first_unit, unit_behind, value_in, unit_in, is_measured_word, valued, tail, parameter_word, volatile, any_declaration, declaration, assignment, source_word, source_value, source_tail, source_part, record_word, record_value, record_tail, record_part, no_value, record_or_other, any_part, part, next_part, statistic_body, optional_body, indexed_statistic, unnamed_statistic, named_or_not, statistic_tail, statistic_word, statistic, plain_name, plain_line, property_text, property_line, assigned_or_said, any_line, section_line, heading, section, dotted, direction, open_size, size_value, size_tail, vector_size, gate_size, size_in_brackets, refined_size, declared_gate, refined_gate, any_gate, gate_line, gate_section, gates, says_loose, base_name, optional_base, head, gated_block, simple, ignored_property, assigned_or_ignored, any_body_line, body_line, body_section, optional_semi, braced_body, no_body, submodule_body, submodule, submodules, network_block, network, type_rule, silent_entry, entry, types_in, file, word, mark, name, is_word, is_mark, expression, default_value, value_rule, in_parens, property_name, bracketed, index, body, property, mode_word, question, mode_rule, next_mode, modes}
+use Rattle.ned_spelling.specs.Declarations.{listed_tokens, given_tokens, valued_tokens, unit_tokens, parameter_keyword, declaration_tokens, assignment_tokens, mode_name, question_tokens, mode_tokens, next_mode_tokens, record_tokens, statistic_tokens, line_tokens, section_line_tokens, section_tokens, body_tokens, submodule_tokens, submodules_tokens, base_tokens, direction_keyword, size_tokens, refined_size_tokens, loose_tokens, gate_tokens, gate_line_tokens, gates_tokens, kind_tokens, type_tokens, file_tokens}
+use Rattle.ned_spelling.proofs.Spellable.{Each, IfThere, CanBeExpression, CanBeGiven, CanBeUnit, CanBeDeclaration, CanBeAssignment, CanBeLine, CanBeBodyLine, CanBeSubmodule, CanBeSize, CanBeGate, CanBeParts, CanBeType, CanBeFile}
 
 -- these tokens spell this value by the rule
 record Spells {X : Type 0} (r : Rule X) (ts : List Token) (x : X) : Type 0 where
@@ -462,21 +468,113 @@ unfolding optional_base base_name
 a_base None = nothing base_name
 a_base (Some name) = some (before (a_word k.Extends) (a_dotted name))
 
+-- the head of a type
+a_head : (text : List ℕ) (base : Option (List ℕ)) → Spells head (token.Name text ∷ base_tokens base) (record { name = text; base = base })
+unfolding head
+a_head text base = mapped (then (a_name text) (a_base base))
+
+-- ---- gates
+
+-- the direction of a gate
+a_direction : (d : GateDirection) → Spells direction (token.Word (direction_keyword d) ∷ []) d
+unfolding direction
+a_direction directions.Input = one (token.Word k.Input) refl
+a_direction directions.Output = one (token.Word k.Output) refl
+a_direction directions.Inout = one (token.Word k.Inout) refl
+
+-- the size of a vector, behind its `[`
+a_size_value : (e : Expression) → CanBeExpression e → Spells size_value (expression_tokens e ++ token.Mark m.RightBracket ∷ []) e
+unfolding size_value
+a_size_value e h = after (an_expression e h) (a_mark m.RightBracket)
+
+-- the size of a gate
+a_size : (size : GateSize) → CanBeSize size → Spells gate_size (size_tokens size) size
+unfolding gate_size vector_size size_tail open_size
+a_size sizes.Single h = mapped (nothing vector_size)
+a_size sizes.Open h = mapped (some (before (a_mark m.LeftBracket) (this (made sizes.Sized size_value) (mapped (a_mark m.RightBracket)))))
+a_size (sizes.Sized e) h = mapped (some (before (a_mark m.LeftBracket) (that open_size (mapped (a_size_value e h)))))
+
+-- the size that a refinement says
+a_refined_size : (size : Option Expression) → IfThere CanBeExpression size → Spells refined_size (refined_size_tokens size) size
+unfolding refined_size size_in_brackets
+a_refined_size None h = nothing size_in_brackets
+a_refined_size (Some e) h = some (before (a_mark m.LeftBracket) (a_size_value e h))
+
+-- `@loose`
+a_loose : Spells property (loose_tokens true) effects.Loose
+unfolding property property_name index body
+a_loose = before (a_mark m.At) (mapped (then loose_name (then (nothing bracketed) (nothing in_parens))))
+  where
+    loose_name : Spells property_name (token.Name (codes "loose") ∷ []) names.Loose
+    loose_name = one (token.Name (codes "loose")) refl
+
+-- what the properties of a gate say
+abbrev loose_effects : Bool → List Effect
+loose_effects true = effects.Loose ∷ []
+loose_effects false = []
+
+-- `@loose`, where the gate may stay unconnected
+the_loose : (b : Bool) → Spells (many property) (loose_tokens b) (loose_effects b)
+the_loose true = only property a_loose
+the_loose false = none property
+
+-- they say what was given
+loose_same : (b : Bool) → says_loose (loose_effects b) ≡ b
+loose_same true = refl
+loose_same false = refl
+
+-- a gate
+a_gate : (g : GateLine) → CanBeGate g → Spells any_gate (gate_tokens g) g
+unfolding any_gate declared_gate refined_gate
+a_gate (gate_lines.Declaration g) h =
+    let loose = loose_same g.loose in
+    this refined_gate (to (mapped (then (a_direction g.direction) (then (a_name g.name) (then (a_size g.size h.1) (the_loose g.loose))))) (λ i. gate_lines.Declaration (record { name = g.name; direction = g.direction; size = g.size; loose = loose i })))
+a_gate (gate_lines.Refinement g) h =
+    let loose = loose_same g.loose in
+    that declared_gate (to (mapped (then (a_name g.name) (then (a_refined_size g.size h.1) (the_loose g.loose)))) (λ i. gate_lines.Refinement (record { name = g.name; size = g.size; loose = loose i })))
+
+-- a gate with its `;`
+a_gate_line : (g : GateLine) → CanBeGate g → Spells gate_line (gate_line_tokens g) g
+unfolding gate_line
+a_gate_line g h = after (a_gate g h) (a_mark m.Semi)
+
+-- the gates
+the_gates : (gs : List GateLine) → Each CanBeGate gs → Spells gates (gates_tokens gs) gs
+unfolding gates gate_section
+the_gates [] h = mapped (nothing gate_section)
+the_gates (g ∷ gs) h = mapped (some (before (a_word k.Gates) (before (a_mark m.Colon) (each gate_line gate_line_tokens CanBeGate a_gate_line (g ∷ gs) h))))
+
+-- ---- types of each kind
+
+-- parameters and gates in braces
+a_gated_block : (ls : List SectionLine) (gs : List GateLine) → Each CanBeLine ls → Each CanBeGate gs → Spells gated_block (token.Mark m.Open ∷ ((section_tokens ls ++ gates_tokens gs) ++ token.Mark m.Close ∷ [])) (ls, gs)
+unfolding gated_block
+a_gated_block ls gs h k = before (a_mark m.Open) (after (then (a_section ls h) (the_gates gs k)) (a_mark m.Close))
+
+-- parameters, gates and submodules in braces
+a_network_block : (ls : List SectionLine) (gs : List GateLine) (ss : List Submodule) → Each CanBeLine ls → Each CanBeGate gs → Each CanBeSubmodule ss → Spells network_block (token.Mark m.Open ∷ ((section_tokens ls ++ (gates_tokens gs ++ submodules_tokens ss)) ++ token.Mark m.Close ∷ [])) (ls, (gs, ss))
+unfolding network_block
+a_network_block ls gs ss h k l = before (a_mark m.Open) (after (then (a_section ls h) (then (the_gates gs k) (the_submodules ss l))) (a_mark m.Close))
+
 -- a type of these parts
-abbrev type_with : TypeKind → List ℕ → Option (List ℕ) → List SectionLine → List Submodule → TypeDeclaration
-type_with kind text base ls ss = record { kind = kind; name = text; base = base; lines = ls; submodules = ss }
+abbrev type_with : TypeKind → List ℕ → Option (List ℕ) → List (List ℕ) → List SectionLine → List GateLine → List Submodule → TypeDeclaration
+type_with kind text base is ls gs ss = record { kind = kind; name = text; base = base; interfaces = is; lines = ls; gates = gs; submodules = ss }
 
 -- a type of each kind
-kind_spells : (kind : TypeKind) (text : List ℕ) (base : Option (List ℕ)) (ls : List SectionLine) (ss : List Submodule) → CanBeParts kind (type_with kind text base ls ss) → Spells type_rule (kind_tokens kind (type_with kind text base ls ss)) (type_with kind text base ls ss)
+kind_spells : (kind : TypeKind) (text : List ℕ) (base : Option (List ℕ)) (is : List (List ℕ)) (ls : List SectionLine) (gs : List GateLine) (ss : List Submodule) → CanBeParts kind (type_with kind text base is ls gs ss) → Spells type_rule (kind_tokens kind (type_with kind text base is ls gs ss)) (type_with kind text base is ls gs ss)
 unfolding type_rule simple network
-kind_spells kinds.Simple text base ls ss h = this network (to (mapped (before (a_word k.Simple) (then (a_name text) (then (a_base base) (before (a_mark m.Open) (after (a_section ls h.1) (a_mark m.Close))))))) (ap (type_with kinds.Simple text base ls) (sym h.2)))
-kind_spells kinds.Network text base ls ss h =
-    let empty = ap (λ (b : Option (List ℕ)). type_with kinds.Network text b ls ss) (sym h.2) in
-    that simple (to (mapped (before (a_word k.Network) (then (a_name text) (before (a_mark m.Open) (after (then (a_section ls h.0) (the_submodules ss h.1)) (a_mark m.Close)))))) empty)
+kind_spells kinds.Simple text base is ls gs ss h =
+    let none_below = sym h.3 in
+    let none_kept = sym h.4 in
+    this network (to (mapped (before (a_word k.Simple) (then (a_head text base) (a_gated_block ls gs h.1 h.2)))) (λ i. type_with kinds.Simple text base (none_kept i) ls gs (none_below i)))
+kind_spells kinds.Network text base is ls gs ss h =
+    let none_kept = sym h.4 in
+    that simple (to (mapped (before (a_word k.Network) (then (a_head text base) (a_network_block ls gs ss h.1 h.2 h.3)))) (λ i. type_with kinds.Network text base (none_kept i) ls gs ss))
+kind_spells _ text base is ls gs ss h = absurd h
 
 -- a type
 a_type : (d : TypeDeclaration) → CanBeType d → Spells type_rule (type_tokens d) d
-a_type d h = kind_spells d.kind d.name d.base d.lines d.submodules h.1
+a_type d h = kind_spells d.kind d.name d.base d.interfaces d.lines d.gates d.submodules h.1
 
 -- a type of a file
 an_entry : (d : TypeDeclaration) → CanBeType d → Spells entry (type_tokens d) (Some d)

@@ -23,6 +23,12 @@ use Rattle.ned_syntax.specs.declared.ast.Statistic.{Statistic}
 use Rattle.ned_syntax.specs.declared.ast.SectionLine.{SectionLine}
 use Rattle.ned_syntax.specs.declared.ast.SectionLine.TheVariants as lines
 use Rattle.ned_syntax.specs.declared.ast.Submodule.{Submodule}
+use Rattle.ned_syntax.specs.declared.ast.GateDirection.{GateDirection}
+use Rattle.ned_syntax.specs.declared.ast.GateDirection.TheVariants as directions
+use Rattle.ned_syntax.specs.declared.ast.GateSize.{GateSize}
+use Rattle.ned_syntax.specs.declared.ast.GateSize.TheVariants as sizes
+use Rattle.ned_syntax.specs.declared.ast.GateLine.{GateLine}
+use Rattle.ned_syntax.specs.declared.ast.GateLine.TheVariants as gate_lines
 use Rattle.ned_syntax.specs.declared.ast.TypeKind.{TypeKind}
 use Rattle.ned_syntax.specs.declared.ast.TypeKind.TheVariants as kinds
 use Rattle.ned_syntax.specs.declared.ast.TypeDeclaration.{TypeDeclaration}
@@ -140,10 +146,57 @@ abbrev pub base_tokens : Option (List ℕ) → List Token
 base_tokens None = []
 base_tokens (Some name) = token.Word k.Extends ∷ token.Name name ∷ []
 
--- A simple module has a base and parameters, a network has parameters and submodules.
+-- the head of a type
+abbrev pub head_tokens : TypeDeclaration → List Token
+head_tokens d = token.Name d.name ∷ base_tokens d.base
+
+-- ---- gates
+
+-- the word that says a gate's direction
+abbrev pub direction_keyword : GateDirection → Keyword
+direction_keyword directions.Input = k.Input
+direction_keyword directions.Output = k.Output
+direction_keyword directions.Inout = k.Inout
+
+-- `[..]` around the size of a vector
+abbrev pub bracket_tokens : Expression → List Token
+bracket_tokens e = token.Mark m.LeftBracket ∷ (expression_tokens e ++ token.Mark m.RightBracket ∷ [])
+
+-- `[]` or `[..]`, where the gate is a vector
+abbrev pub size_tokens : GateSize → List Token
+size_tokens sizes.Single = []
+size_tokens sizes.Open = token.Mark m.LeftBracket ∷ token.Mark m.RightBracket ∷ []
+size_tokens (sizes.Sized e) = bracket_tokens e
+
+-- `[..]`, where there is a size
+abbrev pub refined_size_tokens : Option Expression → List Token
+refined_size_tokens None = []
+refined_size_tokens (Some e) = bracket_tokens e
+
+-- `@loose`, where the gate may stay unconnected
+abbrev pub loose_tokens : Bool → List Token
+loose_tokens true = token.Mark m.At ∷ token.Name (codes "loose") ∷ []
+loose_tokens false = []
+
+-- direction name size [loose] | name size [loose]
+abbrev pub gate_tokens : GateLine → List Token
+gate_tokens (gate_lines.Declaration g) = token.Word (direction_keyword g.direction) ∷ token.Name g.name ∷ (size_tokens g.size ++ loose_tokens g.loose)
+gate_tokens (gate_lines.Refinement g) = token.Name g.name ∷ (refined_size_tokens g.size ++ loose_tokens g.loose)
+
+-- gate ";"
+abbrev pub gate_line_tokens : GateLine → List Token
+gate_line_tokens g = gate_tokens g ++ token.Mark m.Semi ∷ []
+
+-- the gates, where there are some
+abbrev pub gates_tokens : List GateLine → List Token
+gates_tokens [] = []
+gates_tokens (g ∷ gs) = token.Word k.Gates ∷ token.Mark m.Colon ∷ listed_tokens gate_line_tokens (g ∷ gs)
+
+-- A simple module has parameters and gates, a network submodules too. No other kind is read.
 abbrev pub kind_tokens : TypeKind → TypeDeclaration → List Token
-kind_tokens kinds.Simple d = token.Word k.Simple ∷ token.Name d.name ∷ (base_tokens d.base ++ token.Mark m.Open ∷ (section_tokens d.lines ++ token.Mark m.Close ∷ []))
-kind_tokens kinds.Network d = token.Word k.Network ∷ token.Name d.name ∷ token.Mark m.Open ∷ ((section_tokens d.lines ++ submodules_tokens d.submodules) ++ token.Mark m.Close ∷ [])
+kind_tokens kinds.Simple d = token.Word k.Simple ∷ (head_tokens d ++ token.Mark m.Open ∷ ((section_tokens d.lines ++ gates_tokens d.gates) ++ token.Mark m.Close ∷ []))
+kind_tokens kinds.Network d = token.Word k.Network ∷ (head_tokens d ++ token.Mark m.Open ∷ ((section_tokens d.lines ++ (gates_tokens d.gates ++ submodules_tokens d.submodules)) ++ token.Mark m.Close ∷ []))
+kind_tokens _ d = []
 
 -- a type, as its kind has it
 abbrev pub type_tokens : TypeDeclaration → List Token

@@ -8,11 +8,14 @@ use Rattle.ned_syntax.specs.declared.ast.ParameterValue.TheVariants as given
 use Rattle.ned_syntax.specs.declared.ast.ParameterWord.TheVariants as words
 use Rattle.ned_values.specs.declared.ast.Mode.TheVariants as modes_are
 use Rattle.ned_syntax.specs.declared.ast.SectionLine.TheVariants as lines
+use Rattle.ned_syntax.specs.declared.ast.GateDirection.TheVariants as directions
+use Rattle.ned_syntax.specs.declared.ast.GateSize.TheVariants as sizes
+use Rattle.ned_syntax.specs.declared.ast.GateLine.TheVariants as gate_lines
 use Rattle.ned_syntax.specs.declared.ast.TypeKind.TheVariants as kinds
 use Rattle.ned_syntax.specs.declared.ast.NedFile.{NedFile}
 use Rattle.ned_spelling.specs.Declarations.{spelled}
 
--- a simple module with a line of each kind, one that extends it, and a network with a line and a submodule with a body
+-- a simple module with a line and a gate of each kind, one that extends it, and a network with a line and a submodule with a body
 abbrev pub example : NedFile
 example = record {
   types =
@@ -20,6 +23,7 @@ example = record {
         kind = kinds.Simple;
         name = codes "Source";
         base = None;
+        interfaces = [];
         lines =
             lines.Declaration (record { name = codes "interval"; word = words.Double; unit = Some dimension.Time; value = Some (given.Default (expressions.Literal (values.Quantity dimension.Time (pos 1000000000000)))) })
             ∷ lines.Declaration (record { name = codes "offset"; word = words.Int; unit = None; value = Some (given.Fixed (expressions.Signed signs.Minus (expressions.Literal (values.Whole (pos 5))))) })
@@ -28,14 +32,32 @@ example = record {
             ∷ lines.Ignored
             ∷ lines.Statistic (record { name = codes "sent"; source = codes "packetSent"; modes = record { mode = modes_are.Count; optional = false } ∷ record { mode = modes_are.Sum; optional = true } ∷ [] })
             ∷ [];
+        gates =
+            gate_lines.Declaration (record { name = codes "in"; direction = directions.Input; size = sizes.Single; loose = true })
+            ∷ gate_lines.Declaration (record { name = codes "out"; direction = directions.Output; size = sizes.Open; loose = false })
+            ∷ gate_lines.Declaration (record { name = codes "port"; direction = directions.Inout; size = sizes.Sized (expressions.Literal (values.Whole (pos 2))); loose = true })
+            ∷ [];
         submodules = [];
       }
-      ∷ record { kind = kinds.Simple; name = codes "Slow"; base = Some (codes "Source"); lines = []; submodules = [] }
+      ∷ record {
+        kind = kinds.Simple;
+        name = codes "Slow";
+        base = Some (codes "Source");
+        interfaces = [];
+        lines = [];
+        gates =
+            gate_lines.Refinement (record { name = codes "out"; size = Some (expressions.Literal (values.Whole (pos 3))); loose = false })
+            ∷ gate_lines.Refinement (record { name = codes "out"; size = None; loose = true })
+            ∷ [];
+        submodules = [];
+      }
       ∷ record {
         kind = kinds.Network;
         name = codes "Net";
         base = None;
+        interfaces = [];
         lines = lines.Declaration (record { name = codes "size"; word = words.Int; unit = None; value = Some (given.Fixed (expressions.Literal (values.Whole (pos 2)))) }) ∷ [];
+        gates = [];
         submodules =
             record { name = codes "a"; type_name = codes "Source"; body = [] }
             ∷ record {
@@ -49,7 +71,7 @@ example = record {
 }
 
 abbrev pub example_text : List ℕ
-example_text = codes "simple Source {\nparameters: double interval @unit(ps) = default(1000000000000ps);\nint offset = - 5;\nlabel = \"a\\tb\";\n@class(Src);\n@ignored;\n@statistic[sent](source = packetSent;\nrecord = count, sum?);\n}\nsimple Slow extends Source {\nparameters: }\nnetwork Net {\nparameters: int size = 2;\nsubmodules: a: Source;\nb: Source {\nparameters: offset = 3;\n@ignored;\n}\n}\n"
+example_text = codes "simple Source {\nparameters: double interval @unit(ps) = default(1000000000000ps);\nint offset = - 5;\nlabel = \"a\\tb\";\n@class(Src);\n@ignored;\n@statistic[sent](source = packetSent;\nrecord = count, sum?);\ngates: input in @loose;\noutput out[];\ninout port[2] @loose;\n}\nsimple Slow extends Source {\nparameters: gates: out[3];\nout @loose;\n}\nnetwork Net {\nparameters: int size = 2;\nsubmodules: a: Source;\nb: Source {\nparameters: offset = 3;\n@ignored;\n}\n}\n"
 
 -- The example is spelled so.
 abbrev pub ExampleIsSpelled : Type 0

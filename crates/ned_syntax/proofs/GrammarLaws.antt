@@ -12,11 +12,12 @@ use Rattle.ned_tokens.specs.Rule.{◌⊗◌, ◌◁◌, ◌▷◌, made, optiona
 use Rattle.ned_tokens.specs.Balanced.{balanced}
 use Rattle.ned_syntax.specs.declared.ast.ParameterValue.TheVariants as given
 use Rattle.ned_syntax.specs.declared.ast.SectionLine.TheVariants as lines
+use Rattle.ned_syntax.specs.declared.ast.GateSize.TheVariants as sizes
 use Rattle.ned_syntax.specs.declared.properties.PropertyName.{PropertyName}
 use Rattle.ned_syntax.specs.declared.properties.PropertyName.TheVariants as names
 use Rattle.ned_syntax.specs.declared.statistics.Except.{Except}
 use Rattle.ned_syntax.specs.declared.statistics.Except.TheVariants as except_is
-use Rattle.ned_syntax.specs.Grammar.{said_in, word, mark, name, in_parens, expression, default_value, value_rule, property_name, bracketed, index, body, property, mode_word, question, mode_rule, next_mode, modes, group, loose_token, piece, pieces, loose_text, no_value, source_value, record_value, source_tail, record_tail, source_word, record_word, source_part, record_part, other_part, record_or_other, any_part, part, next_part, statistic_body, optional_body, indexed_statistic, unnamed_statistic, named_or_not, statistic_tail, statistic_word, statistic, plain_name, plain_line, property_text, property_line, valued, tail, parameter_word, volatile, any_declaration, declaration, assignment, assigned_or_said, any_line, section_line, heading, section, dotted, base_name, optional_base, simple, ignored_property, assigned_or_ignored, any_body_line, body_line, body_section, optional_semi, braced_body, no_body, submodule_body, submodule, submodules, network, type_rule, package_line, import_token, import_text, import_line, file_property, import_or_property, silent, silent_entry, entry, file, turn_of, property_name_of, mode_of, loose_of, source_of, record_of, statistic_of, plain_name_of, parameter_word_of, is_measured, is_source, is_record, is_statistic, plain_of, import_of}
+use Rattle.ned_syntax.specs.Grammar.{said_in, word, mark, name, in_parens, expression, default_value, value_rule, property_name, bracketed, index, body, property, mode_word, question, mode_rule, next_mode, modes, group, loose_token, piece, pieces, loose_text, no_value, source_value, record_value, source_tail, record_tail, source_word, record_word, source_part, record_part, other_part, record_or_other, any_part, part, next_part, statistic_body, optional_body, indexed_statistic, unnamed_statistic, named_or_not, statistic_tail, statistic_word, statistic, plain_name, plain_line, property_text, property_line, valued, tail, parameter_word, volatile, any_declaration, declaration, assignment, assigned_or_said, any_line, section_line, heading, section, dotted, direction, open_size, size_value, size_tail, vector_size, gate_size, size_in_brackets, refined_size, declared_gate, refined_gate, any_gate, gate_line, gate_section, gates, base_name, optional_base, head, gated_block, simple, ignored_property, assigned_or_ignored, any_body_line, body_line, body_section, optional_semi, braced_body, no_body, submodule_body, submodule, submodules, network_block, network, type_rule, package_line, import_token, import_text, import_line, file_property, import_or_property, silent, silent_entry, entry, file, turn_of, property_name_of, mode_of, loose_of, source_of, record_of, statistic_of, plain_name_of, parameter_word_of, direction_of, is_measured, is_source, is_record, is_statistic, is_loose_property, plain_of, import_of}
 pub use Rattle.ned_values.proofs.GrammarLaws.{word-lawful, mark-lawful, name-lawful}
 pub use Rattle.ned_expressions.proofs.ExpressionLaws.{expression-lawful}
 use Rattle.ned_tokens.proofs.Laws.{Lawful, token-lawful, such_that-lawful, either-lawful, optional-lawful, then, before, after, mapped}
@@ -319,7 +320,7 @@ statistic_name false property e = refl
 
 statistic_apart : (t : Token) → plain_line.starts t ≡ true → statistic.starts t ≡ false
 unfolding word mark name in_parens expression default_value value_rule property_name bracketed index body property mode_word question mode_rule next_mode modes group loose_token piece pieces loose_text no_value source_value record_value source_tail record_tail source_word record_word source_part record_part other_part record_or_other any_part part next_part statistic_body optional_body indexed_statistic unnamed_statistic named_or_not statistic_tail statistic_word statistic plain_name plain_line property_text property_line valued tail parameter_word volatile any_declaration declaration assignment assigned_or_said any_line section_line heading section base_name optional_base simple submodule submodules network type_rule file
-statistic_apart (token.Name text) e = statistic_name (is_statistic text) (cond (bytes_eq text (codes "unit")) names.Unit (cond (bytes_eq text (codes "class")) names.Class names.Other)) e
+statistic_apart (token.Name text) e = statistic_name (is_statistic text) (cond (bytes_eq text (codes "unit")) names.Unit (cond (bytes_eq text (codes "class")) names.Class (cond (is_loose_property text) names.Loose names.Other))) e
 statistic_apart _ e = refl
 
 pub property_text-lawful : Lawful property_text
@@ -467,13 +468,108 @@ dotted_ends _ e = absurd (false≢true e)
 pub dotted_line-lawful : Lawful (dotted ◁ mark m.Semi)
 dotted_line-lawful = after dotted-lawful (mark-lawful m.Semi) dotted_ends
 
--- ---- types
+-- ---- gates
 
-section_ends : (t : Token) → (mark m.Close).starts t ≡ true → (section).goes_on t ≡ false
-unfolding word mark name in_parens expression default_value value_rule property_name bracketed index body property mode_word question mode_rule next_mode modes group loose_token piece pieces loose_text no_value source_value record_value source_tail record_tail source_word record_word source_part record_part other_part record_or_other any_part part next_part statistic_body optional_body indexed_statistic unnamed_statistic named_or_not statistic_tail statistic_word statistic plain_name plain_line property_text property_line valued tail parameter_word volatile any_declaration declaration assignment assigned_or_said any_line section_line heading section base_name optional_base simple submodule submodules network type_rule file
-section_ends (token.Mark m.Close) e = refl
-section_ends (token.Mark _) e = absurd (false≢true e)
-section_ends _ e = absurd (false≢true e)
+pub direction-lawful : Lawful direction
+unfolding direction
+direction-lawful = token-lawful direction_of
+
+pub open_size-lawful : Lawful open_size
+unfolding open_size
+open_size-lawful = mapped (mark-lawful m.RightBracket)
+
+size_ends : (t : Token) → (mark m.RightBracket).starts t ≡ true → expression.goes_on t ≡ false
+unfolding mark expression
+size_ends (token.Mark m.RightBracket) e = refl
+size_ends (token.Mark _) e = absurd (false≢true e)
+size_ends _ e = absurd (false≢true e)
+
+pub size_value-lawful : Lawful size_value
+unfolding size_value
+size_value-lawful = after expression-lawful (mark-lawful m.RightBracket) size_ends
+
+open_apart : (t : Token) → (made sizes.Sized size_value).starts t ≡ true → open_size.starts t ≡ false
+unfolding size_value open_size expression mark
+open_apart (token.Mark m.RightBracket) e = absurd (false≢true e)
+open_apart (token.Mark _) e = refl
+open_apart _ e = refl
+
+pub size_tail-lawful : Lawful size_tail
+unfolding size_tail open_size size_value expression mark
+size_tail-lawful = either-lawful open_size (made sizes.Sized size_value) open_size-lawful (mapped size_value-lawful) refl refl open_apart
+
+pub vector_size-lawful : Lawful vector_size
+unfolding vector_size mark
+vector_size-lawful = before (mark-lawful m.LeftBracket) size_tail-lawful (λ t e. refl)
+
+pub gate_size-lawful : Lawful gate_size
+unfolding gate_size vector_size mark
+gate_size-lawful = mapped (optional-lawful vector_size vector_size-lawful refl)
+
+pub size_in_brackets-lawful : Lawful size_in_brackets
+unfolding size_in_brackets mark
+size_in_brackets-lawful = before (mark-lawful m.LeftBracket) size_value-lawful (λ t e. refl)
+
+pub refined_size-lawful : Lawful refined_size
+unfolding refined_size size_in_brackets mark
+refined_size-lawful = optional-lawful size_in_brackets size_in_brackets-lawful refl
+
+size_apart : (t : Token) → (many property).starts t ≡ true → gate_size.goes_on t ≡ false
+unfolding property gate_size vector_size size_tail open_size size_value expression mark
+size_apart (token.Mark m.At) e = refl
+size_apart (token.Mark _) e = absurd (false≢true e)
+size_apart _ e = absurd (false≢true e)
+
+refined_size_apart : (t : Token) → (many property).starts t ≡ true → refined_size.goes_on t ≡ false
+unfolding property refined_size size_in_brackets size_value expression mark
+refined_size_apart (token.Mark m.At) e = refl
+refined_size_apart (token.Mark _) e = absurd (false≢true e)
+refined_size_apart _ e = absurd (false≢true e)
+
+pub declared_gate-lawful : Lawful declared_gate
+unfolding declared_gate direction name
+declared_gate-lawful = mapped (then direction-lawful (then name-lawful (then gate_size-lawful properties-lawful size_apart) (λ t e. refl)) (λ t e. refl))
+
+pub refined_gate-lawful : Lawful refined_gate
+unfolding refined_gate name
+refined_gate-lawful = mapped (then name-lawful (then refined_size-lawful properties-lawful refined_size_apart) (λ t e. refl))
+
+gate_apart : (t : Token) → refined_gate.starts t ≡ true → declared_gate.starts t ≡ false
+unfolding refined_gate name declared_gate direction
+gate_apart (token.Name text) e = refl
+gate_apart _ e = absurd (false≢true e)
+
+pub any_gate-lawful : Lawful any_gate
+unfolding any_gate declared_gate refined_gate direction name
+any_gate-lawful = either-lawful declared_gate refined_gate declared_gate-lawful refined_gate-lawful refl refl gate_apart
+
+gate_ends : (t : Token) → (mark m.Semi).starts t ≡ true → any_gate.goes_on t ≡ false
+unfolding any_gate declared_gate refined_gate gate_size vector_size size_tail open_size size_value refined_size size_in_brackets expression property property_name index bracketed body in_parens mark name
+gate_ends (token.Mark m.Semi) e = refl
+gate_ends (token.Mark _) e = absurd (false≢true e)
+gate_ends _ e = absurd (false≢true e)
+
+pub gate_line-lawful : Lawful gate_line
+unfolding gate_line
+gate_line-lawful = after any_gate-lawful (mark-lawful m.Semi) gate_ends
+
+pub gate_line-full : gate_line.empty ≡ false
+unfolding gate_line any_gate refined_gate name
+gate_line-full = refl
+
+gate_lines_apart : (t : Token) → gate_line.starts t ≡ true → gate_line.goes_on t ≡ false
+unfolding gate_line mark
+gate_lines_apart t e = refl
+
+pub gate_section-lawful : Lawful gate_section
+unfolding gate_section word mark
+gate_section-lawful = before (word-lawful k.Gates) (before (mark-lawful m.Colon) (many-lawful gate_line gate_line-lawful gate_line-full gate_lines_apart) (λ t e. refl)) (λ t e. refl)
+
+pub gates-lawful : Lawful gates
+unfolding gates gate_section word
+gates-lawful = mapped (optional-lawful gate_section gate_section-lawful refl)
+
+-- ---- heads of types
 
 pub base_name-lawful : Lawful base_name
 unfolding base_name word
@@ -483,19 +579,40 @@ pub base-lawful : Lawful optional_base
 unfolding optional_base base_name word
 base-lawful = optional-lawful base_name base_name-lawful refl
 
-base_apart : (t : Token) → (mark m.Open ▷ (section ◁ mark m.Close)).starts t ≡ true → (optional_base).goes_on t ≡ false
-unfolding section dotted base_name optional_base word mark name
-base_apart (token.Mark m.Open) e = refl
-base_apart (token.Mark _) e = absurd (false≢true e)
-base_apart _ e = absurd (false≢true e)
+pub head-lawful : Lawful head
+unfolding head name
+head-lawful = mapped (then name-lawful base-lawful (λ t e. refl))
 
-pub block-lawful : Lawful (mark m.Open ▷ (section ◁ mark m.Close))
-unfolding mark
-block-lawful = before (mark-lawful m.Open) (after section-lawful (mark-lawful m.Close) section_ends) (λ t e. refl)
+-- ---- simple modules
+
+gates_apart : (t : Token) → gates.starts t ≡ true → section.goes_on t ≡ false
+unfolding gates gate_section section heading section_line any_line assigned_or_said property_line assignment declaration any_declaration volatile parameter_word word mark name
+gates_apart (token.Word k.Gates) e = refl
+gates_apart (token.Word _) e = absurd (false≢true e)
+gates_apart _ e = absurd (false≢true e)
+
+pub gated_parts-lawful : Lawful (section ⊗ gates)
+gated_parts-lawful = then section-lawful gates-lawful gates_apart
+
+gated_ends : (t : Token) → (mark m.Close).starts t ≡ true → (section ⊗ gates).goes_on t ≡ false
+unfolding gates gate_section gate_line any_gate declared_gate refined_gate direction section heading section_line any_line assigned_or_said property_line assignment declaration any_declaration volatile parameter_word word mark name
+gated_ends (token.Mark m.Close) e = refl
+gated_ends (token.Mark _) e = absurd (false≢true e)
+gated_ends _ e = absurd (false≢true e)
+
+pub gated_block-lawful : Lawful gated_block
+unfolding gated_block mark
+gated_block-lawful = before (mark-lawful m.Open) (after gated_parts-lawful (mark-lawful m.Close) gated_ends) (λ t e. refl)
+
+gated_block_apart : (t : Token) → gated_block.starts t ≡ true → head.goes_on t ≡ false
+unfolding gated_block head optional_base base_name dotted word mark name
+gated_block_apart (token.Mark m.Open) e = refl
+gated_block_apart (token.Mark _) e = absurd (false≢true e)
+gated_block_apart _ e = absurd (false≢true e)
 
 pub simple-lawful : Lawful simple
-unfolding simple word mark name
-simple-lawful = mapped (before (word-lawful k.Simple) (then name-lawful (then base-lawful block-lawful base_apart) (λ t e. refl)) (λ t e. refl))
+unfolding simple word
+simple-lawful = mapped (before (word-lawful k.Simple) (then head-lawful gated_block-lawful gated_block_apart) (λ t e. refl))
 
 -- ---- the bodies of submodules
 
@@ -607,27 +724,49 @@ submodules-lawful = mapped (optional-lawful (word k.Submodules ▷ (mark m.Colon
 
 -- ---- networks
 
-section_apart : (t : Token) → submodules.starts t ≡ true → section.goes_on t ≡ false
-unfolding submodules section heading section_line any_line assigned_or_said property_line assignment declaration any_declaration volatile parameter_word word mark name
+submodules_behind_gates : (t : Token) → submodules.starts t ≡ true → gates.goes_on t ≡ false
+unfolding submodules gates gate_section gate_line any_gate declared_gate refined_gate direction word mark name
+submodules_behind_gates (token.Word k.Submodules) e = refl
+submodules_behind_gates (token.Word _) e = absurd (false≢true e)
+submodules_behind_gates _ e = absurd (false≢true e)
+
+section_apart : (t : Token) → (gates ⊗ submodules).starts t ≡ true → section.goes_on t ≡ false
+unfolding submodules gates gate_section section heading section_line any_line assigned_or_said property_line assignment declaration any_declaration volatile parameter_word word mark name
+section_apart (token.Word k.Gates) e = refl
 section_apart (token.Word k.Submodules) e = refl
 section_apart (token.Word _) e = absurd (false≢true e)
 section_apart _ e = absurd (false≢true e)
 
-pub network_parts-lawful : Lawful (section ⊗ submodules)
-network_parts-lawful = then section-lawful submodules-lawful section_apart
+pub gates_and_submodules-lawful : Lawful (gates ⊗ submodules)
+gates_and_submodules-lawful = then gates-lawful submodules-lawful submodules_behind_gates
 
-network_ends : (t : Token) → (mark m.Close).starts t ≡ true → (section ⊗ submodules).goes_on t ≡ false
-unfolding submodules submodule submodule_body no_body braced_body body_section optional_semi dotted section heading section_line any_line assigned_or_said property_line assignment declaration any_declaration volatile parameter_word word mark name
+pub network_parts-lawful : Lawful (section ⊗ (gates ⊗ submodules))
+network_parts-lawful = then section-lawful gates_and_submodules-lawful section_apart
+
+network_ends : (t : Token) → (mark m.Close).starts t ≡ true → (section ⊗ (gates ⊗ submodules)).goes_on t ≡ false
+unfolding submodules submodule submodule_body no_body braced_body body_section optional_semi dotted gates gate_section gate_line any_gate declared_gate refined_gate direction section heading section_line any_line assigned_or_said property_line assignment declaration any_declaration volatile parameter_word word mark name
 network_ends (token.Mark m.Close) e = refl
 network_ends (token.Mark _) e = absurd (false≢true e)
 network_ends _ e = absurd (false≢true e)
 
+pub network_block-lawful : Lawful network_block
+unfolding network_block mark
+network_block-lawful = before (mark-lawful m.Open) (after network_parts-lawful (mark-lawful m.Close) network_ends) (λ t e. refl)
+
+network_block_apart : (t : Token) → network_block.starts t ≡ true → head.goes_on t ≡ false
+unfolding network_block head optional_base base_name dotted word mark name
+network_block_apart (token.Mark m.Open) e = refl
+network_block_apart (token.Mark _) e = absurd (false≢true e)
+network_block_apart _ e = absurd (false≢true e)
+
 pub network-lawful : Lawful network
-unfolding network word mark name
-network-lawful = mapped (before (word-lawful k.Network) (then name-lawful (before (mark-lawful m.Open) (after network_parts-lawful (mark-lawful m.Close) network_ends) (λ t e. refl)) (λ t e. refl)) (λ t e. refl))
+unfolding network word
+network-lawful = mapped (before (word-lawful k.Network) (then head-lawful network_block-lawful network_block_apart) (λ t e. refl))
+
+-- ---- types
 
 simple_apart : (t : Token) → network.starts t ≡ true → simple.starts t ≡ false
-unfolding word mark name in_parens expression default_value value_rule property_name bracketed index body property mode_word question mode_rule next_mode modes group loose_token piece pieces loose_text no_value source_value record_value source_tail record_tail source_word record_word source_part record_part other_part record_or_other any_part part next_part statistic_body optional_body indexed_statistic unnamed_statistic named_or_not statistic_tail statistic_word statistic plain_name plain_line property_text property_line valued tail parameter_word volatile any_declaration declaration assignment assigned_or_said any_line section_line heading section base_name optional_base simple submodule submodules network type_rule file
+unfolding network simple word
 simple_apart (token.Word k.Network) e = refl
 simple_apart (token.Word _) e = absurd (false≢true e)
 simple_apart _ e = absurd (false≢true e)
@@ -637,7 +776,7 @@ unfolding type_rule simple network word
 type-lawful = either-lawful simple network simple-lawful network-lawful refl refl simple_apart
 
 pub type-full : type_rule.empty ≡ false
-unfolding word mark name in_parens expression default_value value_rule property_name bracketed index body property mode_word question mode_rule next_mode modes group loose_token piece pieces loose_text no_value source_value record_value source_tail record_tail source_word record_word source_part record_part other_part record_or_other any_part part next_part statistic_body optional_body indexed_statistic unnamed_statistic named_or_not statistic_tail statistic_word statistic plain_name plain_line property_text property_line valued tail parameter_word volatile any_declaration declaration assignment assigned_or_said any_line section_line heading section base_name optional_base simple submodule submodules network type_rule file
+unfolding type_rule network word
 type-full = refl
 
 -- ---- what a file has besides types
@@ -722,7 +861,7 @@ unfolding entry type_rule simple network word
 entry-full = refl
 
 entries_apart : (t : Token) → entry.starts t ≡ true → entry.goes_on t ≡ false
-unfolding entry silent_entry silent import_or_property file_property import_line import_text package_line dotted type_rule simple network optional_base section heading submodules name mark
+unfolding entry silent_entry silent import_or_property file_property import_line import_text package_line dotted type_rule simple network gated_block network_block section heading gates submodules head name mark
 entries_apart t e = refl
 
 pub file-lawful : Lawful file

@@ -14,6 +14,8 @@ use Rattle.ned_syntax.specs.declared.ast.ParameterValue.TheVariants as given
 use Rattle.ned_syntax.specs.declared.ast.ParameterWord.TheVariants as words
 use Rattle.ned_values.specs.declared.ast.Mode.TheVariants as modes_are
 use Rattle.ned_syntax.specs.declared.ast.SectionLine.TheVariants as lines
+use Rattle.ned_syntax.specs.declared.ast.GateDirection.TheVariants as directions
+use Rattle.ned_syntax.specs.declared.ast.GateSize.TheVariants as sizes
 use Rattle.ned_syntax.specs.declared.ast.Declaration.{Declaration}
 use Rattle.ned_syntax.specs.declared.ast.ParameterWord.{ParameterWord}
 use Rattle.ned_syntax.specs.declared.parameters.Valued.{Valued}
@@ -27,7 +29,7 @@ use Rattle.ned_syntax.specs.declared.properties.Effect.{Effect}
 use Rattle.ned_syntax.specs.declared.properties.Effect.TheVariants as effects
 use Rattle.ned_syntax.specs.declared.statistics.Except.{Except}
 use Rattle.ned_syntax.specs.declared.statistics.Except.TheVariants as except_is
-use Rattle.ned_syntax.specs.Grammar.{word, mark, name, in_parens, expression, default_value, value_rule, property_name, bracketed, index, body, property, mode_word, question, mode_rule, next_mode, modes, group, loose_token, piece, pieces, loose_text, no_value, source_value, record_value, source_tail, record_tail, source_word, record_word, source_part, record_part, other_part, record_or_other, any_part, part, next_part, statistic_body, optional_body, indexed_statistic, unnamed_statistic, named_or_not, statistic_tail, statistic_word, statistic, plain_name, plain_line, property_text, property_line, valued, tail, parameter_word, volatile, any_declaration, declaration, assignment, assigned_or_said, any_line, section_line, heading, section, dotted, base_name, optional_base, simple, ignored_property, assigned_or_ignored, any_body_line, body_line, body_section, optional_semi, braced_body, no_body, submodule_body, submodule, submodules, network, type_rule, package_line, import_token, import_text, import_line, file_property, import_or_property, silent, silent_entry, entry, file, turn_of, import_of, property_name_of, mode_of, loose_of, source_of, record_of, statistic_of, plain_name_of, parameter_word_of, is_measured, first_unit, unit_behind, declared}
+use Rattle.ned_syntax.specs.Grammar.{word, mark, name, in_parens, expression, default_value, value_rule, property_name, bracketed, index, body, property, mode_word, question, mode_rule, next_mode, modes, group, loose_token, piece, pieces, loose_text, no_value, source_value, record_value, source_tail, record_tail, source_word, record_word, source_part, record_part, other_part, record_or_other, any_part, part, next_part, statistic_body, optional_body, indexed_statistic, unnamed_statistic, named_or_not, statistic_tail, statistic_word, statistic, plain_name, plain_line, property_text, property_line, valued, tail, parameter_word, volatile, any_declaration, declaration, assignment, assigned_or_said, any_line, section_line, heading, section, dotted, direction, open_size, size_value, size_tail, vector_size, gate_size, size_in_brackets, refined_size, declared_gate, refined_gate, any_gate, gate_line, gate_section, gates, base_name, optional_base, head, gated_block, simple, ignored_property, assigned_or_ignored, any_body_line, body_line, body_section, optional_semi, braced_body, no_body, submodule_body, submodule, submodules, network_block, network, type_rule, package_line, import_token, import_text, import_line, file_property, import_or_property, silent, silent_entry, entry, file, turn_of, import_of, property_name_of, mode_of, loose_of, source_of, record_of, statistic_of, plain_name_of, parameter_word_of, direction_of, is_measured, first_unit, unit_behind, declared}
 use Rattle.ned_tokens.proofs.ViableLaws.{Viable, token-viable, such_that-viable, either-viable, optional-viable, many-viable, balanced-viable, then_on, before_on, after_on, mapped_on}
 use Rattle.ned_tokens.proofs.Laws.{mapped}
 use Rattle.ned_tokens.proofs.BalancedLaws.{balanced-lawful}
@@ -280,6 +282,7 @@ unit_found : (es : List Effect) → is_some (first_unit (es ++ seconds ∷ [])) 
 unit_found [] = refl
 unit_found (effects.Unit d ∷ es) = refl
 unit_found (effects.Class c ∷ es) = unit_found es
+unit_found (effects.Loose ∷ es) = unit_found es
 unit_found (effects.Other ∷ es) = unit_found es
 
 found_first : {X : Type 0} (a b : Option X) → is_some a ≡ true → is_some (or_else a b) ≡ true
@@ -357,6 +360,62 @@ dotted_on = mapped_on (then_on laws.name-lawful name_on (many-viable (mark m.Dot
 dotted_line_on : Viable (dotted ◁ mark m.Semi)
 dotted_line_on = after_on laws.dotted-lawful dotted_on (mark_on m.Semi refl)
 
+direction_on : Viable direction
+unfolding direction
+direction_on = token-viable direction_of (token.Word k.Input) directions.Input refl
+
+open_size_on : Viable open_size
+unfolding open_size
+open_size_on = mapped_on (mark_on m.RightBracket refl)
+
+size_value_on : Viable size_value
+unfolding size_value
+size_value_on = after_on laws.expression-lawful expression_on (mark_on m.RightBracket refl)
+
+size_tail_on : Viable size_tail
+unfolding size_tail
+size_tail_on = either-viable open_size (made sizes.Sized size_value) open_size_on (mapped_on size_value_on)
+
+vector_size_on : Viable vector_size
+unfolding vector_size
+vector_size_on = before_on (laws.mark-lawful m.LeftBracket) (mark_on m.LeftBracket refl) size_tail_on
+
+gate_size_on : Viable gate_size
+unfolding gate_size
+gate_size_on = mapped_on (optional-viable vector_size vector_size_on)
+
+size_in_brackets_on : Viable size_in_brackets
+unfolding size_in_brackets
+size_in_brackets_on = before_on (laws.mark-lawful m.LeftBracket) (mark_on m.LeftBracket refl) size_value_on
+
+refined_size_on : Viable refined_size
+unfolding refined_size
+refined_size_on = optional-viable size_in_brackets size_in_brackets_on
+
+declared_gate_on : Viable declared_gate
+unfolding declared_gate
+declared_gate_on = mapped_on (then_on laws.direction-lawful direction_on (then_on laws.name-lawful name_on (then_on laws.gate_size-lawful gate_size_on properties_on)))
+
+refined_gate_on : Viable refined_gate
+unfolding refined_gate
+refined_gate_on = mapped_on (then_on laws.name-lawful name_on (then_on laws.refined_size-lawful refined_size_on properties_on))
+
+any_gate_on : Viable any_gate
+unfolding any_gate
+any_gate_on = either-viable declared_gate refined_gate declared_gate_on refined_gate_on
+
+gate_line_on : Viable gate_line
+unfolding gate_line
+gate_line_on = after_on laws.any_gate-lawful any_gate_on (mark_on m.Semi refl)
+
+gate_section_on : Viable gate_section
+unfolding gate_section
+gate_section_on = before_on (laws.word-lawful k.Gates) (word_on k.Gates refl) (before_on (laws.mark-lawful m.Colon) (mark_on m.Colon refl) (many-viable gate_line laws.gate_line-lawful laws.gate_line-full gate_line_on))
+
+gates_on : Viable gates
+unfolding gates
+gates_on = mapped_on (optional-viable gate_section gate_section_on)
+
 base_name_on : Viable base_name
 unfolding base_name
 base_name_on = before_on (laws.word-lawful k.Extends) (word_on k.Extends refl) dotted_on
@@ -365,9 +424,17 @@ base_on : Viable optional_base
 unfolding optional_base
 base_on = optional-viable base_name base_name_on
 
+head_on : Viable head
+unfolding head
+head_on = mapped_on (then_on laws.name-lawful name_on base_on)
+
+gated_block_on : Viable gated_block
+unfolding gated_block
+gated_block_on = before_on (laws.mark-lawful m.Open) (mark_on m.Open refl) (after_on laws.gated_parts-lawful (then_on laws.section-lawful section_on gates_on) (mark_on m.Close refl))
+
 simple_on : Viable simple
 unfolding simple
-simple_on = mapped_on (before_on (laws.word-lawful k.Simple) (word_on k.Simple refl) (then_on laws.name-lawful name_on (then_on laws.base-lawful base_on (before_on (laws.mark-lawful m.Open) (mark_on m.Open refl) (after_on laws.section-lawful section_on (mark_on m.Close refl))))))
+simple_on = mapped_on (before_on (laws.word-lawful k.Simple) (word_on k.Simple refl) (then_on laws.head-lawful head_on gated_block_on))
 
 ignored_property_on : Viable ignored_property
 unfolding ignored_property
@@ -413,9 +480,13 @@ submodules_on : Viable submodules
 unfolding submodules
 submodules_on = mapped_on (optional-viable (word k.Submodules ▷ (mark m.Colon ▷ many submodule)) (before_on (laws.word-lawful k.Submodules) (word_on k.Submodules refl) (before_on (laws.mark-lawful m.Colon) (mark_on m.Colon refl) (many-viable submodule laws.submodule-lawful laws.submodule-full submodule_on))))
 
+network_block_on : Viable network_block
+unfolding network_block
+network_block_on = before_on (laws.mark-lawful m.Open) (mark_on m.Open refl) (after_on laws.network_parts-lawful (then_on laws.section-lawful section_on (then_on laws.gates-lawful gates_on submodules_on)) (mark_on m.Close refl))
+
 network_on : Viable network
 unfolding network
-network_on = mapped_on (before_on (laws.word-lawful k.Network) (word_on k.Network refl) (then_on laws.name-lawful name_on (before_on (laws.mark-lawful m.Open) (mark_on m.Open refl) (after_on laws.network_parts-lawful (then_on laws.section-lawful section_on submodules_on) (mark_on m.Close refl)))))
+network_on = mapped_on (before_on (laws.word-lawful k.Network) (word_on k.Network refl) (then_on laws.head-lawful head_on network_block_on))
 
 type_on : Viable type_rule
 unfolding type_rule

@@ -24,6 +24,12 @@ use Rattle.ned_syntax.specs.declared.ast.RecordedMode.{RecordedMode}
 use Rattle.ned_syntax.specs.declared.ast.SectionLine.{SectionLine}
 use Rattle.ned_syntax.specs.declared.ast.SectionLine.TheVariants as lines
 use Rattle.ned_syntax.specs.declared.ast.Submodule.{Submodule}
+use Rattle.ned_syntax.specs.declared.ast.GateDirection.{GateDirection}
+use Rattle.ned_syntax.specs.declared.ast.GateDirection.TheVariants as directions
+use Rattle.ned_syntax.specs.declared.ast.GateSize.{GateSize}
+use Rattle.ned_syntax.specs.declared.ast.GateSize.TheVariants as sizes
+use Rattle.ned_syntax.specs.declared.ast.GateLine.{GateLine}
+use Rattle.ned_syntax.specs.declared.ast.GateLine.TheVariants as gate_lines
 use Rattle.ned_syntax.specs.declared.ast.TypeDeclaration.{TypeDeclaration}
 use Rattle.ned_syntax.specs.declared.ast.TypeKind.TheVariants as kinds
 use Rattle.ned_syntax.specs.declared.ast.NedFile.{NedFile}
@@ -38,6 +44,8 @@ use Rattle.ned_syntax.specs.declared.statistics.Except.TheVariants as except_is
 use Rattle.ned_syntax.specs.declared.statistics.Said.{Said}
 use Rattle.ned_syntax.specs.declared.parameters.Valued.{Valued}
 use Rattle.ned_syntax.specs.declared.parameters.Tail.{Tail}
+use Rattle.ned_syntax.specs.declared.heads.Head.{Head}
+use Rattle.ned_expressions.specs.declared.ast.Expression.{Expression}
 -- single tokens and names of modes are those of `ned_values`, expressions those of `ned_expressions`
 unfoldable pub use Rattle.ned_values.specs.Grammar.{word, mark, name}
 unfoldable pub use Rattle.ned_expressions.specs.Grammar.{expression}
@@ -76,12 +84,16 @@ value_rule = either default_value (made given.Fixed expression)
 abbrev pub is_statistic : Bytes → Bool
 is_statistic text = bytes_eq text (codes "statistic")
 
+abbrev pub is_loose_property : Bytes → Bool
+is_loose_property text = bytes_eq text (codes "loose") || bytes_eq text (codes "directIn")
+
 abbrev pub property_named : Bytes → PropertyName
 property_named text =
     if is_statistic text then names.Statistic
     else (if bytes_eq text (codes "unit") then names.Unit
     else (if bytes_eq text (codes "class") then names.Class
-    else names.Other))
+    else (if is_loose_property text then names.Loose
+    else names.Other)))
 
 -- a property's name is a name or a word of the language
 abbrev pub property_name_of : Token → Option PropertyName
@@ -119,8 +131,9 @@ said property [] = effects.Other
 said property (t ∷ []) = said_by_word property t
 said property (t ∷ u ∷ ts) = effects.Other
 
--- A property with an index, or without a body, says nothing.
+-- `loose` and `directIn` say the same, whatever is behind them. Any other property with an index, or without a body, says nothing.
 abbrev pub effect_of : PropertyName → Option Bytes → Option (List Token) → Effect
+effect_of names.Loose text tokens = effects.Loose
 effect_of property (Some text) tokens = effects.Other
 effect_of property None None = effects.Other
 effect_of property None (Some tokens) = said property tokens
@@ -138,6 +151,12 @@ abbrev pub first_unit : List Effect → Option Dimension
 first_unit [] = None
 first_unit (effects.Unit d ∷ es) = Some d
 first_unit (_ ∷ es) = first_unit es
+
+-- one of the properties says that a gate may stay unconnected
+abbrev pub says_loose : List Effect → Bool
+says_loose [] = false
+says_loose (effects.Loose ∷ es) = true
+says_loose (_ ∷ es) = says_loose es
 
 -- ---- statistics
 
@@ -453,11 +472,78 @@ section = heading ▷ many section_line
 unfoldable pub dotted : Rule Bytes
 dotted = left (λ _ _ last. last) (mark m.Dot) name
 
--- ---- types
+-- ---- gates
 
--- "{" section "}"
-abbrev pub section_block : Rule (List SectionLine)
-section_block = mark m.Open ▷ (section ◁ mark m.Close)
+abbrev pub listed : {X : Type 0} → Option (List X) → List X
+listed None = []
+listed (Some xs) = xs
+
+abbrev pub direction_of : Token → Option GateDirection
+direction_of (token.Word k.Input) = Some directions.Input
+direction_of (token.Word k.Output) = Some directions.Output
+direction_of (token.Word k.Inout) = Some directions.Inout
+direction_of _ = None
+
+-- "input" | "output" | "inout"
+unfoldable pub direction : Rule GateDirection
+direction = one_token direction_of
+
+-- the end of brackets that hold nothing
+unfoldable pub open_size : Rule GateSize
+open_size = made (λ _. sizes.Open) (mark m.RightBracket)
+
+-- expression "]"
+unfoldable pub size_value : Rule Expression
+size_value = expression ◁ mark m.RightBracket
+
+-- "]" | expression "]"
+unfoldable pub size_tail : Rule GateSize
+size_tail = either open_size (made sizes.Sized size_value)
+
+-- "[" [expression] "]"
+unfoldable pub vector_size : Rule GateSize
+vector_size = mark m.LeftBracket ▷ size_tail
+
+abbrev pub size_or_single : Option GateSize → GateSize
+size_or_single None = sizes.Single
+size_or_single (Some size) = size
+
+-- ["[" [expression] "]"]
+unfoldable pub gate_size : Rule GateSize
+gate_size = made size_or_single (optional vector_size)
+
+-- "[" expression "]"
+unfoldable pub size_in_brackets : Rule Expression
+size_in_brackets = mark m.LeftBracket ▷ size_value
+
+-- ["[" expression "]"]
+unfoldable pub refined_size : Rule (Option Expression)
+refined_size = optional size_in_brackets
+
+-- ("input" | "output" | "inout") name ["[" [expression] "]"] {property}
+unfoldable pub declared_gate : Rule GateLine
+declared_gate = made (λ p. gate_lines.Declaration (record { name = p.1.0; direction = p.0; size = p.1.1.0; loose = says_loose p.1.1.1 })) (direction ⊗ (name ⊗ (gate_size ⊗ many property)))
+
+-- name ["[" expression "]"] {property}
+unfoldable pub refined_gate : Rule GateLine
+refined_gate = made (λ p. gate_lines.Refinement (record { name = p.0; size = p.1.0; loose = says_loose p.1.1 })) (name ⊗ (refined_size ⊗ many property))
+
+unfoldable pub any_gate : Rule GateLine
+any_gate = either declared_gate refined_gate
+
+-- gate {property} ";"
+unfoldable pub gate_line : Rule GateLine
+gate_line = any_gate ◁ mark m.Semi
+
+-- "gates" ":" { gate {property} ";" }
+unfoldable pub gate_section : Rule (List GateLine)
+gate_section = word k.Gates ▷ (mark m.Colon ▷ many gate_line)
+
+-- [gates]
+unfoldable pub gates : Rule (List GateLine)
+gates = made listed (optional gate_section)
+
+-- ---- heads of types
 
 -- "extends" dotted
 unfoldable pub base_name : Rule Bytes
@@ -467,9 +553,19 @@ base_name = word k.Extends ▷ dotted
 unfoldable pub optional_base : Rule (Option Bytes)
 optional_base = optional base_name
 
--- "simple" name ["extends" dotted] "{" [params] "}"
+-- head = name ["extends" dotted]
+unfoldable pub head : Rule Head
+head = made (λ p. record { name = p.0; base = p.1 }) (name ⊗ optional_base)
+
+-- ---- types
+
+-- "{" [params] [gates] "}"
+unfoldable pub gated_block : Rule (List SectionLine × List GateLine)
+gated_block = mark m.Open ▷ ((section ⊗ gates) ◁ mark m.Close)
+
+-- "simple" head "{" [params] [gates] "}"
 unfoldable pub simple : Rule TypeDeclaration
-simple = made (λ p. record { kind = kinds.Simple; name = p.0; base = p.1.0; interfaces = []; lines = p.1.1; gates = []; submodules = [] }) (word k.Simple ▷ (name ⊗ (optional_base ⊗ section_block)))
+simple = made (λ p. record { kind = kinds.Simple; name = p.0.name; base = p.0.base; interfaces = []; lines = p.1.0; gates = p.1.1; submodules = [] }) (word k.Simple ▷ (head ⊗ gated_block))
 
 -- ---- the body of a submodule, which gives its parameters values
 
@@ -519,21 +615,17 @@ submodule_type = mark m.Colon ▷ (dotted ⊗ submodule_body)
 unfoldable pub submodule : Rule Submodule
 submodule = made (λ p. record { name = p.0; type_name = p.1.0; body = p.1.1 }) (name ⊗ submodule_type)
 
-abbrev pub listed : {X : Type 0} → Option (List X) → List X
-listed None = []
-listed (Some xs) = xs
-
 -- ["submodules" ":" { submodule }]
 unfoldable pub submodules : Rule (List Submodule)
 submodules = made listed (optional (word k.Submodules ▷ (mark m.Colon ▷ many submodule)))
 
--- "{" section submodules "}"
-abbrev pub network_block : Rule (List SectionLine × List Submodule)
-network_block = mark m.Open ▷ ((section ⊗ submodules) ◁ mark m.Close)
+-- "{" [params] [gates] [submodules] "}"
+unfoldable pub network_block : Rule (List SectionLine × (List GateLine × List Submodule))
+network_block = mark m.Open ▷ ((section ⊗ (gates ⊗ submodules)) ◁ mark m.Close)
 
--- "network" name "{" [params] [submodules] "}"
+-- "network" head "{" [params] [gates] [submodules] "}"
 unfoldable pub network : Rule TypeDeclaration
-network = made (λ p. record { kind = kinds.Network; name = p.0; base = None; interfaces = []; lines = p.1.0; gates = []; submodules = p.1.1 }) (word k.Network ▷ (name ⊗ network_block))
+network = made (λ p. record { kind = kinds.Network; name = p.0.name; base = p.0.base; interfaces = []; lines = p.1.0; gates = p.1.1.0; submodules = p.1.1.1 }) (word k.Network ▷ (head ⊗ network_block))
 
 unfoldable pub type_rule : Rule TypeDeclaration
 type_rule = either simple network

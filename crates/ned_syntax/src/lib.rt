@@ -16,6 +16,8 @@ pub mod ast;
 mod bodies;
 mod dotted;
 mod files;
+mod gates;
+pub mod heads;
 pub mod laws;
 mod leaves;
 mod literals;

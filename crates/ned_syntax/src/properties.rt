@@ -23,6 +23,8 @@ pub enum PropertyName {
     Class,
     /// `statistic`.
     Statistic,
+    /// `loose`, or `directIn`.
+    Loose,
     /// Any other name.
     Other,
 }
@@ -34,6 +36,8 @@ pub enum Effect {
     Unit(Dimension),
     /// `@class(Name)`.
     Class(Text),
+    /// `@loose` or `@directIn`: a gate may stay unconnected.
+    Loose,
     /// Anything else.
     Other,
 }
@@ -47,6 +51,8 @@ fn name_of(text: &[u8]) -> PropertyName
         PropertyName::Unit
     } else if text == b"class".as_slice() {
         PropertyName::Class
+    } else if text == b"loose".as_slice() || text == b"directIn".as_slice() {
+        PropertyName::Loose
     } else {
         PropertyName::Other
     }
@@ -133,6 +139,9 @@ fn effect_of(
 ) -> Result<Effect, AllocError>
     ensures { IfOk result (λ effect. effect ≡ grammar.effect_of name index (option_map (λ b. b.now) body.entry)) }
 {
+    if let PropertyName::Loose = name {
+        return Ok(Effect::Loose);
+    }
     match (index, body) {
         (None, Some(body)) => said(alloc, name, body),
         _ => Ok(Effect::Other),
@@ -199,6 +208,20 @@ pub(crate) fn first_unit(effects: &[Effect]) -> Option<Dimension>
         rest = after;
     }
     None
+}
+
+/// Whether one of the properties says that a gate may stay unconnected.
+pub(crate) fn says_loose(effects: &[Effect]) -> bool
+    ensures { result ≡ grammar.says_loose effects.now }
+{
+    let mut rest = effects;
+    'effects: while let [effect, after @ ..] = rest {
+        if let Effect::Loose = effect {
+            return true;
+        }
+        rest = after;
+    }
+    false
 }
 
 fn plain_name_of(token: &Token) -> Option<PropertyName>

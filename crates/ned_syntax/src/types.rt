@@ -4,9 +4,11 @@ ghost use Rattle.std.specs.Prelude.{◌≡◌};
 ghost use Rattle.ned_tokens.specs.Rule.{Reads, begins, many};
 ghost use Rattle.ned_syntax.specs.Grammar as grammar;
 
-use crate::ast::{SectionLine, Submodule, TypeDeclaration, TypeKind};
+use crate::ast::{GateLine, SectionLine, Submodule, TypeDeclaration, TypeKind};
 use crate::bodies::submodule_body;
 use crate::dotted::dotted;
+use crate::gates::gates;
+use crate::heads::read_head;
 use crate::leaves::{begins_name, begins_word, ended, mark, name, word};
 use crate::parameters::section;
 use ned_tokens::refusal::Refusal;
@@ -15,53 +17,36 @@ use sim_values::text::Text;
 use sqlite_items::Items;
 use std::alloc::Global;
 
-/// `section_block = "{" section "}"`.
-fn section_block(alloc: Global, tokens: &[Token]) -> Result<(Items<SectionLine>, &[Token]), Refusal>
-    ensures { Reads grammar.section_block tokens.now result }
+/// `gated_block = "{" section gates "}"`.
+#[tactic(auto, unfolding(crate::specs::Grammar::gated_block))]
+fn gated_block(
+    alloc: Global,
+    tokens: &[Token],
+) -> Result<((Items<SectionLine>, Items<GateLine>), &[Token]), Refusal>
+    ensures { Reads grammar.gated_block tokens.now result }
 {
     let rest = read!(mark(Mark::Open, tokens));
     let (lines, rest) = read!(section(alloc, rest));
-    ended(lines, Mark::Close, rest)
+    let (gates, rest) = read!(gates(alloc, rest));
+    ended((lines, gates), Mark::Close, rest)
 }
 
-/// `base_name = "extends" dotted`.
-#[tactic(auto, unfolding(crate::specs::Grammar::base_name))]
-fn base_name(alloc: Global, tokens: &[Token]) -> Result<(Text, &[Token]), Refusal>
-    ensures { Reads grammar.base_name tokens.now result }
-{
-    let rest = read!(word(Keyword::Extends, tokens));
-    dotted(alloc, rest)
-}
-
-/// `optional_base = [ base_name ]`.
-#[tactic(auto, unfolding(crate::specs::Grammar::optional_base, crate::specs::Grammar::base_name, crate::specs::Grammar::word))]
-fn optional_base(alloc: Global, tokens: &[Token]) -> Result<(Option<Text>, &[Token]), Refusal>
-    ensures { Reads grammar.optional_base tokens.now result }
-{
-    if !begins_word(Keyword::Extends, tokens) {
-        return Ok((None, tokens));
-    }
-    let (base, rest) = read!(base_name(alloc, tokens));
-    Ok((Some(base), rest))
-}
-
-/// `simple = "simple" name optional_base section_block`.
+/// `simple = "simple" head gated_block`.
 #[tactic(auto, unfolding(crate::specs::Grammar::simple))]
 fn simple(alloc: Global, tokens: &[Token]) -> Result<(TypeDeclaration, &[Token]), Refusal>
     ensures { Reads grammar.simple tokens.now result }
 {
     let rest = read!(word(Keyword::Simple, tokens));
-    let (name, rest) = read!(name(alloc, rest));
-    let (base, rest) = read!(optional_base(alloc, rest));
-    let (lines, rest) = read!(section_block(alloc, rest));
+    let (head, rest) = read!(read_head(alloc, rest));
+    let ((lines, gates), rest) = read!(gated_block(alloc, rest));
     Ok((
         TypeDeclaration {
             kind: TypeKind::Simple,
-            name,
-            base,
+            name: head.name,
+            base: head.base,
             interfaces: Items::new(alloc),
             lines,
-            gates: Items::new(alloc),
+            gates,
             submodules: Items::new(alloc),
         },
         rest,
@@ -132,35 +117,37 @@ fn submodules(alloc: Global, tokens: &[Token]) -> Result<(Items<Submodule>, &[To
     submodule_list(alloc, rest)
 }
 
-/// `network_block = "{" section submodules "}"`.
-fn network_block(
-    alloc: Global,
-    tokens: &[Token],
-) -> Result<((Items<SectionLine>, Items<Submodule>), &[Token]), Refusal>
+/// What stands between the braces of a network.
+type NetworkParts = (Items<SectionLine>, (Items<GateLine>, Items<Submodule>));
+
+/// `network_block = "{" section gates submodules "}"`.
+#[tactic(auto, unfolding(crate::specs::Grammar::network_block))]
+fn network_block(alloc: Global, tokens: &[Token]) -> Result<(NetworkParts, &[Token]), Refusal>
     ensures { Reads grammar.network_block tokens.now result }
 {
     let rest = read!(mark(Mark::Open, tokens));
     let (lines, rest) = read!(section(alloc, rest));
+    let (gates, rest) = read!(gates(alloc, rest));
     let (submodules, rest) = read!(submodules(alloc, rest));
-    ended((lines, submodules), Mark::Close, rest)
+    ended((lines, (gates, submodules)), Mark::Close, rest)
 }
 
-/// `network = "network" name network_block`.
+/// `network = "network" head network_block`.
 #[tactic(auto, unfolding(crate::specs::Grammar::network))]
 fn network(alloc: Global, tokens: &[Token]) -> Result<(TypeDeclaration, &[Token]), Refusal>
     ensures { Reads grammar.network tokens.now result }
 {
     let rest = read!(word(Keyword::Network, tokens));
-    let (name, rest) = read!(name(alloc, rest));
-    let ((lines, submodules), rest) = read!(network_block(alloc, rest));
+    let (head, rest) = read!(read_head(alloc, rest));
+    let ((lines, (gates, submodules)), rest) = read!(network_block(alloc, rest));
     Ok((
         TypeDeclaration {
             kind: TypeKind::Network,
-            name,
-            base: None,
+            name: head.name,
+            base: head.base,
             interfaces: Items::new(alloc),
             lines,
-            gates: Items::new(alloc),
+            gates,
             submodules,
         },
         rest,

@@ -4,7 +4,8 @@ use crate::escapes::unescaped;
 use crate::tree_rows::tell_tree;
 use crate::words::written;
 use ned_syntax::ast::{
-    Declaration, NedFile, ParameterValue, SectionLine, Statistic, Submodule, TypeDeclaration,
+    Declaration, Expression, GateLine, GateSize, NedFile, ParameterValue, SectionLine, Statistic,
+    Submodule, TypeDeclaration,
 };
 use ned_syntax::parse::parse_ned;
 use ned_syntax::texts::NedTexts;
@@ -115,6 +116,59 @@ fn tell_submodules(told: &mut String, submodules: &[Submodule]) -> Result<(), Al
     Ok(())
 }
 
+/// Tells a size in brackets.
+fn tell_brackets(told: &mut String, size: &Expression) -> Result<(), AllocError> {
+    told.push('[')?;
+    tell_tree(told, size)?;
+    told.push(']')
+}
+
+/// Tells the size of a gate.
+fn tell_size(told: &mut String, size: &GateSize) -> Result<(), AllocError> {
+    match size {
+        GateSize::Single => Ok(()),
+        GateSize::Open => told.push_str("[]"),
+        GateSize::Sized(size) => tell_brackets(told, size),
+    }
+}
+
+/// Tells the size that a refinement gives a vector of gates.
+fn tell_refined_size(told: &mut String, size: &Option<Expression>) -> Result<(), AllocError> {
+    match size {
+        Some(size) => tell_brackets(told, size),
+        None => Ok(()),
+    }
+}
+
+/// Tells whether a gate may stay unconnected.
+fn tell_loose(told: &mut String, loose: bool) -> Result<(), AllocError> {
+    told.push_str(if loose { " loose; " } else { "; " })
+}
+
+/// Tells what a line of a gate section declares.
+fn tell_gate(told: &mut String, line: &GateLine) -> Result<(), AllocError> {
+    match line {
+        GateLine::Declaration(it) => {
+            write!(told, "{:?} {}", it.direction, written(&it.name))?;
+            tell_size(told, &it.size)?;
+            tell_loose(told, it.loose)
+        }
+        GateLine::Refinement(it) => {
+            told.push_str(written(&it.name))?;
+            tell_refined_size(told, &it.size)?;
+            tell_loose(told, it.loose)
+        }
+    }
+}
+
+/// Tells the gates of a type.
+fn tell_gates(told: &mut String, lines: &[GateLine]) -> Result<(), AllocError> {
+    for line in lines {
+        tell_gate(told, line)?;
+    }
+    Ok(())
+}
+
 /// Tells what a type extends.
 fn tell_base(told: &mut String, base: &Option<Text>) -> Result<(), AllocError> {
     match base {
@@ -129,6 +183,7 @@ fn tell_type(told: &mut String, it: &TypeDeclaration) -> Result<(), AllocError> 
     tell_base(told, &it.base)?;
     told.push_str("{ ")?;
     tell_lines(told, it.lines.as_slice())?;
+    tell_gates(told, it.gates.as_slice())?;
     tell_submodules(told, it.submodules.as_slice())?;
     told.push_str("} ")
 }
