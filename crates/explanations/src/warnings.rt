@@ -105,18 +105,21 @@ impl<'a> Network<'a> {
 fn network_of<'a>(
     alloc: Global,
     types: &[Declared<'a>],
-    network: &'a TypeDeclaration,
+    network: Declared<'a>,
 ) -> Result<Network<'a>, NoMemory> {
     let mut found = Network {
         known: Vec::new(alloc),
         parameters: Vec::new(alloc),
     };
-    let root = shown(network.name.as_bytes());
-    found.push_type(alloc, root, network)?;
-    for it in network.submodules.as_slice() {
-        if let Some(of) = type_named(types, it.type_name.as_bytes()) {
-            let path = format!(in alloc; "{root}.{}", shown(it.name.as_bytes()))?;
-            found.push_flat(alloc, types, path.as_str(), of)?;
+    let root = shown(network.of.name.as_bytes());
+    found.push_flat(alloc, types, root, network)?;
+    let along = with_bases(alloc, types, network)?;
+    for declared in along.as_slice() {
+        for it in declared.of.submodules.as_slice() {
+            if let Some(of) = type_named(types, it.type_name.as_bytes()) {
+                let path = format!(in alloc; "{root}.{}", shown(it.name.as_bytes()))?;
+                found.push_flat(alloc, types, path.as_str(), of)?;
+            }
         }
     }
     Ok(found)
@@ -289,7 +292,7 @@ fn tell_selected(
     let Some(found) = type_named(types, last_name(name)) else {
         return Ok(());
     };
-    let network = network_of(alloc, types, found.of)?;
+    let network = network_of(alloc, types, found)?;
     if network.known.len().saturating_mul(lines.len()) <= MOST_TRIES {
         tell_chain(alloc, told, sources, &network, lines, chain)?;
     }

@@ -3,7 +3,7 @@ use Rattle.std.proofs.Common.{◌≡◌, ℕ, Bool, true, false, List, [], ◌�
 use Rattle.std.specs.Option.{option_and_then}
 use Rattle.ned_syntax.specs.declared.ast.TypeDeclaration.{TypeDeclaration}
 use Rattle.ned_syntax.specs.declared.ast.TypeKind.{TypeKind}
-use Rattle.ned_syntax.specs.declared.ast.TypeKind.TheVariants.{Simple, Network}
+use Rattle.ned_syntax.specs.declared.ast.TypeKind.TheVariants.{Simple, Network, Channel, ModuleInterface, ChannelInterface}
 use Rattle.ned_types.specs.Types.{type_named}
 use Rattle.ned_types.specs.WellFormed.{IsAmong}
 use Rattle.ini_config.specs.Entries.{last_name, network_entry}
@@ -21,6 +21,9 @@ named_among name (u ∷ ts) t e = by (bytes_eq u.name name) (named_among name ts
 kind_same : (k : TypeKind) (u t : TypeDeclaration) → of_kind k u ≡ Some t → u ≡ t
 kind_same Network u t e = cc
 kind_same Simple u t e = cc
+kind_same Channel u t e = cc
+kind_same ModuleInterface u t e = cc
+kind_same ChannelInterface u t e = cc
 
 network_found : (ts : List TypeDeclaration) (found : Option TypeDeclaration) (t : TypeDeclaration) → ((u : TypeDeclaration) → found ≡ Some u → IsAmong u ts) → option_and_then as_network found ≡ Some t → IsAmong t ts
 network_found ts None t among e = cc

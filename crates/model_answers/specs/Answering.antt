@@ -6,7 +6,7 @@ use Rattle.ned_syntax.specs.declared.ast.SectionLine.{SectionLine}
 use Rattle.ned_syntax.specs.declared.ast.SectionLine.TheVariants as line
 use Rattle.ned_syntax.specs.declared.ast.TypeDeclaration.{TypeDeclaration}
 use Rattle.ned_syntax.specs.declared.ast.TypeKind.{TypeKind}
-use Rattle.ned_syntax.specs.declared.ast.TypeKind.TheVariants.{Simple, Network}
+use Rattle.ned_syntax.specs.declared.ast.TypeKind.TheVariants.{Network}
 use Rattle.ned_types.specs.Flat.{declaration_named}
 use Rattle.sim_values.specs.declared.value.Value.{Value}
 use Rattle.model_answers.specs.declared.answer.Answer.{Answer}
@@ -45,7 +45,7 @@ inside_of m path t = built_answer (built_all m (told_by_type path t) t.submodule
 
 abbrev pub inside_by : Model → List ℕ → TypeDeclaration → TypeKind → Answer
 inside_by m path t Network = inside_of m path t
-inside_by m path t Simple = answer.Absent
+inside_by m path t _ = answer.Absent
 
 abbrev pub inside_answer : Model → List ℕ → Option TypeDeclaration → Answer
 inside_answer m path None = answer.Absent
@@ -73,7 +73,7 @@ abbrev pub is_beyond : Option ℕ → ℕ → Bool
 is_beyond None time = false
 is_beyond (Some limit) time = nat_lt limit time
 
--- THE ANSWER of a model to a question, with the modules of these records; no type declares a gate yet
+-- THE ANSWER of a model to a question, with the modules of these records; modules have no gates yet
 abbrev pub answer_of : Model → List Record → Question → Answer
 answer_of m records question.Root = root_answer m (network_of m)
 answer_of m records (question.Build id) = inside_answer m (path_of records id) (type_at m records id)

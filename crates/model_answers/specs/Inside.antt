@@ -5,7 +5,7 @@ use Rattle.ned_syntax.specs.declared.ast.SectionLine.TheVariants as line
 use Rattle.ned_syntax.specs.declared.ast.Submodule.{Submodule}
 use Rattle.ned_syntax.specs.declared.ast.TypeDeclaration.{TypeDeclaration}
 use Rattle.ned_syntax.specs.declared.ast.TypeKind.{TypeKind}
-use Rattle.ned_syntax.specs.declared.ast.TypeKind.TheVariants.{Simple, Network}
+use Rattle.ned_syntax.specs.declared.ast.TypeKind.TheVariants.{Simple}
 use Rattle.sim_values.specs.declared.value.Value.{Value}
 use Rattle.ned_types.specs.Flat.{class_of}
 use Rattle.model_answers.specs.declared.answer.Built.{Built}
@@ -43,7 +43,7 @@ fault_of_site site = fault_in site site.own.lines
 
 abbrev pub class_by : TypeKind → List ℕ → Option (List ℕ)
 class_by Simple class = Some class
-class_by Network class = None
+class_by _ class = None
 
 -- the class that a module of the type has, none for a compound module
 abbrev pub class_to_build : TypeDeclaration → Option (List ℕ)

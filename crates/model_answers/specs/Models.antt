@@ -7,7 +7,7 @@ use Rattle.ini_config.specs.Sections.{entries_along}
 use Rattle.ned_syntax.specs.declared.ast.Submodule.{Submodule}
 use Rattle.ned_syntax.specs.declared.ast.TypeDeclaration.{TypeDeclaration}
 use Rattle.ned_syntax.specs.declared.ast.TypeKind.{TypeKind}
-use Rattle.ned_syntax.specs.declared.ast.TypeKind.TheVariants.{Simple, Network}
+use Rattle.ned_syntax.specs.declared.ast.TypeKind.TheVariants.{Network}
 use Rattle.ned_types.specs.Types.{type_named}
 use Rattle.ned_types.specs.Flat.{submodule_named}
 use Rattle.model_answers.specs.declared.model.Model.{Model}
@@ -20,7 +20,7 @@ entries_in m = entries_along m.chain m.ini
 
 abbrev pub of_kind : TypeKind → TypeDeclaration → Option TypeDeclaration
 of_kind Network t = Some t
-of_kind Simple t = None
+of_kind _ t = None
 
 abbrev pub as_network : TypeDeclaration → Option TypeDeclaration
 as_network t = of_kind t.kind t

@@ -104,11 +104,11 @@ fn inside_answer(
         return Ok(Answer::Absent);
     };
     match declared.kind {
-        TypeKind::Simple => Ok(Answer::Absent),
         TypeKind::Network => {
             let path = path_of(alloc, records, id)?;
             inside_of(alloc, model, path.as_bytes(), declared)
         }
+        _ => Ok(Answer::Absent),
     }
 }
 

@@ -68,7 +68,7 @@ fn class_to_build(alloc: Global, declared: &TypeDeclaration) -> Result<Option<Te
 {
     match declared.kind {
         TypeKind::Simple => Ok(Some(Text::from_bytes(alloc, class_of(declared))?)),
-        TypeKind::Network => Ok(None),
+        _ => Ok(None),
     }
 }
 

@@ -109,7 +109,7 @@ fn as_network(declared: &TypeDeclaration) -> Option<&TypeDeclaration>
 {
     match declared.kind {
         TypeKind::Network => Some(declared),
-        TypeKind::Simple => None,
+        _ => None,
     }
 }
 

@@ -100,7 +100,7 @@ fn is_network(declared: Option<&TypeDeclaration>) -> bool
     match declared {
         Some(found) => match found.kind {
             TypeKind::Network => true,
-            TypeKind::Simple => false,
+            _ => false,
         },
         None => false,
     }

@@ -5,38 +5,41 @@ use Rattle.std.specs.Str.{bytes_eq}
 use Rattle.ned_syntax.specs.declared.ast.Submodule.{Submodule}
 use Rattle.ned_syntax.specs.declared.ast.TypeDeclaration.{TypeDeclaration}
 use Rattle.ned_syntax.specs.declared.ast.TypeKind.{TypeKind}
-use Rattle.ned_syntax.specs.declared.ast.TypeKind.TheVariants.{Simple}
+use Rattle.ned_syntax.specs.declared.ast.TypeKind.TheVariants.{Simple, Network, Channel, ModuleInterface, ChannelInterface}
 use Rattle.ned_types.specs.declared.table.TypeFault.{TypeFault}
 use Rattle.ned_types.specs.declared.table.TypeFault.TheVariants.{DuplicateType, UnknownType, InheritanceCircle, KindClash, NoMemory}
 use Rattle.ned_types.specs.Types as t
 use Rattle.ned_types.specs.Inheritance as i
-use Rattle.ned_types.specs.Building.{clash_fault, fault_of, Builds, AnswersTable, CanBuild}
+use Rattle.ned_types.specs.Building.{clash_fault, fault_of, Builds, AnswersTable, CanBuild, MayExtend}
 use Rattle.ned_types.specs.Flat.{or_else}
-use Rattle.ned_types.specs.WellFormed.{IsAmong, StandsBefore, IsSimpleType, IsWellFormed}
-use Rattle.ned_types.proofs.WellFormedLaws.{types_apart, false_not, any_made, no_duplicate, no_unknown, no_clash, well_formed, simple_is, named_found, or_second}
+use Rattle.ned_types.specs.WellFormed.{IsAmong, StandsBefore, IsWellFormed}
+use Rattle.ned_types.proofs.WellFormedLaws.{types_apart, false_not, any_made, any_told, among_second, no_duplicate, no_unknown, no_clash, well_formed, named_is, named_found, or_second}
 
--- ---- flat types have the names, kinds and submodules of the types
+-- ---- flat types have the names and kinds of the types, and their submodules
+
+joined_name : (flat : TypeDeclaration) (ts : List TypeDeclaration) → (i.joined_with flat ts).name ≡ flat.name
+joined_name flat [] = refl
+joined_name flat (t ∷ ts) = joined_name flat ts
 
 flat_name : (all : List TypeDeclaration) (a : TypeDeclaration) → (i.flat_type all a).name ≡ a.name
 flat_name all a = by a.base
   where
     by : (base : Option (List ℕ)) → (i.flat_by all a base).name ≡ a.name
     by None = refl
-    by (Some name) = refl
+    by (Some name) = joined_name (i.bare_heir all a) (i.line_of all a)
 
-flat_kind : (all : List TypeDeclaration) (a : TypeDeclaration) → (i.flat_type all a).kind ≡ a.kind
-flat_kind all a = by a.base
+flat_has : (types : List TypeDeclaration) (a : TypeDeclaration) → IsAmong a types → (s : Submodule) → IsAmong s a.submodules → IsAmong s (i.flat_type types a).submodules
+flat_has [] a is s in-a = absurd is
+flat_has (t ∷ ts) a is s in-a = by a.base
   where
-    by : (base : Option (List ℕ)) → (i.flat_by all a base).kind ≡ a.kind
-    by None = refl
-    by (Some name) = refl
+    by : (base : Option (List ℕ)) → IsAmong s (i.flat_by (t ∷ ts) a base).submodules
+    by None = in-a
+    by (Some name) = among_second s (i.joined_with (i.bare_heir (t ∷ ts) a) (i.line_within (length ts) (t ∷ ts) (i.base_of (t ∷ ts) a.base))).submodules a.submodules in-a
 
-flat_submodules : (all : List TypeDeclaration) (a : TypeDeclaration) → (i.flat_type all a).submodules ≡ a.submodules
-flat_submodules all a = by a.base
-  where
-    by : (base : Option (List ℕ)) → (i.flat_by all a base).submodules ≡ a.submodules
-    by None = refl
-    by (Some name) = refl
+among_flat : (all : List TypeDeclaration) (a : TypeDeclaration) (ts : List TypeDeclaration) → IsAmong a ts → IsAmong (i.flat_type all a) (map (i.flat_type all) ts)
+among_flat all a [] is = absurd is
+among_flat all a (t ∷ ts) (inl e) = inl (ap (i.flat_type all) e)
+among_flat all a (t ∷ ts) (inr is) = inr (among_flat all a ts is)
 
 named_flat : (all : List TypeDeclaration) (name : List ℕ) (ts : List TypeDeclaration) → t.is_type_named name (map (i.flat_type all) ts) ≡ t.is_type_named name ts
 named_flat all name [] = refl
@@ -60,24 +63,12 @@ unknown_in all types (s ∷ ss) =
     ap (λ (b : Bool). not b || t.names_unknown (map (i.flat_type all) types) ss) (known_flat all types s)
     ∙ ap (λ (b : Bool). not (t.is_submodule_known types s) || b) (unknown_in all types ss)
 
-unknown_among : (all types ts : List TypeDeclaration) → list_any (λ a. t.names_unknown (map (i.flat_type all) types) a.submodules) (map (i.flat_type all) ts) ≡ list_any (λ a. t.names_unknown types a.submodules) ts
-unknown_among all types [] = refl
-unknown_among all types (a ∷ ts) =
-    ap (λ (ss : List Submodule). t.names_unknown (map (i.flat_type all) types) ss || list_any (λ b. t.names_unknown (map (i.flat_type all) types) b.submodules) (map (i.flat_type all) ts)) (flat_submodules all a)
-    ∙ ap (λ (b : Bool). b || list_any (λ c. t.names_unknown (map (i.flat_type all) types) c.submodules) (map (i.flat_type all) ts)) (unknown_in all types a.submodules)
-    ∙ ap (λ (b : Bool). t.names_unknown types a.submodules || b) (unknown_among all types ts)
-
-unknown_flat : (types : List TypeDeclaration) → t.has_unknown (i.flat_types types) ≡ t.has_unknown types
-unknown_flat types = unknown_among types types types
-
--- a simple type among the flat types is one among the types
-simple_among : (all : List TypeDeclaration) (name : List ℕ) (ts : List TypeDeclaration) → IsSimpleType name (map (i.flat_type all) ts) → IsSimpleType name ts
-simple_among all name [] s = absurd s.1
-simple_among all name (a ∷ ts) s = go s.1 (λ is. simple_among all name ts (s.0, is, s.2, s.3))
+-- where the submodules of all flat types have known types, so have those of the types
+unknown_flat : (types : List TypeDeclaration) → t.has_unknown (i.flat_types types) ≡ false → t.has_unknown types ≡ false
+unknown_flat types none = any_made (λ a. t.names_unknown types a.submodules) types (λ a is. any_made (λ s. not (t.is_submodule_known types s)) a.submodules (λ s in-a. any_told (λ r. not (t.is_submodule_known types r)) (i.flat_type types a).submodules (flat a is) s (flat_has types a is s in-a)))
   where
-    go : IsAmong s.0 (map (i.flat_type all) (a ∷ ts)) → (IsAmong s.0 (map (i.flat_type all) ts) → IsSimpleType name ts) → IsSimpleType name (a ∷ ts)
-    go (inl e) more = (a, inl refl, sym (flat_name all a) ∙ ap (λ (u : TypeDeclaration). u.name) (sym e) ∙ s.2, sym (flat_kind all a) ∙ ap (λ (u : TypeDeclaration). u.kind) (sym e) ∙ s.3)
-    go (inr is) more = let found = more is in (found.0, inr found.1, found.2, found.3)
+    flat : (a : TypeDeclaration) → IsAmong a types → t.names_unknown types (i.flat_type types a).submodules ≡ false
+    flat a is = sym (unknown_in types types (i.flat_type types a).submodules) ∙ any_told (λ x. t.names_unknown (i.flat_types types) x.submodules) (i.flat_types types) none (i.flat_type types a) (among_flat types a types is)
 
 -- ---- no fault
 
@@ -96,26 +87,41 @@ flat_rules types none =
     let parts = no_fault (t.has_duplicate types) (t.has_unknown types || i.has_unknown_base types) (i.has_circle types) (i.has_other_base types) (t.has_clash (i.flat_types types)) none in
     well_formed (i.flat_types types) (duplicate_flat types types ∙ parts.0) parts.1
 
-known_base : (types : List TypeDeclaration) (base : Option (List ℕ)) → ((name : List ℕ) → base ≡ Some name → IsSimpleType name types) → i.extends_unknown types base ≡ false
-known_base types None h = refl
-known_base types (Some name) h = false_not _ (or_second (t.is_built_in name) _ (named_found types name (h name refl)))
+-- ---- what is extended
 
-simple_base : (types : List TypeDeclaration) (kind : TypeKind) (base : Option (List ℕ)) → ((a b : TypeDeclaration) → StandsBefore a b types → a.name ≢ b.name) → ((name : List ℕ) → base ≡ Some name → (kind ≡ Simple) × IsSimpleType name types) → i.extends_other types kind base ≡ false
-simple_base types kind None apart h = refl
-simple_base types kind (Some name) apart h =
-    let both = h name refl in
-    let first : t.is_simple_kind kind ≡ true = ap t.is_simple_kind both.0 in
-    let second = simple_is types name apart both.1 in
-    rw (first, second) refl
+known_name : (types : List TypeDeclaration) (kind : TypeKind) (name : List ℕ) → MayExtend kind name types → t.is_type_named name types ≡ true
+known_name types Simple name m = named_found types Simple name m
+known_name types Network name m = named_found types Network name m
+known_name types Channel name m = named_found types Channel name m
+known_name types ModuleInterface name m = absurd m
+known_name types ChannelInterface name m = absurd m
+
+known_base : (types : List TypeDeclaration) (kind : TypeKind) (base : Option (List ℕ)) → ((name : List ℕ) → base ≡ Some name → MayExtend kind name types) → i.extends_unknown types base ≡ false
+known_base types kind None h = refl
+known_base types kind (Some name) h = false_not _ (or_second (t.is_built_in name) _ (known_name types kind name (h name refl)))
+
+abbrev AreApart : List TypeDeclaration → Type 0
+AreApart types = (a b : TypeDeclaration) → StandsBefore a b types → a.name ≢ b.name
+
+fitting : (types : List TypeDeclaration) (kind : TypeKind) (name : List ℕ) → AreApart types → MayExtend kind name types → i.is_base kind (t.type_named name types) ≡ true
+fitting types Simple name apart m = ap (i.is_base Simple) (named_is types Simple name apart m) ∙ ap t.is_simple_kind m.3
+fitting types Network name apart m = ap (i.is_base Network) (named_is types Network name apart m) ∙ ap t.is_network_kind m.3
+fitting types Channel name apart m = ap (i.is_base Channel) (named_is types Channel name apart m) ∙ ap t.is_channel_kind m.3
+fitting types ModuleInterface name apart m = absurd m
+fitting types ChannelInterface name apart m = absurd m
+
+fitting_base : (types : List TypeDeclaration) (kind : TypeKind) (base : Option (List ℕ)) → AreApart types → ((name : List ℕ) → base ≡ Some name → MayExtend kind name types) → i.extends_other types kind base ≡ false
+fitting_base types kind None apart h = refl
+fitting_base types kind (Some name) apart h = false_not _ (fitting types kind name apart (h name refl))
 
 -- types that keep the rules have no fault
 pub faultless : (types : List TypeDeclaration) → CanBuild types → fault_of types ≡ None
 faultless types w =
     let duplicate : t.has_duplicate types ≡ false = sym (duplicate_flat types types) ∙ no_duplicate (i.flat_types types) w.flat in
-    let unknown : t.has_unknown types ≡ false = sym (unknown_flat types) ∙ no_unknown (i.flat_types types) w.flat in
-    let bases : i.has_unknown_base types ≡ false = any_made (λ a. i.extends_unknown types a.base) types (λ a is. known_base types a.base (λ name e. (w.bases a is name e).1)) in
+    let unknown : t.has_unknown types ≡ false = unknown_flat types (no_unknown (i.flat_types types) w.flat) in
+    let bases : i.has_unknown_base types ≡ false = any_made (λ a. i.extends_unknown types a.base) types (λ a is. known_base types a.kind a.base (w.bases a is)) in
     let circle : i.has_circle types ≡ false = any_made (λ a. i.goes_on (length types) types (Some a)) types w.roots in
-    let others : i.has_other_base types ≡ false = any_made (λ a. i.extends_other types a.kind a.base) types (λ a is. simple_base types a.kind a.base (types_apart types duplicate) (w.bases a is)) in
+    let others : i.has_other_base types ≡ false = any_made (λ a. i.extends_other types a.kind a.base) types (λ a is. fitting_base types a.kind a.base (types_apart types duplicate) (w.bases a is)) in
     let clash : t.has_clash (i.flat_types types) ≡ false = no_clash (i.flat_types types) w.flat in
     rw (duplicate, unknown, bases, circle, others, clash) refl
 

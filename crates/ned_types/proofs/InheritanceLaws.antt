@@ -1,25 +1,22 @@
--- Laws of the lines that types have together.
-use Rattle.std.proofs.Common.{◌≡◌, List, [], ◌∷◌, ◌++◌, refl, sym, ap, ◌∙◌, append_assoc, append-nil, Bor}
-use Rattle.ned_syntax.specs.declared.ast.SectionLine.{SectionLine}
+-- Laws of the members that types have together.
+use Rattle.std.proofs.Common.{◌≡◌, List, [], ◌∷◌, ◌++◌, refl, sym, ap, ◌∙◌, Bor}
 use Rattle.ned_syntax.specs.declared.ast.TypeDeclaration.{TypeDeclaration}
-use Rattle.ned_types.specs.Inheritance.{joined_lines, types_in}
+use Rattle.ned_types.specs.Inheritance.{joined_with, with_members, types_in}
 
--- the root's lines are the first
-joined_root : (ts : List TypeDeclaration) (t : TypeDeclaration) → joined_lines (ts ++ t ∷ []) ≡ t.lines ++ joined_lines ts
-joined_root [] t = sym (append-nil t.lines)
-joined_root (u ∷ ts) t = ap (λ ls. ls ++ u.lines) (joined_root ts t) ∙ append_assoc t.lines (joined_lines ts) u.lines
+-- the root's members are the first
+joined_root : (flat : TypeDeclaration) (ts : List TypeDeclaration) (t : TypeDeclaration) → joined_with flat (ts ++ t ∷ []) ≡ joined_with (with_members flat t) ts
+joined_root flat [] t = refl
+joined_root flat (u ∷ ts) t = ap (λ (x : TypeDeclaration). with_members x u) (joined_root flat ts t)
 
 types_more : (refs : List (Bor TypeDeclaration)) (r : Bor TypeDeclaration) → types_in (refs ++ r ∷ []) ≡ types_in refs ++ r.now ∷ []
 types_more [] r = refl
 types_more (q ∷ refs) r = ap (λ ts. q.now ∷ ts) (types_more refs r)
 
--- the lines of the last type are added
-pub joined_more : (lines more new all : List SectionLine) (before rest : List (Bor TypeDeclaration)) (r : Bor TypeDeclaration) → rest ≡ before ++ r ∷ [] → more ≡ r.now.lines → new ≡ lines ++ more → lines ++ joined_lines (types_in rest) ≡ all → new ++ joined_lines (types_in before) ≡ all
-joined_more lines more new all before rest r last said added left =
-    ap (λ ls. ls ++ joined_lines (types_in before)) added
-    ∙ append_assoc lines more (joined_lines (types_in before))
-    ∙ ap (λ (ls : List SectionLine). lines ++ (ls ++ joined_lines (types_in before))) said
-    ∙ ap (λ (ls : List SectionLine). lines ++ ls) (sym (joined_root (types_in before) r.now))
-    ∙ ap (λ (ts : List TypeDeclaration). lines ++ joined_lines ts) (sym (types_more before r))
-    ∙ ap (λ (rs : List (Bor TypeDeclaration)). lines ++ joined_lines (types_in rs)) (sym last)
+-- the members of the last type are added
+pub joined_more : (flat new all : TypeDeclaration) (before rest : List (Bor TypeDeclaration)) (r : Bor TypeDeclaration) → rest ≡ before ++ r ∷ [] → new ≡ with_members flat r.now → joined_with flat (types_in rest) ≡ all → joined_with new (types_in before) ≡ all
+joined_more flat new all before rest r last added left =
+    ap (λ (x : TypeDeclaration). joined_with x (types_in before)) added
+    ∙ sym (joined_root flat (types_in before) r.now)
+    ∙ ap (joined_with flat) (sym (types_more before r))
+    ∙ ap (λ (rs : List (Bor TypeDeclaration)). joined_with flat (types_in rs)) (sym last)
     ∙ left

@@ -5,3 +5,4 @@ pub mod Near
 pub mod Repeats
 pub mod NamedLaws
 pub mod Circles
+pub mod GateLaws

@@ -7,11 +7,11 @@ use Rattle.ned_types.specs.Types.{is_submodule_named, repeats_submodule}
 
 -- ---- of one of several names
 
-or_false : (a : Bool) → (a || false) ≡ a
+pub or_false : (a : Bool) → (a || false) ≡ a
 or_false true = refl
 or_false false = refl
 
-any_more : (x y : List ℕ) (names : List (List ℕ)) → list_any (bytes_eq y) (names ++ x ∷ []) ≡ (list_any (bytes_eq y) names || bytes_eq y x)
+pub any_more : (x y : List ℕ) (names : List (List ℕ)) → list_any (bytes_eq y) (names ++ x ∷ []) ≡ (list_any (bytes_eq y) names || bytes_eq y x)
 any_more x y [] = or_false (bytes_eq y x)
 any_more x y (n ∷ names) = by (bytes_eq y n) (any_more x y names)
   where
@@ -19,7 +19,7 @@ any_more x y (n ∷ names) = by (bytes_eq y n) (any_more x y names)
     by true later = refl
     by false later = later
 
-mixed : (a b c d : Bool) → ((a || b) || (c || d)) ≡ ((a || c) || (b || d))
+pub mixed : (a b c d : Bool) → ((a || b) || (c || d)) ≡ ((a || c) || (b || d))
 mixed true b c d = refl
 mixed false b true d = by b
   where
@@ -37,7 +37,7 @@ one_more x names (s ∷ ss) =
 
 -- ---- one submodule more
 
-or_joined : (a b c : Bool) → ((a || b) || c) ≡ (a || (b || c))
+pub or_joined : (a b c : Bool) → ((a || b) || c) ≡ (a || (b || c))
 or_joined true b c = refl
 or_joined false b c = refl
 
@@ -69,11 +69,11 @@ not_seen names (s ∷ ss) d h e =
 
 -- ---- the set
 
-any_name : (k : Bor (List ℕ)) (keys : List (Bor (List ℕ))) → list_any (λ (y : Bor (List ℕ)). bytes_eq k.now y.now) keys ≡ list_any (bytes_eq k.now) (names_in keys)
+pub any_name : (k : Bor (List ℕ)) (keys : List (Bor (List ℕ))) → list_any (λ (y : Bor (List ℕ)). bytes_eq k.now y.now) keys ≡ list_any (bytes_eq k.now) (names_in keys)
 any_name k [] = refl
 any_name k (y ∷ keys) = ap (λ t. bytes_eq k.now y.now || t) (any_name k keys)
 
-names_more : (keys : List (Bor (List ℕ))) (k : Bor (List ℕ)) → names_in (keys ++ k ∷ []) ≡ names_in keys ++ k.now ∷ []
+pub names_more : (keys : List (Bor (List ℕ))) (k : Bor (List ℕ)) → names_in (keys ++ k ∷ []) ≡ names_in keys ++ k.now ∷ []
 names_more [] k = refl
 names_more (y ∷ keys) k = ap (λ ns. y.now ∷ ns) (names_more keys k)
 

@@ -6,14 +6,17 @@ use Rattle.std.specs.Str.{bytes_eq}
 use Rattle.std.proofs.lemmas.Bool.{cases_Bool, false≢true, or_parts}
 use Rattle.std.proofs.lemmas.Slice.Eq.{bytes_eq-Decides}
 use Rattle.ned_syntax.specs.declared.ast.Declaration.{Declaration}
+use Rattle.ned_syntax.specs.declared.ast.GateDeclaration.{GateDeclaration}
+use Rattle.ned_syntax.specs.declared.ast.GateLine.{GateLine}
+use Rattle.ned_syntax.specs.declared.ast.GateLine.TheVariants as gate
 use Rattle.ned_syntax.specs.declared.ast.SectionLine.{SectionLine}
 use Rattle.ned_syntax.specs.declared.ast.SectionLine.TheVariants as line
 use Rattle.ned_syntax.specs.declared.ast.Submodule.{Submodule}
 use Rattle.ned_syntax.specs.declared.ast.TypeDeclaration.{TypeDeclaration}
 use Rattle.ned_syntax.specs.declared.ast.TypeKind.{TypeKind}
-use Rattle.ned_syntax.specs.declared.ast.TypeKind.TheVariants.{Simple, Network}
+use Rattle.ned_syntax.specs.declared.ast.TypeKind.TheVariants.{Simple, Network, Channel, ModuleInterface, ChannelInterface}
 use Rattle.ned_types.specs.Types as t
-use Rattle.ned_types.specs.WellFormed.{IsAmong, StandsBefore, IsParameter, IsSoundSection, IsSoundBody, IsSimpleType, IsWellFormed}
+use Rattle.ned_types.specs.WellFormed.{IsAmong, StandsBefore, IsParameter, IsSoundSection, IsSoundBody, IsTypeOf, IsSimpleType, HaveOwnGates, IsWellFormed}
 
 -- ---- tests
 
@@ -126,6 +129,9 @@ no_repeat ss apart = pairs_made {X = Submodule} (λ s. Unit {0}) (λ s r. s.name
 simple_kind : (k : TypeKind) → t.is_simple_kind k ≡ true → k ≡ Simple
 simple_kind Simple h = refl
 simple_kind Network h = absurd (false≢true h)
+simple_kind Channel h = absurd (false≢true h)
+simple_kind ModuleInterface h = absurd (false≢true h)
+simple_kind ChannelInterface h = absurd (false≢true h)
 
 -- a simple type of that name is found
 pub simple_found : (types : List TypeDeclaration) (name : List ℕ) → t.is_simple (t.type_named name types) ≡ true → IsSimpleType name types
@@ -144,22 +150,25 @@ type_is (a ∷ behind) u apart (inr is) =
     let other = apart_names a.name u.name (λ e. apart a u (inl (refl, is)) (sym e)) in
     rw other (type_is behind u (λ x y before. apart x y (inr before)) is)
 
-pub simple_is : (types : List TypeDeclaration) (name : List ℕ) → ((a b : TypeDeclaration) → StandsBefore a b types → a.name ≢ b.name) → IsSimpleType name types → t.is_simple (t.type_named name types) ≡ true
+-- a type of that kind and name is the one that is found
+pub named_is : (types : List TypeDeclaration) (kind : TypeKind) (name : List ℕ) → ((a b : TypeDeclaration) → StandsBefore a b types → a.name ≢ b.name) → (s : IsTypeOf kind name types) → t.type_named name types ≡ Some s.0
+named_is types kind name apart s = ap (λ (n : List ℕ). t.type_named n types) (sym s.2) ∙ type_is types s.0 apart s.1
+
+simple_is : (types : List TypeDeclaration) (name : List ℕ) → ((a b : TypeDeclaration) → StandsBefore a b types → a.name ≢ b.name) → IsSimpleType name types → t.is_simple (t.type_named name types) ≡ true
 simple_is types name apart s =
-    ap (λ (n : List ℕ). t.is_simple (t.type_named n types)) (sym s.2)
-    ∙ ap t.is_simple (type_is types s.0 apart s.1)
+    ap t.is_simple (named_is types Simple name apart s)
     ∙ ap t.is_simple_kind s.3
 
 -- a type that is found has its name
-pub named_found : (types : List TypeDeclaration) (name : List ℕ) → IsSimpleType name types → t.is_type_named name types ≡ true
-named_found types name s = any_is (λ u. bytes_eq u.name name) types s.0 s.1 (names_same s.0.name name s.2)
+pub named_found : (types : List TypeDeclaration) (kind : TypeKind) (name : List ℕ) → IsTypeOf kind name types → t.is_type_named name types ≡ true
+named_found types kind name s = any_is (λ u. bytes_eq u.name name) types s.0 s.1 (names_same s.0.name name s.2)
 
 pub or_second : (x y : Bool) → y ≡ true → (x || y) ≡ true
 or_second true y h = refl
 or_second false y h = h
 
 pub no_unknown : (types : List TypeDeclaration) → IsWellFormed types → t.has_unknown types ≡ false
-no_unknown types w = any_made (λ a. t.names_unknown types a.submodules) types (λ a is. any_made (λ s. not (t.is_submodule_known types s)) a.submodules (λ s in-a. false_not _ (or_second (t.is_built_in s.type_name) _ (named_found types s.type_name (w.simple a is s in-a)))))
+no_unknown types w = any_made (λ a. t.names_unknown types a.submodules) types (λ a is. any_made (λ s. not (t.is_submodule_known types s)) a.submodules (λ s in-a. false_not _ (or_second (t.is_built_in s.type_name) _ (named_found types Simple s.type_name (w.simple a is s in-a)))))
 
 no_other_kind : (types : List TypeDeclaration) → IsWellFormed types → (a : TypeDeclaration) → IsAmong a types → t.has_other_kind types a.submodules ≡ false
 no_other_kind types w a is = any_made (λ s. not (t.is_submodule_simple types s)) a.submodules (λ s in-a. false_not _ (simple_is types s.type_name w.names (w.simple a is s in-a)))
@@ -206,6 +215,34 @@ once_made (line.Statistic s) ls h = refl
 once_made (line.Class c) ls h = refl
 once_made line.Ignored ls h = refl
 
+-- ---- gates
+
+-- two lines that declare gates declare different ones
+abbrev AreOtherGates : GateLine → GateLine → Type 0
+AreOtherGates g h = (d e : GateDeclaration) → g ≡ gate.Declaration d → h ≡ gate.Declaration e → d.name ≢ e.name
+
+gate_once_told : (g : GateLine) (gs : List GateLine) → t.is_declared_again gs g ≡ false → (h : GateLine) → IsAmong h gs → AreOtherGates g h
+gate_once_told g gs none h is = λ d e p q.
+    let first : t.is_gate_declared d.name gs ≡ false = subst (λ (x : GateLine). t.is_declared_again gs x ≡ false) p none in
+    let one : t.declares_gate d.name (gate.Declaration e) ≡ false = sym (ap (t.declares_gate d.name) q) ∙ any_told (λ x. t.declares_gate d.name x) gs first h is in
+    names_apart e.name d.name one
+
+other_gate : (d : GateDeclaration) (h : GateLine) → ((e : GateDeclaration) → h ≡ gate.Declaration e → d.name ≢ e.name) → t.declares_gate d.name h ≡ false
+other_gate d (gate.Declaration e) other = apart_names e.name d.name (other e refl)
+other_gate d (gate.Refinement r) other = refl
+
+gate_once_made : (g : GateLine) (gs : List GateLine) → ((h : GateLine) → IsAmong h gs → AreOtherGates g h) → t.is_declared_again gs g ≡ false
+gate_once_made (gate.Declaration d) gs other = any_made (λ x. t.declares_gate d.name x) gs (λ h is. other_gate d h (λ e q. other h is d e refl q))
+gate_once_made (gate.Refinement r) gs other = refl
+
+gates_told : (gs : List GateLine) → t.redeclares_gate gs ≡ false → HaveOwnGates gs
+gates_told gs none = λ d e is. pairs_told {X = GateLine} AreOtherGates (λ g later. t.is_declared_again later g) t.redeclares_gate (λ g later. refl) gate_once_told gs none (gate.Declaration d) (gate.Declaration e) is d e refl refl
+
+gates_made : (gs : List GateLine) → HaveOwnGates gs → t.redeclares_gate gs ≡ false
+gates_made gs own = pairs_made {X = GateLine} (λ g. Unit {0}) AreOtherGates (λ g later. t.is_declared_again later g) t.redeclares_gate refl (λ g later. refl) (λ g later q other. gate_once_made g later other) gs (λ g is. tt) (λ g h is d e p q. own d e (subst (λ (x : GateLine). StandsBefore x (gate.Declaration e) gs) p (subst (λ (x : GateLine). StandsBefore g x gs) q is)))
+
+-- ---- values
+
 -- behind a line that fixes a value the other gives its parameter none
 abbrev IsFixedOnce : SectionLine → SectionLine → Type 0
 IsFixedOnce l k = t.is_fixed (t.value_in l) ≡ true → is_some (t.value_in k) ≡ true → t.name_in k ≢ t.name_in l
@@ -244,7 +281,7 @@ among_first x [] ys is = absurd is
 among_first x (z ∷ xs) ys (inl e) = inl e
 among_first x (z ∷ xs) ys (inr is) = inr (among_first x xs ys is)
 
-among_second : {X : Type 0} (x : X) (xs ys : List X) → IsAmong x ys → IsAmong x (xs ++ ys)
+pub among_second : {X : Type 0} (x : X) (xs ys : List X) → IsAmong x ys → IsAmong x (xs ++ ys)
 among_second x [] ys is = is
 among_second x (z ∷ xs) ys is = inr (among_second x xs ys is)
 
@@ -370,6 +407,7 @@ well_formed types duplicate clash = record {
   names = apart;
   own = types_own types duplicate;
   parameters = λ a is. sound_told a.lines (section a is);
+  gates = λ a is. gates_told a.gates (or_parts (t.redeclares_gate a.gates) _ (parts a is).1).0;
   submodules = λ a is. submodules_apart a.submodules (members a is).0;
   simple = λ a is. all_simple types a.submodules (members a is).1;
   bodies = λ a is s in-a u in-types e. body_told u.lines s.body (sound_told u.lines (section u in-types)) (sym (unfit_by types s u apart in-types e) ∙ any_told (λ r. t.has_unfit_body types r) a.submodules (members a is).2 s in-a);
@@ -378,20 +416,23 @@ well_formed types duplicate clash = record {
     apart : (a b : TypeDeclaration) → StandsBefore a b types → a.name ≢ b.name
     apart = types_apart types duplicate
 
-    parts : (a : TypeDeclaration) → IsAmong a types → (t.section_clashes a.lines ≡ false) × (t.submodules_clash types a.submodules ≡ false)
-    parts a is = or_parts (t.section_clashes a.lines) (t.submodules_clash types a.submodules) (any_told (λ x. t.clashes types x) types clash a is)
+    parts : (a : TypeDeclaration) → IsAmong a types → (t.section_clashes a.lines ≡ false) × ((t.redeclares_gate a.gates || t.submodules_clash types a.submodules) ≡ false)
+    parts a is = or_parts (t.section_clashes a.lines) (t.redeclares_gate a.gates || t.submodules_clash types a.submodules) (any_told (λ x. t.clashes types x) types clash a is)
+
+    inside : (a : TypeDeclaration) → IsAmong a types → t.submodules_clash types a.submodules ≡ false
+    inside a is = (or_parts (t.redeclares_gate a.gates) (t.submodules_clash types a.submodules) (parts a is).1).1
 
     section : (a : TypeDeclaration) → IsAmong a types → t.section_clashes a.lines ≡ false
     section a is = (parts a is).0
 
     members : (a : TypeDeclaration) → IsAmong a types → (t.repeats_submodule a.submodules ≡ false) × (t.has_other_kind types a.submodules ≡ false) × (t.bodies_clash types a.submodules ≡ false)
     members a is =
-        let first = or_parts (t.repeats_submodule a.submodules) (t.has_other_kind types a.submodules || t.bodies_clash types a.submodules) (parts a is).1 in
+        let first = or_parts (t.repeats_submodule a.submodules) (t.has_other_kind types a.submodules || t.bodies_clash types a.submodules) (inside a is) in
         let rest = or_parts (t.has_other_kind types a.submodules) (t.bodies_clash types a.submodules) first.1 in
         (first.0, rest.0, rest.1)
 
 pub no_clash : (types : List TypeDeclaration) → IsWellFormed types → t.has_clash types ≡ false
-no_clash types w = any_made (λ x. t.clashes types x) types (λ a is. or_false (t.section_clashes a.lines) _ (sound_made a.lines (w.parameters a is)) (or_false (t.repeats_submodule a.submodules) _ (no_repeat a.submodules (w.submodules a is)) (or_false (t.has_other_kind types a.submodules) _ (no_other_kind types w a is) (any_made (λ s. t.has_unfit_body types s) a.submodules (fit a is)))))
+no_clash types w = any_made (λ x. t.clashes types x) types (λ a is. or_false (t.section_clashes a.lines) _ (sound_made a.lines (w.parameters a is)) (or_false (t.redeclares_gate a.gates) _ (gates_made a.gates (w.gates a is)) (or_false (t.repeats_submodule a.submodules) _ (no_repeat a.submodules (w.submodules a is)) (or_false (t.has_other_kind types a.submodules) _ (no_other_kind types w a is) (any_made (λ s. t.has_unfit_body types s) a.submodules (fit a is))))))
   where
     fit : (a : TypeDeclaration) → IsAmong a types → (s : Submodule) → IsAmong s a.submodules → t.has_unfit_body types s ≡ false
     fit a is s in-a =

@@ -4,6 +4,11 @@ use Rattle.sim_values.specs.declared.value.Value.TheVariants as values
 use Rattle.sim_values.specs.declared.value.Dimension.TheVariants as dimension
 use Rattle.ned_expressions.specs.declared.ast.Expression.TheVariants as expression
 use Rattle.ned_values.specs.declared.ast.Mode.TheVariants as mode
+use Rattle.ned_syntax.specs.declared.ast.GateDirection.TheVariants.{Input, Output}
+use Rattle.ned_syntax.specs.declared.ast.GateLine.{GateLine}
+use Rattle.ned_syntax.specs.declared.ast.GateLine.TheVariants as gate
+use Rattle.ned_syntax.specs.declared.ast.GateSize.{GateSize}
+use Rattle.ned_syntax.specs.declared.ast.GateSize.TheVariants as size
 use Rattle.ned_syntax.specs.declared.ast.ParameterValue.{ParameterValue}
 use Rattle.ned_syntax.specs.declared.ast.ParameterValue.TheVariants as parameter_value
 use Rattle.ned_syntax.specs.declared.ast.ParameterWord.TheVariants as word
@@ -12,7 +17,7 @@ use Rattle.ned_syntax.specs.declared.ast.SectionLine.TheVariants as line
 use Rattle.ned_syntax.specs.declared.ast.Statistic.{Statistic}
 use Rattle.ned_syntax.specs.declared.ast.Submodule.{Submodule}
 use Rattle.ned_syntax.specs.declared.ast.TypeDeclaration.{TypeDeclaration}
-use Rattle.ned_syntax.specs.declared.ast.TypeKind.TheVariants.{Simple, Network}
+use Rattle.ned_syntax.specs.declared.ast.TypeKind.TheVariants.{Simple, Network, Channel}
 use Rattle.ned_types.specs.declared.table.TypeFault.{TypeFault}
 use Rattle.ned_types.specs.declared.table.TypeFault.TheVariants.{DuplicateType, UnknownType, InheritanceCircle, KindClash}
 use Rattle.ned_types.specs.Flat.{class_of, last_value, statistics_of}
@@ -21,7 +26,7 @@ use Rattle.ned_types.specs.Building.{fault_of}
 
 -- a simple type of that name with these lines, which extends what is said
 abbrev pub type_with : List ℕ → Option (List ℕ) → List SectionLine → TypeDeclaration
-type_with name base lines = record { kind = Simple; name = name; base = base; lines = lines; submodules = [] }
+type_with name base lines = record { kind = Simple; name = name; base = base; interfaces = []; lines = lines; gates = []; submodules = [] }
 
 abbrev pub counted : Statistic
 counted = record { name = codes "fired"; source = codes "fired"; modes = record { mode = mode.Count; optional = false } ∷ [] }
@@ -81,11 +86,39 @@ double_named name = line.Declaration (record { name = name; word = word.Double; 
 
 -- `network N { parameters: LINES submodules: SUBMODULES }`
 abbrev pub network_of : List SectionLine → List Submodule → TypeDeclaration
-network_of lines submodules = record { kind = Network; name = codes "N"; base = None; lines = lines; submodules = submodules }
+network_of lines submodules = record { kind = Network; name = codes "N"; base = None; interfaces = []; lines = lines; gates = []; submodules = submodules }
 
 -- `t: TYPE { LINES }`
 abbrev pub t_with : List ℕ → List SectionLine → Submodule
 t_with name body = record { name = codes "t"; type_name = name; body = body }
+
+-- `NAME: Tick;`
+abbrev pub tick_named : List ℕ → Submodule
+tick_named name = record { name = name; type_name = codes "Tick"; body = [] }
+
+-- `network NAME extends N { parameters: LINES submodules: SUBMODULES }`
+abbrev pub heir_network : List ℕ → List SectionLine → List Submodule → TypeDeclaration
+heir_network name lines submodules = record { kind = Network; name = name; base = Some (codes "N"); interfaces = []; lines = lines; gates = []; submodules = submodules }
+
+-- `channel NAME extends BASE {}`
+abbrev pub channel_of : List ℕ → Option (List ℕ) → TypeDeclaration
+channel_of name base = record { kind = Channel; name = name; base = base; interfaces = []; lines = []; gates = []; submodules = [] }
+
+-- `input NAME;`
+abbrev pub input_gate : List ℕ → GateLine
+input_gate name = gate.Declaration (record { name = name; direction = Input; size = size.Single; loose = false })
+
+-- `output NAME[];`
+abbrev pub output_gates : List ℕ → GateLine
+output_gates name = gate.Declaration (record { name = name; direction = Output; size = size.Open; loose = false })
+
+-- `NAME[3];`
+abbrev pub three_of : List ℕ → GateLine
+three_of name = gate.Refinement (record { name = name; size = Some (expression.Literal (values.Whole (pos 3))); loose = false })
+
+-- `simple NAME extends BASE { gates: GATES }`
+abbrev pub gated : List ℕ → Option (List ℕ) → List GateLine → TypeDeclaration
+gated name base gates = record { kind = Simple; name = name; base = base; interfaces = []; lines = []; gates = gates; submodules = [] }
 
 -- why `t: TYPE { LINES }` makes no model, with Tick, Slow, and Fast, which extends Tick and gives nothing
 abbrev pub fault_with : List ℕ → List SectionLine → Option TypeFault
@@ -137,3 +170,28 @@ pub record ExampleBodies : Type 0 where
   pub section : fault_of (network_of (double_named (codes "own") ∷ second_for (codes "own") ∷ []) [] ∷ []) ≡ None
   pub section_unknown : fault_of (network_of (second_for (codes "own") ∷ []) [] ∷ []) ≡ Some KindClash
   pub section_twice : fault_of (network_of (double_named (codes "own") ∷ double_named (codes "own") ∷ []) [] ∷ []) ≡ Some KindClash
+
+-- a network that extends another has its parameters, gates and submodules too, those of the root first; a member of the base
+-- isn't declared again, and a network extends networks alone
+pub record ExampleNetworks : Type 0 where
+  pub submodules : (flat_type (heir_network (codes "M") [] (tick_named (codes "b") ∷ []) ∷ network_of [] (tick_named (codes "a") ∷ []) ∷ tick ∷ []) (heir_network (codes "M") [] (tick_named (codes "b") ∷ []))).submodules ≡ tick_named (codes "a") ∷ tick_named (codes "b") ∷ []
+  pub lines : (flat_type (network_of (double_named (codes "own") ∷ []) [] ∷ heir_network (codes "M") (second_for (codes "own") ∷ []) [] ∷ []) (heir_network (codes "M") (second_for (codes "own") ∷ []) [])).lines ≡ double_named (codes "own") ∷ second_for (codes "own") ∷ []
+  pub none : fault_of (heir_network (codes "M") (second_for (codes "own") ∷ []) (tick_named (codes "b") ∷ []) ∷ network_of (double_named (codes "own") ∷ []) (tick_named (codes "a") ∷ []) ∷ tick ∷ []) ≡ None
+  pub again : fault_of (heir_network (codes "M") [] (tick_named (codes "a") ∷ []) ∷ network_of [] (tick_named (codes "a") ∷ []) ∷ tick ∷ []) ≡ Some KindClash
+  pub body : fault_of (network_of (double_named (codes "own") ∷ []) (t_with (codes "Tick") (second_for (codes "own") ∷ []) ∷ []) ∷ heir_network (codes "M") [] [] ∷ tick ∷ []) ≡ Some KindClash
+  pub unknown : fault_of (heir_network (codes "M") [] [] ∷ network_of [] (t_with (codes "Zed") [] ∷ []) ∷ []) ≡ Some UnknownType
+  pub of_simple : fault_of (type_with (codes "N") None [] ∷ heir_network (codes "M") [] [] ∷ []) ≡ Some KindClash
+  pub simple_of : fault_of (network_of [] [] ∷ heir (codes "A") (codes "N") ∷ []) ≡ Some KindClash
+  pub circle : fault_of (heir_network (codes "N") [] [] ∷ []) ≡ Some InheritanceCircle
+  pub channels : fault_of (channel_of (codes "Fast") (Some (codes "Slow")) ∷ channel_of (codes "Slow") None ∷ []) ≡ None
+  pub channel_of_simple : fault_of (channel_of (codes "Fast") (Some (codes "Tick")) ∷ tick ∷ []) ≡ Some KindClash
+  pub submodule_channel : fault_of (network_of [] (t_with (codes "Slow") [] ∷ []) ∷ channel_of (codes "Slow") None ∷ []) ≡ Some KindClash
+
+-- gates stand behind those of the base, and none is declared twice, whatever its direction; a gate and a parameter may have
+-- one name; and a size, also that of a gate that is declared nowhere, is no fault of types
+pub record ExampleGates : Type 0 where
+  pub joined : (flat_type (gated (codes "B") (Some (codes "A")) (output_gates (codes "out") ∷ three_of (codes "out") ∷ []) ∷ gated (codes "A") None (input_gate (codes "in") ∷ []) ∷ []) (gated (codes "B") (Some (codes "A")) (output_gates (codes "out") ∷ three_of (codes "out") ∷ []))).gates ≡ input_gate (codes "in") ∷ output_gates (codes "out") ∷ three_of (codes "out") ∷ []
+  pub sized : fault_of (gated (codes "A") None (output_gates (codes "out") ∷ []) ∷ gated (codes "B") (Some (codes "A")) (three_of (codes "out") ∷ three_of (codes "out") ∷ three_of (codes "in") ∷ []) ∷ []) ≡ None
+  pub again : fault_of (gated (codes "A") None (input_gate (codes "g") ∷ []) ∷ gated (codes "B") (Some (codes "A")) (output_gates (codes "g") ∷ []) ∷ []) ≡ Some KindClash
+  pub twice : fault_of (gated (codes "A") None (input_gate (codes "g") ∷ input_gate (codes "h") ∷ input_gate (codes "g") ∷ []) ∷ []) ≡ Some KindClash
+  pub other_kind : fault_of (record { kind = Simple; name = codes "A"; base = None; interfaces = []; lines = double_named (codes "g") ∷ []; gates = input_gate (codes "g") ∷ []; submodules = [] } ∷ []) ≡ None

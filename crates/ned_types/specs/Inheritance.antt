@@ -8,7 +8,8 @@ use Rattle.ned_syntax.specs.declared.ast.SectionLine.{SectionLine}
 use Rattle.ned_syntax.specs.declared.ast.SectionLine.TheVariants as line
 use Rattle.ned_syntax.specs.declared.ast.TypeDeclaration.{TypeDeclaration}
 use Rattle.ned_syntax.specs.declared.ast.TypeKind.{TypeKind}
-use Rattle.ned_types.specs.Types.{type_named, is_built_in, is_type_named, is_simple_kind, is_simple}
+use Rattle.ned_syntax.specs.declared.ast.TypeKind.TheVariants.{Simple, Network, Channel, ModuleInterface, ChannelInterface}
+use Rattle.ned_types.specs.Types.{type_named, is_built_in, is_type_named, is_simple_kind, is_network_kind, is_channel_kind}
 use Rattle.ned_types.specs.Flat.{class_in, class_of, named_or}
 
 -- ---- bases
@@ -46,20 +47,45 @@ extends_unknown types (Some name) = not (is_built_in name || is_type_named name 
 abbrev pub has_unknown_base : List TypeDeclaration → Bool
 has_unknown_base types = list_any (λ t. extends_unknown types t.base) types
 
--- whether what is extended, or what extends it, isn't a simple type
+-- whether a type of the first kind may extend one of the second: a simple type a simple type, a network a network, and a
+-- channel a channel; what an interface extends stands among its interfaces
+abbrev pub can_extend : TypeKind → TypeKind → Bool
+can_extend Simple of = is_simple_kind of
+can_extend Network of = is_network_kind of
+can_extend Channel of = is_channel_kind of
+can_extend ModuleInterface of = false
+can_extend ChannelInterface of = false
+
+abbrev pub is_base : TypeKind → Option TypeDeclaration → Bool
+is_base kind None = false
+is_base kind (Some t) = can_extend kind t.kind
+
+-- whether what is extended isn't of the kind of the type that extends it
 abbrev pub extends_other : List TypeDeclaration → TypeKind → Option (List ℕ) → Bool
 extends_other types kind None = false
-extends_other types kind (Some name) = not (is_simple_kind kind && is_simple (type_named name types))
+extends_other types kind (Some name) = not (is_base kind (type_named name types))
 
 abbrev pub has_other_base : List TypeDeclaration → Bool
 has_other_base types = list_any (λ t. extends_other types t.kind t.base) types
 
 -- ---- flat types
 
--- the lines of a type and of its bases, those of the root first
-abbrev pub joined_lines : List TypeDeclaration → List SectionLine
-joined_lines [] = []
-joined_lines (t ∷ ts) = joined_lines ts ++ t.lines
+-- a type with the members of another one behind its own
+abbrev pub with_members : TypeDeclaration → TypeDeclaration → TypeDeclaration
+with_members flat t = record {
+  kind = flat.kind;
+  name = flat.name;
+  base = flat.base;
+  interfaces = flat.interfaces ++ t.interfaces;
+  lines = flat.lines ++ t.lines;
+  gates = flat.gates ++ t.gates;
+  submodules = flat.submodules ++ t.submodules;
+}
+
+-- a type with the members of all these, those of the last one first
+abbrev pub joined_with : TypeDeclaration → List TypeDeclaration → TypeDeclaration
+joined_with flat [] = flat
+joined_with flat (t ∷ ts) = with_members (joined_with flat ts) t
 
 -- the class of a type: the one that it names, or else that of its base; of the root at last its own name
 abbrev pub class_along : List TypeDeclaration → List ℕ
@@ -67,16 +93,27 @@ class_along [] = []
 class_along (t ∷ []) = class_of t
 class_along (t ∷ u ∷ ts) = named_or (class_in t.lines) (class_along (u ∷ ts))
 
--- a type that extends another, with all that its bases have: its class stands before the lines, as the first class that
--- lines name counts
-abbrev pub heir_of : List TypeDeclaration → TypeDeclaration → TypeDeclaration
-heir_of types t = record {
+-- the line that names the class, where there is one
+abbrev pub class_lines : Bool → List ℕ → List SectionLine
+class_lines true class = line.Class class ∷ []
+class_lines false class = []
+
+-- a type that extends another, before it has any member. The class of a simple type stands before its lines, as the first
+-- class that lines name counts; types of other kinds have none
+abbrev pub bare_heir : List TypeDeclaration → TypeDeclaration → TypeDeclaration
+bare_heir types t = record {
   kind = t.kind;
   name = t.name;
   base = None;
-  lines = line.Class (class_along (line_of types t)) ∷ joined_lines (line_of types t);
-  submodules = t.submodules;
+  interfaces = [];
+  lines = class_lines (is_simple_kind t.kind) (class_along (line_of types t));
+  gates = [];
+  submodules = [];
 }
+
+-- a type that extends another, with all that its bases have, what the root has first and its own last
+abbrev pub heir_of : List TypeDeclaration → TypeDeclaration → TypeDeclaration
+heir_of types t = joined_with (bare_heir types t) (line_of types t)
 
 abbrev pub flat_by : List TypeDeclaration → TypeDeclaration → Option (List ℕ) → TypeDeclaration
 flat_by types t None = t

@@ -2,6 +2,8 @@
 use Rattle.std.specs.Prelude.{ℕ, Bool, true, false, not, ◌||◌, ◌&&◌, List, [], ◌∷◌, ◌++◌, Option, Some, None, is_some, if◌then◌else◌, codes}
 use Rattle.std.specs.List.{list_any}
 use Rattle.std.specs.Str.{bytes_eq}
+use Rattle.ned_syntax.specs.declared.ast.GateLine.{GateLine}
+use Rattle.ned_syntax.specs.declared.ast.GateLine.TheVariants as gate
 use Rattle.ned_syntax.specs.declared.ast.NedFile.{NedFile}
 use Rattle.ned_syntax.specs.declared.ast.ParameterValue.{ParameterValue}
 use Rattle.ned_syntax.specs.declared.ast.ParameterValue.TheVariants as parameter_value
@@ -10,7 +12,7 @@ use Rattle.ned_syntax.specs.declared.ast.SectionLine.TheVariants as line
 use Rattle.ned_syntax.specs.declared.ast.Submodule.{Submodule}
 use Rattle.ned_syntax.specs.declared.ast.TypeDeclaration.{TypeDeclaration}
 use Rattle.ned_syntax.specs.declared.ast.TypeKind.{TypeKind}
-use Rattle.ned_syntax.specs.declared.ast.TypeKind.TheVariants.{Simple, Network}
+use Rattle.ned_syntax.specs.declared.ast.TypeKind.TheVariants.{Simple, Network, Channel, ModuleInterface, ChannelInterface}
 
 -- the types of all files, one file after the other
 abbrev pub types_of : List NedFile → List TypeDeclaration
@@ -140,12 +142,53 @@ has_unfit_body types s = clashes_with s.body (type_named s.type_name types)
 abbrev pub bodies_clash : List TypeDeclaration → List Submodule → Bool
 bodies_clash types submodules = list_any (λ s. has_unfit_body types s) submodules
 
--- ---- submodules
+-- ---- gates
 
--- whether it is a simple type
+-- whether the line declares a gate of that name
+abbrev pub declares_gate : List ℕ → GateLine → Bool
+declares_gate name (gate.Declaration d) = bytes_eq d.name name
+declares_gate name (gate.Refinement r) = false
+
+abbrev pub is_gate_declared : List ℕ → List GateLine → Bool
+is_gate_declared name gates = list_any (λ g. declares_gate name g) gates
+
+-- whether the line declares a gate that one of these declares
+abbrev pub is_declared_again : List GateLine → GateLine → Bool
+is_declared_again gates (gate.Declaration d) = is_gate_declared d.name gates
+is_declared_again gates (gate.Refinement r) = false
+
+-- whether a gate is declared twice
+abbrev pub redeclares_gate : List GateLine → Bool
+redeclares_gate [] = false
+redeclares_gate (g ∷ gs) = is_declared_again gs g || redeclares_gate gs
+
+-- ---- kinds
+
+-- whether it is the kind of simple types
 abbrev pub is_simple_kind : TypeKind → Bool
 is_simple_kind Simple = true
 is_simple_kind Network = false
+is_simple_kind Channel = false
+is_simple_kind ModuleInterface = false
+is_simple_kind ChannelInterface = false
+
+-- whether it is the kind of networks
+abbrev pub is_network_kind : TypeKind → Bool
+is_network_kind Simple = false
+is_network_kind Network = true
+is_network_kind Channel = false
+is_network_kind ModuleInterface = false
+is_network_kind ChannelInterface = false
+
+-- whether it is the kind of channels
+abbrev pub is_channel_kind : TypeKind → Bool
+is_channel_kind Simple = false
+is_channel_kind Network = false
+is_channel_kind Channel = true
+is_channel_kind ModuleInterface = false
+is_channel_kind ChannelInterface = false
+
+-- ---- submodules
 
 abbrev pub is_simple : Option TypeDeclaration → Bool
 is_simple None = false
@@ -174,10 +217,10 @@ section_clashes lines = redeclares lines || (gives_undeclared lines || gives_aga
 abbrev pub submodules_clash : List TypeDeclaration → List Submodule → Bool
 submodules_clash types submodules = repeats_submodule submodules || (has_other_kind types submodules || bodies_clash types submodules)
 
--- whether a member of the type is declared twice, a value is given to an undeclared parameter or after a fixed one, a
--- submodule is of another kind than simple, or the body of a submodule clashes with its type
+-- whether a parameter, a gate or a submodule of the type is declared twice, a value is given to an undeclared parameter or
+-- after a fixed one, a submodule is of another kind than simple, or the body of a submodule clashes with its type
 abbrev pub clashes : List TypeDeclaration → TypeDeclaration → Bool
-clashes types t = section_clashes t.lines || submodules_clash types t.submodules
+clashes types t = section_clashes t.lines || (redeclares_gate t.gates || submodules_clash types t.submodules)
 
 abbrev pub has_clash : List TypeDeclaration → Bool
 has_clash types = list_any (λ t. clashes types t) types

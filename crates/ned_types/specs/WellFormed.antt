@@ -1,11 +1,15 @@
 -- Types that make a model, by the rules of the language.
--- OMNeT++ Simulation Manual, "Simple Modules", "Submodules", "Parameters".
+-- OMNeT++ Simulation Manual, "Simple Modules", "Submodules", "Parameters", "Gates".
 use Rattle.std.specs.Prelude.{◌≡◌, ◌≢◌, ◌⊎◌, ℕ, true, false, List, [], ◌∷◌, ◌++◌, is_some}
 use Rattle.ned_syntax.specs.declared.ast.Declaration.{Declaration}
+use Rattle.ned_syntax.specs.declared.ast.GateDeclaration.{GateDeclaration}
+use Rattle.ned_syntax.specs.declared.ast.GateLine.{GateLine}
+use Rattle.ned_syntax.specs.declared.ast.GateLine.TheVariants as gate
 use Rattle.ned_syntax.specs.declared.ast.SectionLine.{SectionLine}
 use Rattle.ned_syntax.specs.declared.ast.SectionLine.TheVariants as line
 use Rattle.ned_syntax.specs.declared.ast.Submodule.{Submodule}
 use Rattle.ned_syntax.specs.declared.ast.TypeDeclaration.{TypeDeclaration}
+use Rattle.ned_syntax.specs.declared.ast.TypeKind.{TypeKind}
 use Rattle.ned_syntax.specs.declared.ast.TypeKind.TheVariants.{Simple}
 use Rattle.ned_types.specs.Types.{is_built_in, is_fixed, name_in, value_in}
 
@@ -43,9 +47,17 @@ pub record IsSoundBody (lines body : List SectionLine) : Type 0 where
 abbrev pub HaveOwnNames : List Submodule → Type 0
 HaveOwnNames submodules = (s r : Submodule) → StandsBefore s r submodules → s.name ≢ r.name
 
+-- no two gates have one name
+abbrev pub HaveOwnGates : List GateLine → Type 0
+HaveOwnGates gates = (d e : GateDeclaration) → StandsBefore (gate.Declaration d) (gate.Declaration e) gates → d.name ≢ e.name
+
+-- one of the types is of that kind and has that name
+abbrev pub IsTypeOf : TypeKind → List ℕ → List TypeDeclaration → Type 0
+IsTypeOf kind name types = (u : TypeDeclaration) × IsAmong u types × (u.name ≡ name) × (u.kind ≡ kind)
+
 -- one of the types is a simple type of that name
 abbrev pub IsSimpleType : List ℕ → List TypeDeclaration → Type 0
-IsSimpleType name types = (u : TypeDeclaration) × IsAmong u types × (u.name ≡ name) × (u.kind ≡ Simple)
+IsSimpleType name types = IsTypeOf Simple name types
 
 -- THE RULES of types:
 pub record IsWellFormed (types : List TypeDeclaration) : Type 0 where
@@ -55,6 +67,8 @@ pub record IsWellFormed (types : List TypeDeclaration) : Type 0 where
   pub own : (t : TypeDeclaration) → IsAmong t types → is_built_in t.name ≡ false
   -- the parameter section of each is sound;
   pub parameters : (t : TypeDeclaration) → IsAmong t types → IsSoundSection t.lines
+  -- no two gates of a type have one name;
+  pub gates : (t : TypeDeclaration) → IsAmong t types → HaveOwnGates t.gates
   -- no two submodules of a type have one name;
   pub submodules : (t : TypeDeclaration) → IsAmong t types → HaveOwnNames t.submodules
   -- the type of each is a simple type among these;

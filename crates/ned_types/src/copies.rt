@@ -3,7 +3,8 @@
 ghost use Rattle.std.specs.Prelude.{◌≡◌, ◌++◌, IfOk, OnOk};
 
 use ned_syntax::ast::{
-    Assignment, Declaration, ParameterValue, SectionLine, Statistic, Submodule, TypeDeclaration,
+    Assignment, Declaration, Expression, GateDeclaration, GateLine, GateRefinement, GateSize,
+    ParameterValue, SectionLine, Statistic, Submodule, TypeDeclaration,
 };
 use sim_values::text::Text;
 use sqlite_items::Items;
@@ -112,17 +113,137 @@ fn copy_submodule(alloc: Global, submodule: &Submodule) -> Result<Submodule, All
     })
 }
 
+/// Adds copies of these submodules at the end.
+pub(crate) fn add_submodules(
+    alloc: Global,
+    submodules: &mut Items<Submodule>,
+    more: &[Submodule],
+) -> Result<(), AllocError>
+    ensures { OnOk result (submodules.new ≡ submodules.old ++ more.now) }
+{
+    for submodule in more {
+        submodules.push(copy_submodule(alloc, submodule)?)?;
+    }
+    Ok(())
+}
+
 /// Equal submodules.
-pub(crate) fn copy_submodules(
+fn copy_submodules(
     alloc: Global,
     submodules: &[Submodule],
 ) -> Result<Items<Submodule>, AllocError>
     ensures { IfOk result (λ copy. copy ≡ submodules.now) }
 {
     let mut copy = Items::new(alloc);
-    for submodule in submodules {
-        copy.push(copy_submodule(alloc, submodule)?)?;
+    add_submodules(alloc, &mut copy, submodules)?;
+    Ok(copy)
+}
+
+/// An equal size.
+fn copy_size(alloc: Global, size: &GateSize) -> Result<GateSize, AllocError>
+    ensures { IfOk result (λ copy. copy ≡ size.now) }
+{
+    match size {
+        GateSize::Single => Ok(GateSize::Single),
+        GateSize::Open => Ok(GateSize::Open),
+        GateSize::Sized(e) => Ok(GateSize::Sized(e.copy(alloc)?)),
     }
+}
+
+/// An equal gate.
+fn copy_gate(alloc: Global, gate: &GateDeclaration) -> Result<GateDeclaration, AllocError>
+    ensures { IfOk result (λ copy. copy ≡ gate.now) }
+{
+    Ok(GateDeclaration {
+        name: gate.name.copy(alloc)?,
+        direction: gate.direction,
+        size: copy_size(alloc, &gate.size)?,
+        loose: gate.loose,
+    })
+}
+
+/// An equal expression, where there is one.
+fn copy_expression(
+    alloc: Global,
+    expression: &Option<Expression>,
+) -> Result<Option<Expression>, AllocError>
+    ensures { IfOk result (λ copy. copy ≡ expression.now) }
+{
+    match expression {
+        Some(expression) => Ok(Some(expression.copy(alloc)?)),
+        None => Ok(None),
+    }
+}
+
+/// An equal line without a direction.
+fn copy_refinement(
+    alloc: Global,
+    refinement: &GateRefinement,
+) -> Result<GateRefinement, AllocError>
+    ensures { IfOk result (λ copy. copy ≡ refinement.now) }
+{
+    Ok(GateRefinement {
+        name: refinement.name.copy(alloc)?,
+        size: copy_expression(alloc, &refinement.size)?,
+        loose: refinement.loose,
+    })
+}
+
+/// An equal line of a gate section.
+fn copy_gate_line(alloc: Global, line: &GateLine) -> Result<GateLine, AllocError>
+    ensures { IfOk result (λ copy. copy ≡ line.now) }
+{
+    match line {
+        GateLine::Declaration(gate) => Ok(GateLine::Declaration(copy_gate(alloc, gate)?)),
+        GateLine::Refinement(refinement) => {
+            Ok(GateLine::Refinement(copy_refinement(alloc, refinement)?))
+        }
+    }
+}
+
+/// Adds copies of these lines of gate sections at the end.
+pub(crate) fn add_gates(
+    alloc: Global,
+    gates: &mut Items<GateLine>,
+    more: &[GateLine],
+) -> Result<(), AllocError>
+    ensures { OnOk result (gates.new ≡ gates.old ++ more.now) }
+{
+    for line in more {
+        gates.push(copy_gate_line(alloc, line)?)?;
+    }
+    Ok(())
+}
+
+/// Equal lines of gate sections.
+fn copy_gates(alloc: Global, gates: &[GateLine]) -> Result<Items<GateLine>, AllocError>
+    ensures { IfOk result (λ copy. copy ≡ gates.now) }
+{
+    let mut copy = Items::new(alloc);
+    add_gates(alloc, &mut copy, gates)?;
+    Ok(copy)
+}
+
+/// Adds copies of these names at the end.
+pub(crate) fn add_names(
+    alloc: Global,
+    names: &mut Items<Text>,
+    more: &[Text],
+) -> Result<(), AllocError>
+    ensures { OnOk result (names.new ≡ names.old ++ more.now) }
+{
+    for name in more {
+        names.push(name.copy(alloc)?)?;
+    }
+    Ok(())
+}
+
+/// Equal names.
+fn copy_names(alloc: Global, names: &[Text]) -> Result<Items<Text>, AllocError>
+    ensures { IfOk result (λ copy. copy ≡ names.now) }
+{
+    let mut copy = Items::new(alloc);
+    add_names(alloc, &mut copy, names)?;
     Ok(copy)
 }
 
@@ -147,7 +268,9 @@ pub(crate) fn copy_type(
         kind: declared.kind,
         name: declared.name.copy(alloc)?,
         base: copy_base(alloc, &declared.base)?,
+        interfaces: copy_names(alloc, declared.interfaces.as_slice())?,
         lines: copy_lines(alloc, declared.lines.as_slice())?,
+        gates: copy_gates(alloc, declared.gates.as_slice())?,
         submodules: copy_submodules(alloc, declared.submodules.as_slice())?,
     })
 }

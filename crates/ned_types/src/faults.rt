@@ -11,6 +11,7 @@ ghost use Rattle.ned_types.specs.Named.{later_fault};
 ghost use Rattle.ned_types.specs.Seen.{is_one_named, names_in};
 
 use crate::bodies::bodies_clash;
+use crate::gates::redeclares_gate;
 use crate::inheritance::{flat_types, has_circle, has_other_base, has_unknown_base};
 use crate::named::{NamedTypes, by_name};
 use crate::table::TypeFault;
@@ -142,6 +143,9 @@ fn clashes(
     ensures { IfOk result (λ clash. clash ≡ clashes named.now declared.now) }
 {
     if section_clashes(declared.lines.as_slice()) {
+        return Ok(true);
+    }
+    if redeclares_gate(alloc, declared.gates.as_slice())? {
         return Ok(true);
     }
     submodules_clash(alloc, named, declared.submodules.as_slice())

@@ -3,10 +3,10 @@
 ghost use Rattle.std.specs.Prelude.{◌≡◌, ◌++◌, length, map, Some, IfOk, OnOk};
 ghost use Rattle.std.specs.List.{list_any};
 ghost use Rattle.std.specs.Option.{option_copied};
-ghost use Rattle.ned_types.specs.Types.{is_simple, is_simple_kind};
-ghost use Rattle.ned_types.specs.Inheritance.{base_of, line_of, goes_on, extends_unknown, extends_other, joined_lines, class_along, heir_of, flat_type, types_in};
+ghost use Rattle.ned_types.specs.Types.{is_simple_kind};
+ghost use Rattle.ned_types.specs.Inheritance.{base_of, line_of, goes_on, extends_unknown, extends_other, can_extend, is_base, with_members, joined_with, class_along, class_lines, bare_heir, heir_of, flat_type, types_in};
 
-use crate::copies::{add_lines, copy_submodules, copy_type};
+use crate::copies::{add_gates, add_lines, add_names, add_submodules, copy_type};
 use crate::faults::is_taken;
 use crate::flat::{class_in, class_of};
 use crate::named::NamedTypes;
@@ -43,7 +43,7 @@ fn extends_unknown(named: &NamedTypes<'_>, base: &Option<Text>) -> bool
     }
 }
 
-/// Whether what one of the types extends, or a type that extends another, isn't a simple type.
+/// Whether what one of the types extends isn't of its kind.
 pub(crate) fn has_other_base(named: &NamedTypes<'_>, types: &[TypeDeclaration]) -> bool
     ensures { result ≡ list_any (λ t. extends_other named.now t.kind t.base) types.now }
 {
@@ -54,7 +54,29 @@ fn extends_other(named: &NamedTypes<'_>, kind: TypeKind, base: &Option<Text>) ->
     ensures { result ≡ extends_other named.now kind base.now }
 {
     match base {
-        Some(name) => !(is_simple_kind(kind) && is_simple(named.find(name.as_bytes()))),
+        Some(name) => !is_base(kind, named.find(name.as_bytes())),
+        None => false,
+    }
+}
+
+/// Whether a type of the first kind may extend one of the second.
+fn can_extend(kind: TypeKind, of: TypeKind) -> bool
+    ensures { result ≡ can_extend kind of }
+{
+    match kind {
+        TypeKind::Simple => matches!(of, TypeKind::Simple),
+        TypeKind::Network => matches!(of, TypeKind::Network),
+        TypeKind::Channel => matches!(of, TypeKind::Channel),
+        TypeKind::ModuleInterface | TypeKind::ChannelInterface => false,
+    }
+}
+
+/// Whether a type of that kind may extend this one.
+fn is_base(kind: TypeKind, declared: Option<&TypeDeclaration>) -> bool
+    ensures { result ≡ is_base kind (option_copied declared.entry) }
+{
+    match declared {
+        Some(declared) => can_extend(kind, declared.kind),
         None => false,
     }
 }
@@ -63,16 +85,6 @@ fn is_simple_kind(kind: TypeKind) -> bool
     ensures { result ≡ is_simple_kind kind }
 {
     matches!(kind, TypeKind::Simple)
-}
-
-/// Whether it is a simple type.
-fn is_simple(declared: Option<&TypeDeclaration>) -> bool
-    ensures { result ≡ is_simple (option_copied declared.entry) }
-{
-    match declared {
-        Some(declared) => is_simple_kind(declared.kind),
-        None => false,
-    }
 }
 
 /// Whether a type extends itself, perhaps by way of others.
@@ -120,17 +132,31 @@ fn line_of<'a>(
     Ok(line)
 }
 
-/// Adds the lines of these types, those of the last one first.
+/// Adds the members of a type behind those of the other.
+fn add_members(
+    alloc: Global,
+    flat: &mut TypeDeclaration,
+    declared: &TypeDeclaration,
+) -> Result<(), AllocError>
+    ensures { OnOk result (flat.new ≡ with_members flat.old declared.now) }
+{
+    add_names(alloc, &mut flat.interfaces, declared.interfaces.as_slice())?;
+    add_lines(alloc, &mut flat.lines, declared.lines.as_slice())?;
+    add_gates(alloc, &mut flat.gates, declared.gates.as_slice())?;
+    add_submodules(alloc, &mut flat.submodules, declared.submodules.as_slice())
+}
+
+/// Adds the members of these types, those of the last one first.
 fn add_joined(
     alloc: Global,
-    lines: &mut Items<SectionLine>,
+    flat: &mut TypeDeclaration,
     line: Vec<&TypeDeclaration>,
 ) -> Result<(), AllocError>
-    ensures { OnOk result (lines.new ≡ lines.old ++ joined_lines (types_in line.entry.items)) }
+    ensures { OnOk result (flat.new ≡ joined_with flat.old (types_in line.entry.items)) }
 {
     let mut rest = line;
     while let Some(declared) = rest.pop() {
-        add_lines(alloc, lines, declared.lines.as_slice())?;
+        add_members(alloc, flat, declared)?;
     }
     Ok(())
 }
@@ -152,6 +178,21 @@ fn class_along<'a>(line: &[&'a TypeDeclaration]) -> &'a [u8]
     b"".as_slice()
 }
 
+/// The line that names the class of a type that extends another, where it is a simple type.
+fn class_lines(
+    alloc: Global,
+    declared: &TypeDeclaration,
+    line: &[&TypeDeclaration],
+) -> Result<Items<SectionLine>, AllocError>
+    ensures { IfOk result (λ lines. lines ≡ class_lines (is_simple_kind declared.now.kind) (class_along (types_in line.now))) }
+{
+    let mut lines = Items::new(alloc);
+    if is_simple_kind(declared.kind) {
+        lines.push(SectionLine::Class(Text::from_bytes(alloc, class_along(line))?))?;
+    }
+    Ok(lines)
+}
+
 /// A type that extends another, with all that its bases have.
 fn heir_of<'a>(
     alloc: Global,
@@ -161,16 +202,17 @@ fn heir_of<'a>(
     ensures { IfOk result (λ flat. flat ≡ heir_of named.now declared.now) }
 {
     let line = line_of(alloc, named, declared)?;
-    let mut lines = Items::new(alloc);
-    lines.push(SectionLine::Class(Text::from_bytes(alloc, class_along(&line))?))?;
-    add_joined(alloc, &mut lines, line)?;
-    Ok(TypeDeclaration {
+    let mut flat = TypeDeclaration {
         kind: declared.kind,
         name: declared.name.copy(alloc)?,
         base: None,
-        lines,
-        submodules: copy_submodules(alloc, declared.submodules.as_slice())?,
-    })
+        interfaces: Items::new(alloc),
+        lines: class_lines(alloc, declared, &line)?,
+        gates: Items::new(alloc),
+        submodules: Items::new(alloc),
+    };
+    add_joined(alloc, &mut flat, line)?;
+    Ok(flat)
 }
 
 /// What the type has with all that its bases have.

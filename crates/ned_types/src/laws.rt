@@ -1,13 +1,15 @@
 //! Laws of types.
 
 ghost use Rattle.ned_types.specs.Circles.{CirclesAreFound};
-ghost use Rattle.ned_types.specs.Example.{ExampleBodies, ExampleFaults, ExampleIsFlat};
+ghost use Rattle.ned_types.specs.Example.{ExampleBodies, ExampleFaults, ExampleGates, ExampleIsFlat, ExampleNetworks};
 
 /// The flat types of small examples, their faults, and those of bodies of submodules.
 pub fn examples()
     ensures flat { ExampleIsFlat }
     ensures faults { ExampleFaults }
     ensures bodies { ExampleBodies }
+    ensures networks { ExampleNetworks }
+    ensures gates { ExampleGates }
 {}
 
 /// A circle is found exactly where one of the types extends itself, perhaps by way of others: it is no matter that the

@@ -5,6 +5,7 @@ mod bodies;
 mod copies;
 pub mod faults;
 pub mod flat;
+mod gates;
 mod inheritance;
 pub mod laws;
 mod named;

@@ -31,8 +31,9 @@ pub enum TypeFault {
     /// A type extends itself, perhaps by way of others.
     #[error("InheritanceCircle")]
     InheritanceCircle,
-    /// What a type extends is no simple type, a member is declared twice, a value is given to an undeclared parameter or after a fixed
-    /// one, by a section or by the body of a submodule, a body declares a parameter, or a submodule's type is no simple type.
+    /// What a type extends is of another kind, a parameter, a gate or a submodule is declared twice, a value is given to an undeclared
+    /// parameter or after a fixed one, by a section or by the body of a submodule, a body declares a parameter, or a submodule's type is
+    /// no simple type.
     #[error("KindClash")]
     KindClash,
     #[error("NoMemory")]

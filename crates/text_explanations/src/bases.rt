@@ -122,8 +122,8 @@ pub fn tell_unknown_base(
         shown(it.of.name.as_bytes()),
         shown(base)
     )?;
-    let simple = names_of(alloc, types, TypeKind::Simple)?;
-    tell_near(told, base, simple.as_slice())
+    let near = names_of(alloc, types, it.of.kind)?;
+    tell_near(told, base, near.as_slice())
 }
 
 /// Adds that a type extends itself.
@@ -174,18 +174,29 @@ pub fn tell_circle(
     Ok(true)
 }
 
-/// Whether it is the place of a simple type.
-fn is_simple(types: &[Declared<'_>], place: Option<usize>) -> bool {
+/// Whether it is the place of a type of that kind.
+fn is_of_kind(types: &[Declared<'_>], place: Option<usize>, kind: TypeKind) -> bool {
     match place {
         Some(place) => match types.get(place) {
-            Some(found) => found.of.kind == TypeKind::Simple,
+            Some(found) => found.of.kind == kind,
             None => false,
         },
         None => false,
     }
 }
 
-/// Adds that what a type extends is no simple module. Answers whether one extends such.
+/// What a type of that kind is called.
+pub fn kind_name(kind: TypeKind) -> &'static str {
+    match kind {
+        TypeKind::Simple => "simple module",
+        TypeKind::Network => "network",
+        TypeKind::Channel => "channel",
+        TypeKind::ModuleInterface => "module interface",
+        TypeKind::ChannelInterface => "channel interface",
+    }
+}
+
+/// Adds that what a type extends is of another kind. Answers whether one extends such.
 pub fn tell_other_base(
     told: &mut String,
     sources: &Sources<'_>,
@@ -195,14 +206,15 @@ pub fn tell_other_base(
 ) -> Result<bool, NoMemory> {
     for (at, it) in types.iter().enumerate() {
         if let Some(base) = &it.of.base {
-            if !is_simple(types, base_at(bases, at)) {
+            if !is_of_kind(types, base_at(bases, at), it.of.kind) {
                 let line = line_of(files, it, Sign::Base, base.as_bytes(), 0);
                 write!(
                     told,
-                    "{}:{line}: the type '{}' extends '{}', which is no simple module",
+                    "{}:{line}: the type '{}' extends '{}', which is no {}",
                     sources.path(it.file),
                     shown(it.of.name.as_bytes()),
-                    shown(base.as_bytes())
+                    shown(base.as_bytes()),
+                    kind_name(it.of.kind)
                 )?;
                 return Ok(true);
             }

@@ -90,7 +90,17 @@ pub fn tell_place_of_value(
     Ok(())
 }
 
-/// Adds where the body of a submodule of a type gives a parameter its value: `path:line: `.
+/// The submodule of that name, and the first of the types that declares it.
+fn declaring<'a>(along: &[Declared<'a>], name: &[u8]) -> Option<(Declared<'a>, &'a Submodule)> {
+    for it in along {
+        if let Some(found) = submodule_named(name, it.of.submodules.as_slice()) {
+            return Some((*it, found));
+        }
+    }
+    None
+}
+
+/// Adds where the body of a submodule of a type, or of what that extends, gives a parameter its value: `path:line: `.
 pub fn tell_place_in_body(
     alloc: Global,
     told: &mut String,
@@ -101,10 +111,11 @@ pub fn tell_place_in_body(
 ) -> Result<(), NoMemory> {
     let files = read_files(alloc, sources)?;
     let types = all_types(alloc, files.as_slice())?;
-    let Some(it) = type_named(types.as_slice(), of) else {
+    let Some(network) = type_named(types.as_slice(), of) else {
         return Ok(());
     };
-    let Some(inside) = submodule_named(submodule, it.of.submodules.as_slice()) else {
+    let along = with_bases(alloc, types.as_slice(), network)?;
+    let Some((it, inside)) = declaring(along.as_slice(), submodule) else {
         return Ok(());
     };
     let lines = inside.body.as_slice();

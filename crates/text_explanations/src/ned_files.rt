@@ -26,6 +26,8 @@ pub enum Sign {
     Submodule,
     /// `int NAME`, or another word of a parameter.
     Parameter,
+    /// `input NAME`, or another word of a gate.
+    Gate,
     /// `extends NAME`, or a dotted name with that last part.
     Base,
     /// `NAME` or `int NAME`, a line of a parameter.
@@ -38,6 +40,11 @@ fn is_parameter_word(word: Keyword) -> bool {
         word,
         Keyword::Bool | Keyword::Int | Keyword::Text | Keyword::Double
     )
+}
+
+/// Whether the word declares a gate.
+fn is_gate_word(word: Keyword) -> bool {
+    matches!(word, Keyword::Input | Keyword::Output | Keyword::Inout)
 }
 
 /// The token so many before that place.
@@ -99,6 +106,9 @@ fn begins_with(tokens: &[Token], sign: Sign, name: &[u8]) -> bool {
         (Sign::Parameter, [Token::Word(word), Token::Name(found), ..]) => {
             is_parameter_word(*word) && found.is(name)
         }
+        (Sign::Gate, [Token::Word(word), Token::Name(found), ..]) => {
+            is_gate_word(*word) && found.is(name)
+        }
         (Sign::Base, [Token::Word(Keyword::Extends), base @ ..]) => is_last_part(base, name),
         (Sign::Name, [Token::Name(found), ..]) => found.is(name),
         _ => false,
@@ -155,7 +165,14 @@ impl Place {
 
 /// Whether the word declares a type.
 fn is_type_word(word: Keyword) -> bool {
-    matches!(word, Keyword::Simple | Keyword::Network)
+    matches!(
+        word,
+        Keyword::Simple
+            | Keyword::Network
+            | Keyword::Channel
+            | Keyword::ModuleInterface
+            | Keyword::ChannelInterface
+    )
 }
 
 /// Whether a token is a word that begins a type.

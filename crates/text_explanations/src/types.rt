@@ -3,6 +3,7 @@
 use crate::bases::{
     bases_along, bases_of, tell_circle, tell_other_base, tell_unknown_base, with_bases,
 };
+use crate::gates::{tell_gates, tell_second_submodule};
 use crate::members::{tell_body, tell_section};
 use crate::names::{shown, tell_near};
 use crate::ned_files::{
@@ -146,12 +147,13 @@ fn tell_unknown(
     Ok(false)
 }
 
-/// Adds what is wrong with the submodules of a type. Answers whether something is.
+/// Adds what is wrong with the submodules of a type that extends these, the nearest first. Answers whether something is.
 fn tell_submodules(
     told: &mut String,
     sources: &Sources<'_>,
     files: &[ReadFile],
     types: &[Declared<'_>],
+    bases: &[Declared<'_>],
     it: &Declared<'_>,
 ) -> Result<bool, NoMemory> {
     let submodules = it.of.submodules.as_slice();
@@ -159,17 +161,7 @@ fn tell_submodules(
         let name = submodule.name.as_bytes();
         let of = submodule.type_name.as_bytes();
         let path = sources.path(it.file);
-        let is_second = match submodules.get(..at) {
-            Some(before) => before.iter().any(|other| other.name.is(name)),
-            None => false,
-        };
-        if is_second {
-            let line = line_of(files, it, Sign::Submodule, name, 1);
-            write!(
-                told,
-                "{path}:{line}: a second submodule '{}'; choose another name",
-                shown(name)
-            )?;
+        if tell_second_submodule(told, sources, files, bases, it, at, name)? {
             return Ok(true);
         }
         let is_simple = match type_named(types, of) {
@@ -222,7 +214,8 @@ fn tell_clash(
     for (at, it) in types.iter().enumerate() {
         let along = bases_along(alloc, types, bases, at)?;
         if tell_section(told, sources, files, along.as_slice(), it)?
-            || tell_submodules(told, sources, files, types, it)?
+            || tell_gates(told, sources, files, along.as_slice(), it)?
+            || tell_submodules(told, sources, files, types, along.as_slice(), it)?
             || tell_bodies(alloc, told, sources, files, types, it)?
         {
             return Ok(true);

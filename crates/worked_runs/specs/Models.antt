@@ -48,6 +48,7 @@ tick = record {
   kind = kind.Simple;
   name = codes "Tick";
   base = None;
+  interfaces = [];
   lines =
       number (codes "count") ∷ gap_line ∷ zero_number (codes "priority") ∷ zero_number (codes "late") ∷ zero_number (codes "extra")
       ∷ line.Statistic (record {
@@ -59,6 +60,7 @@ tick = record {
       })
       ∷ line.Statistic (record { name = codes "extra"; source = codes "extra"; modes = record { mode = mode.Last; optional = false } ∷ [] })
       ∷ [];
+  gates = [];
   submodules = [];
 }
 
@@ -68,7 +70,7 @@ tick_named name = record { name = name; type_name = codes "Tick"; body = [] }
 
 -- `network N` with Ticks of these names
 abbrev pub network : List (List ℕ) → TypeDeclaration
-network names = record { kind = kind.Network; name = codes "N"; base = None; lines = []; submodules = map tick_named names }
+network names = record { kind = kind.Network; name = codes "N"; base = None; interfaces = []; lines = []; gates = []; submodules = map tick_named names }
 
 -- the pattern `**.NAME`
 abbrev pub any_path_to : List ℕ → List Piece

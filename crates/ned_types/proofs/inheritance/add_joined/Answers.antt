@@ -2,4 +2,4 @@ use Rattle.ned_types.proofs.InheritanceLaws.{joined_more}
 use Rattle.ned_types.proofs.inheritance.add_joined.Goals as goal
 
 pub loop-declared-preserved : goal.loop-declared-preserved
-loop-declared-preserved c = joined_more c.loop-declared.lines c.as_slice.result.now c.add_lines.new.lines _ c.pop.new.self.items c.loop-declared.rest.items c.in-Some.declared c.in-Some.ensures.items c.as_slice.ensures c.in_ok-add_lines.ensures c.loop-declared.invariant
+loop-declared-preserved c = joined_more c.loop-declared.flat c.add_members.new.flat _ c.pop.new.self.items c.loop-declared.rest.items c.in-Some.declared c.in-Some.ensures.items c.in_ok-add_members.ensures c.loop-declared.invariant

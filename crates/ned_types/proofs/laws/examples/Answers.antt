@@ -9,3 +9,9 @@ returns-clause-faults c = record { none = refl; twice = refl; unknown = refl; ci
 
 pub returns-clause-bodies : goal.returns-clause-bodies
 returns-clause-bodies c = record { empty = refl; fixed = refl; default = refl; inherited = refl; later = refl; twice = refl; behind = refl; fixed_before = refl; default_after = refl; unknown = refl; declared_again = refl; declared = refl; around = refl; network = refl; section = refl; section_unknown = refl; section_twice = refl }
+
+pub returns-clause-networks : goal.returns-clause-networks
+returns-clause-networks c = record { submodules = refl; lines = refl; none = refl; again = refl; body = refl; unknown = refl; of_simple = refl; simple_of = refl; circle = refl; channels = refl; channel_of_simple = refl; submodule_channel = refl }
+
+pub returns-clause-gates : goal.returns-clause-gates
+returns-clause-gates c = record { joined = refl; sized = refl; again = refl; twice = refl; other_kind = refl }
