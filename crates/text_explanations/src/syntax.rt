@@ -10,7 +10,7 @@ use std::alloc::Global;
 use std::fmt::Write;
 
 /// What a text can go on with: how it is written, and how it is called where it isn't a word or a mark.
-const GOES_ON: [(&str, &str); 28] = [
+const GOES_ON: &[(&str, &str)] = &[
     (";", ""),
     ("}", ""),
     ("{", ""),
@@ -22,12 +22,20 @@ const GOES_ON: [(&str, &str); 28] = [
     (":", ""),
     (",", ""),
     ("parameters", ""),
+    ("gates", ""),
     ("submodules", ""),
     ("simple", ""),
     ("network", ""),
+    ("channel", ""),
+    ("moduleinterface", ""),
+    ("channelinterface", ""),
     ("package", ""),
     ("import", ""),
     ("extends", ""),
+    ("like", ""),
+    ("input", ""),
+    ("output", ""),
+    ("inout", ""),
     ("bool", ""),
     ("int", ""),
     ("string", ""),
@@ -86,7 +94,7 @@ fn wanted(
     for it in GOES_ON {
         tokens.push(token_of(alloc, it.0)?)?;
         if can_go_on(alloc, tokens.as_slice())? {
-            found.push(it)?;
+            found.push(*it)?;
         }
         let _added = tokens.pop();
     }

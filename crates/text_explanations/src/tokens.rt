@@ -72,27 +72,13 @@ fn tell_stray(told: &mut String, byte: u8) -> Result<(), NoMemory> {
 
 /// Whether the word begins a part of the language that is not read yet.
 pub fn is_for_later(word: Keyword) -> bool {
-    !matches!(
+    matches!(
         word,
-        Keyword::Package
-            | Keyword::Import
-            | Keyword::Simple
-            | Keyword::Network
-            | Keyword::Parameters
-            | Keyword::Volatile
-            | Keyword::Bool
-            | Keyword::Int
-            | Keyword::Text
-            | Keyword::Double
-            | Keyword::Default
-            | Keyword::Submodules
-            | Keyword::True
-            | Keyword::False
-            | Keyword::This
-            | Keyword::Parent
-            | Keyword::Index
-            | Keyword::ParentIndex
-            | Keyword::Sizeof
-            | Keyword::Exists
+        Keyword::Module
+            | Keyword::Types
+            | Keyword::If
+            | Keyword::Connections
+            | Keyword::AllowUnconnected
+            | Keyword::For
     )
 }
