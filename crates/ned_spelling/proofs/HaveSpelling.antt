@@ -214,6 +214,7 @@ have_kind kinds.Network d h parts =
     let last = have-append (gates_tokens d.gates) (submodules_tokens d.submodules) (have_gates d.gates parts.2) (have_submodules d.submodules parts.3) in
     let inside = have-append (section_tokens d.lines) (gates_tokens d.gates ++ submodules_tokens d.submodules) (have_section d.lines parts.1) last in
     (tt, have_parts d (section_tokens d.lines ++ (gates_tokens d.gates ++ submodules_tokens d.submodules)) (have_head d h parts.0) inside)
+have_kind kinds.Channel d h parts = (tt, have_parts d (section_tokens d.lines) (have_head d h parts.0) (have_section d.lines parts.1))
 have_kind _ d h parts = absurd parts
 
 -- a type

@@ -32,7 +32,7 @@ use Rattle.ned_syntax.specs.declared.statistics.Except.TheVariants as except_is
 use Rattle.ned_syntax.specs.declared.statistics.Said.{Said}
 use Rattle.ned_syntax.specs.declared.parameters.Valued.{Valued}
 use Rattle.ned_syntax.specs.declared.parameters.Tail.{Tail}
-use Rattle.ned_syntax.specs.Grammar.{word, mark, name, name_of, expression, default_value, value_rule, in_parens, turn_of, bracketed, index, body, unit_effect, said_by_word, said, effect_of, property, modes, loose_text, no_value, source_value, record_value, source_tail, record_tail, source_word, record_word, source_part, record_part, part_or_other, other_part, record_or_other, any_part, part, next_part, nothing_said, over, over_all, statistic_body, optional_body, statistic_line, indexed_statistic, unnamed_statistic, named_or_not, line_or_ignored, statistic_tail, statistic_word, statistic, plain_name, line_of, plain_line, property_text, property_line, valued, tail, value_in, unit_in, parameter_word, volatile, any_declaration, is_measured_word, declaration, assignment, assigned_or_said, any_line, section_line, heading, section, dotted, direction, open_size, size_value, size_tail, vector_size, size_or_single, gate_size, size_in_brackets, refined_size, declared_gate, refined_gate, any_gate, gate_line, gate_section, gates, base_name, optional_base, head, gated_block, simple, ignored_property, assigned_or_ignored, any_body_line, body_line, body_section, optional_semi, braced_body, no_body, submodule_body, submodule, listed, submodules, network_block, network, type_rule, silent, silent_entry, entry, types_in, file}
+use Rattle.ned_syntax.specs.Grammar.{word, mark, name, name_of, expression, default_value, value_rule, in_parens, turn_of, bracketed, index, body, unit_effect, said_by_word, said, effect_of, property, modes, loose_text, no_value, source_value, record_value, source_tail, record_tail, source_word, record_word, source_part, record_part, part_or_other, other_part, record_or_other, any_part, part, next_part, nothing_said, over, over_all, statistic_body, optional_body, statistic_line, indexed_statistic, unnamed_statistic, named_or_not, line_or_ignored, statistic_tail, statistic_word, statistic, plain_name, line_of, plain_line, property_text, property_line, valued, tail, value_in, unit_in, parameter_word, volatile, any_declaration, is_measured_word, declaration, assignment, assigned_or_said, any_line, section_line, heading, section, dotted, direction, open_size, size_value, size_tail, vector_size, size_or_single, gate_size, size_in_brackets, refined_size, declared_gate, refined_gate, any_gate, gate_line, gate_section, gates, base_name, optional_base, head, gated_block, simple, ignored_property, assigned_or_ignored, any_body_line, body_line, body_section, optional_semi, braced_body, no_body, submodule_body, submodule, listed, submodules, network_block, network, module_type, section_block, channel, type_rule, silent, silent_entry, entry, types_in, file}
 use Rattle.ned_spelling.proofs.Spellable.{Each, IfThere, CanBeExpression, CanBeGiven, CanBeUnit, CanBeDeclaration, CanBeAssignment, CanBeLine, CanBeBodyLine, CanBeSubmodule, CanBeSize, CanBeGate, CanBeType, CanBeFile}
 
 -- what sound tokens spell by the rule is so
@@ -444,12 +444,22 @@ keeps_head : Keeps head CanBeHead
 unfolding head
 keeps_head = mapped (λ p h. (h.0, h.1)) (then keeps_name keeps_base)
 
--- a type
-keeps_type : Keeps type_rule CanBeType
-unfolding type_rule simple network gated_block network_block
-keeps_type = choice
+-- a type of modules
+keeps_module_type : Keeps module_type CanBeType
+unfolding module_type simple network gated_block network_block
+keeps_module_type = choice
     (mapped (λ p h. (h.0.0, (h.0.1, h.1.0, h.1.1, refl, refl))) (before (word k.Simple) (then keeps_head (before (mark m.Open) (after (mark m.Close) (then keeps_section keeps_gates))))))
     (mapped (λ p h. (h.0.0, (h.0.1, h.1.0, h.1.1.0, h.1.1.1, refl))) (before (word k.Network) (then keeps_head (before (mark m.Open) (after (mark m.Close) (then keeps_section (then keeps_gates keeps_submodules)))))))
+
+-- a type of channels
+keeps_channel : Keeps channel CanBeType
+unfolding channel section_block
+keeps_channel = mapped (λ p h. (h.0.0, (h.0.1, h.1, refl, refl, refl))) (before (word k.Channel) (then keeps_head (before (mark m.Open) (after (mark m.Close) keeps_section))))
+
+-- a type
+keeps_type : Keeps type_rule CanBeType
+unfolding type_rule
+keeps_type = choice keeps_module_type keeps_channel
 
 -- a type, or what has no effect
 keeps_entry : Keeps entry (IfThere CanBeType)

@@ -94,10 +94,11 @@ abbrev pub CanBeGate : GateLine → Type 0
 CanBeGate (gate_lines.Declaration g) = IsName g.name × CanBeSize g.size
 CanBeGate (gate_lines.Refinement g) = IsName g.name × IfThere CanBeExpression g.size
 
--- A simple module has no submodules, and neither it nor a network keeps an interface. No other kind is read.
+-- A simple module has no submodules, a channel neither them nor gates, and none of them keeps an interface. No other kind is read.
 abbrev pub CanBeParts : TypeKind → TypeDeclaration → Type 0
 CanBeParts kinds.Simple d = IfThere IsName d.base × Each CanBeLine d.lines × Each CanBeGate d.gates × (d.submodules ≡ []) × (d.interfaces ≡ [])
 CanBeParts kinds.Network d = IfThere IsName d.base × Each CanBeLine d.lines × Each CanBeGate d.gates × Each CanBeSubmodule d.submodules × (d.interfaces ≡ [])
+CanBeParts kinds.Channel d = IfThere IsName d.base × Each CanBeLine d.lines × (d.gates ≡ []) × (d.submodules ≡ []) × (d.interfaces ≡ [])
 CanBeParts _ d = ⊥
 
 -- a name, and the parts of the kind

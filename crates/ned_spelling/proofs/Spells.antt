@@ -45,7 +45,7 @@ use Rattle.ned_syntax.specs.declared.statistics.Part.TheVariants as part_is
 use Rattle.ned_syntax.specs.declared.parameters.Valued.{Valued}
 use Rattle.ned_tokens.specs.Words.{or_else}
 use Rattle.ned_tokens.specs.Balanced.{balanced}
-use Rattle.ned_syntax.specs.Grammar.{turn_of, effect_of, said_in, statistic_line, other_part, first_unit, unit_behind, value_in, unit_in, is_measured_word, valued, tail, parameter_word, volatile, any_declaration, declaration, assignment, source_word, source_value, source_tail, source_part, record_word, record_value, record_tail, record_part, no_value, record_or_other, any_part, part, next_part, statistic_body, optional_body, indexed_statistic, unnamed_statistic, named_or_not, statistic_tail, statistic_word, statistic, plain_name, plain_line, property_text, property_line, assigned_or_said, any_line, section_line, heading, section, dotted, direction, open_size, size_value, size_tail, vector_size, gate_size, size_in_brackets, refined_size, declared_gate, refined_gate, any_gate, gate_line, gate_section, gates, says_loose, base_name, optional_base, head, gated_block, simple, ignored_property, assigned_or_ignored, any_body_line, body_line, body_section, optional_semi, braced_body, no_body, submodule_body, submodule, submodules, network_block, network, type_rule, silent_entry, entry, types_in, file, word, mark, name, is_word, is_mark, expression, default_value, value_rule, in_parens, property_name, bracketed, index, body, property, mode_word, question, mode_rule, next_mode, modes}
+use Rattle.ned_syntax.specs.Grammar.{turn_of, effect_of, said_in, statistic_line, other_part, first_unit, unit_behind, value_in, unit_in, is_measured_word, valued, tail, parameter_word, volatile, any_declaration, declaration, assignment, source_word, source_value, source_tail, source_part, record_word, record_value, record_tail, record_part, no_value, record_or_other, any_part, part, next_part, statistic_body, optional_body, indexed_statistic, unnamed_statistic, named_or_not, statistic_tail, statistic_word, statistic, plain_name, plain_line, property_text, property_line, assigned_or_said, any_line, section_line, heading, section, dotted, direction, open_size, size_value, size_tail, vector_size, gate_size, size_in_brackets, refined_size, declared_gate, refined_gate, any_gate, gate_line, gate_section, gates, says_loose, base_name, optional_base, head, gated_block, simple, ignored_property, assigned_or_ignored, any_body_line, body_line, body_section, optional_semi, braced_body, no_body, submodule_body, submodule, submodules, network_block, network, module_type, section_block, channel, type_rule, silent_entry, entry, types_in, file, word, mark, name, is_word, is_mark, expression, default_value, value_rule, in_parens, property_name, bracketed, index, body, property, mode_word, question, mode_rule, next_mode, modes}
 use Rattle.ned_spelling.specs.Declarations.{listed_tokens, given_tokens, valued_tokens, unit_tokens, parameter_keyword, declaration_tokens, assignment_tokens, mode_name, question_tokens, mode_tokens, next_mode_tokens, record_tokens, statistic_tokens, line_tokens, section_line_tokens, section_tokens, body_tokens, submodule_tokens, submodules_tokens, base_tokens, direction_keyword, size_tokens, refined_size_tokens, loose_tokens, gate_tokens, gate_line_tokens, gates_tokens, kind_tokens, type_tokens, file_tokens}
 use Rattle.ned_spelling.proofs.Spellable.{Each, IfThere, CanBeExpression, CanBeGiven, CanBeUnit, CanBeDeclaration, CanBeAssignment, CanBeLine, CanBeBodyLine, CanBeSubmodule, CanBeSize, CanBeGate, CanBeParts, CanBeType, CanBeFile}
 
@@ -556,20 +556,30 @@ a_network_block : (ls : List SectionLine) (gs : List GateLine) (ss : List Submod
 unfolding network_block
 a_network_block ls gs ss h k l = before (a_mark m.Open) (after (then (a_section ls h) (then (the_gates gs k) (the_submodules ss l))) (a_mark m.Close))
 
+-- parameters in braces
+a_section_block : (ls : List SectionLine) → Each CanBeLine ls → Spells section_block (token.Mark m.Open ∷ (section_tokens ls ++ token.Mark m.Close ∷ [])) ls
+unfolding section_block
+a_section_block ls h = before (a_mark m.Open) (after (a_section ls h) (a_mark m.Close))
+
 -- a type of these parts
 abbrev type_with : TypeKind → List ℕ → Option (List ℕ) → List (List ℕ) → List SectionLine → List GateLine → List Submodule → TypeDeclaration
 type_with kind text base is ls gs ss = record { kind = kind; name = text; base = base; interfaces = is; lines = ls; gates = gs; submodules = ss }
 
 -- a type of each kind
 kind_spells : (kind : TypeKind) (text : List ℕ) (base : Option (List ℕ)) (is : List (List ℕ)) (ls : List SectionLine) (gs : List GateLine) (ss : List Submodule) → CanBeParts kind (type_with kind text base is ls gs ss) → Spells type_rule (kind_tokens kind (type_with kind text base is ls gs ss)) (type_with kind text base is ls gs ss)
-unfolding type_rule simple network
+unfolding type_rule module_type simple network channel
 kind_spells kinds.Simple text base is ls gs ss h =
     let none_below = sym h.3 in
     let none_kept = sym h.4 in
-    this network (to (mapped (before (a_word k.Simple) (then (a_head text base) (a_gated_block ls gs h.1 h.2)))) (λ i. type_with kinds.Simple text base (none_kept i) ls gs (none_below i)))
+    this channel (this network (to (mapped (before (a_word k.Simple) (then (a_head text base) (a_gated_block ls gs h.1 h.2)))) (λ i. type_with kinds.Simple text base (none_kept i) ls gs (none_below i))))
 kind_spells kinds.Network text base is ls gs ss h =
     let none_kept = sym h.4 in
-    that simple (to (mapped (before (a_word k.Network) (then (a_head text base) (a_network_block ls gs ss h.1 h.2 h.3)))) (λ i. type_with kinds.Network text base (none_kept i) ls gs ss))
+    this channel (that simple (to (mapped (before (a_word k.Network) (then (a_head text base) (a_network_block ls gs ss h.1 h.2 h.3)))) (λ i. type_with kinds.Network text base (none_kept i) ls gs ss)))
+kind_spells kinds.Channel text base is ls gs ss h =
+    let no_gates = sym h.2 in
+    let none_below = sym h.3 in
+    let none_kept = sym h.4 in
+    that module_type (to (mapped (before (a_word k.Channel) (then (a_head text base) (a_section_block ls h.1)))) (λ i. type_with kinds.Channel text base (none_kept i) ls (no_gates i) (none_below i)))
 kind_spells _ text base is ls gs ss h = absurd h
 
 -- a type

@@ -192,10 +192,11 @@ abbrev pub gates_tokens : List GateLine → List Token
 gates_tokens [] = []
 gates_tokens (g ∷ gs) = token.Word k.Gates ∷ token.Mark m.Colon ∷ listed_tokens gate_line_tokens (g ∷ gs)
 
--- A simple module has parameters and gates, a network submodules too. No other kind is read.
+-- A simple module has parameters and gates, a network submodules too, a channel parameters alone. No other kind is read.
 abbrev pub kind_tokens : TypeKind → TypeDeclaration → List Token
 kind_tokens kinds.Simple d = token.Word k.Simple ∷ (head_tokens d ++ token.Mark m.Open ∷ ((section_tokens d.lines ++ gates_tokens d.gates) ++ token.Mark m.Close ∷ []))
 kind_tokens kinds.Network d = token.Word k.Network ∷ (head_tokens d ++ token.Mark m.Open ∷ ((section_tokens d.lines ++ (gates_tokens d.gates ++ submodules_tokens d.submodules)) ++ token.Mark m.Close ∷ []))
+kind_tokens kinds.Channel d = token.Word k.Channel ∷ (head_tokens d ++ token.Mark m.Open ∷ (section_tokens d.lines ++ token.Mark m.Close ∷ []))
 kind_tokens _ d = []
 
 -- a type, as its kind has it

@@ -15,7 +15,7 @@ use Rattle.ned_syntax.specs.declared.ast.TypeKind.TheVariants as kinds
 use Rattle.ned_syntax.specs.declared.ast.NedFile.{NedFile}
 use Rattle.ned_spelling.specs.Declarations.{spelled}
 
--- a simple module with a line and a gate of each kind, one that extends it, and a network with a line and a submodule with a body
+-- a simple module with a line and a gate of each kind, one that extends it, a channel, and a network with a line and a submodule with a body
 abbrev pub example : NedFile
 example = record {
   types =
@@ -52,6 +52,15 @@ example = record {
         submodules = [];
       }
       ∷ record {
+        kind = kinds.Channel;
+        name = codes "Wire";
+        base = Some (codes "DelayChannel");
+        interfaces = [];
+        lines = lines.Assignment (record { name = codes "delay"; value = Some (given.Fixed (expressions.Literal (values.Quantity dimension.Time (pos 1000)))) }) ∷ [];
+        gates = [];
+        submodules = [];
+      }
+      ∷ record {
         kind = kinds.Network;
         name = codes "Net";
         base = None;
@@ -71,7 +80,7 @@ example = record {
 }
 
 abbrev pub example_text : List ℕ
-example_text = codes "simple Source {\nparameters: double interval @unit(ps) = default(1000000000000ps);\nint offset = - 5;\nlabel = \"a\\tb\";\n@class(Src);\n@ignored;\n@statistic[sent](source = packetSent;\nrecord = count, sum?);\ngates: input in @loose;\noutput out[];\ninout port[2] @loose;\n}\nsimple Slow extends Source {\nparameters: gates: out[3];\nout @loose;\n}\nnetwork Net {\nparameters: int size = 2;\nsubmodules: a: Source;\nb: Source {\nparameters: offset = 3;\n@ignored;\n}\n}\n"
+example_text = codes "simple Source {\nparameters: double interval @unit(ps) = default(1000000000000ps);\nint offset = - 5;\nlabel = \"a\\tb\";\n@class(Src);\n@ignored;\n@statistic[sent](source = packetSent;\nrecord = count, sum?);\ngates: input in @loose;\noutput out[];\ninout port[2] @loose;\n}\nsimple Slow extends Source {\nparameters: gates: out[3];\nout @loose;\n}\nchannel Wire extends DelayChannel {\nparameters: delay = 1000ps;\n}\nnetwork Net {\nparameters: int size = 2;\nsubmodules: a: Source;\nb: Source {\nparameters: offset = 3;\n@ignored;\n}\n}\n"
 
 -- The example is spelled so.
 abbrev pub ExampleIsSpelled : Type 0

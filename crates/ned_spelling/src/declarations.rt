@@ -15,7 +15,7 @@ pub fn one_spelling(first: &[u8], second: &[u8])
     ensures { SpellingDecides first.now second.now }
 {}
 
-/// A file with a line and a gate of each kind, and its standard spelling.
+/// A file with a line, a gate and a type of each kind, and its standard spelling.
 pub fn spelled_example()
     ensures { ExampleIsSpelled }
 {}

@@ -17,7 +17,7 @@ use Rattle.ned_syntax.specs.declared.properties.PropertyName.{PropertyName}
 use Rattle.ned_syntax.specs.declared.properties.PropertyName.TheVariants as names
 use Rattle.ned_syntax.specs.declared.statistics.Except.{Except}
 use Rattle.ned_syntax.specs.declared.statistics.Except.TheVariants as except_is
-use Rattle.ned_syntax.specs.Grammar.{said_in, word, mark, name, in_parens, expression, default_value, value_rule, property_name, bracketed, index, body, property, mode_word, question, mode_rule, next_mode, modes, group, loose_token, piece, pieces, loose_text, no_value, source_value, record_value, source_tail, record_tail, source_word, record_word, source_part, record_part, other_part, record_or_other, any_part, part, next_part, statistic_body, optional_body, indexed_statistic, unnamed_statistic, named_or_not, statistic_tail, statistic_word, statistic, plain_name, plain_line, property_text, property_line, valued, tail, parameter_word, volatile, any_declaration, declaration, assignment, assigned_or_said, any_line, section_line, heading, section, dotted, direction, open_size, size_value, size_tail, vector_size, gate_size, size_in_brackets, refined_size, declared_gate, refined_gate, any_gate, gate_line, gate_section, gates, base_name, optional_base, head, gated_block, simple, ignored_property, assigned_or_ignored, any_body_line, body_line, body_section, optional_semi, braced_body, no_body, submodule_body, submodule, submodules, network_block, network, type_rule, package_line, import_token, import_text, import_line, file_property, import_or_property, silent, silent_entry, entry, file, turn_of, property_name_of, mode_of, loose_of, source_of, record_of, statistic_of, plain_name_of, parameter_word_of, direction_of, is_measured, is_source, is_record, is_statistic, is_loose_property, plain_of, import_of}
+use Rattle.ned_syntax.specs.Grammar.{said_in, word, mark, name, in_parens, expression, default_value, value_rule, property_name, bracketed, index, body, property, mode_word, question, mode_rule, next_mode, modes, group, loose_token, piece, pieces, loose_text, no_value, source_value, record_value, source_tail, record_tail, source_word, record_word, source_part, record_part, other_part, record_or_other, any_part, part, next_part, statistic_body, optional_body, indexed_statistic, unnamed_statistic, named_or_not, statistic_tail, statistic_word, statistic, plain_name, plain_line, property_text, property_line, valued, tail, parameter_word, volatile, any_declaration, declaration, assignment, assigned_or_said, any_line, section_line, heading, section, dotted, direction, open_size, size_value, size_tail, vector_size, gate_size, size_in_brackets, refined_size, declared_gate, refined_gate, any_gate, gate_line, gate_section, gates, base_name, optional_base, head, gated_block, simple, ignored_property, assigned_or_ignored, any_body_line, body_line, body_section, optional_semi, braced_body, no_body, submodule_body, submodule, submodules, network_block, network, module_type, section_block, channel, type_rule, package_line, import_token, import_text, import_line, file_property, import_or_property, silent, silent_entry, entry, file, turn_of, property_name_of, mode_of, loose_of, source_of, record_of, statistic_of, plain_name_of, parameter_word_of, direction_of, is_measured, is_source, is_record, is_statistic, is_loose_property, plain_of, import_of}
 pub use Rattle.ned_values.proofs.GrammarLaws.{word-lawful, mark-lawful, name-lawful}
 pub use Rattle.ned_expressions.proofs.ExpressionLaws.{expression-lawful}
 use Rattle.ned_tokens.proofs.Laws.{Lawful, token-lawful, such_that-lawful, either-lawful, optional-lawful, then, before, after, mapped}
@@ -771,12 +771,42 @@ simple_apart (token.Word k.Network) e = refl
 simple_apart (token.Word _) e = absurd (false≢true e)
 simple_apart _ e = absurd (false≢true e)
 
+pub module_type-lawful : Lawful module_type
+unfolding module_type simple network word
+module_type-lawful = either-lawful simple network simple-lawful network-lawful refl refl simple_apart
+
+section_ends : (t : Token) → (mark m.Close).starts t ≡ true → section.goes_on t ≡ false
+unfolding section heading section_line any_line assigned_or_said property_line assignment declaration any_declaration volatile parameter_word word mark name
+section_ends (token.Mark m.Close) e = refl
+section_ends (token.Mark _) e = absurd (false≢true e)
+section_ends _ e = absurd (false≢true e)
+
+pub section_block-lawful : Lawful section_block
+unfolding section_block mark
+section_block-lawful = before (mark-lawful m.Open) (after section-lawful (mark-lawful m.Close) section_ends) (λ t e. refl)
+
+section_block_apart : (t : Token) → section_block.starts t ≡ true → head.goes_on t ≡ false
+unfolding section_block head optional_base base_name dotted word mark name
+section_block_apart (token.Mark m.Open) e = refl
+section_block_apart (token.Mark _) e = absurd (false≢true e)
+section_block_apart _ e = absurd (false≢true e)
+
+pub channel-lawful : Lawful channel
+unfolding channel word
+channel-lawful = mapped (before (word-lawful k.Channel) (then head-lawful section_block-lawful section_block_apart) (λ t e. refl))
+
+module_type_apart : (t : Token) → channel.starts t ≡ true → module_type.starts t ≡ false
+unfolding channel module_type simple network word
+module_type_apart (token.Word k.Channel) e = refl
+module_type_apart (token.Word _) e = absurd (false≢true e)
+module_type_apart _ e = absurd (false≢true e)
+
 pub type-lawful : Lawful type_rule
-unfolding type_rule simple network word
-type-lawful = either-lawful simple network simple-lawful network-lawful refl refl simple_apart
+unfolding type_rule module_type simple network channel word
+type-lawful = either-lawful module_type channel module_type-lawful channel-lawful refl refl module_type_apart
 
 pub type-full : type_rule.empty ≡ false
-unfolding type_rule network word
+unfolding type_rule channel word
 type-full = refl
 
 -- ---- what a file has besides types
@@ -846,22 +876,23 @@ unfolding silent_entry
 silent_entry-lawful = mapped silent-lawful
 
 silent_apart : (t : Token) → (made Some type_rule).starts t ≡ true → silent_entry.starts t ≡ false
-unfolding silent_entry silent import_or_property file_property property import_line package_line type_rule simple network word mark
+unfolding silent_entry silent import_or_property file_property property import_line package_line type_rule module_type simple network channel word mark
 silent_apart (token.Word k.Simple) e = refl
 silent_apart (token.Word k.Network) e = refl
+silent_apart (token.Word k.Channel) e = refl
 silent_apart (token.Word _) e = absurd (false≢true e)
 silent_apart _ e = absurd (false≢true e)
 
 pub entry-lawful : Lawful entry
-unfolding entry silent_entry silent import_or_property file_property property import_line package_line type_rule simple network word mark
+unfolding entry silent_entry silent import_or_property file_property property import_line package_line type_rule module_type simple network channel word mark
 entry-lawful = either-lawful silent_entry (made Some type_rule) silent_entry-lawful (mapped type-lawful) refl refl silent_apart
 
 pub entry-full : entry.empty ≡ false
-unfolding entry type_rule simple network word
+unfolding entry type_rule channel word
 entry-full = refl
 
 entries_apart : (t : Token) → entry.starts t ≡ true → entry.goes_on t ≡ false
-unfolding entry silent_entry silent import_or_property file_property import_line import_text package_line dotted type_rule simple network gated_block network_block section heading gates submodules head name mark
+unfolding entry silent_entry silent import_or_property file_property import_line import_text package_line dotted type_rule module_type simple network channel gated_block network_block section_block section heading gates submodules head name mark
 entries_apart t e = refl
 
 pub file-lawful : Lawful file

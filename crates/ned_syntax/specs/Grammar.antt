@@ -627,8 +627,20 @@ network_block = mark m.Open ▷ ((section ⊗ (gates ⊗ submodules)) ◁ mark m
 unfoldable pub network : Rule TypeDeclaration
 network = made (λ p. record { kind = kinds.Network; name = p.0.name; base = p.0.base; interfaces = []; lines = p.1.0; gates = p.1.1.0; submodules = p.1.1.1 }) (word k.Network ▷ (head ⊗ network_block))
 
+-- a type of modules
+unfoldable pub module_type : Rule TypeDeclaration
+module_type = either simple network
+
+-- "{" [params] "}"
+unfoldable pub section_block : Rule (List SectionLine)
+section_block = mark m.Open ▷ (section ◁ mark m.Close)
+
+-- "channel" head "{" [params] "}"
+unfoldable pub channel : Rule TypeDeclaration
+channel = made (λ p. record { kind = kinds.Channel; name = p.0.name; base = p.0.base; interfaces = []; lines = p.1; gates = []; submodules = [] }) (word k.Channel ▷ (head ⊗ section_block))
+
 unfoldable pub type_rule : Rule TypeDeclaration
-type_rule = either simple network
+type_rule = either module_type channel
 
 -- ---- what a file has besides types, of which nothing has an effect
 

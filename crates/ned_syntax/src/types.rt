@@ -154,13 +154,11 @@ fn network(alloc: Global, tokens: &[Token]) -> Result<(TypeDeclaration, &[Token]
     ))
 }
 
-/// `type = simple | network`.
-#[tactic(auto, unfolding(crate::specs::Grammar::type_rule, crate::specs::Grammar::simple, crate::specs::Grammar::word))]
-pub(crate) fn type_declaration(
-    alloc: Global,
-    tokens: &[Token],
-) -> Result<(TypeDeclaration, &[Token]), Refusal>
-    ensures { Reads grammar.type_rule tokens.now result }
+/// A type of modules.
+/// `module_type = simple | network`.
+#[tactic(auto, unfolding(crate::specs::Grammar::module_type, crate::specs::Grammar::simple, crate::specs::Grammar::word))]
+fn module_type(alloc: Global, tokens: &[Token]) -> Result<(TypeDeclaration, &[Token]), Refusal>
+    ensures { Reads grammar.module_type tokens.now result }
 {
     if begins_word(Keyword::Simple, tokens) {
         simple(alloc, tokens)
@@ -169,9 +167,63 @@ pub(crate) fn type_declaration(
     }
 }
 
-#[tactic(auto, unfolding(crate::specs::Grammar::type_rule, crate::specs::Grammar::simple, crate::specs::Grammar::network, crate::specs::Grammar::word))]
+#[tactic(auto, unfolding(crate::specs::Grammar::module_type, crate::specs::Grammar::simple, crate::specs::Grammar::network, crate::specs::Grammar::word))]
+fn begins_module_type(tokens: &[Token]) -> bool
+    ensures { result ≡ begins grammar.module_type.starts tokens.now }
+{
+    begins_word(Keyword::Simple, tokens) || begins_word(Keyword::Network, tokens)
+}
+
+/// `section_block = "{" section "}"`.
+#[tactic(auto, unfolding(crate::specs::Grammar::section_block))]
+fn section_block(alloc: Global, tokens: &[Token]) -> Result<(Items<SectionLine>, &[Token]), Refusal>
+    ensures { Reads grammar.section_block tokens.now result }
+{
+    let rest = read!(mark(Mark::Open, tokens));
+    let (lines, rest) = read!(section(alloc, rest));
+    ended(lines, Mark::Close, rest)
+}
+
+/// `channel = "channel" head section_block`.
+#[tactic(auto, unfolding(crate::specs::Grammar::channel))]
+fn channel(alloc: Global, tokens: &[Token]) -> Result<(TypeDeclaration, &[Token]), Refusal>
+    ensures { Reads grammar.channel tokens.now result }
+{
+    let rest = read!(word(Keyword::Channel, tokens));
+    let (head, rest) = read!(read_head(alloc, rest));
+    let (lines, rest) = read!(section_block(alloc, rest));
+    Ok((
+        TypeDeclaration {
+            kind: TypeKind::Channel,
+            name: head.name,
+            base: head.base,
+            interfaces: Items::new(alloc),
+            lines,
+            gates: Items::new(alloc),
+            submodules: Items::new(alloc),
+        },
+        rest,
+    ))
+}
+
+/// `type = module_type | channel`.
+#[tactic(auto, unfolding(crate::specs::Grammar::type_rule))]
+pub(crate) fn type_declaration(
+    alloc: Global,
+    tokens: &[Token],
+) -> Result<(TypeDeclaration, &[Token]), Refusal>
+    ensures { Reads grammar.type_rule tokens.now result }
+{
+    if begins_module_type(tokens) {
+        module_type(alloc, tokens)
+    } else {
+        channel(alloc, tokens)
+    }
+}
+
+#[tactic(auto, unfolding(crate::specs::Grammar::type_rule, crate::specs::Grammar::channel, crate::specs::Grammar::word))]
 pub(crate) fn begins_type(tokens: &[Token]) -> bool
     ensures { result ≡ begins grammar.type_rule.starts tokens.now }
 {
-    begins_word(Keyword::Simple, tokens) || begins_word(Keyword::Network, tokens)
+    begins_module_type(tokens) || begins_word(Keyword::Channel, tokens)
 }
