@@ -2,6 +2,8 @@
 use Rattle.std.proofs.Common.{ℕ, Bool, true, false, List, [], ◌∷◌, ◌++◌, Option, Some, None, refl}
 use Rattle.sim_values.specs.declared.value.Dimension.{Dimension}
 use Rattle.sim_values.specs.declared.value.Dimension.TheVariants as dimension
+use Rattle.ned_tokens.specs.declared.token.Keyword.{Keyword}
+use Rattle.ned_tokens.specs.declared.token.Keyword.TheVariants as k
 use Rattle.ned_tokens.specs.declared.token.Mark.TheVariants as m
 use Rattle.ned_tokens.specs.declared.token.Token.{Token}
 use Rattle.ned_tokens.specs.declared.token.Token.TheVariants as token
@@ -27,8 +29,8 @@ use Rattle.ned_syntax.specs.declared.ast.TypeKind.{TypeKind}
 use Rattle.ned_syntax.specs.declared.ast.TypeKind.TheVariants as kinds
 use Rattle.ned_syntax.specs.declared.ast.TypeDeclaration.{TypeDeclaration}
 use Rattle.ned_syntax.specs.declared.ast.NedFile.{NedFile}
-use Rattle.ned_spelling.specs.Declarations.{listed_tokens, given_tokens, valued_tokens, unit_tokens, declaration_tokens, mode_name, question_tokens, mode_tokens, next_mode_tokens, record_tokens, statistic_tokens, line_tokens, section_line_tokens, section_tokens, body_tokens, submodule_tokens, submodules_tokens, base_tokens, head_tokens, bracket_tokens, size_tokens, refined_size_tokens, loose_tokens, gate_tokens, gate_line_tokens, gates_tokens, kind_tokens, type_tokens, file_tokens}
-use Rattle.ned_spelling.proofs.Spellable.{Each, IfThere, CanBeExpression, CanBeGiven, CanBeDeclaration, CanBeStatistic, CanBeLine, CanBeBodyLine, CanBeSubmodule, CanBeSize, CanBeGate, CanBeParts, CanBeType, CanBeFile}
+use Rattle.ned_spelling.specs.Declarations.{listed_tokens, given_tokens, valued_tokens, unit_tokens, declaration_tokens, mode_name, question_tokens, mode_tokens, next_mode_tokens, record_tokens, statistic_tokens, line_tokens, section_line_tokens, section_tokens, body_tokens, submodule_tokens, submodules_tokens, base_tokens, next_name_tokens, names_tokens, head_tokens, interface_tokens, bracket_tokens, size_tokens, refined_size_tokens, loose_tokens, gate_tokens, gate_line_tokens, gates_tokens, kind_tokens, type_tokens, file_tokens}
+use Rattle.ned_spelling.proofs.Spellable.{Each, IfThere, CanBeExpression, CanBeGiven, CanBeDeclaration, CanBeStatistic, CanBeLine, CanBeBodyLine, CanBeSubmodule, CanBeSize, CanBeGate, CanBeInterface, CanBeParts, CanBeType, CanBeFile}
 
 -- two lists in a row
 have-append : (ts us : List Token) → HaveSpelling ts → HaveSpelling us → HaveSpelling (ts ++ us)
@@ -193,9 +195,18 @@ have_gates (g ∷ gs) h = (tt, (tt, have_listed gate_line_tokens CanBeGate have_
 
 -- ---- types of each kind
 
+-- a name behind a comma
+have_next_name : (text : List ℕ) → IsName text → HaveSpelling (next_name_tokens text)
+have_next_name text h = (tt, (h, tt))
+
+-- names behind a word, where there are some
+have_names : (w : Keyword) (names : List (List ℕ)) → Each IsName names → HaveSpelling (names_tokens w names)
+have_names w [] h = tt
+have_names w (text ∷ names) h = (tt, (h.0, have_listed next_name_tokens IsName have_next_name names h.1))
+
 -- the head of a type
-have_head : (d : TypeDeclaration) → IsName d.name → IfThere IsName d.base → HaveSpelling (head_tokens d)
-have_head d h base = (h, have_base d.base base)
+have_head : (d : TypeDeclaration) → IsName d.name → IfThere IsName d.base → Each IsName d.interfaces → HaveSpelling (head_tokens d)
+have_head d h base names = (h, have-append (base_tokens d.base) (names_tokens k.Like d.interfaces) (have_base d.base base) (have_names k.Like d.interfaces names))
 
 -- what stands in braces
 have_block : (ts : List Token) → HaveSpelling ts → HaveSpelling (token.Mark m.Open ∷ (ts ++ token.Mark m.Close ∷ []))
@@ -205,17 +216,24 @@ have_block ts h = (tt, have-append ts (token.Mark m.Close ∷ []) h (tt, tt))
 have_parts : (d : TypeDeclaration) (ts : List Token) → HaveSpelling (head_tokens d) → HaveSpelling ts → HaveSpelling (head_tokens d ++ token.Mark m.Open ∷ (ts ++ token.Mark m.Close ∷ []))
 have_parts d ts h k = have-append (head_tokens d) (token.Mark m.Open ∷ (ts ++ token.Mark m.Close ∷ [])) h (have_block ts k)
 
+-- parameters and gates
+have_gated : (d : TypeDeclaration) → Each CanBeLine d.lines → Each CanBeGate d.gates → HaveSpelling (section_tokens d.lines ++ gates_tokens d.gates)
+have_gated d h k = have-append (section_tokens d.lines) (gates_tokens d.gates) (have_section d.lines h) (have_gates d.gates k)
+
+-- an interface
+have_interface : (w : Keyword) (d : TypeDeclaration) → IsName d.name → CanBeInterface d → HaveSpelling (interface_tokens w d)
+have_interface w d h parts = (tt, (h, have-append (names_tokens k.Extends d.interfaces) (token.Mark m.Open ∷ ((section_tokens d.lines ++ gates_tokens d.gates) ++ token.Mark m.Close ∷ [])) (have_names k.Extends d.interfaces parts.0) (have_block (section_tokens d.lines ++ gates_tokens d.gates) (have_gated d parts.1 parts.2))))
+
 -- a type of each kind
 have_kind : (kind : TypeKind) (d : TypeDeclaration) → IsName d.name → CanBeParts kind d → HaveSpelling (kind_tokens kind d)
-have_kind kinds.Simple d h parts =
-    let inside = have-append (section_tokens d.lines) (gates_tokens d.gates) (have_section d.lines parts.1) (have_gates d.gates parts.2) in
-    (tt, have_parts d (section_tokens d.lines ++ gates_tokens d.gates) (have_head d h parts.0) inside)
+have_kind kinds.Simple d h parts = (tt, have_parts d (section_tokens d.lines ++ gates_tokens d.gates) (have_head d h parts.0 parts.1) (have_gated d parts.2 parts.3))
 have_kind kinds.Network d h parts =
-    let last = have-append (gates_tokens d.gates) (submodules_tokens d.submodules) (have_gates d.gates parts.2) (have_submodules d.submodules parts.3) in
-    let inside = have-append (section_tokens d.lines) (gates_tokens d.gates ++ submodules_tokens d.submodules) (have_section d.lines parts.1) last in
-    (tt, have_parts d (section_tokens d.lines ++ (gates_tokens d.gates ++ submodules_tokens d.submodules)) (have_head d h parts.0) inside)
-have_kind kinds.Channel d h parts = (tt, have_parts d (section_tokens d.lines) (have_head d h parts.0) (have_section d.lines parts.1))
-have_kind _ d h parts = absurd parts
+    let last = have-append (gates_tokens d.gates) (submodules_tokens d.submodules) (have_gates d.gates parts.3) (have_submodules d.submodules parts.4) in
+    let inside = have-append (section_tokens d.lines) (gates_tokens d.gates ++ submodules_tokens d.submodules) (have_section d.lines parts.2) last in
+    (tt, have_parts d (section_tokens d.lines ++ (gates_tokens d.gates ++ submodules_tokens d.submodules)) (have_head d h parts.0 parts.1) inside)
+have_kind kinds.Channel d h parts = (tt, have_parts d (section_tokens d.lines) (have_head d h parts.0 parts.1) (have_section d.lines parts.2))
+have_kind kinds.ModuleInterface d h parts = have_interface k.ModuleInterface d h parts
+have_kind kinds.ChannelInterface d h parts = have_interface k.ChannelInterface d h parts
 
 -- a type
 have_type : (d : TypeDeclaration) → CanBeType d → HaveSpelling (type_tokens d)

@@ -1,7 +1,9 @@
 -- What a text declares can be declared.
-use Rattle.std.proofs.Common.{◌≡◌, ℕ, Bool, true, List, [], ◌∷◌, ◌++◌, Option, Some, None, inl, inr, refl, sym, subst}
-use Rattle.std.specs.Prelude.{unwrap_or}
+use Rattle.std.proofs.Common.{◌≡◌, ℕ, Bool, true, List, [], ◌∷◌, ◌++◌, Option, Some, None, inl, inr, refl, sym, ap, subst}
+use Rattle.std.specs.Prelude.{is_some, unwrap_or}
+use Rattle.std.proofs.lemmas.Bool.{false≢true}
 use Rattle.sim_values.specs.declared.value.Dimension.{Dimension}
+use Rattle.ned_tokens.specs.declared.token.Keyword.{Keyword}
 use Rattle.ned_tokens.specs.declared.token.Keyword.TheVariants as k
 use Rattle.ned_tokens.specs.declared.token.Mark.TheVariants as m
 use Rattle.ned_tokens.specs.declared.token.Token.{Token}
@@ -19,7 +21,10 @@ use Rattle.ned_syntax.specs.declared.ast.ParameterWord.TheVariants as words
 use Rattle.ned_syntax.specs.declared.ast.Declaration.{Declaration}
 use Rattle.ned_syntax.specs.declared.ast.SectionLine.{SectionLine}
 use Rattle.ned_syntax.specs.declared.ast.GateSize.{GateSize}
+use Rattle.ned_syntax.specs.declared.ast.GateLine.{GateLine}
 use Rattle.ned_syntax.specs.declared.heads.Head.{Head}
+use Rattle.ned_syntax.specs.declared.ast.TypeKind.{TypeKind}
+use Rattle.ned_syntax.specs.declared.ast.TypeKind.TheVariants as kinds
 use Rattle.ned_syntax.specs.declared.ast.TypeDeclaration.{TypeDeclaration}
 use Rattle.ned_syntax.specs.declared.ast.NedFile.{NedFile}
 use Rattle.ned_syntax.specs.declared.properties.PropertyName.{PropertyName}
@@ -32,8 +37,8 @@ use Rattle.ned_syntax.specs.declared.statistics.Except.TheVariants as except_is
 use Rattle.ned_syntax.specs.declared.statistics.Said.{Said}
 use Rattle.ned_syntax.specs.declared.parameters.Valued.{Valued}
 use Rattle.ned_syntax.specs.declared.parameters.Tail.{Tail}
-use Rattle.ned_syntax.specs.Grammar.{word, mark, name, name_of, expression, default_value, value_rule, in_parens, turn_of, bracketed, index, body, unit_effect, said_by_word, said, effect_of, property, modes, loose_text, no_value, source_value, record_value, source_tail, record_tail, source_word, record_word, source_part, record_part, part_or_other, other_part, record_or_other, any_part, part, next_part, nothing_said, over, over_all, statistic_body, optional_body, statistic_line, indexed_statistic, unnamed_statistic, named_or_not, line_or_ignored, statistic_tail, statistic_word, statistic, plain_name, line_of, plain_line, property_text, property_line, valued, tail, value_in, unit_in, parameter_word, volatile, any_declaration, is_measured_word, declaration, assignment, assigned_or_said, any_line, section_line, heading, section, dotted, direction, open_size, size_value, size_tail, vector_size, size_or_single, gate_size, size_in_brackets, refined_size, declared_gate, refined_gate, any_gate, gate_line, gate_section, gates, base_name, optional_base, head, gated_block, simple, ignored_property, assigned_or_ignored, any_body_line, body_line, body_section, optional_semi, braced_body, no_body, submodule_body, submodule, listed, submodules, network_block, network, module_type, section_block, channel, type_rule, silent, silent_entry, entry, types_in, file}
-use Rattle.ned_spelling.proofs.Spellable.{Each, IfThere, CanBeExpression, CanBeGiven, CanBeUnit, CanBeDeclaration, CanBeAssignment, CanBeLine, CanBeBodyLine, CanBeSubmodule, CanBeSize, CanBeGate, CanBeType, CanBeFile}
+use Rattle.ned_syntax.specs.Grammar.{word, mark, name, name_of, expression, default_value, value_rule, in_parens, turn_of, bracketed, index, body, unit_effect, said_by_word, said, effect_of, property, modes, loose_text, no_value, source_value, record_value, source_tail, record_tail, source_word, record_word, source_part, record_part, part_or_other, other_part, record_or_other, any_part, part, next_part, nothing_said, over, over_all, statistic_body, optional_body, statistic_line, indexed_statistic, unnamed_statistic, named_or_not, line_or_ignored, statistic_tail, statistic_word, statistic, plain_name, line_of, plain_line, property_text, property_line, valued, tail, value_in, unit_in, parameter_word, volatile, any_declaration, is_measured_word, declaration, assignment, assigned_or_said, any_line, section_line, heading, section, dotted, direction, open_size, size_value, size_tail, vector_size, size_or_single, gate_size, size_in_brackets, refined_size, declared_gate, refined_gate, any_gate, gate_line, gate_section, gates, base_name, optional_base, next_dotted, dotted_list, names_behind, optional_names, head, gated_block, simple, ignored_property, assigned_or_ignored, any_body_line, body_line, body_section, optional_semi, braced_body, no_body, submodule_body, submodule, listed, submodules, network_block, network, module_type, section_block, channel, interface_kind_of, interface_kind, interface, channel_or_interface, type_rule, silent, silent_entry, entry, types_in, file}
+use Rattle.ned_spelling.proofs.Spellable.{Each, IfThere, CanBeExpression, CanBeGiven, CanBeUnit, CanBeDeclaration, CanBeAssignment, CanBeLine, CanBeBodyLine, CanBeSubmodule, CanBeSize, CanBeGate, CanBeParts, CanBeType, CanBeFile}
 
 -- what sound tokens spell by the rule is so
 record Keeps {X : Type 0} (r : Rule X) (P : X → Type 0) : Type 0 where
@@ -435,31 +440,64 @@ keeps_base : Keeps optional_base (IfThere IsName)
 unfolding optional_base base_name
 keeps_base = perhaps (before (word k.Extends) keeps_dotted)
 
--- a name and a base
+-- names behind a word, or none
+keeps_names : (w : Keyword) → Keeps (optional_names w) (Each IsName)
+unfolding optional_names names_behind dotted_list next_dotted
+keeps_names w = mapped (listed_can IsName) (perhaps (before (word w) (mapped (λ p h. (h.0, h.1)) (then keeps_dotted (each (before (mark m.Comma) keeps_dotted))))))
+
+-- a name, a base and interfaces
 abbrev CanBeHead : Head → Type 0
-CanBeHead h = IsName h.name × IfThere IsName h.base
+CanBeHead h = IsName h.name × IfThere IsName h.base × Each IsName h.interfaces
 
 -- the head of a type
 keeps_head : Keeps head CanBeHead
 unfolding head
-keeps_head = mapped (λ p h. (h.0, h.1)) (then keeps_name keeps_base)
+keeps_head = mapped (λ p h. (h.0, h.1.0, h.1.1)) (then keeps_name (then keeps_base (keeps_names k.Like)))
 
 -- a type of modules
 keeps_module_type : Keeps module_type CanBeType
 unfolding module_type simple network gated_block network_block
 keeps_module_type = choice
-    (mapped (λ p h. (h.0.0, (h.0.1, h.1.0, h.1.1, refl, refl))) (before (word k.Simple) (then keeps_head (before (mark m.Open) (after (mark m.Close) (then keeps_section keeps_gates))))))
-    (mapped (λ p h. (h.0.0, (h.0.1, h.1.0, h.1.1.0, h.1.1.1, refl))) (before (word k.Network) (then keeps_head (before (mark m.Open) (after (mark m.Close) (then keeps_section (then keeps_gates keeps_submodules)))))))
+    (mapped (λ p h. (h.0.0, (h.0.1, h.0.2, h.1.0, h.1.1, refl))) (before (word k.Simple) (then keeps_head (before (mark m.Open) (after (mark m.Close) (then keeps_section keeps_gates))))))
+    (mapped (λ p h. (h.0.0, (h.0.1, h.0.2, h.1.0, h.1.1.0, h.1.1.1))) (before (word k.Network) (then keeps_head (before (mark m.Open) (after (mark m.Close) (then keeps_section (then keeps_gates keeps_submodules)))))))
 
 -- a type of channels
 keeps_channel : Keeps channel CanBeType
 unfolding channel section_block
-keeps_channel = mapped (λ p h. (h.0.0, (h.0.1, h.1, refl, refl, refl))) (before (word k.Channel) (then keeps_head (before (mark m.Open) (after (mark m.Close) keeps_section))))
+keeps_channel = mapped (λ p h. (h.0.0, (h.0.1, h.0.2, h.1, refl, refl))) (before (word k.Channel) (then keeps_head (before (mark m.Open) (after (mark m.Close) keeps_section))))
+
+-- the kind of an interface
+abbrev IsInterfaceKind : TypeKind → Type 0
+IsInterfaceKind kinds.ModuleInterface = Unit {0}
+IsInterfaceKind kinds.ChannelInterface = Unit {0}
+IsInterfaceKind _ = ⊥
+
+-- the word of an interface says its kind
+keeps_interface_kind : Keeps interface_kind IsInterfaceKind
+unfolding interface_kind
+keeps_interface_kind = one interface_kind_of IsInterfaceKind go
+  where
+    go : (t : Token) (x : TypeKind) → IsSound t → interface_kind_of t ≡ Some x → IsInterfaceKind x
+    go (token.Word k.ModuleInterface) x h e = let same : kinds.ModuleInterface ≡ x = cc in subst IsInterfaceKind same tt
+    go (token.Word k.ChannelInterface) x h e = let same : kinds.ChannelInterface ≡ x = cc in subst IsInterfaceKind same tt
+    go (token.Word _) x h e = absurd (false≢true (ap is_some e))
+    go _ x h e = absurd (false≢true (ap is_some e))
+
+-- an interface of either kind
+interface_can : (kind : TypeKind) (text : List ℕ) (names : List (List ℕ)) (ls : List SectionLine) (gs : List GateLine) → IsInterfaceKind kind → Each IsName names → Each CanBeLine ls → Each CanBeGate gs → CanBeParts kind (record { kind = kind; name = text; base = None; interfaces = names; lines = ls; gates = gs; submodules = [] })
+interface_can kinds.ModuleInterface text names ls gs h k l n = (k, l, n, refl, refl)
+interface_can kinds.ChannelInterface text names ls gs h k l n = (k, l, n, refl, refl)
+interface_can _ text names ls gs h k l n = absurd h
+
+-- an interface
+keeps_interface : Keeps interface CanBeType
+unfolding interface gated_block
+keeps_interface = mapped (λ p h. (h.1.0, interface_can p.0 p.1.0 p.1.1.0 p.1.1.1.0 p.1.1.1.1 h.0 h.1.1.0 h.1.1.1.0 h.1.1.1.1)) (then keeps_interface_kind (then keeps_name (then (keeps_names k.Extends) (before (mark m.Open) (after (mark m.Close) (then keeps_section keeps_gates))))))
 
 -- a type
 keeps_type : Keeps type_rule CanBeType
-unfolding type_rule
-keeps_type = choice keeps_module_type keeps_channel
+unfolding type_rule channel_or_interface
+keeps_type = choice keeps_module_type (choice keeps_channel keeps_interface)
 
 -- a type, or what has no effect
 keeps_entry : Keeps entry (IfThere CanBeType)

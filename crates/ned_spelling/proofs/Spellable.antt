@@ -94,12 +94,17 @@ abbrev pub CanBeGate : GateLine → Type 0
 CanBeGate (gate_lines.Declaration g) = IsName g.name × CanBeSize g.size
 CanBeGate (gate_lines.Refinement g) = IsName g.name × IfThere CanBeExpression g.size
 
--- A simple module has no submodules, a channel neither them nor gates, and none of them keeps an interface. No other kind is read.
+-- An interface has no base of its own and no submodules.
+abbrev pub CanBeInterface : TypeDeclaration → Type 0
+CanBeInterface d = Each IsName d.interfaces × Each CanBeLine d.lines × Each CanBeGate d.gates × (d.base ≡ None) × (d.submodules ≡ [])
+
+-- A simple module has no submodules, a channel neither them nor gates.
 abbrev pub CanBeParts : TypeKind → TypeDeclaration → Type 0
-CanBeParts kinds.Simple d = IfThere IsName d.base × Each CanBeLine d.lines × Each CanBeGate d.gates × (d.submodules ≡ []) × (d.interfaces ≡ [])
-CanBeParts kinds.Network d = IfThere IsName d.base × Each CanBeLine d.lines × Each CanBeGate d.gates × Each CanBeSubmodule d.submodules × (d.interfaces ≡ [])
-CanBeParts kinds.Channel d = IfThere IsName d.base × Each CanBeLine d.lines × (d.gates ≡ []) × (d.submodules ≡ []) × (d.interfaces ≡ [])
-CanBeParts _ d = ⊥
+CanBeParts kinds.Simple d = IfThere IsName d.base × Each IsName d.interfaces × Each CanBeLine d.lines × Each CanBeGate d.gates × (d.submodules ≡ [])
+CanBeParts kinds.Network d = IfThere IsName d.base × Each IsName d.interfaces × Each CanBeLine d.lines × Each CanBeGate d.gates × Each CanBeSubmodule d.submodules
+CanBeParts kinds.Channel d = IfThere IsName d.base × Each IsName d.interfaces × Each CanBeLine d.lines × (d.gates ≡ []) × (d.submodules ≡ [])
+CanBeParts kinds.ModuleInterface d = CanBeInterface d
+CanBeParts kinds.ChannelInterface d = CanBeInterface d
 
 -- a name, and the parts of the kind
 abbrev pub CanBeType : TypeDeclaration → Type 0

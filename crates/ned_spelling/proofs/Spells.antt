@@ -45,9 +45,9 @@ use Rattle.ned_syntax.specs.declared.statistics.Part.TheVariants as part_is
 use Rattle.ned_syntax.specs.declared.parameters.Valued.{Valued}
 use Rattle.ned_tokens.specs.Words.{or_else}
 use Rattle.ned_tokens.specs.Balanced.{balanced}
-use Rattle.ned_syntax.specs.Grammar.{turn_of, effect_of, said_in, statistic_line, other_part, first_unit, unit_behind, value_in, unit_in, is_measured_word, valued, tail, parameter_word, volatile, any_declaration, declaration, assignment, source_word, source_value, source_tail, source_part, record_word, record_value, record_tail, record_part, no_value, record_or_other, any_part, part, next_part, statistic_body, optional_body, indexed_statistic, unnamed_statistic, named_or_not, statistic_tail, statistic_word, statistic, plain_name, plain_line, property_text, property_line, assigned_or_said, any_line, section_line, heading, section, dotted, direction, open_size, size_value, size_tail, vector_size, gate_size, size_in_brackets, refined_size, declared_gate, refined_gate, any_gate, gate_line, gate_section, gates, says_loose, base_name, optional_base, head, gated_block, simple, ignored_property, assigned_or_ignored, any_body_line, body_line, body_section, optional_semi, braced_body, no_body, submodule_body, submodule, submodules, network_block, network, module_type, section_block, channel, type_rule, silent_entry, entry, types_in, file, word, mark, name, is_word, is_mark, expression, default_value, value_rule, in_parens, property_name, bracketed, index, body, property, mode_word, question, mode_rule, next_mode, modes}
-use Rattle.ned_spelling.specs.Declarations.{listed_tokens, given_tokens, valued_tokens, unit_tokens, parameter_keyword, declaration_tokens, assignment_tokens, mode_name, question_tokens, mode_tokens, next_mode_tokens, record_tokens, statistic_tokens, line_tokens, section_line_tokens, section_tokens, body_tokens, submodule_tokens, submodules_tokens, base_tokens, direction_keyword, size_tokens, refined_size_tokens, loose_tokens, gate_tokens, gate_line_tokens, gates_tokens, kind_tokens, type_tokens, file_tokens}
-use Rattle.ned_spelling.proofs.Spellable.{Each, IfThere, CanBeExpression, CanBeGiven, CanBeUnit, CanBeDeclaration, CanBeAssignment, CanBeLine, CanBeBodyLine, CanBeSubmodule, CanBeSize, CanBeGate, CanBeParts, CanBeType, CanBeFile}
+use Rattle.ned_syntax.specs.Grammar.{turn_of, effect_of, said_in, statistic_line, other_part, first_unit, unit_behind, value_in, unit_in, is_measured_word, valued, tail, parameter_word, volatile, any_declaration, declaration, assignment, source_word, source_value, source_tail, source_part, record_word, record_value, record_tail, record_part, no_value, record_or_other, any_part, part, next_part, statistic_body, optional_body, indexed_statistic, unnamed_statistic, named_or_not, statistic_tail, statistic_word, statistic, plain_name, plain_line, property_text, property_line, assigned_or_said, any_line, section_line, heading, section, dotted, direction, open_size, size_value, size_tail, vector_size, gate_size, size_in_brackets, refined_size, declared_gate, refined_gate, any_gate, gate_line, gate_section, gates, says_loose, base_name, optional_base, next_dotted, dotted_list, names_behind, optional_names, head, gated_block, simple, ignored_property, assigned_or_ignored, any_body_line, body_line, body_section, optional_semi, braced_body, no_body, submodule_body, submodule, submodules, network_block, network, module_type, section_block, channel, interface_kind, interface, channel_or_interface, type_rule, silent_entry, entry, types_in, file, word, mark, name, is_word, is_mark, expression, default_value, value_rule, in_parens, property_name, bracketed, index, body, property, mode_word, question, mode_rule, next_mode, modes}
+use Rattle.ned_spelling.specs.Declarations.{listed_tokens, given_tokens, valued_tokens, unit_tokens, parameter_keyword, declaration_tokens, assignment_tokens, mode_name, question_tokens, mode_tokens, next_mode_tokens, record_tokens, statistic_tokens, line_tokens, section_line_tokens, section_tokens, body_tokens, submodule_tokens, submodules_tokens, base_tokens, next_name_tokens, names_tokens, interface_tokens, direction_keyword, size_tokens, refined_size_tokens, loose_tokens, gate_tokens, gate_line_tokens, gates_tokens, kind_tokens, type_tokens, file_tokens}
+use Rattle.ned_spelling.proofs.Spellable.{Each, IfThere, CanBeExpression, CanBeGiven, CanBeUnit, CanBeDeclaration, CanBeAssignment, CanBeLine, CanBeBodyLine, CanBeSubmodule, CanBeSize, CanBeGate, CanBeInterface, CanBeParts, CanBeType, CanBeFile}
 
 -- these tokens spell this value by the rule
 record Spells {X : Type 0} (r : Rule X) (ts : List Token) (x : X) : Type 0 where
@@ -297,15 +297,15 @@ a_next_mode : (r : RecordedMode) → Spells next_mode (next_mode_tokens r) r
 unfolding next_mode
 a_next_mode r = before (a_mark m.Comma) (a_mode r)
 
--- nothing is asked of modes
-any_modes : (rs : List RecordedMode) → Each (λ r. Unit {0}) rs
-any_modes [] = tt
-any_modes (r ∷ rs) = (tt, any_modes rs)
+-- nothing is asked of any
+any_of : {X : Type 0} (xs : List X) → Each (λ x. Unit {0}) xs
+any_of [] = tt
+any_of (x ∷ xs) = (tt, any_of xs)
 
 -- modes
 the_modes : (r : RecordedMode) (rs : List RecordedMode) → Spells modes (mode_tokens r ++ listed_tokens next_mode_tokens rs) (r ∷ rs)
 unfolding modes
-the_modes r rs = mapped (then (a_mode r) (each next_mode next_mode_tokens (λ r. Unit {0}) (λ r h. a_next_mode r) rs (any_modes rs)))
+the_modes r rs = mapped (then (a_mode r) (each next_mode next_mode_tokens (λ r. Unit {0}) (λ r h. a_next_mode r) rs (any_of rs)))
 
 -- `source`
 source_key : Spells source_word (token.Name (codes "source") ∷ []) tt
@@ -468,10 +468,21 @@ unfolding optional_base base_name
 a_base None = nothing base_name
 a_base (Some name) = some (before (a_word k.Extends) (a_dotted name))
 
+-- a name behind a comma
+a_next_name : (text : List ℕ) → Spells next_dotted (next_name_tokens text) text
+unfolding next_dotted
+a_next_name text = before (a_mark m.Comma) (a_dotted text)
+
+-- names behind a word, or none
+the_names : (w : Keyword) (names : List (List ℕ)) → Spells (optional_names w) (names_tokens w names) names
+unfolding optional_names names_behind dotted_list
+the_names w [] = mapped (nothing (names_behind w))
+the_names w (text ∷ names) = mapped (some (before (a_word w) (mapped (then (a_dotted text) (each next_dotted next_name_tokens (λ x. Unit {0}) (λ x h. a_next_name x) names (any_of names))))))
+
 -- the head of a type
-a_head : (text : List ℕ) (base : Option (List ℕ)) → Spells head (token.Name text ∷ base_tokens base) (record { name = text; base = base })
+a_head : (text : List ℕ) (base : Option (List ℕ)) (names : List (List ℕ)) → Spells head (token.Name text ∷ (base_tokens base ++ names_tokens k.Like names)) (record { name = text; base = base; interfaces = names })
 unfolding head
-a_head text base = mapped (then (a_name text) (a_base base))
+a_head text base names = mapped (then (a_name text) (then (a_base base) (the_names k.Like names)))
 
 -- ---- gates
 
@@ -565,22 +576,36 @@ a_section_block ls h = before (a_mark m.Open) (after (a_section ls h) (a_mark m.
 abbrev type_with : TypeKind → List ℕ → Option (List ℕ) → List (List ℕ) → List SectionLine → List GateLine → List Submodule → TypeDeclaration
 type_with kind text base is ls gs ss = record { kind = kind; name = text; base = base; interfaces = is; lines = ls; gates = gs; submodules = ss }
 
+-- an interface, by the word of its kind
+an_interface : (kind : TypeKind) (w : Keyword) (text : List ℕ) (base : Option (List ℕ)) (is : List (List ℕ)) (ls : List SectionLine) (gs : List GateLine) (ss : List Submodule) → Spells interface_kind (token.Word w ∷ []) kind → CanBeInterface (type_with kind text base is ls gs ss) → Spells type_rule (interface_tokens w (type_with kind text base is ls gs ss)) (type_with kind text base is ls gs ss)
+unfolding type_rule channel_or_interface interface
+an_interface kind w text base is ls gs ss word_is h =
+    let no_base = sym h.3 in
+    let none_below = sym h.4 in
+    that module_type (that channel (to (mapped (then word_is (then (a_name text) (then (the_names k.Extends is) (a_gated_block ls gs h.1 h.2))))) (λ i. type_with kind text (no_base i) is ls gs (none_below i))))
+
+-- the word of an interface of modules, and that of one of channels
+a_module_interface_word : Spells interface_kind (token.Word k.ModuleInterface ∷ []) kinds.ModuleInterface
+unfolding interface_kind
+a_module_interface_word = one (token.Word k.ModuleInterface) refl
+
+a_channel_interface_word : Spells interface_kind (token.Word k.ChannelInterface ∷ []) kinds.ChannelInterface
+unfolding interface_kind
+a_channel_interface_word = one (token.Word k.ChannelInterface) refl
+
 -- a type of each kind
 kind_spells : (kind : TypeKind) (text : List ℕ) (base : Option (List ℕ)) (is : List (List ℕ)) (ls : List SectionLine) (gs : List GateLine) (ss : List Submodule) → CanBeParts kind (type_with kind text base is ls gs ss) → Spells type_rule (kind_tokens kind (type_with kind text base is ls gs ss)) (type_with kind text base is ls gs ss)
-unfolding type_rule module_type simple network channel
+unfolding type_rule module_type simple network channel_or_interface channel
 kind_spells kinds.Simple text base is ls gs ss h =
-    let none_below = sym h.3 in
-    let none_kept = sym h.4 in
-    this channel (this network (to (mapped (before (a_word k.Simple) (then (a_head text base) (a_gated_block ls gs h.1 h.2)))) (λ i. type_with kinds.Simple text base (none_kept i) ls gs (none_below i))))
-kind_spells kinds.Network text base is ls gs ss h =
-    let none_kept = sym h.4 in
-    this channel (that simple (to (mapped (before (a_word k.Network) (then (a_head text base) (a_network_block ls gs ss h.1 h.2 h.3)))) (λ i. type_with kinds.Network text base (none_kept i) ls gs ss)))
+    let none_below = sym h.4 in
+    this channel_or_interface (this network (to (mapped (before (a_word k.Simple) (then (a_head text base is) (a_gated_block ls gs h.2 h.3)))) (λ i. type_with kinds.Simple text base is ls gs (none_below i))))
+kind_spells kinds.Network text base is ls gs ss h = this channel_or_interface (that simple (mapped (before (a_word k.Network) (then (a_head text base is) (a_network_block ls gs ss h.2 h.3 h.4)))))
 kind_spells kinds.Channel text base is ls gs ss h =
-    let no_gates = sym h.2 in
-    let none_below = sym h.3 in
-    let none_kept = sym h.4 in
-    that module_type (to (mapped (before (a_word k.Channel) (then (a_head text base) (a_section_block ls h.1)))) (λ i. type_with kinds.Channel text base (none_kept i) ls (no_gates i) (none_below i)))
-kind_spells _ text base is ls gs ss h = absurd h
+    let no_gates = sym h.3 in
+    let none_below = sym h.4 in
+    that module_type (this interface (to (mapped (before (a_word k.Channel) (then (a_head text base is) (a_section_block ls h.2)))) (λ i. type_with kinds.Channel text base is ls (no_gates i) (none_below i))))
+kind_spells kinds.ModuleInterface text base is ls gs ss h = an_interface kinds.ModuleInterface k.ModuleInterface text base is ls gs ss a_module_interface_word h
+kind_spells kinds.ChannelInterface text base is ls gs ss h = an_interface kinds.ChannelInterface k.ChannelInterface text base is ls gs ss a_channel_interface_word h
 
 -- a type
 a_type : (d : TypeDeclaration) → CanBeType d → Spells type_rule (type_tokens d) d

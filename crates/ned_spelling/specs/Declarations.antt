@@ -146,9 +146,18 @@ abbrev pub base_tokens : Option (List ℕ) → List Token
 base_tokens None = []
 base_tokens (Some name) = token.Word k.Extends ∷ token.Name name ∷ []
 
+-- "," name
+abbrev pub next_name_tokens : List ℕ → List Token
+next_name_tokens name = token.Mark m.Comma ∷ token.Name name ∷ []
+
+-- names behind this word, where there are some
+abbrev pub names_tokens : Keyword → List (List ℕ) → List Token
+names_tokens w [] = []
+names_tokens w (name ∷ names) = token.Word w ∷ token.Name name ∷ listed_tokens next_name_tokens names
+
 -- the head of a type
 abbrev pub head_tokens : TypeDeclaration → List Token
-head_tokens d = token.Name d.name ∷ base_tokens d.base
+head_tokens d = token.Name d.name ∷ (base_tokens d.base ++ names_tokens k.Like d.interfaces)
 
 -- ---- gates
 
@@ -192,12 +201,17 @@ abbrev pub gates_tokens : List GateLine → List Token
 gates_tokens [] = []
 gates_tokens (g ∷ gs) = token.Word k.Gates ∷ token.Mark m.Colon ∷ listed_tokens gate_line_tokens (g ∷ gs)
 
--- A simple module has parameters and gates, a network submodules too, a channel parameters alone. No other kind is read.
+-- An interface has parameters and gates, and says behind `extends` which interfaces it keeps.
+abbrev pub interface_tokens : Keyword → TypeDeclaration → List Token
+interface_tokens w d = token.Word w ∷ token.Name d.name ∷ (names_tokens k.Extends d.interfaces ++ token.Mark m.Open ∷ ((section_tokens d.lines ++ gates_tokens d.gates) ++ token.Mark m.Close ∷ []))
+
+-- A simple module has parameters and gates, a network submodules too, a channel parameters alone.
 abbrev pub kind_tokens : TypeKind → TypeDeclaration → List Token
 kind_tokens kinds.Simple d = token.Word k.Simple ∷ (head_tokens d ++ token.Mark m.Open ∷ ((section_tokens d.lines ++ gates_tokens d.gates) ++ token.Mark m.Close ∷ []))
 kind_tokens kinds.Network d = token.Word k.Network ∷ (head_tokens d ++ token.Mark m.Open ∷ ((section_tokens d.lines ++ (gates_tokens d.gates ++ submodules_tokens d.submodules)) ++ token.Mark m.Close ∷ []))
 kind_tokens kinds.Channel d = token.Word k.Channel ∷ (head_tokens d ++ token.Mark m.Open ∷ (section_tokens d.lines ++ token.Mark m.Close ∷ []))
-kind_tokens _ d = []
+kind_tokens kinds.ModuleInterface d = interface_tokens k.ModuleInterface d
+kind_tokens kinds.ChannelInterface d = interface_tokens k.ChannelInterface d
 
 -- a type, as its kind has it
 abbrev pub type_tokens : TypeDeclaration → List Token

@@ -15,7 +15,7 @@ use Rattle.ned_syntax.specs.declared.ast.TypeKind.TheVariants as kinds
 use Rattle.ned_syntax.specs.declared.ast.NedFile.{NedFile}
 use Rattle.ned_spelling.specs.Declarations.{spelled}
 
--- a simple module with a line and a gate of each kind, one that extends it, a channel, and a network with a line and a submodule with a body
+-- a simple module with a line and a gate of each kind, one that extends it, a channel, interfaces of both kinds, and a network with a line and a submodule with a body
 abbrev pub example : NedFile
 example = record {
   types =
@@ -43,7 +43,7 @@ example = record {
         kind = kinds.Simple;
         name = codes "Slow";
         base = Some (codes "Source");
-        interfaces = [];
+        interfaces = codes "Port" ∷ codes "Named" ∷ [];
         lines = [];
         gates =
             gate_lines.Refinement (record { name = codes "out"; size = Some (expressions.Literal (values.Whole (pos 3))); loose = false })
@@ -55,11 +55,21 @@ example = record {
         kind = kinds.Channel;
         name = codes "Wire";
         base = Some (codes "DelayChannel");
-        interfaces = [];
+        interfaces = codes "Line" ∷ [];
         lines = lines.Assignment (record { name = codes "delay"; value = Some (given.Fixed (expressions.Literal (values.Quantity dimension.Time (pos 1000)))) }) ∷ [];
         gates = [];
         submodules = [];
       }
+      ∷ record {
+        kind = kinds.ModuleInterface;
+        name = codes "Port";
+        base = None;
+        interfaces = codes "First" ∷ codes "Second" ∷ [];
+        lines = [];
+        gates = gate_lines.Declaration (record { name = codes "port"; direction = directions.Inout; size = sizes.Open; loose = false }) ∷ [];
+        submodules = [];
+      }
+      ∷ record { kind = kinds.ChannelInterface; name = codes "Line"; base = None; interfaces = []; lines = []; gates = []; submodules = [] }
       ∷ record {
         kind = kinds.Network;
         name = codes "Net";
@@ -80,7 +90,7 @@ example = record {
 }
 
 abbrev pub example_text : List ℕ
-example_text = codes "simple Source {\nparameters: double interval @unit(ps) = default(1000000000000ps);\nint offset = - 5;\nlabel = \"a\\tb\";\n@class(Src);\n@ignored;\n@statistic[sent](source = packetSent;\nrecord = count, sum?);\ngates: input in @loose;\noutput out[];\ninout port[2] @loose;\n}\nsimple Slow extends Source {\nparameters: gates: out[3];\nout @loose;\n}\nchannel Wire extends DelayChannel {\nparameters: delay = 1000ps;\n}\nnetwork Net {\nparameters: int size = 2;\nsubmodules: a: Source;\nb: Source {\nparameters: offset = 3;\n@ignored;\n}\n}\n"
+example_text = codes "simple Source {\nparameters: double interval @unit(ps) = default(1000000000000ps);\nint offset = - 5;\nlabel = \"a\\tb\";\n@class(Src);\n@ignored;\n@statistic[sent](source = packetSent;\nrecord = count, sum?);\ngates: input in @loose;\noutput out[];\ninout port[2] @loose;\n}\nsimple Slow extends Source like Port, Named {\nparameters: gates: out[3];\nout @loose;\n}\nchannel Wire extends DelayChannel like Line {\nparameters: delay = 1000ps;\n}\nmoduleinterface Port extends First, Second {\nparameters: gates: inout port[];\n}\nchannelinterface Line {\nparameters: }\nnetwork Net {\nparameters: int size = 2;\nsubmodules: a: Source;\nb: Source {\nparameters: offset = 3;\n@ignored;\n}\n}\n"
 
 -- The example is spelled so.
 abbrev pub ExampleIsSpelled : Type 0

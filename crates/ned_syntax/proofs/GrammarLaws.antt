@@ -4,6 +4,7 @@ use Rattle.std.specs.Prelude.{is_some, codes}
 use Rattle.std.proofs.lemmas.Bool.{false≢true}
 use Rattle.std.specs.Str.{bytes_eq}
 use Rattle.std.proofs.lemmas.Slice.Eq.{bytes_eq-Decides}
+use Rattle.ned_tokens.specs.declared.token.Keyword.{Keyword}
 use Rattle.ned_tokens.specs.declared.token.Keyword.TheVariants as k
 use Rattle.ned_tokens.specs.declared.token.Mark.TheVariants as m
 use Rattle.ned_tokens.specs.declared.token.Token.{Token}
@@ -17,7 +18,7 @@ use Rattle.ned_syntax.specs.declared.properties.PropertyName.{PropertyName}
 use Rattle.ned_syntax.specs.declared.properties.PropertyName.TheVariants as names
 use Rattle.ned_syntax.specs.declared.statistics.Except.{Except}
 use Rattle.ned_syntax.specs.declared.statistics.Except.TheVariants as except_is
-use Rattle.ned_syntax.specs.Grammar.{said_in, word, mark, name, in_parens, expression, default_value, value_rule, property_name, bracketed, index, body, property, mode_word, question, mode_rule, next_mode, modes, group, loose_token, piece, pieces, loose_text, no_value, source_value, record_value, source_tail, record_tail, source_word, record_word, source_part, record_part, other_part, record_or_other, any_part, part, next_part, statistic_body, optional_body, indexed_statistic, unnamed_statistic, named_or_not, statistic_tail, statistic_word, statistic, plain_name, plain_line, property_text, property_line, valued, tail, parameter_word, volatile, any_declaration, declaration, assignment, assigned_or_said, any_line, section_line, heading, section, dotted, direction, open_size, size_value, size_tail, vector_size, gate_size, size_in_brackets, refined_size, declared_gate, refined_gate, any_gate, gate_line, gate_section, gates, base_name, optional_base, head, gated_block, simple, ignored_property, assigned_or_ignored, any_body_line, body_line, body_section, optional_semi, braced_body, no_body, submodule_body, submodule, submodules, network_block, network, module_type, section_block, channel, type_rule, package_line, import_token, import_text, import_line, file_property, import_or_property, silent, silent_entry, entry, file, turn_of, property_name_of, mode_of, loose_of, source_of, record_of, statistic_of, plain_name_of, parameter_word_of, direction_of, is_measured, is_source, is_record, is_statistic, is_loose_property, plain_of, import_of}
+use Rattle.ned_syntax.specs.Grammar.{said_in, word, mark, name, in_parens, expression, default_value, value_rule, property_name, bracketed, index, body, property, mode_word, question, mode_rule, next_mode, modes, group, loose_token, piece, pieces, loose_text, no_value, source_value, record_value, source_tail, record_tail, source_word, record_word, source_part, record_part, other_part, record_or_other, any_part, part, next_part, statistic_body, optional_body, indexed_statistic, unnamed_statistic, named_or_not, statistic_tail, statistic_word, statistic, plain_name, plain_line, property_text, property_line, valued, tail, parameter_word, volatile, any_declaration, declaration, assignment, assigned_or_said, any_line, section_line, heading, section, dotted, direction, open_size, size_value, size_tail, vector_size, gate_size, size_in_brackets, refined_size, declared_gate, refined_gate, any_gate, gate_line, gate_section, gates, base_name, optional_base, next_dotted, dotted_list, names_behind, optional_names, head, gated_block, simple, ignored_property, assigned_or_ignored, any_body_line, body_line, body_section, optional_semi, braced_body, no_body, submodule_body, submodule, submodules, network_block, network, module_type, section_block, channel, interface_kind, interface, channel_or_interface, type_rule, package_line, import_token, import_text, import_line, file_property, import_or_property, silent, silent_entry, entry, file, turn_of, property_name_of, mode_of, loose_of, source_of, record_of, statistic_of, plain_name_of, parameter_word_of, direction_of, interface_kind_of, is_measured, is_source, is_record, is_statistic, is_loose_property, plain_of, import_of}
 pub use Rattle.ned_values.proofs.GrammarLaws.{word-lawful, mark-lawful, name-lawful}
 pub use Rattle.ned_expressions.proofs.ExpressionLaws.{expression-lawful}
 use Rattle.ned_tokens.proofs.Laws.{Lawful, token-lawful, such_that-lawful, either-lawful, optional-lawful, then, before, after, mapped}
@@ -579,9 +580,50 @@ pub base-lawful : Lawful optional_base
 unfolding optional_base base_name word
 base-lawful = optional-lawful base_name base_name-lawful refl
 
+pub next_dotted-lawful : Lawful next_dotted
+unfolding next_dotted mark
+next_dotted-lawful = before (mark-lawful m.Comma) dotted-lawful (λ t e. refl)
+
+pub next_dotted-full : next_dotted.empty ≡ false
+unfolding next_dotted mark
+next_dotted-full = refl
+
+next_names_apart : (t : Token) → next_dotted.starts t ≡ true → next_dotted.goes_on t ≡ false
+unfolding next_dotted dotted mark name
+next_names_apart (token.Mark m.Comma) e = refl
+next_names_apart (token.Mark _) e = absurd (false≢true e)
+next_names_apart _ e = absurd (false≢true e)
+
+names_apart : (t : Token) → (many next_dotted).starts t ≡ true → dotted.goes_on t ≡ false
+unfolding next_dotted dotted mark name
+names_apart (token.Mark m.Comma) e = refl
+names_apart (token.Mark _) e = absurd (false≢true e)
+names_apart _ e = absurd (false≢true e)
+
+pub dotted_list-lawful : Lawful dotted_list
+unfolding dotted_list
+dotted_list-lawful = mapped (then dotted-lawful (many-lawful next_dotted next_dotted-lawful next_dotted-full next_names_apart) names_apart)
+
+pub names_behind-lawful : (w : Keyword) → Lawful (names_behind w)
+unfolding names_behind word
+names_behind-lawful w = before (word-lawful w) dotted_list-lawful (λ t e. refl)
+
+pub optional_names-lawful : (w : Keyword) → Lawful (optional_names w)
+unfolding optional_names names_behind word
+optional_names-lawful w = mapped (optional-lawful (names_behind w) (names_behind-lawful w) refl)
+
+like_apart : (t : Token) → (optional_names k.Like).starts t ≡ true → optional_base.goes_on t ≡ false
+unfolding optional_names names_behind optional_base base_name dotted word mark name
+like_apart (token.Word k.Like) e = refl
+like_apart (token.Word _) e = absurd (false≢true e)
+like_apart _ e = absurd (false≢true e)
+
+pub base_and_like-lawful : Lawful (optional_base ⊗ optional_names k.Like)
+base_and_like-lawful = then base-lawful (optional_names-lawful k.Like) like_apart
+
 pub head-lawful : Lawful head
 unfolding head name
-head-lawful = mapped (then name-lawful base-lawful (λ t e. refl))
+head-lawful = mapped (then name-lawful base_and_like-lawful (λ t e. refl))
 
 -- ---- simple modules
 
@@ -605,7 +647,7 @@ unfolding gated_block mark
 gated_block-lawful = before (mark-lawful m.Open) (after gated_parts-lawful (mark-lawful m.Close) gated_ends) (λ t e. refl)
 
 gated_block_apart : (t : Token) → gated_block.starts t ≡ true → head.goes_on t ≡ false
-unfolding gated_block head optional_base base_name dotted word mark name
+unfolding gated_block head optional_names names_behind dotted_list next_dotted optional_base base_name dotted word mark name
 gated_block_apart (token.Mark m.Open) e = refl
 gated_block_apart (token.Mark _) e = absurd (false≢true e)
 gated_block_apart _ e = absurd (false≢true e)
@@ -754,7 +796,7 @@ unfolding network_block mark
 network_block-lawful = before (mark-lawful m.Open) (after network_parts-lawful (mark-lawful m.Close) network_ends) (λ t e. refl)
 
 network_block_apart : (t : Token) → network_block.starts t ≡ true → head.goes_on t ≡ false
-unfolding network_block head optional_base base_name dotted word mark name
+unfolding network_block head optional_names names_behind dotted_list next_dotted optional_base base_name dotted word mark name
 network_block_apart (token.Mark m.Open) e = refl
 network_block_apart (token.Mark _) e = absurd (false≢true e)
 network_block_apart _ e = absurd (false≢true e)
@@ -786,7 +828,7 @@ unfolding section_block mark
 section_block-lawful = before (mark-lawful m.Open) (after section-lawful (mark-lawful m.Close) section_ends) (λ t e. refl)
 
 section_block_apart : (t : Token) → section_block.starts t ≡ true → head.goes_on t ≡ false
-unfolding section_block head optional_base base_name dotted word mark name
+unfolding section_block head optional_names names_behind dotted_list next_dotted optional_base base_name dotted word mark name
 section_block_apart (token.Mark m.Open) e = refl
 section_block_apart (token.Mark _) e = absurd (false≢true e)
 section_block_apart _ e = absurd (false≢true e)
@@ -795,18 +837,52 @@ pub channel-lawful : Lawful channel
 unfolding channel word
 channel-lawful = mapped (before (word-lawful k.Channel) (then head-lawful section_block-lawful section_block_apart) (λ t e. refl))
 
-module_type_apart : (t : Token) → channel.starts t ≡ true → module_type.starts t ≡ false
-unfolding channel module_type simple network word
+-- ---- interfaces
+
+pub interface_kind-lawful : Lawful interface_kind
+unfolding interface_kind
+interface_kind-lawful = token-lawful interface_kind_of
+
+bases_apart : (t : Token) → gated_block.starts t ≡ true → (optional_names k.Extends).goes_on t ≡ false
+unfolding gated_block optional_names names_behind dotted_list next_dotted dotted word mark name
+bases_apart (token.Mark m.Open) e = refl
+bases_apart (token.Mark _) e = absurd (false≢true e)
+bases_apart _ e = absurd (false≢true e)
+
+pub bases_and_block-lawful : Lawful (optional_names k.Extends ⊗ gated_block)
+bases_and_block-lawful = then (optional_names-lawful k.Extends) gated_block-lawful bases_apart
+
+pub interface-lawful : Lawful interface
+unfolding interface interface_kind name
+interface-lawful = mapped (then interface_kind-lawful (then name-lawful bases_and_block-lawful (λ t e. refl)) (λ t e. refl))
+
+-- ---- types of any kind
+
+channel_apart : (t : Token) → interface.starts t ≡ true → channel.starts t ≡ false
+unfolding interface interface_kind channel word
+channel_apart (token.Word k.ModuleInterface) e = refl
+channel_apart (token.Word k.ChannelInterface) e = refl
+channel_apart (token.Word _) e = absurd (false≢true e)
+channel_apart _ e = absurd (false≢true e)
+
+pub channel_or_interface-lawful : Lawful channel_or_interface
+unfolding channel_or_interface channel interface interface_kind word
+channel_or_interface-lawful = either-lawful channel interface channel-lawful interface-lawful refl refl channel_apart
+
+module_type_apart : (t : Token) → channel_or_interface.starts t ≡ true → module_type.starts t ≡ false
+unfolding channel_or_interface channel interface interface_kind module_type simple network word
 module_type_apart (token.Word k.Channel) e = refl
+module_type_apart (token.Word k.ModuleInterface) e = refl
+module_type_apart (token.Word k.ChannelInterface) e = refl
 module_type_apart (token.Word _) e = absurd (false≢true e)
 module_type_apart _ e = absurd (false≢true e)
 
 pub type-lawful : Lawful type_rule
-unfolding type_rule module_type simple network channel word
-type-lawful = either-lawful module_type channel module_type-lawful channel-lawful refl refl module_type_apart
+unfolding type_rule module_type simple network channel_or_interface interface interface_kind word
+type-lawful = either-lawful module_type channel_or_interface module_type-lawful channel_or_interface-lawful refl refl module_type_apart
 
 pub type-full : type_rule.empty ≡ false
-unfolding type_rule channel word
+unfolding type_rule channel_or_interface interface interface_kind
 type-full = refl
 
 -- ---- what a file has besides types
@@ -876,23 +952,25 @@ unfolding silent_entry
 silent_entry-lawful = mapped silent-lawful
 
 silent_apart : (t : Token) → (made Some type_rule).starts t ≡ true → silent_entry.starts t ≡ false
-unfolding silent_entry silent import_or_property file_property property import_line package_line type_rule module_type simple network channel word mark
+unfolding silent_entry silent import_or_property file_property property import_line package_line type_rule module_type simple network channel_or_interface channel interface interface_kind word mark
 silent_apart (token.Word k.Simple) e = refl
 silent_apart (token.Word k.Network) e = refl
 silent_apart (token.Word k.Channel) e = refl
+silent_apart (token.Word k.ModuleInterface) e = refl
+silent_apart (token.Word k.ChannelInterface) e = refl
 silent_apart (token.Word _) e = absurd (false≢true e)
 silent_apart _ e = absurd (false≢true e)
 
 pub entry-lawful : Lawful entry
-unfolding entry silent_entry silent import_or_property file_property property import_line package_line type_rule module_type simple network channel word mark
+unfolding entry silent_entry silent import_or_property file_property property import_line package_line type_rule module_type simple network channel_or_interface channel interface interface_kind word mark
 entry-lawful = either-lawful silent_entry (made Some type_rule) silent_entry-lawful (mapped type-lawful) refl refl silent_apart
 
 pub entry-full : entry.empty ≡ false
-unfolding entry type_rule channel word
+unfolding entry type_rule channel_or_interface interface interface_kind
 entry-full = refl
 
 entries_apart : (t : Token) → entry.starts t ≡ true → entry.goes_on t ≡ false
-unfolding entry silent_entry silent import_or_property file_property import_line import_text package_line dotted type_rule module_type simple network channel gated_block network_block section_block section heading gates submodules head name mark
+unfolding entry silent_entry silent import_or_property file_property import_line import_text package_line dotted type_rule module_type simple network channel_or_interface channel interface interface_kind gated_block network_block section_block section heading gates submodules optional_names head name mark
 entries_apart t e = refl
 
 pub file-lawful : Lawful file

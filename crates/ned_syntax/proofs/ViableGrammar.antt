@@ -3,6 +3,7 @@ use Rattle.std.proofs.Common.{◌≡◌, ℕ, true, List, [], ◌∷◌, ◌++�
 use Rattle.std.proofs.lemmas.List.{append-nil}
 use Rattle.std.specs.Prelude.{codes, is_some}
 use Rattle.sim_values.specs.declared.value.Dimension.TheVariants as dimension
+use Rattle.ned_tokens.specs.declared.token.Keyword.{Keyword}
 use Rattle.ned_tokens.specs.declared.token.Keyword.TheVariants as k
 use Rattle.ned_tokens.specs.declared.token.Mark.TheVariants as m
 use Rattle.ned_tokens.specs.declared.token.Token.{Token}
@@ -16,6 +17,7 @@ use Rattle.ned_values.specs.declared.ast.Mode.TheVariants as modes_are
 use Rattle.ned_syntax.specs.declared.ast.SectionLine.TheVariants as lines
 use Rattle.ned_syntax.specs.declared.ast.GateDirection.TheVariants as directions
 use Rattle.ned_syntax.specs.declared.ast.GateSize.TheVariants as sizes
+use Rattle.ned_syntax.specs.declared.ast.TypeKind.TheVariants as kinds
 use Rattle.ned_syntax.specs.declared.ast.Declaration.{Declaration}
 use Rattle.ned_syntax.specs.declared.ast.ParameterWord.{ParameterWord}
 use Rattle.ned_syntax.specs.declared.parameters.Valued.{Valued}
@@ -29,7 +31,7 @@ use Rattle.ned_syntax.specs.declared.properties.Effect.{Effect}
 use Rattle.ned_syntax.specs.declared.properties.Effect.TheVariants as effects
 use Rattle.ned_syntax.specs.declared.statistics.Except.{Except}
 use Rattle.ned_syntax.specs.declared.statistics.Except.TheVariants as except_is
-use Rattle.ned_syntax.specs.Grammar.{word, mark, name, in_parens, expression, default_value, value_rule, property_name, bracketed, index, body, property, mode_word, question, mode_rule, next_mode, modes, group, loose_token, piece, pieces, loose_text, no_value, source_value, record_value, source_tail, record_tail, source_word, record_word, source_part, record_part, other_part, record_or_other, any_part, part, next_part, statistic_body, optional_body, indexed_statistic, unnamed_statistic, named_or_not, statistic_tail, statistic_word, statistic, plain_name, plain_line, property_text, property_line, valued, tail, parameter_word, volatile, any_declaration, declaration, assignment, assigned_or_said, any_line, section_line, heading, section, dotted, direction, open_size, size_value, size_tail, vector_size, gate_size, size_in_brackets, refined_size, declared_gate, refined_gate, any_gate, gate_line, gate_section, gates, base_name, optional_base, head, gated_block, simple, ignored_property, assigned_or_ignored, any_body_line, body_line, body_section, optional_semi, braced_body, no_body, submodule_body, submodule, submodules, network_block, network, module_type, section_block, channel, type_rule, package_line, import_token, import_text, import_line, file_property, import_or_property, silent, silent_entry, entry, file, turn_of, import_of, property_name_of, mode_of, loose_of, source_of, record_of, statistic_of, plain_name_of, parameter_word_of, direction_of, is_measured, first_unit, unit_behind, declared}
+use Rattle.ned_syntax.specs.Grammar.{word, mark, name, in_parens, expression, default_value, value_rule, property_name, bracketed, index, body, property, mode_word, question, mode_rule, next_mode, modes, group, loose_token, piece, pieces, loose_text, no_value, source_value, record_value, source_tail, record_tail, source_word, record_word, source_part, record_part, other_part, record_or_other, any_part, part, next_part, statistic_body, optional_body, indexed_statistic, unnamed_statistic, named_or_not, statistic_tail, statistic_word, statistic, plain_name, plain_line, property_text, property_line, valued, tail, parameter_word, volatile, any_declaration, declaration, assignment, assigned_or_said, any_line, section_line, heading, section, dotted, direction, open_size, size_value, size_tail, vector_size, gate_size, size_in_brackets, refined_size, declared_gate, refined_gate, any_gate, gate_line, gate_section, gates, base_name, optional_base, next_dotted, dotted_list, names_behind, optional_names, head, gated_block, simple, ignored_property, assigned_or_ignored, any_body_line, body_line, body_section, optional_semi, braced_body, no_body, submodule_body, submodule, submodules, network_block, network, module_type, section_block, channel, interface_kind, interface, channel_or_interface, type_rule, package_line, import_token, import_text, import_line, file_property, import_or_property, silent, silent_entry, entry, file, turn_of, import_of, property_name_of, mode_of, loose_of, source_of, record_of, statistic_of, plain_name_of, parameter_word_of, direction_of, interface_kind_of, is_measured, first_unit, unit_behind, declared}
 use Rattle.ned_tokens.proofs.ViableLaws.{Viable, token-viable, such_that-viable, either-viable, optional-viable, many-viable, balanced-viable, then_on, before_on, after_on, mapped_on}
 use Rattle.ned_tokens.proofs.Laws.{mapped}
 use Rattle.ned_tokens.proofs.BalancedLaws.{balanced-lawful}
@@ -424,9 +426,21 @@ base_on : Viable optional_base
 unfolding optional_base
 base_on = optional-viable base_name base_name_on
 
+next_dotted_on : Viable next_dotted
+unfolding next_dotted
+next_dotted_on = before_on (laws.mark-lawful m.Comma) (mark_on m.Comma refl) dotted_on
+
+dotted_list_on : Viable dotted_list
+unfolding dotted_list
+dotted_list_on = mapped_on (then_on laws.dotted-lawful dotted_on (many-viable next_dotted laws.next_dotted-lawful laws.next_dotted-full next_dotted_on))
+
+optional_names_on : (w : Keyword) → Viable (word w) → Viable (optional_names w)
+unfolding optional_names names_behind
+optional_names_on w on = mapped_on (optional-viable (word w ▷ dotted_list) (before_on (laws.word-lawful w) on dotted_list_on))
+
 head_on : Viable head
 unfolding head
-head_on = mapped_on (then_on laws.name-lawful name_on base_on)
+head_on = mapped_on (then_on laws.name-lawful name_on (then_on laws.base-lawful base_on (optional_names_on k.Like (word_on k.Like refl))))
 
 gated_block_on : Viable gated_block
 unfolding gated_block
@@ -500,9 +514,21 @@ channel_on : Viable channel
 unfolding channel
 channel_on = mapped_on (before_on (laws.word-lawful k.Channel) (word_on k.Channel refl) (then_on laws.head-lawful head_on section_block_on))
 
+interface_kind_on : Viable interface_kind
+unfolding interface_kind
+interface_kind_on = token-viable interface_kind_of (token.Word k.ModuleInterface) kinds.ModuleInterface refl
+
+interface_on : Viable interface
+unfolding interface
+interface_on = mapped_on (then_on laws.interface_kind-lawful interface_kind_on (then_on laws.name-lawful name_on (then_on (laws.optional_names-lawful k.Extends) (optional_names_on k.Extends (word_on k.Extends refl)) gated_block_on)))
+
+channel_or_interface_on : Viable channel_or_interface
+unfolding channel_or_interface
+channel_or_interface_on = either-viable channel interface channel_on interface_on
+
 type_on : Viable type_rule
 unfolding type_rule
-type_on = either-viable module_type channel module_type_on channel_on
+type_on = either-viable module_type channel_or_interface module_type_on channel_or_interface_on
 
 package_line_on : Viable package_line
 unfolding package_line

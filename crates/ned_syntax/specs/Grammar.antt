@@ -3,6 +3,7 @@
 use Rattle.std.specs.Prelude.{ℕ, Bool, true, false, ◌||◌, not, List, [], ◌∷◌, Option, Some, None, Ok, if◌then◌else◌, codes, is_some, unwrap_or, nat_lt, ◌&&◌, ◌==◌}
 use Rattle.std.specs.Str.{bytes_eq}
 use Rattle.sim_values.specs.declared.value.Dimension.{Dimension}
+use Rattle.ned_tokens.specs.declared.token.Keyword.{Keyword}
 use Rattle.ned_tokens.specs.declared.token.Keyword.TheVariants as k
 use Rattle.ned_tokens.specs.declared.token.Mark.{Mark}
 use Rattle.ned_tokens.specs.declared.token.Mark.TheVariants as m
@@ -31,6 +32,7 @@ use Rattle.ned_syntax.specs.declared.ast.GateSize.TheVariants as sizes
 use Rattle.ned_syntax.specs.declared.ast.GateLine.{GateLine}
 use Rattle.ned_syntax.specs.declared.ast.GateLine.TheVariants as gate_lines
 use Rattle.ned_syntax.specs.declared.ast.TypeDeclaration.{TypeDeclaration}
+use Rattle.ned_syntax.specs.declared.ast.TypeKind.{TypeKind}
 use Rattle.ned_syntax.specs.declared.ast.TypeKind.TheVariants as kinds
 use Rattle.ned_syntax.specs.declared.ast.NedFile.{NedFile}
 use Rattle.ned_syntax.specs.declared.properties.PropertyName.{PropertyName}
@@ -553,9 +555,25 @@ base_name = word k.Extends ▷ dotted
 unfoldable pub optional_base : Rule (Option Bytes)
 optional_base = optional base_name
 
--- head = name ["extends" dotted]
+-- "," dotted
+unfoldable pub next_dotted : Rule Bytes
+next_dotted = mark m.Comma ▷ dotted
+
+-- dotted {"," dotted}
+unfoldable pub dotted_list : Rule (List Bytes)
+dotted_list = made (λ p. p.0 ∷ p.1) (dotted ⊗ many next_dotted)
+
+-- names behind this word
+unfoldable pub names_behind : Keyword → Rule (List Bytes)
+names_behind w = word w ▷ dotted_list
+
+-- names behind this word, or none without it
+unfoldable pub optional_names : Keyword → Rule (List Bytes)
+optional_names w = made listed (optional (names_behind w))
+
+-- head = name ["extends" dotted] ["like" dotted {"," dotted}]
 unfoldable pub head : Rule Head
-head = made (λ p. record { name = p.0; base = p.1 }) (name ⊗ optional_base)
+head = made (λ p. record { name = p.0; base = p.1.0; interfaces = p.1.1 }) (name ⊗ (optional_base ⊗ optional_names k.Like))
 
 -- ---- types
 
@@ -565,7 +583,7 @@ gated_block = mark m.Open ▷ ((section ⊗ gates) ◁ mark m.Close)
 
 -- "simple" head "{" [params] [gates] "}"
 unfoldable pub simple : Rule TypeDeclaration
-simple = made (λ p. record { kind = kinds.Simple; name = p.0.name; base = p.0.base; interfaces = []; lines = p.1.0; gates = p.1.1; submodules = [] }) (word k.Simple ▷ (head ⊗ gated_block))
+simple = made (λ p. record { kind = kinds.Simple; name = p.0.name; base = p.0.base; interfaces = p.0.interfaces; lines = p.1.0; gates = p.1.1; submodules = [] }) (word k.Simple ▷ (head ⊗ gated_block))
 
 -- ---- the body of a submodule, which gives its parameters values
 
@@ -625,7 +643,7 @@ network_block = mark m.Open ▷ ((section ⊗ (gates ⊗ submodules)) ◁ mark m
 
 -- "network" head "{" [params] [gates] [submodules] "}"
 unfoldable pub network : Rule TypeDeclaration
-network = made (λ p. record { kind = kinds.Network; name = p.0.name; base = p.0.base; interfaces = []; lines = p.1.0; gates = p.1.1.0; submodules = p.1.1.1 }) (word k.Network ▷ (head ⊗ network_block))
+network = made (λ p. record { kind = kinds.Network; name = p.0.name; base = p.0.base; interfaces = p.0.interfaces; lines = p.1.0; gates = p.1.1.0; submodules = p.1.1.1 }) (word k.Network ▷ (head ⊗ network_block))
 
 -- a type of modules
 unfoldable pub module_type : Rule TypeDeclaration
@@ -637,10 +655,26 @@ section_block = mark m.Open ▷ (section ◁ mark m.Close)
 
 -- "channel" head "{" [params] "}"
 unfoldable pub channel : Rule TypeDeclaration
-channel = made (λ p. record { kind = kinds.Channel; name = p.0.name; base = p.0.base; interfaces = []; lines = p.1; gates = []; submodules = [] }) (word k.Channel ▷ (head ⊗ section_block))
+channel = made (λ p. record { kind = kinds.Channel; name = p.0.name; base = p.0.base; interfaces = p.0.interfaces; lines = p.1; gates = []; submodules = [] }) (word k.Channel ▷ (head ⊗ section_block))
+
+abbrev pub interface_kind_of : Token → Option TypeKind
+interface_kind_of (token.Word k.ModuleInterface) = Some kinds.ModuleInterface
+interface_kind_of (token.Word k.ChannelInterface) = Some kinds.ChannelInterface
+interface_kind_of _ = None
+
+-- "moduleinterface" | "channelinterface"
+unfoldable pub interface_kind : Rule TypeKind
+interface_kind = one_token interface_kind_of
+
+-- ("moduleinterface" | "channelinterface") name ["extends" dotted {"," dotted}] "{" [params] [gates] "}"
+unfoldable pub interface : Rule TypeDeclaration
+interface = made (λ p. record { kind = p.0; name = p.1.0; base = None; interfaces = p.1.1.0; lines = p.1.1.1.0; gates = p.1.1.1.1; submodules = [] }) (interface_kind ⊗ (name ⊗ (optional_names k.Extends ⊗ gated_block)))
+
+unfoldable pub channel_or_interface : Rule TypeDeclaration
+channel_or_interface = either channel interface
 
 unfoldable pub type_rule : Rule TypeDeclaration
-type_rule = either module_type channel
+type_rule = either module_type channel_or_interface
 
 -- ---- what a file has besides types, of which nothing has an effect
 

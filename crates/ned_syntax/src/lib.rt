@@ -20,6 +20,7 @@ mod gates;
 pub mod heads;
 pub mod laws;
 mod leaves;
+mod lists;
 mod literals;
 pub mod parameters;
 pub mod parse;

@@ -6,6 +6,7 @@ ghost use Rattle.ned_syntax.specs.Grammar as grammar;
 
 use crate::ast::{Mode, RecordedMode, SectionLine, Statistic};
 use crate::leaves::{begins_mark, ended, in_parens, mark, name};
+use crate::lists::with_first;
 use crate::properties::bracketed;
 use ned_tokens::refusal::Refusal;
 use ned_tokens::token::{Mark, Token};
@@ -90,19 +91,6 @@ fn next_modes(alloc: Global, tokens: &[Token]) -> Result<(Items<RecordedMode>, &
         rest = after;
     }
     Ok((modes, rest))
-}
-
-fn with_first(
-    alloc: Global,
-    first: RecordedMode,
-    others: Items<RecordedMode>,
-) -> Result<Items<RecordedMode>, AllocError>
-    ensures { IfOk result (λ modes. modes ≡ first ∷ others) }
-{
-    let mut modes = Items::new(alloc);
-    modes.push(first)?;
-    modes.append(others)?;
-    Ok(modes)
 }
 
 /// `modes = mode { next_mode }`.

@@ -8,7 +8,7 @@ use crate::ast::{GateLine, SectionLine, Submodule, TypeDeclaration, TypeKind};
 use crate::bodies::submodule_body;
 use crate::dotted::dotted;
 use crate::gates::gates;
-use crate::heads::read_head;
+use crate::heads::{optional_names, read_head};
 use crate::leaves::{begins_name, begins_word, ended, mark, name, word};
 use crate::parameters::section;
 use ned_tokens::refusal::Refusal;
@@ -44,7 +44,7 @@ fn simple(alloc: Global, tokens: &[Token]) -> Result<(TypeDeclaration, &[Token])
             kind: TypeKind::Simple,
             name: head.name,
             base: head.base,
-            interfaces: Items::new(alloc),
+            interfaces: head.interfaces,
             lines,
             gates,
             submodules: Items::new(alloc),
@@ -145,7 +145,7 @@ fn network(alloc: Global, tokens: &[Token]) -> Result<(TypeDeclaration, &[Token]
             kind: TypeKind::Network,
             name: head.name,
             base: head.base,
-            interfaces: Items::new(alloc),
+            interfaces: head.interfaces,
             lines,
             gates,
             submodules,
@@ -197,7 +197,7 @@ fn channel(alloc: Global, tokens: &[Token]) -> Result<(TypeDeclaration, &[Token]
             kind: TypeKind::Channel,
             name: head.name,
             base: head.base,
-            interfaces: Items::new(alloc),
+            interfaces: head.interfaces,
             lines,
             gates: Items::new(alloc),
             submodules: Items::new(alloc),
@@ -206,7 +206,78 @@ fn channel(alloc: Global, tokens: &[Token]) -> Result<(TypeDeclaration, &[Token]
     ))
 }
 
-/// `type = module_type | channel`.
+fn interface_kind_of(token: &Token) -> Option<TypeKind>
+    ensures { result ≡ grammar.interface_kind_of token.now }
+{
+    match token {
+        Token::Word(Keyword::ModuleInterface) => Some(TypeKind::ModuleInterface),
+        Token::Word(Keyword::ChannelInterface) => Some(TypeKind::ChannelInterface),
+        _ => None,
+    }
+}
+
+/// `interface_kind = "moduleinterface" | "channelinterface"`.
+#[tactic(auto, unfolding(crate::specs::Grammar::interface_kind))]
+fn interface_kind(tokens: &[Token]) -> Result<(TypeKind, &[Token]), Refusal>
+    ensures { Reads grammar.interface_kind tokens.now result }
+{
+    if let [first, rest @ ..] = tokens {
+        if let Some(kind) = interface_kind_of(first) {
+            return Ok((kind, rest));
+        }
+    }
+    Err(Refusal::At(tokens.len()))
+}
+
+/// `interface = interface_kind name optional_names "extends" gated_block`.
+#[tactic(auto, unfolding(crate::specs::Grammar::interface))]
+fn interface(alloc: Global, tokens: &[Token]) -> Result<(TypeDeclaration, &[Token]), Refusal>
+    ensures { Reads grammar.interface tokens.now result }
+{
+    let (kind, rest) = read!(interface_kind(tokens));
+    let (name, rest) = read!(name(alloc, rest));
+    let (interfaces, rest) = read!(optional_names(alloc, Keyword::Extends, rest));
+    let ((lines, gates), rest) = read!(gated_block(alloc, rest));
+    Ok((
+        TypeDeclaration {
+            kind,
+            name,
+            base: None,
+            interfaces,
+            lines,
+            gates,
+            submodules: Items::new(alloc),
+        },
+        rest,
+    ))
+}
+
+/// `channel_or_interface = channel | interface`.
+#[tactic(auto, unfolding(crate::specs::Grammar::channel_or_interface, crate::specs::Grammar::channel, crate::specs::Grammar::word))]
+fn channel_or_interface(
+    alloc: Global,
+    tokens: &[Token],
+) -> Result<(TypeDeclaration, &[Token]), Refusal>
+    ensures { Reads grammar.channel_or_interface tokens.now result }
+{
+    if begins_word(Keyword::Channel, tokens) {
+        channel(alloc, tokens)
+    } else {
+        interface(alloc, tokens)
+    }
+}
+
+#[tactic(auto, unfolding(crate::specs::Grammar::interface, crate::specs::Grammar::interface_kind))]
+fn begins_interface(tokens: &[Token]) -> bool
+    ensures { result ≡ begins grammar.interface.starts tokens.now }
+{
+    match tokens {
+        [first, ..] => interface_kind_of(first).is_some(),
+        _ => false,
+    }
+}
+
+/// `type = module_type | channel_or_interface`.
 #[tactic(auto, unfolding(crate::specs::Grammar::type_rule))]
 pub(crate) fn type_declaration(
     alloc: Global,
@@ -217,13 +288,14 @@ pub(crate) fn type_declaration(
     if begins_module_type(tokens) {
         module_type(alloc, tokens)
     } else {
-        channel(alloc, tokens)
+        channel_or_interface(alloc, tokens)
     }
 }
 
-#[tactic(auto, unfolding(crate::specs::Grammar::type_rule, crate::specs::Grammar::channel, crate::specs::Grammar::word))]
+#[tactic(auto, unfolding(crate::specs::Grammar::type_rule, crate::specs::Grammar::channel_or_interface, crate::specs::Grammar::channel, crate::specs::Grammar::word))]
 pub(crate) fn begins_type(tokens: &[Token]) -> bool
     ensures { result ≡ begins grammar.type_rule.starts tokens.now }
 {
-    begins_module_type(tokens) || begins_word(Keyword::Channel, tokens)
+    begins_module_type(tokens)
+        || (begins_word(Keyword::Channel, tokens) || begins_interface(tokens))
 }

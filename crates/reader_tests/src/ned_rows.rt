@@ -2,7 +2,7 @@
 
 use crate::escapes::unescaped;
 use crate::tree_rows::tell_tree;
-use crate::words::written;
+use crate::words::{tell_names, written};
 use ned_syntax::ast::{
     Declaration, Expression, GateLine, GateSize, NedFile, ParameterValue, SectionLine, Statistic,
     Submodule, TypeDeclaration,
@@ -177,10 +177,20 @@ fn tell_base(told: &mut String, base: &Option<Text>) -> Result<(), AllocError> {
     }
 }
 
+/// Tells which interfaces a type keeps.
+fn tell_interfaces(told: &mut String, names: &[Text]) -> Result<(), AllocError> {
+    if names.is_empty() {
+        return Ok(());
+    }
+    told.push_str("keeps ")?;
+    tell_names(told, names)
+}
+
 /// Tells what a type declares.
 fn tell_type(told: &mut String, it: &TypeDeclaration) -> Result<(), AllocError> {
     write!(told, "{:?} {} ", it.kind, written(&it.name))?;
     tell_base(told, &it.base)?;
+    tell_interfaces(told, it.interfaces.as_slice())?;
     told.push_str("{ ")?;
     tell_lines(told, it.lines.as_slice())?;
     tell_gates(told, it.gates.as_slice())?;

@@ -23,7 +23,7 @@ at_minus e = search the_lemmas
 
 -- the tokens of the example
 abbrev tokens : List Token
-tokens = token.Word k.Simple ∷ token.Name (codes "Source") ∷ token.Mark m.Open ∷ token.Word k.Parameters ∷ token.Mark m.Colon ∷ token.Word k.Double ∷ token.Name (codes "interval") ∷ token.Mark m.At ∷ token.Name (codes "unit") ∷ token.Mark m.LeftParen ∷ token.Name (codes "ps") ∷ token.Mark m.RightParen ∷ token.Mark m.Equals ∷ token.Word k.Default ∷ token.Mark m.LeftParen ∷ token.Quantity dimension.Time 1000000000000 ∷ token.Mark m.RightParen ∷ token.Mark m.Semi ∷ token.Word k.Int ∷ token.Name (codes "offset") ∷ token.Mark m.Equals ∷ token.Mark m.Minus ∷ token.Number 5 ∷ token.Mark m.Semi ∷ token.Name (codes "label") ∷ token.Mark m.Equals ∷ token.Literal (codes "a\tb") ∷ token.Mark m.Semi ∷ token.Mark m.At ∷ token.Name (codes "class") ∷ token.Mark m.LeftParen ∷ token.Name (codes "Src") ∷ token.Mark m.RightParen ∷ token.Mark m.Semi ∷ token.Mark m.At ∷ token.Name (codes "ignored") ∷ token.Mark m.Semi ∷ token.Mark m.At ∷ token.Name (codes "statistic") ∷ token.Mark m.LeftBracket ∷ token.Name (codes "sent") ∷ token.Mark m.RightBracket ∷ token.Mark m.LeftParen ∷ token.Name (codes "source") ∷ token.Mark m.Equals ∷ token.Name (codes "packetSent") ∷ token.Mark m.Semi ∷ token.Name (codes "record") ∷ token.Mark m.Equals ∷ token.Name (codes "count") ∷ token.Mark m.Comma ∷ token.Name (codes "sum") ∷ token.Mark m.Question ∷ token.Mark m.RightParen ∷ token.Mark m.Semi ∷ token.Word k.Gates ∷ token.Mark m.Colon ∷ token.Word k.Input ∷ token.Name (codes "in") ∷ token.Mark m.At ∷ token.Name (codes "loose") ∷ token.Mark m.Semi ∷ token.Word k.Output ∷ token.Name (codes "out") ∷ token.Mark m.LeftBracket ∷ token.Mark m.RightBracket ∷ token.Mark m.Semi ∷ token.Word k.Inout ∷ token.Name (codes "port") ∷ token.Mark m.LeftBracket ∷ token.Number 2 ∷ token.Mark m.RightBracket ∷ token.Mark m.At ∷ token.Name (codes "loose") ∷ token.Mark m.Semi ∷ token.Mark m.Close ∷ token.Word k.Simple ∷ token.Name (codes "Slow") ∷ token.Word k.Extends ∷ token.Name (codes "Source") ∷ token.Mark m.Open ∷ token.Word k.Parameters ∷ token.Mark m.Colon ∷ token.Word k.Gates ∷ token.Mark m.Colon ∷ token.Name (codes "out") ∷ token.Mark m.LeftBracket ∷ token.Number 3 ∷ token.Mark m.RightBracket ∷ token.Mark m.Semi ∷ token.Name (codes "out") ∷ token.Mark m.At ∷ token.Name (codes "loose") ∷ token.Mark m.Semi ∷ token.Mark m.Close ∷ token.Word k.Channel ∷ token.Name (codes "Wire") ∷ token.Word k.Extends ∷ token.Name (codes "DelayChannel") ∷ token.Mark m.Open ∷ token.Word k.Parameters ∷ token.Mark m.Colon ∷ token.Name (codes "delay") ∷ token.Mark m.Equals ∷ token.Quantity dimension.Time 1000 ∷ token.Mark m.Semi ∷ token.Mark m.Close ∷ token.Word k.Network ∷ token.Name (codes "Net") ∷ token.Mark m.Open ∷ token.Word k.Parameters ∷ token.Mark m.Colon ∷ token.Word k.Int ∷ token.Name (codes "size") ∷ token.Mark m.Equals ∷ token.Number 2 ∷ token.Mark m.Semi ∷ token.Word k.Submodules ∷ token.Mark m.Colon ∷ token.Name (codes "a") ∷ token.Mark m.Colon ∷ token.Name (codes "Source") ∷ token.Mark m.Semi ∷ token.Name (codes "b") ∷ token.Mark m.Colon ∷ token.Name (codes "Source") ∷ token.Mark m.Open ∷ token.Word k.Parameters ∷ token.Mark m.Colon ∷ token.Name (codes "offset") ∷ token.Mark m.Equals ∷ token.Number 3 ∷ token.Mark m.Semi ∷ token.Mark m.At ∷ token.Name (codes "ignored") ∷ token.Mark m.Semi ∷ token.Mark m.Close ∷ token.Mark m.Close ∷ []
+tokens = token.Word k.Simple ∷ token.Name (codes "Source") ∷ token.Mark m.Open ∷ token.Word k.Parameters ∷ token.Mark m.Colon ∷ token.Word k.Double ∷ token.Name (codes "interval") ∷ token.Mark m.At ∷ token.Name (codes "unit") ∷ token.Mark m.LeftParen ∷ token.Name (codes "ps") ∷ token.Mark m.RightParen ∷ token.Mark m.Equals ∷ token.Word k.Default ∷ token.Mark m.LeftParen ∷ token.Quantity dimension.Time 1000000000000 ∷ token.Mark m.RightParen ∷ token.Mark m.Semi ∷ token.Word k.Int ∷ token.Name (codes "offset") ∷ token.Mark m.Equals ∷ token.Mark m.Minus ∷ token.Number 5 ∷ token.Mark m.Semi ∷ token.Name (codes "label") ∷ token.Mark m.Equals ∷ token.Literal (codes "a\tb") ∷ token.Mark m.Semi ∷ token.Mark m.At ∷ token.Name (codes "class") ∷ token.Mark m.LeftParen ∷ token.Name (codes "Src") ∷ token.Mark m.RightParen ∷ token.Mark m.Semi ∷ token.Mark m.At ∷ token.Name (codes "ignored") ∷ token.Mark m.Semi ∷ token.Mark m.At ∷ token.Name (codes "statistic") ∷ token.Mark m.LeftBracket ∷ token.Name (codes "sent") ∷ token.Mark m.RightBracket ∷ token.Mark m.LeftParen ∷ token.Name (codes "source") ∷ token.Mark m.Equals ∷ token.Name (codes "packetSent") ∷ token.Mark m.Semi ∷ token.Name (codes "record") ∷ token.Mark m.Equals ∷ token.Name (codes "count") ∷ token.Mark m.Comma ∷ token.Name (codes "sum") ∷ token.Mark m.Question ∷ token.Mark m.RightParen ∷ token.Mark m.Semi ∷ token.Word k.Gates ∷ token.Mark m.Colon ∷ token.Word k.Input ∷ token.Name (codes "in") ∷ token.Mark m.At ∷ token.Name (codes "loose") ∷ token.Mark m.Semi ∷ token.Word k.Output ∷ token.Name (codes "out") ∷ token.Mark m.LeftBracket ∷ token.Mark m.RightBracket ∷ token.Mark m.Semi ∷ token.Word k.Inout ∷ token.Name (codes "port") ∷ token.Mark m.LeftBracket ∷ token.Number 2 ∷ token.Mark m.RightBracket ∷ token.Mark m.At ∷ token.Name (codes "loose") ∷ token.Mark m.Semi ∷ token.Mark m.Close ∷ token.Word k.Simple ∷ token.Name (codes "Slow") ∷ token.Word k.Extends ∷ token.Name (codes "Source") ∷ token.Word k.Like ∷ token.Name (codes "Port") ∷ token.Mark m.Comma ∷ token.Name (codes "Named") ∷ token.Mark m.Open ∷ token.Word k.Parameters ∷ token.Mark m.Colon ∷ token.Word k.Gates ∷ token.Mark m.Colon ∷ token.Name (codes "out") ∷ token.Mark m.LeftBracket ∷ token.Number 3 ∷ token.Mark m.RightBracket ∷ token.Mark m.Semi ∷ token.Name (codes "out") ∷ token.Mark m.At ∷ token.Name (codes "loose") ∷ token.Mark m.Semi ∷ token.Mark m.Close ∷ token.Word k.Channel ∷ token.Name (codes "Wire") ∷ token.Word k.Extends ∷ token.Name (codes "DelayChannel") ∷ token.Word k.Like ∷ token.Name (codes "Line") ∷ token.Mark m.Open ∷ token.Word k.Parameters ∷ token.Mark m.Colon ∷ token.Name (codes "delay") ∷ token.Mark m.Equals ∷ token.Quantity dimension.Time 1000 ∷ token.Mark m.Semi ∷ token.Mark m.Close ∷ token.Word k.ModuleInterface ∷ token.Name (codes "Port") ∷ token.Word k.Extends ∷ token.Name (codes "First") ∷ token.Mark m.Comma ∷ token.Name (codes "Second") ∷ token.Mark m.Open ∷ token.Word k.Parameters ∷ token.Mark m.Colon ∷ token.Word k.Gates ∷ token.Mark m.Colon ∷ token.Word k.Inout ∷ token.Name (codes "port") ∷ token.Mark m.LeftBracket ∷ token.Mark m.RightBracket ∷ token.Mark m.Semi ∷ token.Mark m.Close ∷ token.Word k.ChannelInterface ∷ token.Name (codes "Line") ∷ token.Mark m.Open ∷ token.Word k.Parameters ∷ token.Mark m.Colon ∷ token.Mark m.Close ∷ token.Word k.Network ∷ token.Name (codes "Net") ∷ token.Mark m.Open ∷ token.Word k.Parameters ∷ token.Mark m.Colon ∷ token.Word k.Int ∷ token.Name (codes "size") ∷ token.Mark m.Equals ∷ token.Number 2 ∷ token.Mark m.Semi ∷ token.Word k.Submodules ∷ token.Mark m.Colon ∷ token.Name (codes "a") ∷ token.Mark m.Colon ∷ token.Name (codes "Source") ∷ token.Mark m.Semi ∷ token.Name (codes "b") ∷ token.Mark m.Colon ∷ token.Name (codes "Source") ∷ token.Mark m.Open ∷ token.Word k.Parameters ∷ token.Mark m.Colon ∷ token.Name (codes "offset") ∷ token.Mark m.Equals ∷ token.Number 3 ∷ token.Mark m.Semi ∷ token.Mark m.At ∷ token.Name (codes "ignored") ∷ token.Mark m.Semi ∷ token.Mark m.Close ∷ token.Mark m.Close ∷ []
 
 tokens_are : file_tokens example ≡ tokens
 unfolding unit_text
