@@ -89,24 +89,29 @@ flat_rules types none =
 
 -- ---- what is extended
 
-known_name : (types : List TypeDeclaration) (kind : TypeKind) (name : List ℕ) → MayExtend kind name types → t.is_type_named name types ≡ true
-known_name types Simple name m = named_found types Simple name m
-known_name types Network name m = named_found types Network name m
-known_name types Channel name m = named_found types Channel name m
+or_first : (x y : Bool) → x ≡ true → (x || y) ≡ true
+or_first x y h = ap (λ b. b || y) h
+
+known_name : (types : List TypeDeclaration) (kind : TypeKind) (name : List ℕ) → MayExtend kind name types → (t.is_built_in name || t.is_type_named name types) ≡ true
+known_name types Simple name m = or_second (t.is_built_in name) _ (named_found types Simple name m)
+known_name types Network name m = or_second (t.is_built_in name) _ (named_found types Network name m)
+known_name types Channel name (inl built_in) = or_first (t.is_built_in name) _ built_in
+known_name types Channel name (inr m) = or_second (t.is_built_in name) _ (named_found types Channel name m)
 known_name types ModuleInterface name m = absurd m
 known_name types ChannelInterface name m = absurd m
 
 known_base : (types : List TypeDeclaration) (kind : TypeKind) (base : Option (List ℕ)) → ((name : List ℕ) → base ≡ Some name → MayExtend kind name types) → i.extends_unknown types base ≡ false
 known_base types kind None h = refl
-known_base types kind (Some name) h = false_not _ (or_second (t.is_built_in name) _ (known_name types kind name (h name refl)))
+known_base types kind (Some name) h = false_not _ (known_name types kind name (h name refl))
 
 abbrev AreApart : List TypeDeclaration → Type 0
 AreApart types = (a b : TypeDeclaration) → StandsBefore a b types → a.name ≢ b.name
 
-fitting : (types : List TypeDeclaration) (kind : TypeKind) (name : List ℕ) → AreApart types → MayExtend kind name types → i.is_base kind (t.type_named name types) ≡ true
+fitting : (types : List TypeDeclaration) (kind : TypeKind) (name : List ℕ) → AreApart types → MayExtend kind name types → (i.is_channel_of kind name || i.is_base kind (t.type_named name types)) ≡ true
 fitting types Simple name apart m = ap (i.is_base Simple) (named_is types Simple name apart m) ∙ ap t.is_simple_kind m.3
 fitting types Network name apart m = ap (i.is_base Network) (named_is types Network name apart m) ∙ ap t.is_network_kind m.3
-fitting types Channel name apart m = ap (i.is_base Channel) (named_is types Channel name apart m) ∙ ap t.is_channel_kind m.3
+fitting types Channel name apart (inl built_in) = or_first (t.is_built_in name) _ built_in
+fitting types Channel name apart (inr m) = or_second (t.is_built_in name) _ (ap (i.is_base Channel) (named_is types Channel name apart m) ∙ ap t.is_channel_kind m.3)
 fitting types ModuleInterface name apart m = absurd m
 fitting types ChannelInterface name apart m = absurd m
 

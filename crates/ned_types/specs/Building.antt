@@ -1,11 +1,11 @@
 -- Why declared types make no model, and the table of those that do.
-use Rattle.std.specs.Prelude.{◌≡◌, ℕ, Bool, false, ◌||◌, List, length, Option, Some, None, Result, Ok, Err, if◌then◌else◌}
+use Rattle.std.specs.Prelude.{◌≡◌, ◌⊎◌, ℕ, Bool, true, false, ◌||◌, List, length, Option, Some, None, Result, Ok, Err, if◌then◌else◌}
 use Rattle.ned_syntax.specs.declared.ast.TypeDeclaration.{TypeDeclaration}
 use Rattle.ned_syntax.specs.declared.ast.TypeKind.{TypeKind}
 use Rattle.ned_syntax.specs.declared.ast.TypeKind.TheVariants.{Simple, Network, Channel, ModuleInterface, ChannelInterface}
 use Rattle.ned_types.specs.declared.table.TypeFault.{TypeFault}
 use Rattle.ned_types.specs.declared.table.TypeFault.TheVariants.{DuplicateType, UnknownType, InheritanceCircle, KindClash, NoMemory}
-use Rattle.ned_types.specs.Types.{has_duplicate, has_unknown, has_clash}
+use Rattle.ned_types.specs.Types.{has_duplicate, has_unknown, has_clash, is_built_in}
 use Rattle.ned_types.specs.Flat.{or_else}
 use Rattle.ned_types.specs.Inheritance.{has_unknown_base, has_circle, has_other_base, goes_on, flat_types}
 use Rattle.ned_types.specs.WellFormed.{IsAmong, IsTypeOf, IsWellFormed}
@@ -41,17 +41,17 @@ AnswersTable types (Err UnknownType) = ⊥
 AnswersTable types (Err InheritanceCircle) = ⊥
 AnswersTable types (Err KindClash) = ⊥
 
--- a type of that kind may extend what has that name: a type among these, which is of its own kind
+-- a type of that kind may extend what has that name: a type among these, which is of its own kind, or for a channel a built-in one
 abbrev pub MayExtend : TypeKind → List ℕ → List TypeDeclaration → Type 0
 MayExtend Simple name types = IsTypeOf Simple name types
 MayExtend Network name types = IsTypeOf Network name types
-MayExtend Channel name types = IsTypeOf Channel name types
+MayExtend Channel name types = (is_built_in name ≡ true) ⊎ IsTypeOf Channel name types
 MayExtend ModuleInterface name types = ⊥
 MayExtend ChannelInterface name types = ⊥
 
 -- THE RULES of types that extend others:
 pub record CanBuild (types : List TypeDeclaration) : Type 0 where
-  -- what is extended is among these, and of the kind of what extends it;
+  -- what is extended is among these and of the kind of what extends it, or a built-in channel that a channel extends;
   pub bases : (t : TypeDeclaration) → IsAmong t types → (name : List ℕ) → t.base ≡ Some name → MayExtend t.kind name types
   -- the way from each type to what it extends comes to an end;
   pub roots : (t : TypeDeclaration) → IsAmong t types → goes_on (length types) types (Some t) ≡ false

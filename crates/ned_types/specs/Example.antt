@@ -104,6 +104,30 @@ heir_network name lines submodules = record { kind = Network; name = name; base 
 abbrev pub channel_of : List ℕ → Option (List ℕ) → TypeDeclaration
 channel_of name base = record { kind = Channel; name = name; base = base; interfaces = []; lines = []; gates = []; submodules = [] }
 
+-- `channel NAME extends BASE { LINES }`
+abbrev pub channel_with : List ℕ → List ℕ → List SectionLine → TypeDeclaration
+channel_with name base lines = record { kind = Channel; name = name; base = Some base; interfaces = []; lines = lines; gates = []; submodules = [] }
+
+-- `channel Slow extends DelayChannel { delay = 1s; }`
+abbrev pub slow_channel : TypeDeclaration
+slow_channel = channel_with (codes "Slow") (codes "DelayChannel") (second_for (codes "delay") ∷ [])
+
+-- `double delay @unit(s) = default(0s);`
+abbrev pub delay_default : SectionLine
+delay_default = line.Declaration (record { name = codes "delay"; word = word.Double; unit = Some dimension.Time; value = Some (parameter_value.Default (expression.Literal (values.Quantity dimension.Time (pos 0)))) })
+
+-- `bool disabled = default(false);`
+abbrev pub disabled_default : SectionLine
+disabled_default = line.Declaration (record { name = codes "disabled"; word = word.Bool; unit = None; value = Some (parameter_value.Default (expression.Literal (values.Truth false))) })
+
+-- `double datarate @unit(bps) = default(0bps);`
+abbrev pub rate_default : SectionLine
+rate_default = line.Declaration (record { name = codes "datarate"; word = word.Double; unit = Some dimension.Rate; value = Some (parameter_value.Default (expression.Literal (values.Quantity dimension.Rate (pos 0)))) })
+
+-- `int NAME = default(0);`
+abbrev pub zero_default : List ℕ → SectionLine
+zero_default name = line.Declaration (record { name = name; word = word.Int; unit = None; value = Some (parameter_value.Default (expression.Literal (values.Whole (pos 0)))) })
+
 -- `input NAME;`
 abbrev pub input_gate : List ℕ → GateLine
 input_gate name = gate.Declaration (record { name = name; direction = Input; size = size.Single; loose = false })
@@ -186,6 +210,22 @@ pub record ExampleNetworks : Type 0 where
   pub channels : fault_of (channel_of (codes "Fast") (Some (codes "Slow")) ∷ channel_of (codes "Slow") None ∷ []) ≡ None
   pub channel_of_simple : fault_of (channel_of (codes "Fast") (Some (codes "Tick")) ∷ tick ∷ []) ≡ Some KindClash
   pub submodule_channel : fault_of (network_of [] (t_with (codes "Slow") [] ∷ []) ∷ channel_of (codes "Slow") None ∷ []) ≡ Some KindClash
+
+-- a channel has what the built-in channel has that its root extends, and no more; those are parameters with a default
+pub record ExampleChannels : Type 0 where
+  pub ideal : (flat_type (channel_with (codes "C") (codes "IdealChannel") [] ∷ []) (channel_with (codes "C") (codes "IdealChannel") [])).lines ≡ []
+  pub delay : (flat_type (channel_with (codes "C") (codes "DelayChannel") [] ∷ []) (channel_with (codes "C") (codes "DelayChannel") [])).lines ≡ delay_default ∷ disabled_default ∷ []
+  pub rate : (flat_type (channel_with (codes "C") (codes "DatarateChannel") [] ∷ []) (channel_with (codes "C") (codes "DatarateChannel") [])).lines ≡ delay_default ∷ disabled_default ∷ rate_default ∷ zero_default (codes "ber") ∷ zero_default (codes "per") ∷ []
+  pub behind : (flat_type (slow_channel ∷ channel_of (codes "Slower") (Some (codes "Slow")) ∷ []) (channel_of (codes "Slower") (Some (codes "Slow")))).lines ≡ delay_default ∷ disabled_default ∷ second_for (codes "delay") ∷ []
+  pub none : fault_of (slow_channel ∷ channel_of (codes "Slower") (Some (codes "Slow")) ∷ []) ≡ None
+  pub fixed : fault_of (slow_channel ∷ channel_with (codes "Slower") (codes "Slow") (second_for (codes "delay") ∷ []) ∷ []) ≡ Some KindClash
+  pub no_rate : fault_of (channel_with (codes "C") (codes "DelayChannel") (second_for (codes "datarate") ∷ []) ∷ []) ≡ Some KindClash
+  pub no_delay : fault_of (channel_with (codes "C") (codes "IdealChannel") (second_for (codes "delay") ∷ []) ∷ []) ≡ Some KindClash
+  pub again : fault_of (channel_with (codes "C") (codes "DelayChannel") (double_named (codes "delay") ∷ []) ∷ []) ≡ Some KindClash
+  pub simple : fault_of (heir (codes "A") (codes "DelayChannel") ∷ []) ≡ Some KindClash
+  pub network : fault_of (record { kind = Network; name = codes "M"; base = Some (codes "DelayChannel"); interfaces = []; lines = []; gates = []; submodules = [] } ∷ []) ≡ Some KindClash
+  pub unknown : fault_of (channel_of (codes "C") (Some (codes "Zed")) ∷ []) ≡ Some UnknownType
+  pub itself : fault_of (channel_of (codes "C") (Some (codes "C")) ∷ []) ≡ Some InheritanceCircle
 
 -- gates stand behind those of the base, and none is declared twice, whatever its direction; a gate and a parameter may have
 -- one name; and a size, also that of a gate that is declared nowhere, is no fault of types

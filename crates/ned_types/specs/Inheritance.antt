@@ -10,6 +10,7 @@ use Rattle.ned_syntax.specs.declared.ast.TypeDeclaration.{TypeDeclaration}
 use Rattle.ned_syntax.specs.declared.ast.TypeKind.{TypeKind}
 use Rattle.ned_syntax.specs.declared.ast.TypeKind.TheVariants.{Simple, Network, Channel, ModuleInterface, ChannelInterface}
 use Rattle.ned_types.specs.Types.{type_named, is_built_in, is_type_named, is_simple_kind, is_network_kind, is_channel_kind}
+use Rattle.ned_types.specs.Channels.{root_lines}
 use Rattle.ned_types.specs.Flat.{class_in, class_of, named_or}
 
 -- ---- bases
@@ -60,24 +61,28 @@ abbrev pub is_base : TypeKind → Option TypeDeclaration → Bool
 is_base kind None = false
 is_base kind (Some t) = can_extend kind t.kind
 
+-- whether it is a channel that extends a built-in one
+abbrev pub is_channel_of : TypeKind → List ℕ → Bool
+is_channel_of kind name = is_channel_kind kind && is_built_in name
+
 -- whether what is extended isn't of the kind of the type that extends it
 abbrev pub extends_other : List TypeDeclaration → TypeKind → Option (List ℕ) → Bool
 extends_other types kind None = false
-extends_other types kind (Some name) = not (is_base kind (type_named name types))
+extends_other types kind (Some name) = not (is_channel_of kind name || is_base kind (type_named name types))
 
 abbrev pub has_other_base : List TypeDeclaration → Bool
 has_other_base types = list_any (λ t. extends_other types t.kind t.base) types
 
 -- ---- flat types
 
--- a type with the members of another one behind its own
+-- a type with the members of another one behind its own; those begin with what a built-in channel has that the other extends
 abbrev pub with_members : TypeDeclaration → TypeDeclaration → TypeDeclaration
 with_members flat t = record {
   kind = flat.kind;
   name = flat.name;
   base = flat.base;
   interfaces = flat.interfaces ++ t.interfaces;
-  lines = flat.lines ++ t.lines;
+  lines = (flat.lines ++ root_lines t.base) ++ t.lines;
   gates = flat.gates ++ t.gates;
   submodules = flat.submodules ++ t.submodules;
 }

@@ -1,5 +1,6 @@
 pub mod Types
 pub mod Flat
+pub mod Channels
 pub mod Inheritance
 pub mod Circles
 pub mod WellFormed

@@ -3,11 +3,12 @@
 ghost use Rattle.std.specs.Prelude.{◌≡◌, ◌++◌, length, map, Some, IfOk, OnOk};
 ghost use Rattle.std.specs.List.{list_any};
 ghost use Rattle.std.specs.Option.{option_copied};
-ghost use Rattle.ned_types.specs.Types.{is_simple_kind};
-ghost use Rattle.ned_types.specs.Inheritance.{base_of, line_of, goes_on, extends_unknown, extends_other, can_extend, is_base, with_members, joined_with, class_along, class_lines, bare_heir, heir_of, flat_type, types_in};
+ghost use Rattle.ned_types.specs.Types.{is_channel_kind, is_simple_kind};
+ghost use Rattle.ned_types.specs.Inheritance.{base_of, line_of, goes_on, extends_unknown, extends_other, can_extend, is_base, is_channel_of, with_members, joined_with, class_along, class_lines, bare_heir, heir_of, flat_type, types_in};
 
+use crate::channels::add_root;
 use crate::copies::{add_gates, add_lines, add_names, add_submodules, copy_type};
-use crate::faults::is_taken;
+use crate::faults::{is_built_in, is_taken};
 use crate::flat::{class_in, class_of};
 use crate::named::NamedTypes;
 use ned_syntax::ast::{SectionLine, TypeDeclaration, TypeKind};
@@ -54,9 +55,18 @@ fn extends_other(named: &NamedTypes<'_>, kind: TypeKind, base: &Option<Text>) ->
     ensures { result ≡ extends_other named.now kind base.now }
 {
     match base {
-        Some(name) => !is_base(kind, named.find(name.as_bytes())),
+        Some(name) => {
+            !(is_channel_of(kind, name.as_bytes()) || is_base(kind, named.find(name.as_bytes())))
+        }
         None => false,
     }
+}
+
+/// Whether it is a channel that extends a built-in one.
+fn is_channel_of(kind: TypeKind, name: &[u8]) -> bool
+    ensures { result ≡ is_channel_of kind name.now }
+{
+    matches!(kind, TypeKind::Channel) && is_built_in(name)
 }
 
 /// Whether a type of the first kind may extend one of the second.
@@ -132,7 +142,7 @@ fn line_of<'a>(
     Ok(line)
 }
 
-/// Adds the members of a type behind those of the other.
+/// Adds the members of a type behind those of the other, and before them what the built-in channel has that it extends.
 fn add_members(
     alloc: Global,
     flat: &mut TypeDeclaration,
@@ -141,6 +151,7 @@ fn add_members(
     ensures { OnOk result (flat.new ≡ with_members flat.old declared.now) }
 {
     add_names(alloc, &mut flat.interfaces, declared.interfaces.as_slice())?;
+    add_root(alloc, &mut flat.lines, &declared.base)?;
     add_lines(alloc, &mut flat.lines, declared.lines.as_slice())?;
     add_gates(alloc, &mut flat.gates, declared.gates.as_slice())?;
     add_submodules(alloc, &mut flat.submodules, declared.submodules.as_slice())

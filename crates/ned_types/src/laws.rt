@@ -1,7 +1,7 @@
 //! Laws of types.
 
 ghost use Rattle.ned_types.specs.Circles.{CirclesAreFound};
-ghost use Rattle.ned_types.specs.Example.{ExampleBodies, ExampleFaults, ExampleGates, ExampleIsFlat, ExampleNetworks};
+ghost use Rattle.ned_types.specs.Example.{ExampleBodies, ExampleChannels, ExampleFaults, ExampleGates, ExampleIsFlat, ExampleNetworks};
 
 /// The flat types of small examples, their faults, and those of bodies of submodules.
 pub fn examples()
@@ -9,6 +9,7 @@ pub fn examples()
     ensures faults { ExampleFaults }
     ensures bodies { ExampleBodies }
     ensures networks { ExampleNetworks }
+    ensures channels { ExampleChannels }
     ensures gates { ExampleGates }
 {}
 

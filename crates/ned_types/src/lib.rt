@@ -2,6 +2,7 @@
 #![tactic(auto)]
 
 mod bodies;
+mod channels;
 mod copies;
 pub mod faults;
 pub mod flat;

@@ -1,5 +1,6 @@
 //! What types extend, and what is wrong with that.
 
+use crate::channels::is_built_in;
 use crate::names::{shown, tell_near};
 use crate::ned_files::{Declared, ReadFile, Sign, line_of, names_of, place_of, type_named};
 use crate::sources::Sources;
@@ -185,6 +186,11 @@ fn is_of_kind(types: &[Declared<'_>], place: Option<usize>, kind: TypeKind) -> b
     }
 }
 
+/// Whether it is a channel that extends a built-in one.
+fn is_channel_of(it: &Declared<'_>, base: &[u8]) -> bool {
+    it.of.kind == TypeKind::Channel && is_built_in(base)
+}
+
 /// What a type of that kind is called.
 pub fn kind_name(kind: TypeKind) -> &'static str {
     match kind {
@@ -206,7 +212,9 @@ pub fn tell_other_base(
 ) -> Result<bool, NoMemory> {
     for (at, it) in types.iter().enumerate() {
         if let Some(base) = &it.of.base {
-            if !is_of_kind(types, base_at(bases, at), it.of.kind) {
+            let fits = is_channel_of(it, base.as_bytes())
+                || is_of_kind(types, base_at(bases, at), it.of.kind);
+            if !fits {
                 let line = line_of(files, it, Sign::Base, base.as_bytes(), 0);
                 write!(
                     told,

@@ -4,6 +4,7 @@
 #![tactic(auto)]
 
 pub mod bases;
+mod channels;
 mod gates;
 pub mod ini_lines;
 pub mod members;

@@ -1,6 +1,7 @@
 //! What is wrong with the parameters of a type, with those of the types that it extends, and with the bodies of its submodules.
 
 use crate::bases::with_bases;
+use crate::channels::declaring_channel;
 use crate::names::{shown, tell_near};
 use crate::ned_files::{
     Declared, ReadFile, Sign, all_types, line_in_body, line_of, read_files, type_named,
@@ -18,6 +19,8 @@ use std::fmt::Write;
 enum Clash<'a> {
     /// The parameter is declared already.
     Declared(Option<Declared<'a>>),
+    /// A built-in channel declares it.
+    BuiltIn(&'a [u8]),
     /// It is declared nowhere.
     Undeclared,
     /// It has a fixed value already.
@@ -184,12 +187,16 @@ fn fixed_before<'a>(
 /// What is wrong with a line of a type that extends these, the nearest first.
 fn clash_of<'a>(
     bases: &[Declared<'a>],
-    lines: &[SectionLine],
+    it: &Declared<'a>,
     before: &[SectionLine],
     line: &SectionLine,
 ) -> Option<Clash<'a>> {
     let name = name_in(line);
+    let channel = declaring_channel(bases, it, name);
     if is_declaration(line) {
+        if let Some(channel) = channel {
+            return Some(Clash::BuiltIn(channel));
+        }
         let clash = declared_before(bases, before, name);
         if clash.is_some() {
             return clash;
@@ -198,7 +205,10 @@ fn clash_of<'a>(
     if value_in(line).is_none() {
         return None;
     }
-    if declarations_of(lines, name) == 0 && declared_in(bases, name).is_none() {
+    let is_declared = declarations_of(it.of.lines.as_slice(), name) > 0
+        || declared_in(bases, name).is_some()
+        || channel.is_some();
+    if !is_declared {
         return Some(Clash::Undeclared);
     }
     fixed_before(bases, before, name)
@@ -219,6 +229,11 @@ fn tell_words(
             shown(base.of.name.as_bytes()),
             shown(of)
         )?,
+        Clash::BuiltIn(channel) => write!(
+            told,
+            "is declared by '{}' already; leave out the word before it, or choose another name",
+            shown(channel)
+        )?,
         Clash::Undeclared if extends => {
             told.push_str("is given a value, and neither the type nor what it extends declares it")?
         }
@@ -238,18 +253,18 @@ fn tell_words(
 /// Which place in the text of a type shows the clash of a line, and behind how many such.
 fn sign_of(clash: Clash<'_>, before: &[SectionLine], name: &[u8]) -> (Sign, usize) {
     match clash {
-        Clash::Declared(_) => (Sign::Parameter, declarations_of(before, name)),
+        Clash::Declared(_) | Clash::BuiltIn(_) => (Sign::Parameter, declarations_of(before, name)),
         _ => (Sign::Name, mentions_of(before, name)),
     }
 }
 
 /// Adds what is wrong with the parameters of a type that extends these, the nearest first. Answers whether something is.
-pub fn tell_section(
+pub fn tell_section<'a>(
     told: &mut String,
     sources: &Sources<'_>,
     files: &[ReadFile],
-    bases: &[Declared<'_>],
-    it: &Declared<'_>,
+    bases: &[Declared<'a>],
+    it: &Declared<'a>,
 ) -> Result<bool, NoMemory> {
     let lines = it.of.lines.as_slice();
     for (at, line) in lines.iter().enumerate() {
@@ -257,7 +272,7 @@ pub fn tell_section(
             Some(before) => before,
             None => lines,
         };
-        if let Some(clash) = clash_of(bases, lines, before, line) {
+        if let Some(clash) = clash_of(bases, it, before, line) {
             let name = name_in(line);
             let (sign, behind) = sign_of(clash, before, name);
             write!(
@@ -268,7 +283,7 @@ pub fn tell_section(
                 shown(name),
                 shown(it.of.name.as_bytes())
             )?;
-            tell_words(told, clash, !bases.is_empty(), it.of.name.as_bytes())?;
+            tell_words(told, clash, it.of.base.is_some(), it.of.name.as_bytes())?;
             return Ok(true);
         }
     }
@@ -337,7 +352,7 @@ fn tell_body_words(
             let names = declared_names(alloc, along)?;
             tell_near(told, name, names.as_slice())?;
         }
-        Clash::Fixed(_) => tell_words(told, clash, false, type_name)?,
+        Clash::BuiltIn(_) | Clash::Fixed(_) => tell_words(told, clash, false, type_name)?,
     }
     Ok(())
 }

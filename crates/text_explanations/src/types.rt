@@ -3,6 +3,7 @@
 use crate::bases::{
     bases_along, bases_of, tell_circle, tell_other_base, tell_unknown_base, with_bases,
 };
+use crate::channels::is_built_in;
 use crate::gates::{tell_gates, tell_second_submodule};
 use crate::members::{tell_body, tell_section};
 use crate::names::{shown, tell_near};
@@ -14,14 +15,6 @@ use ned_syntax::ast::{Submodule, TypeKind};
 use sim_values::NoMemory;
 use std::alloc::Global;
 use std::fmt::Write;
-
-/// The channels that each network knows.
-const BUILT_IN: [&str; 3] = ["IdealChannel", "DelayChannel", "DatarateChannel"];
-
-/// Whether a built-in channel has that name.
-fn is_built_in(name: &[u8]) -> bool {
-    BUILT_IN.iter().any(|known| known.as_bytes() == name)
-}
 
 /// The type of that name before the one of that place.
 fn earlier<'a>(types: &[Declared<'a>], at: usize, name: &[u8]) -> Option<Declared<'a>> {

@@ -15,3 +15,6 @@ returns-clause-networks c = record { submodules = refl; lines = refl; none = ref
 
 pub returns-clause-gates : goal.returns-clause-gates
 returns-clause-gates c = record { joined = refl; sized = refl; again = refl; twice = refl; other_kind = refl }
+
+pub returns-clause-channels : goal.returns-clause-channels
+returns-clause-channels c = record { ideal = refl; delay = refl; rate = refl; behind = refl; none = refl; fixed = refl; no_rate = refl; no_delay = refl; again = refl; simple = refl; network = refl; unknown = refl; itself = refl }

@@ -1,0 +1,56 @@
+//! The channels that every file knows.
+
+use crate::ned_files::Declared;
+use sim_values::text::Text;
+
+/// Their names.
+const BUILT_IN: [&str; 3] = ["IdealChannel", "DelayChannel", "DatarateChannel"];
+
+/// The parameters of a DatarateChannel; the first two are those of a DelayChannel.
+const PARAMETERS: [&str; 5] = ["delay", "disabled", "datarate", "ber", "per"];
+
+/// Whether a built-in channel has that name.
+pub fn is_built_in(name: &[u8]) -> bool {
+    BUILT_IN.iter().any(|known| known.as_bytes() == name)
+}
+
+/// Whether the built-in channel of that name has the parameter.
+fn has_parameter(channel: &[u8], name: &[u8]) -> bool {
+    let known = if channel == b"DatarateChannel".as_slice() {
+        5
+    } else if channel == b"DelayChannel".as_slice() {
+        2
+    } else {
+        0
+    };
+    PARAMETERS
+        .iter()
+        .take(known)
+        .any(|parameter| parameter.as_bytes() == name)
+}
+
+/// What a type extends, where it is a built-in channel.
+fn built_in_base(base: &Option<Text>) -> Option<&[u8]> {
+    match base {
+        Some(name) if is_built_in(name.as_bytes()) => Some(name.as_bytes()),
+        _ => None,
+    }
+}
+
+/// The built-in channel that declares the parameter for a type that extends these, the nearest first, where there is one.
+pub fn declaring_channel<'a>(
+    bases: &[Declared<'a>],
+    it: &Declared<'a>,
+    name: &[u8],
+) -> Option<&'a [u8]> {
+    let root = match bases.last() {
+        Some(base) => base.of,
+        None => it.of,
+    };
+    let channel = built_in_base(&root.base)?;
+    if has_parameter(channel, name) {
+        Some(channel)
+    } else {
+        None
+    }
+}
