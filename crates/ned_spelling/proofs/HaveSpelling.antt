@@ -29,7 +29,7 @@ use Rattle.ned_syntax.specs.declared.ast.TypeKind.{TypeKind}
 use Rattle.ned_syntax.specs.declared.ast.TypeKind.TheVariants as kinds
 use Rattle.ned_syntax.specs.declared.ast.TypeDeclaration.{TypeDeclaration}
 use Rattle.ned_syntax.specs.declared.ast.NedFile.{NedFile}
-use Rattle.ned_spelling.specs.Declarations.{listed_tokens, given_tokens, valued_tokens, unit_tokens, declaration_tokens, mode_name, question_tokens, mode_tokens, next_mode_tokens, record_tokens, statistic_tokens, line_tokens, section_line_tokens, section_tokens, body_tokens, submodule_tokens, submodules_tokens, base_tokens, next_name_tokens, names_tokens, head_tokens, interface_tokens, bracket_tokens, size_tokens, refined_size_tokens, loose_tokens, gate_tokens, gate_line_tokens, gates_tokens, kind_tokens, type_tokens, file_tokens}
+use Rattle.ned_spelling.specs.Declarations.{listed_tokens, given_tokens, valued_tokens, unit_tokens, declaration_tokens, mode_name, question_tokens, mode_tokens, next_mode_tokens, record_tokens, statistic_tokens, line_tokens, section_line_tokens, section_tokens, body_tokens, submodule_tokens, submodules_tokens, base_tokens, next_name_tokens, names_tokens, head_tokens, in_braces, interface_tokens, bracket_tokens, size_tokens, refined_size_tokens, loose_tokens, gate_tokens, gate_line_tokens, gates_tokens, kind_tokens, type_tokens, file_tokens}
 use Rattle.ned_spelling.proofs.Spellable.{Each, IfThere, CanBeExpression, CanBeGiven, CanBeDeclaration, CanBeStatistic, CanBeLine, CanBeBodyLine, CanBeSubmodule, CanBeSize, CanBeGate, CanBeInterface, CanBeParts, CanBeType, CanBeFile}
 
 -- two lists in a row
@@ -209,12 +209,12 @@ have_head : (d : TypeDeclaration) → IsName d.name → IfThere IsName d.base �
 have_head d h base names = (h, have-append (base_tokens d.base) (names_tokens k.Like d.interfaces) (have_base d.base base) (have_names k.Like d.interfaces names))
 
 -- what stands in braces
-have_block : (ts : List Token) → HaveSpelling ts → HaveSpelling (token.Mark m.Open ∷ (ts ++ token.Mark m.Close ∷ []))
+have_block : (ts : List Token) → HaveSpelling ts → HaveSpelling (in_braces ts)
 have_block ts h = (tt, have-append ts (token.Mark m.Close ∷ []) h (tt, tt))
 
 -- a head, and what stands in braces behind it
-have_parts : (d : TypeDeclaration) (ts : List Token) → HaveSpelling (head_tokens d) → HaveSpelling ts → HaveSpelling (head_tokens d ++ token.Mark m.Open ∷ (ts ++ token.Mark m.Close ∷ []))
-have_parts d ts h k = have-append (head_tokens d) (token.Mark m.Open ∷ (ts ++ token.Mark m.Close ∷ [])) h (have_block ts k)
+have_parts : (d : TypeDeclaration) (ts : List Token) → HaveSpelling (head_tokens d) → HaveSpelling ts → HaveSpelling (head_tokens d ++ in_braces ts)
+have_parts d ts h k = have-append (head_tokens d) (in_braces ts) h (have_block ts k)
 
 -- parameters and gates
 have_gated : (d : TypeDeclaration) → Each CanBeLine d.lines → Each CanBeGate d.gates → HaveSpelling (section_tokens d.lines ++ gates_tokens d.gates)
@@ -222,7 +222,9 @@ have_gated d h k = have-append (section_tokens d.lines) (gates_tokens d.gates) (
 
 -- an interface
 have_interface : (w : Keyword) (d : TypeDeclaration) → IsName d.name → CanBeInterface d → HaveSpelling (interface_tokens w d)
-have_interface w d h parts = (tt, (h, have-append (names_tokens k.Extends d.interfaces) (token.Mark m.Open ∷ ((section_tokens d.lines ++ gates_tokens d.gates) ++ token.Mark m.Close ∷ [])) (have_names k.Extends d.interfaces parts.0) (have_block (section_tokens d.lines ++ gates_tokens d.gates) (have_gated d parts.1 parts.2))))
+have_interface w d h parts =
+    let inside = have_block (section_tokens d.lines ++ gates_tokens d.gates) (have_gated d parts.1 parts.2) in
+    (tt, (h, have-append (names_tokens k.Extends d.interfaces) (in_braces (section_tokens d.lines ++ gates_tokens d.gates)) (have_names k.Extends d.interfaces parts.0) inside))
 
 -- a type of each kind
 have_kind : (kind : TypeKind) (d : TypeDeclaration) → IsName d.name → CanBeParts kind d → HaveSpelling (kind_tokens kind d)

@@ -46,7 +46,7 @@ use Rattle.ned_syntax.specs.declared.parameters.Valued.{Valued}
 use Rattle.ned_tokens.specs.Words.{or_else}
 use Rattle.ned_tokens.specs.Balanced.{balanced}
 use Rattle.ned_syntax.specs.Grammar.{turn_of, effect_of, said_in, statistic_line, other_part, first_unit, unit_behind, value_in, unit_in, is_measured_word, valued, tail, parameter_word, volatile, any_declaration, declaration, assignment, source_word, source_value, source_tail, source_part, record_word, record_value, record_tail, record_part, no_value, record_or_other, any_part, part, next_part, statistic_body, optional_body, indexed_statistic, unnamed_statistic, named_or_not, statistic_tail, statistic_word, statistic, plain_name, plain_line, property_text, property_line, assigned_or_said, any_line, section_line, heading, section, dotted, direction, open_size, size_value, size_tail, vector_size, gate_size, size_in_brackets, refined_size, declared_gate, refined_gate, any_gate, gate_line, gate_section, gates, says_loose, base_name, optional_base, next_dotted, dotted_list, names_behind, optional_names, head, gated_block, simple, ignored_property, assigned_or_ignored, any_body_line, body_line, body_section, optional_semi, braced_body, no_body, submodule_body, submodule, submodules, network_block, network, module_type, section_block, channel, interface_kind, interface, channel_or_interface, type_rule, silent_entry, entry, types_in, file, word, mark, name, is_word, is_mark, expression, default_value, value_rule, in_parens, property_name, bracketed, index, body, property, mode_word, question, mode_rule, next_mode, modes}
-use Rattle.ned_spelling.specs.Declarations.{listed_tokens, given_tokens, valued_tokens, unit_tokens, parameter_keyword, declaration_tokens, assignment_tokens, mode_name, question_tokens, mode_tokens, next_mode_tokens, record_tokens, statistic_tokens, line_tokens, section_line_tokens, section_tokens, body_tokens, submodule_tokens, submodules_tokens, base_tokens, next_name_tokens, names_tokens, interface_tokens, direction_keyword, size_tokens, refined_size_tokens, loose_tokens, gate_tokens, gate_line_tokens, gates_tokens, kind_tokens, type_tokens, file_tokens}
+use Rattle.ned_spelling.specs.Declarations.{listed_tokens, given_tokens, valued_tokens, unit_tokens, parameter_keyword, declaration_tokens, assignment_tokens, mode_name, question_tokens, mode_tokens, next_mode_tokens, record_tokens, statistic_tokens, line_tokens, section_line_tokens, section_tokens, body_tokens, submodule_tokens, submodules_tokens, base_tokens, next_name_tokens, names_tokens, in_braces, interface_tokens, direction_keyword, size_tokens, refined_size_tokens, loose_tokens, gate_tokens, gate_line_tokens, gates_tokens, kind_tokens, type_tokens, file_tokens}
 use Rattle.ned_spelling.proofs.Spellable.{Each, IfThere, CanBeExpression, CanBeGiven, CanBeUnit, CanBeDeclaration, CanBeAssignment, CanBeLine, CanBeBodyLine, CanBeSubmodule, CanBeSize, CanBeGate, CanBeInterface, CanBeParts, CanBeType, CanBeFile}
 
 -- these tokens spell this value by the rule
@@ -558,17 +558,17 @@ the_gates (g ∷ gs) h = mapped (some (before (a_word k.Gates) (before (a_mark m
 -- ---- types of each kind
 
 -- parameters and gates in braces
-a_gated_block : (ls : List SectionLine) (gs : List GateLine) → Each CanBeLine ls → Each CanBeGate gs → Spells gated_block (token.Mark m.Open ∷ ((section_tokens ls ++ gates_tokens gs) ++ token.Mark m.Close ∷ [])) (ls, gs)
+a_gated_block : (ls : List SectionLine) (gs : List GateLine) → Each CanBeLine ls → Each CanBeGate gs → Spells gated_block (in_braces (section_tokens ls ++ gates_tokens gs)) (ls, gs)
 unfolding gated_block
 a_gated_block ls gs h k = before (a_mark m.Open) (after (then (a_section ls h) (the_gates gs k)) (a_mark m.Close))
 
 -- parameters, gates and submodules in braces
-a_network_block : (ls : List SectionLine) (gs : List GateLine) (ss : List Submodule) → Each CanBeLine ls → Each CanBeGate gs → Each CanBeSubmodule ss → Spells network_block (token.Mark m.Open ∷ ((section_tokens ls ++ (gates_tokens gs ++ submodules_tokens ss)) ++ token.Mark m.Close ∷ [])) (ls, (gs, ss))
+a_network_block : (ls : List SectionLine) (gs : List GateLine) (ss : List Submodule) → Each CanBeLine ls → Each CanBeGate gs → Each CanBeSubmodule ss → Spells network_block (in_braces (section_tokens ls ++ (gates_tokens gs ++ submodules_tokens ss))) (ls, (gs, ss))
 unfolding network_block
 a_network_block ls gs ss h k l = before (a_mark m.Open) (after (then (a_section ls h) (then (the_gates gs k) (the_submodules ss l))) (a_mark m.Close))
 
 -- parameters in braces
-a_section_block : (ls : List SectionLine) → Each CanBeLine ls → Spells section_block (token.Mark m.Open ∷ (section_tokens ls ++ token.Mark m.Close ∷ [])) ls
+a_section_block : (ls : List SectionLine) → Each CanBeLine ls → Spells section_block (in_braces (section_tokens ls)) ls
 unfolding section_block
 a_section_block ls h = before (a_mark m.Open) (after (a_section ls h) (a_mark m.Close))
 

@@ -201,15 +201,19 @@ abbrev pub gates_tokens : List GateLine → List Token
 gates_tokens [] = []
 gates_tokens (g ∷ gs) = token.Word k.Gates ∷ token.Mark m.Colon ∷ listed_tokens gate_line_tokens (g ∷ gs)
 
+-- `{ .. }`
+abbrev pub in_braces : List Token → List Token
+in_braces ts = token.Mark m.Open ∷ (ts ++ token.Mark m.Close ∷ [])
+
 -- An interface has parameters and gates, and says behind `extends` which interfaces it keeps.
 abbrev pub interface_tokens : Keyword → TypeDeclaration → List Token
-interface_tokens w d = token.Word w ∷ token.Name d.name ∷ (names_tokens k.Extends d.interfaces ++ token.Mark m.Open ∷ ((section_tokens d.lines ++ gates_tokens d.gates) ++ token.Mark m.Close ∷ []))
+interface_tokens w d = token.Word w ∷ token.Name d.name ∷ (names_tokens k.Extends d.interfaces ++ in_braces (section_tokens d.lines ++ gates_tokens d.gates))
 
 -- A simple module has parameters and gates, a network submodules too, a channel parameters alone.
 abbrev pub kind_tokens : TypeKind → TypeDeclaration → List Token
-kind_tokens kinds.Simple d = token.Word k.Simple ∷ (head_tokens d ++ token.Mark m.Open ∷ ((section_tokens d.lines ++ gates_tokens d.gates) ++ token.Mark m.Close ∷ []))
-kind_tokens kinds.Network d = token.Word k.Network ∷ (head_tokens d ++ token.Mark m.Open ∷ ((section_tokens d.lines ++ (gates_tokens d.gates ++ submodules_tokens d.submodules)) ++ token.Mark m.Close ∷ []))
-kind_tokens kinds.Channel d = token.Word k.Channel ∷ (head_tokens d ++ token.Mark m.Open ∷ (section_tokens d.lines ++ token.Mark m.Close ∷ []))
+kind_tokens kinds.Simple d = token.Word k.Simple ∷ (head_tokens d ++ in_braces (section_tokens d.lines ++ gates_tokens d.gates))
+kind_tokens kinds.Network d = token.Word k.Network ∷ (head_tokens d ++ in_braces (section_tokens d.lines ++ (gates_tokens d.gates ++ submodules_tokens d.submodules)))
+kind_tokens kinds.Channel d = token.Word k.Channel ∷ (head_tokens d ++ in_braces (section_tokens d.lines))
 kind_tokens kinds.ModuleInterface d = interface_tokens k.ModuleInterface d
 kind_tokens kinds.ChannelInterface d = interface_tokens k.ChannelInterface d
 

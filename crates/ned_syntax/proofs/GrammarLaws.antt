@@ -26,7 +26,7 @@ use Rattle.ned_tokens.proofs.Many.{many-lawful}
 use Rattle.ned_tokens.proofs.BalancedLaws.{balanced-lawful}
 
 text_ends : (t : Token) → (mark m.RightParen).starts t ≡ true → (balanced turn_of).goes_on t ≡ false
-unfolding word mark name in_parens expression default_value value_rule property_name bracketed index body property mode_word question mode_rule next_mode modes group loose_token piece pieces loose_text no_value source_value record_value source_tail record_tail source_word record_word source_part record_part other_part record_or_other any_part part next_part statistic_body optional_body indexed_statistic unnamed_statistic named_or_not statistic_tail statistic_word statistic plain_name plain_line property_text property_line valued tail parameter_word volatile any_declaration declaration assignment assigned_or_said any_line section_line heading section base_name optional_base simple submodule submodules network type_rule file
+unfolding mark
 text_ends (token.Mark m.RightParen) e = refl
 text_ends (token.Mark _) e = absurd (false≢true e)
 text_ends _ e = absurd (false≢true e)
@@ -48,7 +48,7 @@ unfolding default_value word mark expression
 default_value-lawful = before (word-lawful k.Default) (before (mark-lawful m.LeftParen) (after (mapped expression-lawful) (mark-lawful m.RightParen) paren_ends) (λ t e. refl)) (λ t e. refl)
 
 default_apart : (t : Token) → (made given.Fixed expression).starts t ≡ true → default_value.starts t ≡ false
-unfolding word mark name in_parens expression default_value value_rule property_name bracketed index body property mode_word question mode_rule next_mode modes group loose_token piece pieces loose_text no_value source_value record_value source_tail record_tail source_word record_word source_part record_part other_part record_or_other any_part part next_part statistic_body optional_body indexed_statistic unnamed_statistic named_or_not statistic_tail statistic_word statistic plain_name plain_line property_text property_line valued tail parameter_word volatile any_declaration declaration assignment assigned_or_said any_line section_line heading section base_name optional_base simple submodule submodules network type_rule file
+unfolding default_value expression word
 default_apart (token.Word k.True) e = refl
 default_apart (token.Word k.False) e = refl
 default_apart (token.Word k.This) e = refl
@@ -83,7 +83,7 @@ unfolding body in_parens mark
 body-lawful = optional-lawful in_parens in_parens-lawful refl
 
 index_apart : (t : Token) → (body).starts t ≡ true → (index).goes_on t ≡ false
-unfolding word mark name in_parens expression default_value value_rule property_name bracketed index body property mode_word question mode_rule next_mode modes group loose_token piece pieces loose_text no_value source_value record_value source_tail record_tail source_word record_word source_part record_part other_part record_or_other any_part part next_part statistic_body optional_body indexed_statistic unnamed_statistic named_or_not statistic_tail statistic_word statistic plain_name plain_line property_text property_line valued tail parameter_word volatile any_declaration declaration assignment assigned_or_said any_line section_line heading section base_name optional_base simple submodule submodules network type_rule file
+unfolding index bracketed body in_parens mark name
 index_apart (token.Mark m.LeftParen) e = refl
 index_apart (token.Mark _) e = absurd (false≢true e)
 index_apart _ e = absurd (false≢true e)
@@ -93,7 +93,7 @@ unfolding property property_name mark
 property-lawful = before (mark-lawful m.At) (mapped (then property_name-lawful (then index-lawful body-lawful index_apart) (λ t e. refl))) (λ t e. refl)
 
 pub property-full : property.empty ≡ false
-unfolding word mark name in_parens expression default_value value_rule property_name bracketed index body property mode_word question mode_rule next_mode modes group loose_token piece pieces loose_text no_value source_value record_value source_tail record_tail source_word record_word source_part record_part other_part record_or_other any_part part next_part statistic_body optional_body indexed_statistic unnamed_statistic named_or_not statistic_tail statistic_word statistic plain_name plain_line property_text property_line valued tail parameter_word volatile any_declaration declaration assignment assigned_or_said any_line section_line heading section base_name optional_base simple submodule submodules network type_rule file
+unfolding property mark
 property-full = refl
 
 -- ---- statistics
@@ -115,17 +115,17 @@ unfolding next_mode mark
 next_mode-lawful = before (mark-lawful m.Comma) mode-lawful (λ t e. refl)
 
 pub next_mode-full : next_mode.empty ≡ false
-unfolding word mark name in_parens expression default_value value_rule property_name bracketed index body property mode_word question mode_rule next_mode modes group loose_token piece pieces loose_text no_value source_value record_value source_tail record_tail source_word record_word source_part record_part other_part record_or_other any_part part next_part statistic_body optional_body indexed_statistic unnamed_statistic named_or_not statistic_tail statistic_word statistic plain_name plain_line property_text property_line valued tail parameter_word volatile any_declaration declaration assignment assigned_or_said any_line section_line heading section base_name optional_base simple submodule submodules network type_rule file
+unfolding next_mode mark
 next_mode-full = refl
 
 next_modes_apart : (t : Token) → (next_mode).starts t ≡ true → (next_mode).goes_on t ≡ false
-unfolding word mark name in_parens expression default_value value_rule property_name bracketed index body property mode_word question mode_rule next_mode modes group loose_token piece pieces loose_text no_value source_value record_value source_tail record_tail source_word record_word source_part record_part other_part record_or_other any_part part next_part statistic_body optional_body indexed_statistic unnamed_statistic named_or_not statistic_tail statistic_word statistic plain_name plain_line property_text property_line valued tail parameter_word volatile any_declaration declaration assignment assigned_or_said any_line section_line heading section base_name optional_base simple submodule submodules network type_rule file
+unfolding next_mode mode_rule mode_word question mark
 next_modes_apart (token.Mark m.Comma) e = refl
 next_modes_apart (token.Mark _) e = absurd (false≢true e)
 next_modes_apart _ e = absurd (false≢true e)
 
 modes_apart : (t : Token) → (many next_mode).starts t ≡ true → (mode_rule).goes_on t ≡ false
-unfolding word mark name in_parens expression default_value value_rule property_name bracketed index body property mode_word question mode_rule next_mode modes group loose_token piece pieces loose_text no_value source_value record_value source_tail record_tail source_word record_word source_part record_part other_part record_or_other any_part part next_part statistic_body optional_body indexed_statistic unnamed_statistic named_or_not statistic_tail statistic_word statistic plain_name plain_line property_text property_line valued tail parameter_word volatile any_declaration declaration assignment assigned_or_said any_line section_line heading section base_name optional_base simple submodule submodules network type_rule file
+unfolding next_mode mode_rule mode_word question mark
 modes_apart (token.Mark m.Comma) e = refl
 modes_apart (token.Mark _) e = absurd (false≢true e)
 modes_apart _ e = absurd (false≢true e)
@@ -143,7 +143,7 @@ unfolding loose_token
 loose_token-lawful x = token-lawful (loose_of x)
 
 group_apart : (x : Except) (t : Token) → (loose_token x).starts t ≡ true → group.starts t ≡ false
-unfolding word mark name in_parens expression default_value value_rule property_name bracketed index body property mode_word question mode_rule next_mode modes group loose_token piece pieces loose_text no_value source_value record_value source_tail record_tail source_word record_word source_part record_part other_part record_or_other any_part part next_part statistic_body optional_body indexed_statistic unnamed_statistic named_or_not statistic_tail statistic_word statistic plain_name plain_line property_text property_line valued tail parameter_word volatile any_declaration declaration assignment assigned_or_said any_line section_line heading section base_name optional_base simple submodule submodules network type_rule file
+unfolding group in_parens loose_token mark
 group_apart x (token.Mark m.LeftParen) e = absurd (false≢true e)
 group_apart x (token.Mark _) e = refl
 group_apart x _ e = refl
@@ -153,7 +153,7 @@ unfolding piece group loose_token in_parens mark
 piece-lawful x = either-lawful group (loose_token x) group-lawful (loose_token-lawful x) refl refl (group_apart x)
 
 pub piece-full : (x : Except) → (piece x).empty ≡ false
-unfolding word mark name in_parens expression default_value value_rule property_name bracketed index body property mode_word question mode_rule next_mode modes group loose_token piece pieces loose_text no_value source_value record_value source_tail record_tail source_word record_word source_part record_part other_part record_or_other any_part part next_part statistic_body optional_body indexed_statistic unnamed_statistic named_or_not statistic_tail statistic_word statistic plain_name plain_line property_text property_line valued tail parameter_word volatile any_declaration declaration assignment assigned_or_said any_line section_line heading section base_name optional_base simple submodule submodules network type_rule file
+unfolding piece loose_token
 piece-full x = refl
 
 pub pieces-lawful : Lawful pieces
@@ -177,7 +177,7 @@ unfolding record_value mark
 record_value-lawful = mapped (before (mark-lawful m.Equals) modes-lawful (λ t e. refl))
 
 source_value_apart : (t : Token) → no_value.starts t ≡ true → source_value.starts t ≡ false
-unfolding word mark name in_parens expression default_value value_rule property_name bracketed index body property mode_word question mode_rule next_mode modes group loose_token piece pieces loose_text no_value source_value record_value source_tail record_tail source_word record_word source_part record_part other_part record_or_other any_part part next_part statistic_body optional_body indexed_statistic unnamed_statistic named_or_not statistic_tail statistic_word statistic plain_name plain_line property_text property_line valued tail parameter_word volatile any_declaration declaration assignment assigned_or_said any_line section_line heading section base_name optional_base simple submodule submodules network type_rule file
+unfolding no_value loose_text piece group loose_token in_parens source_value mark
 source_value_apart (token.Mark m.Equals) e = absurd (false≢true e)
 source_value_apart (token.Mark _) e = refl
 source_value_apart _ e = refl
@@ -191,7 +191,7 @@ unfolding source_part source_word source_tail source_value no_value loose_text p
 source_part-lawful = mapped (before (token-lawful source_of) (optional-lawful source_tail source_tail-lawful refl) (λ t e. refl))
 
 record_value_apart : (t : Token) → no_value.starts t ≡ true → record_value.starts t ≡ false
-unfolding word mark name in_parens expression default_value value_rule property_name bracketed index body property mode_word question mode_rule next_mode modes group loose_token piece pieces loose_text no_value source_value record_value source_tail record_tail source_word record_word source_part record_part other_part record_or_other any_part part next_part statistic_body optional_body indexed_statistic unnamed_statistic named_or_not statistic_tail statistic_word statistic plain_name plain_line property_text property_line valued tail parameter_word volatile any_declaration declaration assignment assigned_or_said any_line section_line heading section base_name optional_base simple submodule submodules network type_rule file
+unfolding no_value loose_text piece group loose_token in_parens record_value mark
 record_value_apart (token.Mark m.Equals) e = absurd (false≢true e)
 record_value_apart (token.Mark _) e = refl
 record_value_apart _ e = refl
@@ -215,7 +215,7 @@ record_name false true e = absurd (false≢true e)
 record_name false false e = refl
 
 record_apart : (t : Token) → other_part.starts t ≡ true → record_part.starts t ≡ false
-unfolding word mark name in_parens expression default_value value_rule property_name bracketed index body property mode_word question mode_rule next_mode modes group loose_token piece pieces loose_text no_value source_value record_value source_tail record_tail source_word record_word source_part record_part other_part record_or_other any_part part next_part statistic_body optional_body indexed_statistic unnamed_statistic named_or_not statistic_tail statistic_word statistic plain_name plain_line property_text property_line valued tail parameter_word volatile any_declaration declaration assignment assigned_or_said any_line section_line heading section base_name optional_base simple submodule submodules network type_rule file
+unfolding other_part loose_text piece group in_parens loose_token record_part record_word mark
 record_apart (token.Name text) e = record_name (is_source text) (is_record text) e
 record_apart _ e = refl
 
@@ -233,7 +233,7 @@ source_name true false h e = absurd (false≢true e)
 source_name false q h e = refl
 
 source_apart : (t : Token) → record_or_other.starts t ≡ true → source_part.starts t ≡ false
-unfolding word mark name in_parens expression default_value value_rule property_name bracketed index body property mode_word question mode_rule next_mode modes group loose_token piece pieces loose_text no_value source_value record_value source_tail record_tail source_word record_word source_part record_part other_part record_or_other any_part part next_part statistic_body optional_body indexed_statistic unnamed_statistic named_or_not statistic_tail statistic_word statistic plain_name plain_line property_text property_line valued tail parameter_word volatile any_declaration declaration assignment assigned_or_said any_line section_line heading section base_name optional_base simple submodule submodules network type_rule file
+unfolding record_or_other other_part loose_text piece group in_parens loose_token record_part record_word source_part source_word mark
 source_apart (token.Name text) e = source_name (is_source text) (is_record text) (record_no_source text) e
 source_apart _ e = refl
 
@@ -250,23 +250,23 @@ unfolding next_part mark
 next_part-lawful = before (mark-lawful m.Semi) part-lawful (λ t e. refl)
 
 pub next_part-full : next_part.empty ≡ false
-unfolding word mark name in_parens expression default_value value_rule property_name bracketed index body property mode_word question mode_rule next_mode modes group loose_token piece pieces loose_text no_value source_value record_value source_tail record_tail source_word record_word source_part record_part other_part record_or_other any_part part next_part statistic_body optional_body indexed_statistic unnamed_statistic named_or_not statistic_tail statistic_word statistic plain_name plain_line property_text property_line valued tail parameter_word volatile any_declaration declaration assignment assigned_or_said any_line section_line heading section base_name optional_base simple submodule submodules network type_rule file
+unfolding next_part mark
 next_part-full = refl
 
 next_parts_apart : (t : Token) → (next_part).starts t ≡ true → (next_part).goes_on t ≡ false
-unfolding word mark name in_parens expression default_value value_rule property_name bracketed index body property mode_word question mode_rule next_mode modes group loose_token piece pieces loose_text no_value source_value record_value source_tail record_tail source_word record_word source_part record_part other_part record_or_other any_part part next_part statistic_body optional_body indexed_statistic unnamed_statistic named_or_not statistic_tail statistic_word statistic plain_name plain_line property_text property_line valued tail parameter_word volatile any_declaration declaration assignment assigned_or_said any_line section_line heading section base_name optional_base simple submodule submodules network type_rule file
+unfolding next_part part any_part source_part source_word source_tail source_value no_value record_or_other record_part record_word record_tail record_value modes next_mode mode_rule mode_word question other_part loose_text pieces piece group in_parens loose_token mark name
 next_parts_apart (token.Mark m.Semi) e = refl
 next_parts_apart (token.Mark _) e = absurd (false≢true e)
 next_parts_apart _ e = absurd (false≢true e)
 
 parts_apart : (t : Token) → (many next_part).starts t ≡ true → (part).goes_on t ≡ false
-unfolding word mark name in_parens expression default_value value_rule property_name bracketed index body property mode_word question mode_rule next_mode modes group loose_token piece pieces loose_text no_value source_value record_value source_tail record_tail source_word record_word source_part record_part other_part record_or_other any_part part next_part statistic_body optional_body indexed_statistic unnamed_statistic named_or_not statistic_tail statistic_word statistic plain_name plain_line property_text property_line valued tail parameter_word volatile any_declaration declaration assignment assigned_or_said any_line section_line heading section base_name optional_base simple submodule submodules network type_rule file
+unfolding next_part part any_part source_part source_word source_tail source_value no_value record_or_other record_part record_word record_tail record_value modes next_mode mode_rule mode_word question other_part loose_text pieces piece group in_parens loose_token mark name
 parts_apart (token.Mark m.Semi) e = refl
 parts_apart (token.Mark _) e = absurd (false≢true e)
 parts_apart _ e = absurd (false≢true e)
 
 body_ends : (t : Token) → (mark m.RightParen).starts t ≡ true → (part ⊗ many next_part).goes_on t ≡ false
-unfolding word mark name in_parens expression default_value value_rule property_name bracketed index body property mode_word question mode_rule next_mode modes group loose_token piece pieces loose_text no_value source_value record_value source_tail record_tail source_word record_word source_part record_part other_part record_or_other any_part part next_part statistic_body optional_body indexed_statistic unnamed_statistic named_or_not statistic_tail statistic_word statistic plain_name plain_line property_text property_line valued tail parameter_word volatile any_declaration declaration assignment assigned_or_said any_line section_line heading section base_name optional_base simple submodule submodules network type_rule file
+unfolding next_part part any_part source_part source_word source_tail source_value no_value record_or_other record_part record_word record_tail record_value modes next_mode mode_rule mode_word question other_part loose_text pieces piece group in_parens loose_token mark name
 body_ends (token.Mark m.RightParen) e = refl
 body_ends (token.Mark _) e = absurd (false≢true e)
 body_ends _ e = absurd (false≢true e)
@@ -288,7 +288,7 @@ unfolding unnamed_statistic
 unnamed_statistic-lawful = mapped in_parens-lawful
 
 named_apart : (t : Token) → unnamed_statistic.starts t ≡ true → indexed_statistic.starts t ≡ false
-unfolding word mark name in_parens expression default_value value_rule property_name bracketed index body property mode_word question mode_rule next_mode modes group loose_token piece pieces loose_text no_value source_value record_value source_tail record_tail source_word record_word source_part record_part other_part record_or_other any_part part next_part statistic_body optional_body indexed_statistic unnamed_statistic named_or_not statistic_tail statistic_word statistic plain_name plain_line property_text property_line valued tail parameter_word volatile any_declaration declaration assignment assigned_or_said any_line section_line heading section base_name optional_base simple submodule submodules network type_rule file
+unfolding unnamed_statistic indexed_statistic in_parens bracketed mark
 named_apart (token.Mark m.LeftParen) e = refl
 named_apart (token.Mark _) e = absurd (false≢true e)
 named_apart _ e = absurd (false≢true e)
@@ -320,7 +320,7 @@ statistic_name true property e = absurd (false≢true e)
 statistic_name false property e = refl
 
 statistic_apart : (t : Token) → plain_line.starts t ≡ true → statistic.starts t ≡ false
-unfolding word mark name in_parens expression default_value value_rule property_name bracketed index body property mode_word question mode_rule next_mode modes group loose_token piece pieces loose_text no_value source_value record_value source_tail record_tail source_word record_word source_part record_part other_part record_or_other any_part part next_part statistic_body optional_body indexed_statistic unnamed_statistic named_or_not statistic_tail statistic_word statistic plain_name plain_line property_text property_line valued tail parameter_word volatile any_declaration declaration assignment assigned_or_said any_line section_line heading section base_name optional_base simple submodule submodules network type_rule file
+unfolding plain_line plain_name statistic statistic_word
 statistic_apart (token.Name text) e = statistic_name (is_statistic text) (cond (bytes_eq text (codes "unit")) names.Unit (cond (bytes_eq text (codes "class")) names.Class (cond (is_loose_property text) names.Loose names.Other))) e
 statistic_apart _ e = refl
 
@@ -333,7 +333,7 @@ unfolding property_line mark
 property_line-lawful = before (mark-lawful m.At) property_text-lawful (λ t e. refl)
 
 properties_apart : (t : Token) → (property).starts t ≡ true → (property).goes_on t ≡ false
-unfolding word mark name in_parens expression default_value value_rule property_name bracketed index body property mode_word question mode_rule next_mode modes group loose_token piece pieces loose_text no_value source_value record_value source_tail record_tail source_word record_word source_part record_part other_part record_or_other any_part part next_part statistic_body optional_body indexed_statistic unnamed_statistic named_or_not statistic_tail statistic_word statistic plain_name plain_line property_text property_line valued tail parameter_word volatile any_declaration declaration assignment assigned_or_said any_line section_line heading section base_name optional_base simple submodule submodules network type_rule file
+unfolding property property_name index bracketed body in_parens mark name
 properties_apart (token.Mark m.At) e = refl
 properties_apart (token.Mark _) e = absurd (false≢true e)
 properties_apart _ e = absurd (false≢true e)
@@ -343,7 +343,7 @@ unfolding property
 properties-lawful = many-lawful property property-lawful property-full properties_apart
 
 value_apart : (t : Token) → (many property).starts t ≡ true → (mark m.Equals ▷ value_rule).goes_on t ≡ false
-unfolding word mark name in_parens expression default_value value_rule property_name bracketed index body property mode_word question mode_rule next_mode modes group loose_token piece pieces loose_text no_value source_value record_value source_tail record_tail source_word record_word source_part record_part other_part record_or_other any_part part next_part statistic_body optional_body indexed_statistic unnamed_statistic named_or_not statistic_tail statistic_word statistic plain_name plain_line property_text property_line valued tail parameter_word volatile any_declaration declaration assignment assigned_or_said any_line section_line heading section base_name optional_base simple submodule submodules network type_rule file
+unfolding property value_rule default_value expression word mark
 value_apart (token.Mark m.At) e = refl
 value_apart (token.Mark _) e = absurd (false≢true e)
 value_apart _ e = absurd (false≢true e)
@@ -353,7 +353,7 @@ unfolding valued mark
 valued-lawful = mapped (then (before (mark-lawful m.Equals) value-lawful (λ t e. refl)) properties-lawful value_apart)
 
 tail_apart : (t : Token) → (optional valued).starts t ≡ true → (many property).goes_on t ≡ false
-unfolding word mark name in_parens expression default_value value_rule property_name bracketed index body property mode_word question mode_rule next_mode modes group loose_token piece pieces loose_text no_value source_value record_value source_tail record_tail source_word record_word source_part record_part other_part record_or_other any_part part next_part statistic_body optional_body indexed_statistic unnamed_statistic named_or_not statistic_tail statistic_word statistic plain_name plain_line property_text property_line valued tail parameter_word volatile any_declaration declaration assignment assigned_or_said any_line section_line heading section base_name optional_base simple submodule submodules network type_rule file
+unfolding valued property property_name index bracketed body in_parens mark name
 tail_apart (token.Mark m.Equals) e = refl
 tail_apart (token.Mark _) e = absurd (false≢true e)
 tail_apart _ e = absurd (false≢true e)
@@ -371,7 +371,7 @@ unfolding volatile word
 volatile-lawful = mapped (optional-lawful (word k.Volatile) (word-lawful k.Volatile) refl)
 
 volatile_apart : (t : Token) → (parameter_word ⊗ (name ⊗ tail)).starts t ≡ true → (volatile).goes_on t ≡ false
-unfolding word mark name in_parens expression default_value value_rule property_name bracketed index body property mode_word question mode_rule next_mode modes group loose_token piece pieces loose_text no_value source_value record_value source_tail record_tail source_word record_word source_part record_part other_part record_or_other any_part part next_part statistic_body optional_body indexed_statistic unnamed_statistic named_or_not statistic_tail statistic_word statistic plain_name plain_line property_text property_line valued tail parameter_word volatile any_declaration declaration assignment assigned_or_said any_line section_line heading section base_name optional_base simple submodule submodules network type_rule file
+unfolding parameter_word volatile word
 volatile_apart (token.Word k.Volatile) e = absurd (false≢true e)
 volatile_apart (token.Word _) e = refl
 volatile_apart _ e = absurd (false≢true e)
@@ -389,7 +389,7 @@ unfolding assignment name
 assignment-lawful = mapped (then name-lawful tail-lawful (λ t e. refl))
 
 assignment_apart : (t : Token) → property_line.starts t ≡ true → (made lines.Assignment assignment).starts t ≡ false
-unfolding word mark name in_parens expression default_value value_rule property_name bracketed index body property mode_word question mode_rule next_mode modes group loose_token piece pieces loose_text no_value source_value record_value source_tail record_tail source_word record_word source_part record_part other_part record_or_other any_part part next_part statistic_body optional_body indexed_statistic unnamed_statistic named_or_not statistic_tail statistic_word statistic plain_name plain_line property_text property_line valued tail parameter_word volatile any_declaration declaration assignment assigned_or_said any_line section_line heading section base_name optional_base simple submodule submodules network type_rule file
+unfolding property_line assignment name mark
 assignment_apart (token.Name text) e = absurd (false≢true e)
 assignment_apart _ e = refl
 
@@ -398,7 +398,7 @@ unfolding assigned_or_said assignment name property_line mark
 assigned_or_said-lawful = either-lawful (made lines.Assignment assignment) property_line (mapped assignment-lawful) property_line-lawful refl refl assignment_apart
 
 declaration_apart : (t : Token) → assigned_or_said.starts t ≡ true → (made lines.Declaration declaration).starts t ≡ false
-unfolding word mark name in_parens expression default_value value_rule property_name bracketed index body property mode_word question mode_rule next_mode modes group loose_token piece pieces loose_text no_value source_value record_value source_tail record_tail source_word record_word source_part record_part other_part record_or_other any_part part next_part statistic_body optional_body indexed_statistic unnamed_statistic named_or_not statistic_tail statistic_word statistic plain_name plain_line property_text property_line valued tail parameter_word volatile any_declaration declaration assignment assigned_or_said any_line section_line heading section base_name optional_base simple submodule submodules network type_rule file
+unfolding assigned_or_said assignment property_line declaration any_declaration volatile parameter_word word name mark
 declaration_apart (token.Word _) e = absurd (false≢true e)
 declaration_apart _ e = refl
 
@@ -407,7 +407,7 @@ unfolding any_line declaration any_declaration volatile parameter_word word assi
 any_line-lawful = either-lawful (made lines.Declaration declaration) assigned_or_said (mapped declaration-lawful) assigned_or_said-lawful refl refl declaration_apart
 
 line_ends : (t : Token) → (mark m.Semi).starts t ≡ true → (any_line).goes_on t ≡ false
-unfolding word mark name in_parens expression default_value value_rule property_name bracketed index body property mode_word question mode_rule next_mode modes group loose_token piece pieces loose_text no_value source_value record_value source_tail record_tail source_word record_word source_part record_part other_part record_or_other any_part part next_part statistic_body optional_body indexed_statistic unnamed_statistic named_or_not statistic_tail statistic_word statistic plain_name plain_line property_text property_line valued tail parameter_word volatile any_declaration declaration assignment assigned_or_said any_line section_line heading section base_name optional_base simple submodule submodules network type_rule file
+unfolding any_line assigned_or_said property_line property_text plain_line plain_name statistic statistic_word statistic_tail named_or_not indexed_statistic unnamed_statistic optional_body statistic_body part bracketed index body in_parens property property_name valued value_rule default_value expression tail declaration any_declaration volatile parameter_word assignment name word mark
 line_ends (token.Mark m.Semi) e = refl
 line_ends (token.Mark _) e = absurd (false≢true e)
 line_ends _ e = absurd (false≢true e)
@@ -417,7 +417,7 @@ unfolding section_line
 section_line-lawful = after any_line-lawful (mark-lawful m.Semi) line_ends
 
 pub section_line-full : section_line.empty ≡ false
-unfolding word mark name in_parens expression default_value value_rule property_name bracketed index body property mode_word question mode_rule next_mode modes group loose_token piece pieces loose_text no_value source_value record_value source_tail record_tail source_word record_word source_part record_part other_part record_or_other any_part part next_part statistic_body optional_body indexed_statistic unnamed_statistic named_or_not statistic_tail statistic_word statistic plain_name plain_line property_text property_line valued tail parameter_word volatile any_declaration declaration assignment assigned_or_said any_line section_line heading section base_name optional_base simple submodule submodules network type_rule file
+unfolding section_line any_line assigned_or_said property_line mark
 section_line-full = refl
 
 pub heading-lawful : Lawful heading
@@ -425,13 +425,13 @@ unfolding heading word mark
 heading-lawful = mapped (optional-lawful (word k.Parameters ▷ mark m.Colon) (before (word-lawful k.Parameters) (mark-lawful m.Colon) (λ t e. refl)) refl)
 
 heading_apart : (t : Token) → (many section_line).starts t ≡ true → (heading).goes_on t ≡ false
-unfolding word mark name in_parens expression default_value value_rule property_name bracketed index body property mode_word question mode_rule next_mode modes group loose_token piece pieces loose_text no_value source_value record_value source_tail record_tail source_word record_word source_part record_part other_part record_or_other any_part part next_part statistic_body optional_body indexed_statistic unnamed_statistic named_or_not statistic_tail statistic_word statistic plain_name plain_line property_text property_line valued tail parameter_word volatile any_declaration declaration assignment assigned_or_said any_line section_line heading section base_name optional_base simple submodule submodules network type_rule file
+unfolding section_line any_line declaration any_declaration volatile parameter_word assigned_or_said assignment property_line heading word mark name
 heading_apart (token.Word k.Parameters) e = absurd (false≢true e)
 heading_apart (token.Word _) e = refl
 heading_apart _ e = refl
 
 lines_apart : (t : Token) → (section_line).starts t ≡ true → (section_line).goes_on t ≡ false
-unfolding word mark name in_parens expression default_value value_rule property_name bracketed index body property mode_word question mode_rule next_mode modes group loose_token piece pieces loose_text no_value source_value record_value source_tail record_tail source_word record_word source_part record_part other_part record_or_other any_part part next_part statistic_body optional_body indexed_statistic unnamed_statistic named_or_not statistic_tail statistic_word statistic plain_name plain_line property_text property_line valued tail parameter_word volatile any_declaration declaration assignment assigned_or_said any_line section_line heading section base_name optional_base simple submodule submodules network type_rule file
+unfolding section_line mark
 lines_apart t e = refl
 
 pub section-lawful : Lawful section

@@ -524,11 +524,15 @@ refined_size = optional size_in_brackets
 
 -- ("input" | "output" | "inout") name ["[" [expression] "]"] {property}
 unfoldable pub declared_gate : Rule GateLine
-declared_gate = made (λ p. gate_lines.Declaration (record { name = p.1.0; direction = p.0; size = p.1.1.0; loose = says_loose p.1.1.1 })) (direction ⊗ (name ⊗ (gate_size ⊗ many property)))
+declared_gate = made
+    (λ p. gate_lines.Declaration (record { name = p.1.0; direction = p.0; size = p.1.1.0; loose = says_loose p.1.1.1 }))
+    (direction ⊗ (name ⊗ (gate_size ⊗ many property)))
 
 -- name ["[" expression "]"] {property}
 unfoldable pub refined_gate : Rule GateLine
-refined_gate = made (λ p. gate_lines.Refinement (record { name = p.0; size = p.1.0; loose = says_loose p.1.1 })) (name ⊗ (refined_size ⊗ many property))
+refined_gate = made
+    (λ p. gate_lines.Refinement (record { name = p.0; size = p.1.0; loose = says_loose p.1.1 }))
+    (name ⊗ (refined_size ⊗ many property))
 
 unfoldable pub any_gate : Rule GateLine
 any_gate = either declared_gate refined_gate
@@ -583,7 +587,9 @@ gated_block = mark m.Open ▷ ((section ⊗ gates) ◁ mark m.Close)
 
 -- "simple" head "{" [params] [gates] "}"
 unfoldable pub simple : Rule TypeDeclaration
-simple = made (λ p. record { kind = kinds.Simple; name = p.0.name; base = p.0.base; interfaces = p.0.interfaces; lines = p.1.0; gates = p.1.1; submodules = [] }) (word k.Simple ▷ (head ⊗ gated_block))
+simple = made
+    (λ p. record { kind = kinds.Simple; name = p.0.name; base = p.0.base; interfaces = p.0.interfaces; lines = p.1.0; gates = p.1.1; submodules = [] })
+    (word k.Simple ▷ (head ⊗ gated_block))
 
 -- ---- the body of a submodule, which gives its parameters values
 
@@ -643,7 +649,9 @@ network_block = mark m.Open ▷ ((section ⊗ (gates ⊗ submodules)) ◁ mark m
 
 -- "network" head "{" [params] [gates] [submodules] "}"
 unfoldable pub network : Rule TypeDeclaration
-network = made (λ p. record { kind = kinds.Network; name = p.0.name; base = p.0.base; interfaces = p.0.interfaces; lines = p.1.0; gates = p.1.1.0; submodules = p.1.1.1 }) (word k.Network ▷ (head ⊗ network_block))
+network = made
+    (λ p. record { kind = kinds.Network; name = p.0.name; base = p.0.base; interfaces = p.0.interfaces; lines = p.1.0; gates = p.1.1.0; submodules = p.1.1.1 })
+    (word k.Network ▷ (head ⊗ network_block))
 
 -- a type of modules
 unfoldable pub module_type : Rule TypeDeclaration
@@ -655,7 +663,9 @@ section_block = mark m.Open ▷ (section ◁ mark m.Close)
 
 -- "channel" head "{" [params] "}"
 unfoldable pub channel : Rule TypeDeclaration
-channel = made (λ p. record { kind = kinds.Channel; name = p.0.name; base = p.0.base; interfaces = p.0.interfaces; lines = p.1; gates = []; submodules = [] }) (word k.Channel ▷ (head ⊗ section_block))
+channel = made
+    (λ p. record { kind = kinds.Channel; name = p.0.name; base = p.0.base; interfaces = p.0.interfaces; lines = p.1; gates = []; submodules = [] })
+    (word k.Channel ▷ (head ⊗ section_block))
 
 abbrev pub interface_kind_of : Token → Option TypeKind
 interface_kind_of (token.Word k.ModuleInterface) = Some kinds.ModuleInterface
@@ -668,7 +678,9 @@ interface_kind = one_token interface_kind_of
 
 -- ("moduleinterface" | "channelinterface") name ["extends" dotted {"," dotted}] "{" [params] [gates] "}"
 unfoldable pub interface : Rule TypeDeclaration
-interface = made (λ p. record { kind = p.0; name = p.1.0; base = None; interfaces = p.1.1.0; lines = p.1.1.1.0; gates = p.1.1.1.1; submodules = [] }) (interface_kind ⊗ (name ⊗ (optional_names k.Extends ⊗ gated_block)))
+interface = made
+    (λ p. record { kind = p.0; name = p.1.0; base = None; interfaces = p.1.1.0; lines = p.1.1.1.0; gates = p.1.1.1.1; submodules = [] })
+    (interface_kind ⊗ (name ⊗ (optional_names k.Extends ⊗ gated_block)))
 
 unfoldable pub channel_or_interface : Rule TypeDeclaration
 channel_or_interface = either channel interface
