@@ -122,6 +122,7 @@ fn refusal_name(fault: BeginFault) -> &'static [u8]
         BeginFault::UnknownType => b"UnknownType",
         BeginFault::InheritanceCircle => b"InheritanceCircle",
         BeginFault::KindClash => b"KindClash",
+        BeginFault::Interface => b"Interface",
         BeginFault::NoSuchConfig => b"NoSuchConfig",
         BeginFault::ChainFault => b"ChainFault",
         BeginFault::NoSuchNetwork => b"NoSuchNetwork",

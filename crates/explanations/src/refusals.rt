@@ -54,7 +54,8 @@ pub fn refusal_line(
         BeginFault::DuplicateType
         | BeginFault::UnknownType
         | BeginFault::InheritanceCircle
-        | BeginFault::KindClash => { tell_types(alloc, &mut told, sources)? }
+        | BeginFault::KindClash
+        | BeginFault::Interface => { tell_types(alloc, &mut told, sources)? }
         BeginFault::NoSuchConfig => tell_no_config(alloc, &mut told, sources)?,
         BeginFault::ChainFault => tell_no_chain(alloc, &mut told, sources)?,
         BeginFault::NoSuchNetwork => tell_no_network(alloc, &mut told, sources)?,

@@ -96,6 +96,7 @@ ruled_out texts ini config fault.DuplicateType why m is = absurd (together texts
 ruled_out texts ini config fault.UnknownType why m is = absurd (together texts ini types.UnknownType is.read.read why.1)
 ruled_out texts ini config fault.InheritanceCircle why m is = absurd (together texts ini types.InheritanceCircle is.read.read why.1)
 ruled_out texts ini config fault.KindClash why m is = absurd (together texts ini types.KindClash is.read.read why.1)
+ruled_out texts ini config fault.Interface why m is = absurd (together texts ini types.Interface is.read.read why.1)
 ruled_out texts ini config fault.NoSuchConfig why m is =
     let lines = lines_same texts ini why.read is.read.read in
     absurd (truth_apart (is_section config is.read.read.lines) is.read.exists (sym (ap (λ (l : List IniLine). is_section config l) lines) ∙ why.missing))

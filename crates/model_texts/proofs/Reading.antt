@@ -38,6 +38,7 @@ blames ts n t before fault.DuplicateType declared here is = absurd is
 blames ts n t before fault.UnknownType declared here is = absurd is
 blames ts n t before fault.InheritanceCircle declared here is = absurd is
 blames ts n t before fault.KindClash declared here is = absurd is
+blames ts n t before fault.Interface declared here is = absurd is
 blames ts n t before fault.NoSuchConfig declared here is = absurd is
 blames ts n t before fault.ChainFault declared here is = absurd is
 blames ts n t before fault.NoSuchNetwork declared here is = absurd is
@@ -63,6 +64,7 @@ config_refused texts ini config read fault.DuplicateType is = absurd is
 config_refused texts ini config read fault.UnknownType is = absurd is
 config_refused texts ini config read fault.InheritanceCircle is = absurd is
 config_refused texts ini config read fault.KindClash is = absurd is
+config_refused texts ini config read fault.Interface is = absurd is
 config_refused texts ini config read fault.NoSuchNetwork is = absurd is
 
 -- ---- an answer by a test

@@ -100,6 +100,7 @@ RefusesTypes declared fault.DuplicateType = fault_of declared ≡ Some types.Dup
 RefusesTypes declared fault.UnknownType = fault_of declared ≡ Some types.UnknownType
 RefusesTypes declared fault.InheritanceCircle = fault_of declared ≡ Some types.InheritanceCircle
 RefusesTypes declared fault.KindClash = fault_of declared ≡ Some types.KindClash
+RefusesTypes declared fault.Interface = fault_of declared ≡ Some types.Interface
 RefusesTypes declared (fault.NoMemory _) = Unit {0}
 RefusesTypes declared _ = ⊥
 
@@ -151,6 +152,7 @@ Refuses texts ini config fault.DuplicateType = (is_too_large texts ini ≡ false
 Refuses texts ini config fault.UnknownType = (is_too_large texts ini ≡ false) × AreApart texts ini types.UnknownType
 Refuses texts ini config fault.InheritanceCircle = (is_too_large texts ini ≡ false) × AreApart texts ini types.InheritanceCircle
 Refuses texts ini config fault.KindClash = (is_too_large texts ini ≡ false) × AreApart texts ini types.KindClash
+Refuses texts ini config fault.Interface = (is_too_large texts ini ≡ false) × AreApart texts ini types.Interface
 Refuses texts ini config fault.NoSuchConfig = IsNotSelected texts ini config
 Refuses texts ini config fault.ChainFault = HasNoChain texts ini config
 Refuses texts ini config fault.NoSuchNetwork = HasNoNetwork texts ini config

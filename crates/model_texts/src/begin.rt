@@ -39,13 +39,15 @@ pub enum BeginFault {
     IniSyntax(usize),
     /// Two types have one name, or one has that of a built-in channel.
     DuplicateType,
-    /// A submodule's type, or what a type extends, isn't declared.
+    /// A submodule's type, what a type extends, or one of its interfaces isn't declared.
     UnknownType,
     /// A type extends itself, perhaps by way of others.
     InheritanceCircle,
-    /// What a type extends is no simple type, a member is declared twice, a value is given to an undeclared parameter or after a fixed
-    /// one, or a submodule's type is no simple type.
+    /// What a type extends or one of its interfaces is of another kind, a member is declared twice, a value is given to an undeclared
+    /// parameter or after a fixed one, or a submodule's type is no simple type.
     KindClash,
+    /// A type lacks a parameter or a gate of one of its interfaces.
+    Interface,
     /// The configuration isn't in the ini text.
     NoSuchConfig,
     /// The configuration extends one that isn't in the ini text, several, or in the end itself.
@@ -151,6 +153,7 @@ fn table_of(alloc: Global, files: Vec<NedFile>) -> Result<TypeTable, BeginFault>
         Err(TypeFault::UnknownType) => Err(BeginFault::UnknownType),
         Err(TypeFault::InheritanceCircle) => Err(BeginFault::InheritanceCircle),
         Err(TypeFault::KindClash) => Err(BeginFault::KindClash),
+        Err(TypeFault::Interface) => Err(BeginFault::Interface),
         Err(TypeFault::NoMemory(error)) => Err(BeginFault::NoMemory(error)),
     }
 }

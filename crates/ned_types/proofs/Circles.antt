@@ -1,14 +1,13 @@
 -- A way along as many types as there are, and one more, comes to one of them twice.
-use Rattle.std.proofs.Common.{◌≡◌, ⊎_elim, inl, inr, ◌⊎◌, ℕ, zero, suc, ◌+◌, ◌-◌, ◌<◌, ◌≤◌, Bool, true, false, ◌||◌, List, [], ◌∷◌, length, Option, Some, None, refl, sym, ap, ◌∙◌, subst, arith, slice_get, bytes_eq, if◌then◌else◌}
-use Rattle.std.specs.List.{list_any}
-use Rattle.std.specs.Option.{option_and_then}
+use Rattle.std.proofs.Common.{◌≡◌, ⊎_elim, inl, inr, ◌⊎◌, ℕ, zero, suc, ◌+◌, ◌-◌, ◌<◌, ◌≤◌, Bool, true, false, not, ◌||◌, ◌&&◌, List, [], ◌∷◌, length, Option, Some, None, refl, sym, ap, ◌∙◌, subst, arith, slice_get, bytes_eq, if◌then◌else◌}
+use Rattle.std.specs.List.{filter, list_any}
 use Rattle.std.proofs.lemmas.Bool.{cases_eq, false≢true}
 use Rattle.ned_syntax.specs.declared.ast.TypeDeclaration.{TypeDeclaration}
-use Rattle.ned_types.specs.Types.{type_named}
-use Rattle.ned_types.specs.Inheritance.{base_of, goes_on, has_circle}
-use Rattle.ned_types.specs.Circles.{after, ExtendsItself}
+use Rattle.ned_types.specs.Types.{is_interface_kind, is_type_named}
+use Rattle.ned_types.specs.Inheritance.{extends_one, has_circle, heirs, is_base_among, is_one_among, is_one_left, left_after}
+use Rattle.ned_types.specs.Circles.{Extends, ExtendsItself, LeadsTo}
 use Rattle.ned_types.specs.WellFormed.{IsAmong}
-use Rattle.ned_types.proofs.Near.{type_among}
+use Rattle.ned_types.proofs.WellFormedLaws.{any_found, any_is, any_told, names_same, not_false, same_names}
 
 -- ---- more numbers than places: two of them have one place
 
@@ -76,140 +75,217 @@ repeats (suc m) f inside = ⊎_elim twice (once (λ g. repeats m g)) (look f (f 
           ),
         )
 
--- ---- steps from a type to what it extends
+-- ---- what is left of a list
 
-after_one_more : (types : List TypeDeclaration) (n : ℕ) (x : Option TypeDeclaration) → after (suc n) types x ≡ option_and_then (λ (u : TypeDeclaration). base_of types u.base) (after n types x)
-after_one_more types n None = refl
-after_one_more types zero (Some t) = by (base_of types t.base)
+pub fewer : {X : Type 0} (p : X → Bool) (xs : List X) → length (filter p xs) ≤ length xs
+fewer p [] = omega arith
+fewer p (y ∷ ys) = by (p y) (fewer p ys)
   where
-    by : (x : Option TypeDeclaration) → after zero types x ≡ x
-    by None = refl
-    by (Some u) = refl
-after_one_more types (suc n) (Some t) = after_one_more types n (base_of types t.base)
+    by : (b : Bool) → length (filter p ys) ≤ length ys → length (if b then y ∷ filter p ys else filter p ys) ≤ suc (length ys)
+    by true l = omega (arith, l)
+    by false l = omega (arith, l)
 
-after_sum : (types : List TypeDeclaration) (n m : ℕ) (x : Option TypeDeclaration) → after (n + m) types x ≡ after m types (after n types x)
-after_sum types n m None = refl
-after_sum types zero m (Some t) = let same : 0 + m ≡ m = omega arith in ap (λ k. after k types (Some t)) same
-after_sum types (suc n) m (Some t) =
+less : {X : Type 0} (p : X → Bool) (xs : List X) (x : X) → IsAmong x xs → p x ≡ false → length (filter p xs) < length xs
+less p [] x is h = absurd is
+less p (y ∷ ys) x is h = by (p y) refl is (fewer p ys) (λ r. less p ys x r h)
+  where
+    by : (b : Bool) → p y ≡ b → IsAmong x (y ∷ ys) → length (filter p ys) ≤ length ys → (IsAmong x ys → length (filter p ys) < length ys) → length (if b then y ∷ filter p ys else filter p ys) < suc (length ys)
+    by true e (inl same) l more = absurd (false≢true (sym h ∙ ap p same ∙ e))
+    by true e (inr r) l more = let m = more r in omega (arith, m)
+    by false e is l more = omega (arith, l)
+
+among_filter : {X : Type 0} (p : X → Bool) (xs : List X) (x : X) → IsAmong x (filter p xs) → IsAmong x xs
+among_filter p [] x is = absurd is
+among_filter p (y ∷ ys) x is = by (p y) is (among_filter p ys x)
+  where
+    by : (b : Bool) → IsAmong x (if b then y ∷ filter p ys else filter p ys) → (IsAmong x (filter p ys) → IsAmong x ys) → IsAmong x (y ∷ ys)
+    by true (inl same) later = inl same
+    by true (inr r) later = inr (later r)
+    by false r later = inr (later r)
+
+filter_among : {X : Type 0} (p : X → Bool) (xs : List X) (x : X) → IsAmong x xs → p x ≡ true → IsAmong x (filter p xs)
+filter_among p [] x is h = absurd is
+filter_among p (y ∷ ys) x is h = by (p y) refl is (λ r. filter_among p ys x r h)
+  where
+    by : (b : Bool) → p y ≡ b → IsAmong x (y ∷ ys) → (IsAmong x ys → IsAmong x (filter p ys)) → IsAmong x (if b then y ∷ filter p ys else filter p ys)
+    by true e (inl same) later = inl same
+    by true e (inr r) later = inr (later r)
+    by false e (inl same) later = absurd (false≢true (sym e ∙ ap p (sym same) ∙ h))
+    by false e (inr r) later = later r
+
+turned_true : (b : Bool) → not b ≡ true → b ≡ false
+turned_true true h = absurd (false≢true h)
+turned_true false h = refl
+
+-- ---- a type extends one of these
+
+abbrev Found_in : List TypeDeclaration → TypeDeclaration → Type 0
+Found_in types t = (u : TypeDeclaration) × IsAmong u types × Extends t u
+
+named_one : (types : List TypeDeclaration) (name : List ℕ) → is_type_named name types ≡ true → (u : TypeDeclaration) × IsAmong u types × (u.name ≡ name)
+named_one types name h = let found = any_found (λ u. bytes_eq u.name name) types h in (found.0, found.1, same_names found.0.name name found.2)
+
+extended_found : (types : List TypeDeclaration) (t : TypeDeclaration) → extends_one types t ≡ true → Found_in types t
+extended_found types t h = go t.base refl (is_interface_kind t.kind) refl h
+  where
+    based : (name : List ℕ) → t.base ≡ Some name → is_type_named name types ≡ true → Found_in types t
+    based name e is = let u = named_one types name is in (u.0, u.1, inl (e ∙ ap Some (sym u.2)))
+
+    kept : (k : Bool) → is_interface_kind t.kind ≡ k → (k && is_one_among types t.interfaces) ≡ true → Found_in types t
+    kept false f is = absurd (false≢true is)
+    kept true f is =
+        let n = any_found (λ n. is_type_named n types) t.interfaces is in
+        let u = named_one types n.0 n.2 in
+        (u.0, u.1, inr (f, subst (λ (m : List ℕ). IsAmong m t.interfaces) (sym u.2) n.1))
+
+    either : (name : List ℕ) → t.base ≡ Some name → (k : Bool) → is_interface_kind t.kind ≡ k → (b : Bool) → is_type_named name types ≡ b → (b || (k && is_one_among types t.interfaces)) ≡ true → Found_in types t
+    either name e k f true is all = based name e is
+    either name e k f false is all = kept k f all
+
+    go : (base : Option (List ℕ)) → t.base ≡ base → (k : Bool) → is_interface_kind t.kind ≡ k → (is_base_among types base || (k && is_one_among types t.interfaces)) ≡ true → Found_in types t
+    go None e k f all = kept k f all
+    go (Some name) e k f all = either name e k f (is_type_named name types) refl all
+
+or_left : (a b : Bool) → a ≡ true → (a || b) ≡ true
+or_left a b h = ap (λ c. c || b) h
+
+or_right : (a b : Bool) → b ≡ true → (a || b) ≡ true
+or_right true b h = refl
+or_right false b h = h
+
+both : (a b : Bool) → a ≡ true → b ≡ true → (a && b) ≡ true
+both a b h k = ap (λ c. c && b) h ∙ k
+
+extends_is : (types : List TypeDeclaration) (t u : TypeDeclaration) → IsAmong u types → Extends t u → extends_one types t ≡ true
+extends_is types t u is (inl e) =
+    let there : is_type_named u.name types ≡ true = any_is (λ v. bytes_eq v.name u.name) types u is (names_same u.name u.name refl) in
+    or_left (is_base_among types t.base) _ (ap (is_base_among types) e ∙ there)
+extends_is types t u is (inr k) =
+    let there : is_type_named u.name types ≡ true = any_is (λ v. bytes_eq v.name u.name) types u is (names_same u.name u.name refl) in
+    or_right (is_base_among types t.base) _ (both (is_interface_kind t.kind) _ k.0 (any_is (λ n. is_type_named n types) t.interfaces u.name k.1 there))
+
+-- ---- a circle is never taken away
+
+first_step : (n : ℕ) (types : List TypeDeclaration) (t u : TypeDeclaration) → LeadsTo n types t u → extends_one types t ≡ true
+first_step zero types t u w = extends_is types t u w.0 w.1
+first_step (suc n) types t u w = extends_is types t w.0 w.1.0 w.1.1
+
+way_on : (n : ℕ) (types : List TypeDeclaration) (t u : TypeDeclaration) → IsAmong u (heirs types) → LeadsTo n types t u → LeadsTo n (heirs types) t u
+way_on zero types t u is w = (is, w.1)
+way_on (suc n) types t u is w =
+    let v = w.0 in
+    (v, (filter_among (λ x. extends_one types x) types v w.1.0 (first_step n types v u w.2), w.1.1), way_on n types v u is w.2)
+
+circle_on : (types : List TypeDeclaration) → ExtendsItself types → ExtendsItself (heirs types)
+circle_on types c =
+    let is = filter_among (λ x. extends_one types x) types c.0 c.1 (first_step c.2.0 types c.0 c.0 c.2.1) in
+    (c.0, is, (c.2.0, way_on c.2.0 types c.0 c.0 is c.2.1))
+
+circle_ever : (n : ℕ) (types : List TypeDeclaration) → ExtendsItself types → ExtendsItself (left_after n types)
+circle_ever zero types c = c
+circle_ever (suc n) types c = circle_ever n (heirs types) (circle_on types c)
+
+pub one_is_circle : (types : List TypeDeclaration) → ExtendsItself types → has_circle types ≡ true
+one_is_circle types c = by (left_after (length types) types) (circle_ever (length types) types c)
+  where
+    by : (ts : List TypeDeclaration) → ExtendsItself ts → is_one_left ts ≡ true
+    by [] c = absurd c.1
+    by (t ∷ ts) c = refl
+
+-- ---- where some are left, each of some types extends one of them
+
+abbrev AllExtend : List TypeDeclaration → Type 0
+AllExtend types = (t : TypeDeclaration) → IsAmong t types → extends_one types t ≡ true
+
+abbrev Stuck : List TypeDeclaration → Type 0
+Stuck types = (ts : List TypeDeclaration) × (is_one_left ts ≡ true) × AllExtend ts × ((t : TypeDeclaration) → IsAmong t ts → IsAmong t types)
+
+none_left : (n : ℕ) → is_one_left (left_after n []) ≡ false
+none_left zero = refl
+none_left (suc n) = none_left n
+
+stuck : (n : ℕ) (types : List TypeDeclaration) → length types ≤ n → is_one_left (left_after n types) ≡ true → Stuck types
+stuck n [] l h = absurd (false≢true (sym (none_left n) ∙ h))
+stuck zero (t ∷ ts) l h = absurd (omega (arith, l))
+stuck (suc n) (t ∷ ts) l h = by (list_any (λ x. not (extends_one (t ∷ ts) x)) (t ∷ ts)) refl (stuck n (heirs (t ∷ ts)))
+  where
+    by : (b : Bool) → list_any (λ x. not (extends_one (t ∷ ts) x)) (t ∷ ts) ≡ b → (length (heirs (t ∷ ts)) ≤ n → is_one_left (left_after n (heirs (t ∷ ts))) ≡ true → Stuck (heirs (t ∷ ts))) → Stuck (t ∷ ts)
+    by false e more = (t ∷ ts, refl, (λ x is. not_false _ (any_told (λ y. not (extends_one (t ∷ ts) y)) (t ∷ ts) e x is)), (λ x is. is))
+    by true e more =
+        let root = any_found (λ x. not (extends_one (t ∷ ts) x)) (t ∷ ts) e in
+        let shorter = less (λ x. extends_one (t ∷ ts) x) (t ∷ ts) root.0 root.1 (turned_true _ root.2) in
+        let s = more (omega (arith, l, shorter)) h in
+        (s.0, s.1, s.2, (λ x is. among_filter (λ y. extends_one (t ∷ ts) y) (t ∷ ts) x (s.3 x is)))
+
+-- ---- a way along as many types as there are, and one more
+
+abbrev Point : List TypeDeclaration → Type 0
+Point types = (t : TypeDeclaration) × IsAmong t types
+
+abbrev next_point : (types : List TypeDeclaration) → AllExtend types → Point types → Point types
+next_point types all p = let found = extended_found types p.0 (all p.0 p.1) in (found.0, found.1)
+
+next_extends : (types : List TypeDeclaration) (all : AllExtend types) (p : Point types) → Extends p.0 (next_point types all p).0
+next_extends types all p = (extended_found types p.0 (all p.0 p.1)).2
+
+abbrev walk : (types : List TypeDeclaration) → AllExtend types → ℕ → Point types → Point types
+walk types all zero p = p
+walk types all (suc n) p = walk types all n (next_point types all p)
+
+walk_sum : (types : List TypeDeclaration) (all : AllExtend types) (n m : ℕ) (p : Point types) → walk types all (n + m) p ≡ walk types all m (walk types all n p)
+walk_sum types all zero m p = let same : 0 + m ≡ m = omega arith in ap (λ k. walk types all k p) same
+walk_sum types all (suc n) m p =
     let same : suc n + m ≡ suc (n + m) = omega arith in
-    ap (λ k. after k types (Some t)) same ∙ after_sum types n m (base_of types t.base)
+    ap (λ k. walk types all k p) same ∙ walk_sum types all n m (next_point types all p)
 
--- as long as the way goes on there is a type
-stands : (types : List TypeDeclaration) (n : ℕ) (x : Option TypeDeclaration) → goes_on n types x ≡ true → (i : ℕ) → i ≤ n → (u : TypeDeclaration) × (after i types x ≡ Some u)
-stands types n None on i l = absurd (false≢true on)
-stands types n (Some t) on zero l = (t, refl)
-stands types zero (Some t) on (suc i) l = absurd (omega (arith, l))
-stands types (suc n) (Some t) on (suc i) l = stands types n (base_of types t.base) on i (omega (arith, l))
+walk_leads : (types : List TypeDeclaration) (all : AllExtend types) (n : ℕ) (p : Point types) → LeadsTo n types p.0 (walk types all (suc n) p).0
+walk_leads types all zero p = ((next_point types all p).1, next_extends types all p)
+walk_leads types all (suc n) p =
+    let q = next_point types all p in
+    (q.0, (q.1, next_extends types all p), walk_leads types all n q)
 
--- ---- the places of types
+abbrev place_of : (types : List TypeDeclaration) (t : TypeDeclaration) → IsAmong t types → ℕ
+place_of [] t is = absurd is
+place_of (u ∷ us) t (inl e) = 0
+place_of (u ∷ us) t (inr is) = suc (place_of us t is)
 
-abbrev place_named : List ℕ → List TypeDeclaration → ℕ
-place_named name [] = 0
-place_named name (t ∷ ts) = if bytes_eq t.name name then 0 else suc (place_named name ts)
+place_within : (types : List TypeDeclaration) (t : TypeDeclaration) (is : IsAmong t types) → place_of types t is < length types
+place_within [] t is = absurd is
+place_within (u ∷ us) t (inl e) = omega arith
+place_within (u ∷ us) t (inr is) = let l = place_within us t is in omega (arith, l)
 
-abbrev StandsAt : List TypeDeclaration → ℕ → TypeDeclaration → Type 0
-StandsAt types place u = (place < length types) × (slice_get types place ≡ Some u)
+at_place : (types : List TypeDeclaration) (t : TypeDeclaration) (is : IsAmong t types) → slice_get types (place_of types t is) ≡ Some t
+at_place [] t is = absurd is
+at_place (u ∷ us) t (inl e) = ap Some (sym e)
+at_place (u ∷ us) t (inr is) = at_place us t is
 
-named_at : (name : List ℕ) (types : List TypeDeclaration) (u : TypeDeclaration) → type_named name types ≡ Some u → StandsAt types (place_named name types) u
-named_at name [] u e = cc
-named_at name (t ∷ ts) u e = by (bytes_eq t.name name) e (named_at name ts u)
-  where
-    by : (b : Bool) → (if b then Some t else type_named name ts) ≡ Some u → (type_named name ts ≡ Some u → StandsAt ts (place_named name ts) u)
-        → StandsAt (t ∷ ts) (if b then 0 else suc (place_named name ts)) u
-    by true is more = (omega arith, is)
-    by false is more = let h = more is in (omega (arith, h.0), h.1)
+some_same : (t u : TypeDeclaration) → Some t ≡ Some u → t ≡ u
+some_same t u e = cc
 
-abbrev place_of_base : List TypeDeclaration → Option (List ℕ) → ℕ
-place_of_base types None = 0
-place_of_base types (Some name) = place_named name types
+way_among : (n : ℕ) (ts types : List TypeDeclaration) (t u : TypeDeclaration) → ((x : TypeDeclaration) → IsAmong x ts → IsAmong x types) → LeadsTo n ts t u → LeadsTo n types t u
+way_among zero ts types t u among w = (among u w.0, w.1)
+way_among (suc n) ts types t u among w = (w.0, (among w.0 w.1.0, w.1.1), way_among n ts types w.0 u among w.2)
 
-base_at : (types : List TypeDeclaration) (base : Option (List ℕ)) (u : TypeDeclaration) → base_of types base ≡ Some u → StandsAt types (place_of_base types base) u
-base_at types None u e = cc
-base_at types (Some name) u e = named_at name types u e
-
-abbrev place_behind : List TypeDeclaration → Option TypeDeclaration → ℕ
-place_behind types None = 0
-place_behind types (Some t) = place_of_base types t.base
-
-behind_at : (types : List TypeDeclaration) (x : Option TypeDeclaration) (u : TypeDeclaration) → option_and_then (λ (t : TypeDeclaration). base_of types t.base) x ≡ Some u → StandsAt types (place_behind types x) u
-behind_at types None u e = cc
-behind_at types (Some t) u e = base_at types t.base u e
-
--- the place of the type behind so many steps; that of the first type is given
-abbrev place_after : List TypeDeclaration → ℕ → Option TypeDeclaration → ℕ → ℕ
-place_after types first x zero = first
-place_after types first x (suc i) = place_behind types (after i types x)
-
-after_at : (types : List TypeDeclaration) (first : ℕ) (t u : TypeDeclaration) (i : ℕ) → StandsAt types first t → after i types (Some t) ≡ Some u → StandsAt types (place_after types first (Some t) i) u
-after_at types first t u zero at e = subst (StandsAt types first) (let same : t ≡ u = cc in same) at
-after_at types first t u (suc i) at e = behind_at types (after i types (Some t)) u (sym (after_one_more types i (Some t)) ∙ e)
-
--- ---- a way that goes on as long as there are types
-
-abbrev Going : List TypeDeclaration → ℕ → List TypeDeclaration → Type 0
-Going types n ts = (t : TypeDeclaration) × ((place : ℕ) × StandsAt ts place t × (goes_on n types (Some t) ≡ true))
-
-going : (types : List TypeDeclaration) (n : ℕ) (ts : List TypeDeclaration) → list_any (λ (t : TypeDeclaration). goes_on n types (Some t)) ts ≡ true → Going types n ts
-going types n [] h = absurd (false≢true h)
-going types n (t ∷ ts) h = by (goes_on n types (Some t)) refl h (going types n ts)
-  where
-    later : Going types n ts → Going types n (t ∷ ts)
-    later g = (g.0, (suc g.1.0, (omega (arith, g.1.1.0), g.1.1.1), g.1.2))
-
-    by : (b : Bool) → goes_on n types (Some t) ≡ b → (b || list_any (λ (u : TypeDeclaration). goes_on n types (Some u)) ts) ≡ true
-        → (list_any (λ (u : TypeDeclaration). goes_on n types (Some u)) ts ≡ true → Going types n ts) → Going types n (t ∷ ts)
-    by true e is more = (t, (0, (omega arith, refl), e))
-    by false e is more = later (more is)
+begin : (types : List TypeDeclaration) → is_one_left types ≡ true → Point types
+begin [] h = absurd (false≢true h)
+begin (t ∷ ts) h = (t, inl refl)
 
 pub circle_is_one : (types : List TypeDeclaration) → has_circle types ≡ true → ExtendsItself types
 circle_is_one types h =
-    let g = going types (length types) types h in
-    let t = g.0 in
-    let place = place_after types g.1.0 (Some t) in
-    let there = stands types (length types) (Some t) g.1.2 in
-    let at = (λ (i : ℕ) (l : i ≤ length types). after_at types g.1.0 t (there i l).0 i g.1.1 (there i l).1) in
-    let twice = repeats (length types) place (λ i l. (at i l).0) in
+    let s = stuck (length types) types (omega arith) h in
+    let ts = s.0 in
+    let all = s.2 in
+    let p = begin ts s.1 in
+    let point = (λ (i : ℕ). walk ts all i p) in
+    let place = (λ (i : ℕ). place_of ts (point i).0 (point i).1) in
+    let twice = repeats (length ts) place (λ i l. place_within ts (point i).0 (point i).1) in
     let i = twice.0 in
     let j = twice.1.0 in
-    let within : i ≤ length types = omega (arith, twice.1.1, twice.1.2) in
-    let u = (there i within).0 in
-    let same : Some u ≡ Some (there j twice.1.2).0 = sym (at i within).1 ∙ ap (slice_get types) twice.1.3 ∙ (at j twice.1.2).1 in
-    let more : i + (j - i) ≡ j = omega (arith, twice.1.1) in
-    let around : after (j - i) types (Some u) ≡ Some u =
-    ap (after (j - i) types) (sym (there i within).1) ∙ sym (after_sum types i (j - i) (Some t)) ∙ ap (λ n. after n types (Some t)) more
-    ∙ (there j twice.1.2).1 ∙ sym same in
-    (u, type_among types (place i) u (at i within).1, (j - i, omega (arith, twice.1.1), around))
-
--- ---- a type that extends itself
-
-abbrev Turns : List TypeDeclaration → TypeDeclaration → Type 0
-Turns types t = (n : ℕ) × (after (suc n) types (Some t) ≡ Some t)
-
--- what it extends extends itself too
-turns_on : (types : List TypeDeclaration) (t : TypeDeclaration) → Turns types t → (u : TypeDeclaration) × (base_of types t.base ≡ Some u) × Turns types u
-turns_on types t h = by (base_of types t.base) refl h.1
-  where
-    by : (x : Option TypeDeclaration) → base_of types t.base ≡ x → after h.0 types x ≡ Some t → (u : TypeDeclaration) × (base_of types t.base ≡ Some u) × Turns types u
-    by None e is = cc
-    by (Some u) e is = (u, e, (h.0, after_one_more types h.0 (Some u) ∙ ap (option_and_then (λ (v : TypeDeclaration). base_of types v.base)) is ∙ e))
-
-turns_ever : (types : List TypeDeclaration) (n : ℕ) (t : TypeDeclaration) → Turns types t → goes_on n types (Some t) ≡ true
-turns_ever types zero t h = refl
-turns_ever types (suc n) t h = let on = turns_on types t h in ap (goes_on n types) on.1 ∙ turns_ever types n on.0 on.2
-
-some_one : (types : List TypeDeclaration) (n : ℕ) (t : TypeDeclaration) (ts : List TypeDeclaration) → goes_on n types (Some t) ≡ true → IsAmong t ts
-    → list_any (λ (u : TypeDeclaration). goes_on n types (Some u)) ts ≡ true
-some_one types n t [] on is = absurd is
-some_one types n t (u ∷ us) on (inl same) = ap (λ b. b || list_any (λ (v : TypeDeclaration). goes_on n types (Some v)) us) (ap (λ (v : TypeDeclaration). goes_on n types (Some v)) (sym same) ∙ on)
-some_one types n t (u ∷ us) on (inr is) = by (goes_on n types (Some u)) (some_one types n t us on is)
-  where
-    by : (b : Bool) {c : Bool} → c ≡ true → (b || c) ≡ true
-    by true e = refl
-    by false e = e
-
-pub one_is_circle : (types : List TypeDeclaration) → ExtendsItself types → has_circle types ≡ true
-one_is_circle types h = some_one types (length types) h.0 types (by h.2.0 h.2.1 h.2.2) h.1
-  where
-    by : (n : ℕ) → 0 < n → after n types (Some h.0) ≡ Some h.0 → goes_on (length types) types (Some h.0) ≡ true
-    by zero l e = absurd (omega (arith, l))
-    by (suc n) l e = turns_ever types (length types) h.0 (n, e)
+    let n = j - suc i in
+    let more : i + suc n ≡ j = omega (arith, twice.1.1) in
+    let same : (point i).0 ≡ (point j).0 = some_same (point i).0 (point j).0 (sym (at_place ts (point i).0 (point i).1) ∙ ap (slice_get ts) twice.1.3 ∙ at_place ts (point j).0 (point j).1) in
+    let back : (walk ts all (suc n) (point i)).0 ≡ (point i).0 = ap (λ (q : Point ts). q.0) (sym (walk_sum ts all i (suc n) p) ∙ ap (λ k. walk ts all k p) more) ∙ sym same in (
+      (point i).0,
+      s.3 (point i).0 (point i).1,
+      (n, way_among n ts types (point i).0 (point i).0 s.3 (subst (LeadsTo n ts (point i).0) back (walk_leads ts all n (point i)))),
+    )

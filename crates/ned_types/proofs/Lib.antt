@@ -6,3 +6,6 @@ pub mod Repeats
 pub mod NamedLaws
 pub mod Circles
 pub mod GateLaws
+pub mod InterfaceLaws
+pub mod OrderLaws
+pub mod LineLaws

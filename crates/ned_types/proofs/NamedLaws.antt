@@ -1,10 +1,11 @@
 -- Types by their names: what is found, what is added, and when two have one name.
 use Rattle.std.proofs.Common.{◌≡◌, ℕ, zero, suc, ◌-◌, ◌≤◌, ◌<◌, Bool, true, false, not, ◌||◌, List, [], ◌∷◌, ◌++◌, Option, Some, None, refl, sym, ap, ◌∙◌, arith, length, append_assoc, take, drop, slice_index_or, bytes_eq, Bor, if◌then◌else◌}
 use Rattle.std.specs.Prelude.{is_some, is_none}
-use Rattle.std.specs.Map.{lookup}
+use Rattle.std.specs.Map.{lookup, values_of}
 use Rattle.std.specs.Option.{option_map}
 use Rattle.ned_syntax.specs.declared.ast.TypeDeclaration.{TypeDeclaration}
 use Rattle.ned_types.specs.Types.{type_named, is_built_in, is_type_named, has_duplicate}
+use Rattle.ned_types.specs.Inheritance.{types_in}
 use Rattle.ned_types.specs.Named.{types_at, HaveNames, is_one_taken}
 use Rattle.ned_types.proofs.WellFormedLaws.{same_names, names_same, names_apart, apart_names}
 use Rattle.indexmap.specs.IndexMap.{insert_entry}
@@ -14,7 +15,7 @@ Entry = Bor (List ℕ) × Bor TypeDeclaration
 
 -- ---- what is found
 
-turned : (a b : List ℕ) → bytes_eq a b ≡ bytes_eq b a
+pub turned : (a b : List ℕ) → bytes_eq a b ≡ bytes_eq b a
 turned a b = by (bytes_eq a b) refl
   where
     by : (c : Bool) → bytes_eq a b ≡ c → bytes_eq a b ≡ bytes_eq b a
@@ -90,11 +91,11 @@ added k t (e ∷ es) n h none = by (bytes_eq k.now e.0.now) (bytes_eq e.1.now.na
 
 -- ---- two types of one name
 
-or_zero : (a : Bool) → (a || false) ≡ a
+pub or_zero : (a : Bool) → (a || false) ≡ a
 or_zero true = refl
 or_zero false = refl
 
-or_joined : (a b c : Bool) → ((a || b) || c) ≡ (a || (b || c))
+pub or_joined : (a b c : Bool) → ((a || b) || c) ≡ (a || (b || c))
 or_joined true b c = refl
 or_joined false b c = refl
 
@@ -181,3 +182,29 @@ told_there b false e f = absurd cc
 pub told_new : (b x : Bool) → b ≡ not x → b ≡ true → x ≡ false
 told_new b false e f = refl
 told_new b true e f = absurd cc
+
+-- ---- names, whatever stands at them
+
+or_again : (a b : Bool) → (a || b) ≡ ((a || b) || a)
+or_again true b = refl
+or_again false true = refl
+or_again false false = refl
+
+pub names_added : (k : Bor (List ℕ)) (t : Bor TypeDeclaration) (es : List Entry) (name : List ℕ) → k.now ≡ t.now.name → HaveNames es → is_type_named name (types_at (insert_entry (λ (x y : Bor (List ℕ)). bytes_eq x.now y.now) es k t)) ≡ (is_type_named name (types_at es) || bytes_eq t.now.name name)
+names_added k t [] name n h = or_zero (bytes_eq t.now.name name)
+names_added k t (e ∷ es) name n h = by (bytes_eq k.now e.0.now) refl (names_added k t es name n h.1)
+  where
+    by : (b : Bool) → bytes_eq k.now e.0.now ≡ b → is_type_named name (types_at (insert_entry (λ (x y : Bor (List ℕ)). bytes_eq x.now y.now) es k t)) ≡ (is_type_named name (types_at es) || bytes_eq t.now.name name)
+        → is_type_named name (types_at (if b then (e.0, t) ∷ es else e ∷ insert_entry (λ (x y : Bor (List ℕ)). bytes_eq x.now y.now) es k t)) ≡ ((bytes_eq e.1.now.name name || is_type_named name (types_at es)) || bytes_eq t.now.name name)
+    by true p later =
+        let same : t.now.name ≡ e.1.now.name = sym n ∙ same_names k.now e.0.now p ∙ h.0 in
+        or_again (bytes_eq t.now.name name) (is_type_named name (types_at es))
+        ∙ ap (λ (m : List ℕ). (bytes_eq m name || is_type_named name (types_at es)) || bytes_eq t.now.name name) same
+    by false p later =
+        ap (λ b. bytes_eq e.1.now.name name || b) later
+        ∙ sym (or_joined (bytes_eq e.1.now.name name) (is_type_named name (types_at es)) (bytes_eq t.now.name name))
+
+-- the types that the values of a map lead to
+pub types_of_values : (es : List Entry) → types_in (values_of es) ≡ types_at es
+types_of_values [] = refl
+types_of_values (e ∷ es) = ap (λ ts. e.1.now ∷ ts) (types_of_values es)

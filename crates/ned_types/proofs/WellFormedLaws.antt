@@ -16,7 +16,7 @@ use Rattle.ned_syntax.specs.declared.ast.TypeDeclaration.{TypeDeclaration}
 use Rattle.ned_syntax.specs.declared.ast.TypeKind.{TypeKind}
 use Rattle.ned_syntax.specs.declared.ast.TypeKind.TheVariants.{Simple, Network, Channel, ModuleInterface, ChannelInterface}
 use Rattle.ned_types.specs.Types as t
-use Rattle.ned_types.specs.WellFormed.{IsAmong, StandsBefore, IsParameter, IsSoundSection, IsSoundBody, IsTypeOf, IsSimpleType, HaveOwnGates, IsWellFormed}
+use Rattle.ned_types.specs.WellFormed.{IsAmong, StandsBefore, IsParameter, IsSoundSection, IsSoundBody, IsTypeOf, IsSimpleType, HaveOwnGates, HasMembers, IsWellFormed}
 
 -- ---- tests
 
@@ -72,7 +72,7 @@ pub any_made : {X : Type 0} (test : X → Bool) (xs : List X) → ((x : X) → I
 any_made test [] h = refl
 any_made test (y ∷ ys) h = or_false (test y) (list_any test ys) (h y (inl refl)) (any_made test ys (λ x is. h x (inr is)))
 
-any_found : {X : Type 0} (test : X → Bool) (xs : List X) → list_any test xs ≡ true → (x : X) × IsAmong x xs × (test x ≡ true)
+pub any_found : {X : Type 0} (test : X → Bool) (xs : List X) → list_any test xs ≡ true → (x : X) × IsAmong x xs × (test x ≡ true)
 any_found test [] h = absurd (false≢true h)
 any_found test (y ∷ ys) h = go (test y) refl (any_found test ys) h
   where
@@ -80,7 +80,7 @@ any_found test (y ∷ ys) h = go (test y) refl (any_found test ys) h
     go true e more h = (y, inl refl, e)
     go false e more h = let found = more h in (found.0, inr found.1, found.2)
 
-any_is : {X : Type 0} (test : X → Bool) (xs : List X) (x : X) → IsAmong x xs → test x ≡ true → list_any test xs ≡ true
+pub any_is : {X : Type 0} (test : X → Bool) (xs : List X) (x : X) → IsAmong x xs → test x ≡ true → list_any test xs ≡ true
 any_is test xs x is h = is_true (list_any test xs) (λ none. false≢true (sym (any_told test xs none x is) ∙ h))
 
 -- ---- pairs
@@ -143,7 +143,7 @@ simple_found (a ∷ behind) name h = go (bytes_eq a.name name) refl h (simple_fo
     go false e h more = let found = more h in (found.0, inr found.1, found.2, found.3)
 
 -- the type of its name is the type itself
-type_is : (types : List TypeDeclaration) (u : TypeDeclaration) → ((a b : TypeDeclaration) → StandsBefore a b types → a.name ≢ b.name) → IsAmong u types → t.type_named u.name types ≡ Some u
+pub type_is : (types : List TypeDeclaration) (u : TypeDeclaration) → ((a b : TypeDeclaration) → StandsBefore a b types → a.name ≢ b.name) → IsAmong u types → t.type_named u.name types ≡ Some u
 type_is [] u apart is = absurd is
 type_is (a ∷ behind) u apart (inl e) = let same = names_same a.name u.name (sym (ap (λ (x : TypeDeclaration). x.name) e)) in rw same (ap Some (sym e))
 type_is (a ∷ behind) u apart (inr is) =
@@ -402,14 +402,15 @@ unfit_by types s u apart is e = ap (t.clashes_with s.body) (ap (λ (n : List ℕ
 
 -- ---- all rules
 
-pub well_formed : (types : List TypeDeclaration) → t.has_duplicate types ≡ false → t.has_clash types ≡ false → IsWellFormed types
-well_formed types duplicate clash = record {
+pub well_formed : (types : List TypeDeclaration) → t.has_duplicate types ≡ false → t.has_clash types ≡ false → ((a : TypeDeclaration) → IsAmong a types → (b : TypeDeclaration) → IsAmong b types → IsAmong b.name a.interfaces → HasMembers a b) → IsWellFormed types
+well_formed types duplicate clash kept = record {
   names = apart;
   own = types_own types duplicate;
   parameters = λ a is. sound_told a.lines (section a is);
   gates = λ a is. gates_told a.gates (or_parts (t.redeclares_gate a.gates) _ (parts a is).1).0;
   submodules = λ a is. submodules_apart a.submodules (members a is).0;
   simple = λ a is. all_simple types a.submodules (members a is).1;
+  interfaces = kept;
   bodies = λ a is s in-a u in-types e. body_told u.lines s.body (sound_told u.lines (section u in-types)) (sym (unfit_by types s u apart in-types e) ∙ any_told (λ r. t.has_unfit_body types r) a.submodules (members a is).2 s in-a);
 }
   where

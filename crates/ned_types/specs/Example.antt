@@ -7,7 +7,6 @@ use Rattle.ned_values.specs.declared.ast.Mode.TheVariants as mode
 use Rattle.ned_syntax.specs.declared.ast.GateDirection.TheVariants.{Input, Output}
 use Rattle.ned_syntax.specs.declared.ast.GateLine.{GateLine}
 use Rattle.ned_syntax.specs.declared.ast.GateLine.TheVariants as gate
-use Rattle.ned_syntax.specs.declared.ast.GateSize.{GateSize}
 use Rattle.ned_syntax.specs.declared.ast.GateSize.TheVariants as size
 use Rattle.ned_syntax.specs.declared.ast.ParameterValue.{ParameterValue}
 use Rattle.ned_syntax.specs.declared.ast.ParameterValue.TheVariants as parameter_value
@@ -17,9 +16,9 @@ use Rattle.ned_syntax.specs.declared.ast.SectionLine.TheVariants as line
 use Rattle.ned_syntax.specs.declared.ast.Statistic.{Statistic}
 use Rattle.ned_syntax.specs.declared.ast.Submodule.{Submodule}
 use Rattle.ned_syntax.specs.declared.ast.TypeDeclaration.{TypeDeclaration}
-use Rattle.ned_syntax.specs.declared.ast.TypeKind.TheVariants.{Simple, Network, Channel}
+use Rattle.ned_syntax.specs.declared.ast.TypeKind.TheVariants.{Simple, Network, Channel, ModuleInterface, ChannelInterface}
 use Rattle.ned_types.specs.declared.table.TypeFault.{TypeFault}
-use Rattle.ned_types.specs.declared.table.TypeFault.TheVariants.{DuplicateType, UnknownType, InheritanceCircle, KindClash}
+use Rattle.ned_types.specs.declared.table.TypeFault.TheVariants.{DuplicateType, UnknownType, InheritanceCircle, KindClash, Interface}
 use Rattle.ned_types.specs.Flat.{class_of, last_value, statistics_of}
 use Rattle.ned_types.specs.Inheritance.{flat_type}
 use Rattle.ned_types.specs.Building.{fault_of}
@@ -140,6 +139,26 @@ output_gates name = gate.Declaration (record { name = name; direction = Output; 
 abbrev pub three_of : List ℕ → GateLine
 three_of name = gate.Refinement (record { name = name; size = Some (expression.Literal (values.Whole (pos 3))); loose = false })
 
+-- `moduleinterface NAME extends BASES { parameters: LINES gates: GATES }`
+abbrev pub interface_of : List ℕ → List (List ℕ) → List SectionLine → List GateLine → TypeDeclaration
+interface_of name bases lines gates = record { kind = ModuleInterface; name = name; base = None; interfaces = bases; lines = lines; gates = gates; submodules = [] }
+
+-- `channelinterface NAME {}`
+abbrev pub channel_interface : List ℕ → TypeDeclaration
+channel_interface name = record { kind = ChannelInterface; name = name; base = None; interfaces = []; lines = []; gates = []; submodules = [] }
+
+-- `simple NAME extends BASE like INTERFACES { parameters: LINES gates: GATES }`
+abbrev pub keeping : List ℕ → Option (List ℕ) → List (List ℕ) → List SectionLine → List GateLine → TypeDeclaration
+keeping name base interfaces lines gates = record { kind = Simple; name = name; base = base; interfaces = interfaces; lines = lines; gates = gates; submodules = [] }
+
+-- `moduleinterface I { parameters: double gap @unit(s); gates: input in; }`
+abbrev pub gap_and_in : TypeDeclaration
+gap_and_in = interface_of (codes "I") [] (double_named (codes "gap") ∷ []) (input_gate (codes "in") ∷ [])
+
+-- why `simple A like I { parameters: LINES gates: GATES }` makes no model, with that interface
+abbrev pub fault_like : List SectionLine → List GateLine → Option TypeFault
+fault_like lines gates = fault_of (keeping (codes "A") None (codes "I" ∷ []) lines gates ∷ gap_and_in ∷ [])
+
 -- `simple NAME extends BASE { gates: GATES }`
 abbrev pub gated : List ℕ → Option (List ℕ) → List GateLine → TypeDeclaration
 gated name base gates = record { kind = Simple; name = name; base = base; interfaces = []; lines = []; gates = gates; submodules = [] }
@@ -235,3 +254,42 @@ pub record ExampleGates : Type 0 where
   pub again : fault_of (gated (codes "A") None (input_gate (codes "g") ∷ []) ∷ gated (codes "B") (Some (codes "A")) (output_gates (codes "g") ∷ []) ∷ []) ≡ Some KindClash
   pub twice : fault_of (gated (codes "A") None (input_gate (codes "g") ∷ input_gate (codes "h") ∷ input_gate (codes "g") ∷ []) ∷ []) ≡ Some KindClash
   pub other_kind : fault_of (record { kind = Simple; name = codes "A"; base = None; interfaces = []; lines = double_named (codes "g") ∷ []; gates = input_gate (codes "g") ∷ []; submodules = [] } ∷ []) ≡ None
+
+-- a type has the parameters and gates of its interfaces, also those that these extend, as it or what it extends declares them:
+-- with their words, whatever their units, their directions, and as vectors where they are vectors
+pub record ExampleInterfaces : Type 0 where
+  pub none : fault_like (double_named (codes "gap") ∷ []) (input_gate (codes "in") ∷ []) ≡ None
+  pub no_parameter : fault_like [] (input_gate (codes "in") ∷ []) ≡ Some Interface
+  pub no_gate : fault_like (double_named (codes "gap") ∷ []) [] ≡ Some Interface
+  pub other_word : fault_like (line.Declaration (record { name = codes "gap"; word = word.Int; unit = Some dimension.Time; value = None }) ∷ []) (input_gate (codes "in") ∷ []) ≡ Some Interface
+  pub other_unit : fault_like (line.Declaration (record { name = codes "gap"; word = word.Double; unit = Some dimension.Rate; value = None }) ∷ []) (input_gate (codes "in") ∷ []) ≡ None
+  pub other_direction : fault_like (double_named (codes "gap") ∷ []) (gate.Declaration (record { name = codes "in"; direction = Output; size = size.Single; loose = false }) ∷ []) ≡ Some Interface
+  pub other_size : fault_like (double_named (codes "gap") ∷ []) (gate.Declaration (record { name = codes "in"; direction = Input; size = size.Open; loose = false }) ∷ []) ≡ Some Interface
+  pub more : fault_like (double_named (codes "own") ∷ double_named (codes "gap") ∷ []) (output_gates (codes "out") ∷ input_gate (codes "in") ∷ []) ≡ None
+  pub of_base : fault_of (keeping (codes "A") (Some (codes "B")) (codes "I" ∷ []) [] (input_gate (codes "in") ∷ []) ∷ type_with (codes "B") None (double_named (codes "gap") ∷ []) ∷ gap_and_in ∷ []) ≡ None
+  pub extended : fault_of (keeping (codes "A") None (codes "J" ∷ []) [] (input_gate (codes "in") ∷ []) ∷ interface_of (codes "J") (codes "I" ∷ []) [] [] ∷ gap_and_in ∷ []) ≡ Some Interface
+  pub network : fault_of (record { kind = Network; name = codes "N"; base = None; interfaces = codes "I" ∷ []; lines = []; gates = []; submodules = [] } ∷ gap_and_in ∷ []) ≡ Some Interface
+  pub channel : fault_of (record { kind = Channel; name = codes "C"; base = Some (codes "DelayChannel"); interfaces = codes "D" ∷ []; lines = []; gates = []; submodules = [] } ∷ record { kind = ChannelInterface; name = codes "D"; base = None; interfaces = []; lines = double_named (codes "delay") ∷ []; gates = []; submodules = [] } ∷ []) ≡ None
+  pub last : fault_of (keeping (codes "A") None (codes "I" ∷ []) [] [] ∷ gap_and_in ∷ type_with (codes "B") None (second_for (codes "own") ∷ []) ∷ []) ≡ Some KindClash
+
+-- an interface has what those have that it extends, each once, in the order in which they are named; two declarations of one name
+-- clash; and what stands among the interfaces of a type is an interface for its kind
+pub record ExampleExtending : Type 0 where
+  pub flat : flat_type (interface_of (codes "J") (codes "I" ∷ []) (double_named (codes "own") ∷ []) [] ∷ gap_and_in ∷ []) (interface_of (codes "J") (codes "I" ∷ []) (double_named (codes "own") ∷ []) []) ≡ interface_of (codes "J") [] (double_named (codes "gap") ∷ double_named (codes "own") ∷ []) (input_gate (codes "in") ∷ [])
+  pub two_ways : (flat_type (interface_of (codes "K") (codes "J" ∷ codes "H" ∷ []) (double_named (codes "k") ∷ []) [] ∷ interface_of (codes "H") (codes "I" ∷ []) (double_named (codes "h") ∷ []) [] ∷ interface_of (codes "J") (codes "I" ∷ []) (double_named (codes "j") ∷ []) [] ∷ gap_and_in ∷ []) (interface_of (codes "K") (codes "J" ∷ codes "H" ∷ []) (double_named (codes "k") ∷ []) [])).lines ≡ double_named (codes "gap") ∷ double_named (codes "j") ∷ double_named (codes "h") ∷ double_named (codes "k") ∷ []
+  pub two_ways_fine : fault_of (interface_of (codes "K") (codes "J" ∷ codes "H" ∷ []) [] [] ∷ interface_of (codes "H") (codes "I" ∷ []) [] [] ∷ interface_of (codes "J") (codes "I" ∷ []) [] [] ∷ gap_and_in ∷ []) ≡ None
+  pub named_twice : fault_of (interface_of (codes "J") (codes "I" ∷ codes "I" ∷ []) [] [] ∷ gap_and_in ∷ []) ≡ None
+  pub twice : fault_of (interface_of (codes "K") (codes "I" ∷ codes "H" ∷ []) [] [] ∷ interface_of (codes "H") [] (double_named (codes "gap") ∷ []) [] ∷ gap_and_in ∷ []) ≡ Some KindClash
+  pub gate_twice : fault_of (interface_of (codes "J") (codes "I" ∷ []) [] (input_gate (codes "in") ∷ []) ∷ gap_and_in ∷ []) ≡ Some KindClash
+  pub unknown : fault_of (keeping (codes "A") None (codes "Zed" ∷ []) [] [] ∷ []) ≡ Some UnknownType
+  pub unknown_base : fault_of (interface_of (codes "J") (codes "I" ∷ codes "Zed" ∷ []) [] [] ∷ gap_and_in ∷ []) ≡ Some UnknownType
+  pub simple : fault_of (keeping (codes "A") None (codes "Tick" ∷ []) [] [] ∷ tick ∷ []) ≡ Some KindClash
+  pub built_in : fault_of (keeping (codes "A") None (codes "IdealChannel" ∷ []) [] [] ∷ []) ≡ Some KindClash
+  pub for_channels : fault_of (keeping (codes "A") None (codes "D" ∷ []) [] [] ∷ channel_interface (codes "D") ∷ []) ≡ Some KindClash
+  pub base_for_channels : fault_of (interface_of (codes "J") (codes "D" ∷ []) [] [] ∷ channel_interface (codes "D") ∷ []) ≡ Some KindClash
+  pub extended_by_simple : fault_of (heir (codes "A") (codes "I") ∷ gap_and_in ∷ []) ≡ Some KindClash
+  pub submodule : fault_of (network_of [] (t_with (codes "I") [] ∷ []) ∷ gap_and_in ∷ []) ≡ Some KindClash
+  pub itself : fault_of (interface_of (codes "J") (codes "I" ∷ codes "J" ∷ []) [] [] ∷ gap_and_in ∷ []) ≡ Some InheritanceCircle
+  pub circle : fault_of (interface_of (codes "J") (codes "K" ∷ []) [] [] ∷ interface_of (codes "K") (codes "J" ∷ []) [] [] ∷ []) ≡ Some InheritanceCircle
+  pub mixed_circle : fault_of (interface_of (codes "J") (codes "A" ∷ []) [] [] ∷ heir (codes "A") (codes "J") ∷ []) ≡ Some InheritanceCircle
+  pub kept_circle : fault_of (keeping (codes "A") None (codes "J" ∷ []) [] [] ∷ interface_of (codes "J") (codes "A" ∷ []) [] [] ∷ []) ≡ Some KindClash

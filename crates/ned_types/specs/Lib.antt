@@ -1,6 +1,7 @@
 pub mod Types
 pub mod Flat
 pub mod Channels
+pub mod Interfaces
 pub mod Inheritance
 pub mod Circles
 pub mod WellFormed

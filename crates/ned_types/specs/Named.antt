@@ -1,12 +1,13 @@
 -- Types by their names.
-use Rattle.std.specs.Prelude.{◌≡◌, ℕ, Bool, true, false, ◌||◌, List, [], ◌∷◌, length, map, Option, Some, None, if◌then◌else◌}
+use Rattle.std.specs.Prelude.{◌≡◌, ℕ, Bool, true, false, ◌||◌, List, [], ◌∷◌, map, Option, Some, None}
 use Rattle.std.specs.Borrow.{Bor}
+use Rattle.std.specs.Map.{lookup}
+use Rattle.std.specs.Str.{bytes_eq}
 use Rattle.std.specs.List.{list_any}
 use Rattle.ned_syntax.specs.declared.ast.TypeDeclaration.{TypeDeclaration}
-use Rattle.ned_types.specs.declared.table.TypeFault.{TypeFault}
-use Rattle.ned_types.specs.declared.table.TypeFault.TheVariants.{UnknownType, InheritanceCircle, KindClash}
-use Rattle.ned_types.specs.Types.{has_duplicate, is_type_named, names_unknown}
-use Rattle.ned_types.specs.Inheritance.{extends_unknown, extends_other, goes_on}
+use Rattle.ned_types.specs.Types.{has_duplicate, is_type_named, is_interface_kind, names_unknown}
+use Rattle.ned_types.specs.Interfaces.{keeps_other, names_no_type}
+use Rattle.ned_types.specs.Inheritance.{extends_unknown, extends_other, line_named, joined_behind, gathered, bare, with_members, without_interfaces}
 
 -- the types that stand in a map
 abbrev pub types_at : List (Bor (List ℕ) × Bor TypeDeclaration) → List TypeDeclaration
@@ -26,9 +27,40 @@ abbrev pub AreNamed : List TypeDeclaration → Option (List TypeDeclaration) →
 AreNamed types None = has_duplicate types ≡ true
 AreNamed types (Some named) = (has_duplicate types ≡ false) × (named ≡ types)
 
--- the faults of some of the types behind that of two types of one name
-abbrev pub later_fault : List TypeDeclaration → List TypeDeclaration → Option TypeFault
-later_fault types some =
-    if list_any (λ t. names_unknown types t.submodules) some || list_any (λ t. extends_unknown types t.base) some then Some UnknownType
-    else (if list_any (λ t. goes_on (length types) types (Some t)) some then Some InheritanceCircle
-    else (if list_any (λ t. extends_other types t.kind t.base) some then Some KindClash else None))
+-- whether some of the types name what is neither a type nor a built-in channel
+abbrev pub is_unknown_named : List TypeDeclaration → List TypeDeclaration → Bool
+is_unknown_named types some =
+    list_any (λ t. names_unknown types t.submodules) some
+    || (list_any (λ t. extends_unknown types t.base) some || list_any (λ t. names_no_type types t.interfaces) some)
+
+-- whether some of the types name what is of another kind than it should be
+abbrev pub is_other_named : List TypeDeclaration → List TypeDeclaration → Bool
+is_other_named types some = list_any (λ t. extends_other types t.kind t.base) some || list_any (λ t. keeps_other types t.kind t.interfaces) some
+
+-- these have the names that those have
+abbrev pub HaveNamesOf : List TypeDeclaration → List TypeDeclaration → Type 0
+HaveNamesOf these those = (name : List ℕ) → is_type_named name these ≡ is_type_named name those
+
+-- these have the names that those have, and the name of a type
+abbrev pub AddsName : List TypeDeclaration → List TypeDeclaration → TypeDeclaration → Type 0
+AddsName those these t = (name : List ℕ) → is_type_named name these ≡ (is_type_named name those || bytes_eq t.name name)
+
+-- the line that stands at a name
+abbrev pub line_or_none : Option (List TypeDeclaration) → List TypeDeclaration
+line_or_none None = []
+line_or_none (Some line) = line
+
+abbrev pub line_at : List (Bor (List ℕ) × List TypeDeclaration) → List ℕ → List TypeDeclaration
+line_at entries name = line_or_none (lookup (λ k. bytes_eq name k.now) entries)
+
+-- at each name stands the line of the interface of that name
+abbrev pub HaveLines : List (Bor (List ℕ) × List TypeDeclaration) → List TypeDeclaration → Type 0
+HaveLines entries ordered = (name : List ℕ) → line_at entries name ≡ line_named ordered name
+
+-- the line of an interface was added to those of types that stand behind it
+abbrev pub AddsLine : List (Bor (List ℕ) × List TypeDeclaration) → List (Bor (List ℕ) × List TypeDeclaration) → TypeDeclaration → Type 0
+AddsLine before after t = (ordered : List TypeDeclaration) → HaveLines before ordered → is_interface_kind t.kind ≡ true → HaveLines after (t ∷ ordered)
+
+-- an interface with all that it extends, by their lines
+abbrev pub flat_by_lines : List (Bor (List ℕ) × List TypeDeclaration) → TypeDeclaration → TypeDeclaration
+flat_by_lines entries t = without_interfaces (with_members (gathered (bare t) (joined_behind [] (map (line_at entries) t.interfaces))) t)

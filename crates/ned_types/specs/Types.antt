@@ -188,6 +188,30 @@ is_channel_kind Channel = true
 is_channel_kind ModuleInterface = false
 is_channel_kind ChannelInterface = false
 
+-- whether it is the kind of module interfaces
+abbrev pub is_module_interface : TypeKind → Bool
+is_module_interface Simple = false
+is_module_interface Network = false
+is_module_interface Channel = false
+is_module_interface ModuleInterface = true
+is_module_interface ChannelInterface = false
+
+-- whether it is the kind of channel interfaces
+abbrev pub is_channel_interface : TypeKind → Bool
+is_channel_interface Simple = false
+is_channel_interface Network = false
+is_channel_interface Channel = false
+is_channel_interface ModuleInterface = false
+is_channel_interface ChannelInterface = true
+
+-- whether it is a kind of interfaces
+abbrev pub is_interface_kind : TypeKind → Bool
+is_interface_kind Simple = false
+is_interface_kind Network = false
+is_interface_kind Channel = false
+is_interface_kind ModuleInterface = true
+is_interface_kind ChannelInterface = true
+
 -- ---- submodules
 
 abbrev pub is_simple : Option TypeDeclaration → Bool

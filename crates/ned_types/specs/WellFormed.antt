@@ -12,6 +12,7 @@ use Rattle.ned_syntax.specs.declared.ast.TypeDeclaration.{TypeDeclaration}
 use Rattle.ned_syntax.specs.declared.ast.TypeKind.{TypeKind}
 use Rattle.ned_syntax.specs.declared.ast.TypeKind.TheVariants.{Simple}
 use Rattle.ned_types.specs.Types.{is_built_in, is_fixed, name_in, value_in}
+use Rattle.ned_types.specs.Interfaces.{is_vector}
 
 -- it is one of these
 abbrev pub IsAmong : {X : Type 0} → X → List X → Type 0
@@ -59,6 +60,11 @@ IsTypeOf kind name types = (u : TypeDeclaration) × IsAmong u types × (u.name �
 abbrev pub IsSimpleType : List ℕ → List TypeDeclaration → Type 0
 IsSimpleType name types = IsTypeOf Simple name types
 
+-- a type has all parameters and gates of an interface: those of its names, with the same words and directions, and vectors where those are vectors
+pub record HasMembers (t i : TypeDeclaration) : Type 0 where
+  pub parameters : (d : Declaration) → IsAmong (line.Declaration d) i.lines → (e : Declaration) × IsAmong (line.Declaration e) t.lines × (e.name ≡ d.name) × (e.word ≡ d.word)
+  pub gates : (d : GateDeclaration) → IsAmong (gate.Declaration d) i.gates → (e : GateDeclaration) × IsAmong (gate.Declaration e) t.gates × (e.name ≡ d.name) × (e.direction ≡ d.direction) × (is_vector e.size ≡ is_vector d.size)
+
 -- THE RULES of types:
 pub record IsWellFormed (types : List TypeDeclaration) : Type 0 where
   -- no two types have one name;
@@ -73,5 +79,7 @@ pub record IsWellFormed (types : List TypeDeclaration) : Type 0 where
   pub submodules : (t : TypeDeclaration) → IsAmong t types → HaveOwnNames t.submodules
   -- the type of each is a simple type among these;
   pub simple : (t : TypeDeclaration) → IsAmong t types → (s : Submodule) → IsAmong s t.submodules → IsSimpleType s.type_name types
-  -- and the body of each is sound behind the lines of its type.
+  -- each type has what its interfaces have;
+  pub interfaces : (t : TypeDeclaration) → IsAmong t types → (i : TypeDeclaration) → IsAmong i types → IsAmong i.name t.interfaces → HasMembers t i
+  -- and the body of each submodule is sound behind the lines of its type.
   pub bodies : (t : TypeDeclaration) → IsAmong t types → (s : Submodule) → IsAmong s t.submodules → (u : TypeDeclaration) → IsAmong u types → u.name ≡ s.type_name → IsSoundBody u.lines s.body

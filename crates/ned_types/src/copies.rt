@@ -128,10 +128,7 @@ pub(crate) fn add_submodules(
 }
 
 /// Equal submodules.
-fn copy_submodules(
-    alloc: Global,
-    submodules: &[Submodule],
-) -> Result<Items<Submodule>, AllocError>
+fn copy_submodules(alloc: Global, submodules: &[Submodule]) -> Result<Items<Submodule>, AllocError>
     ensures { IfOk result (λ copy. copy ≡ submodules.now) }
 {
     let mut copy = Items::new(alloc);
@@ -176,10 +173,7 @@ fn copy_expression(
 }
 
 /// An equal line without a direction.
-fn copy_refinement(
-    alloc: Global,
-    refinement: &GateRefinement,
-) -> Result<GateRefinement, AllocError>
+fn copy_refinement(alloc: Global, refinement: &GateRefinement) -> Result<GateRefinement, AllocError>
     ensures { IfOk result (λ copy. copy ≡ refinement.now) }
 {
     Ok(GateRefinement {

@@ -3,16 +3,18 @@
 ghost use Rattle.std.specs.Prelude.{◌≡◌, ◌||◌, ◌↔◌, false, None, IfOk};
 ghost use Rattle.ned_types.specs.Types.{has_duplicate, is_built_in, is_type_named, names_unknown, is_submodule_known, has_clash, clashes, section_clashes, submodules_clash, is_submodule_simple, is_simple, repeats_submodule, has_other_kind, redeclares, declares, is_declaration, is_declared, is_undeclared, gives_undeclared, gives_again, gives, is_given, is_fixed, name_in, value_in};
 ghost use Rattle.ned_types.specs.Inheritance.{flat_types};
-ghost use Rattle.ned_types.specs.Building.{Builds, AnswersTable, CanBuild};
+ghost use Rattle.ned_types.specs.Building.{Builds, AnswersTable, CanBuild, flat_fault};
 ghost use Rattle.ned_types.specs.WellFormed.{IsWellFormed};
 ghost use Rattle.std.specs.List.{list_any};
 ghost use Rattle.std.specs.Option.{option_copied};
-ghost use Rattle.ned_types.specs.Named.{later_fault};
+ghost use Rattle.ned_types.specs.Named.{is_other_named, is_unknown_named};
 ghost use Rattle.ned_types.specs.Seen.{is_one_named, names_in};
 
 use crate::bodies::bodies_clash;
 use crate::gates::redeclares_gate;
-use crate::inheritance::{flat_types, has_circle, has_other_base, has_unknown_base};
+use crate::inheritance::{flat_types, has_other_base, has_unknown_base};
+use crate::interfaces::{has_broken, has_other_interface, has_unknown_interface};
+use crate::lines::all_lines;
 use crate::named::{NamedTypes, by_name};
 use crate::table::TypeFault;
 use indexmap::IndexSet;
@@ -41,30 +43,36 @@ fn built(alloc: Global, types: &[TypeDeclaration]) -> Result<Items<TypeDeclarati
     let Some(named) = by_name(alloc, types)? else {
         return Err(TypeFault::DuplicateType);
     };
-    if let Some(fault) = later_fault(&named, types) {
-        return Err(fault);
+    if is_unknown_named(&named, types) {
+        return Err(TypeFault::UnknownType);
     }
-    let flat = flat_types(alloc, &named, types)?;
-    if has_clash(alloc, flat.as_slice())? {
+    let (circle, lines) = all_lines(alloc, types)?;
+    if circle {
+        return Err(TypeFault::InheritanceCircle);
+    }
+    if is_other_named(&named, types) {
         return Err(TypeFault::KindClash);
+    }
+    let flat = flat_types(alloc, &named, &lines, types)?;
+    if let Some(fault) = flat_fault(alloc, flat.as_slice())? {
+        return Err(fault);
     }
     Ok(flat)
 }
 
-/// The first fault of names and bases behind that of two types of one name.
-fn later_fault(named: &NamedTypes<'_>, types: &[TypeDeclaration]) -> Option<TypeFault>
-    ensures { result ≡ later_fault named.now types.now }
+/// Whether one of the types names what is neither a type nor a built-in channel.
+fn is_unknown_named(named: &NamedTypes<'_>, types: &[TypeDeclaration]) -> bool
+    ensures { result ≡ is_unknown_named named.now types.now }
 {
-    if has_unknown(named, types) || has_unknown_base(named, types) {
-        return Some(TypeFault::UnknownType);
-    }
-    if has_circle(named, types) {
-        return Some(TypeFault::InheritanceCircle);
-    }
-    if has_other_base(named, types) {
-        return Some(TypeFault::KindClash);
-    }
-    None
+    has_unknown(named, types)
+        || (has_unknown_base(named, types) || has_unknown_interface(named, types))
+}
+
+/// Whether one of the types names what is of another kind than it should be.
+fn is_other_named(named: &NamedTypes<'_>, types: &[TypeDeclaration]) -> bool
+    ensures { result ≡ is_other_named named.now types.now }
+{
+    has_other_base(named, types) || has_other_interface(named, types)
 }
 
 /// Whether a built-in channel or one of the types has that name.
@@ -104,16 +112,21 @@ fn is_submodule_known(named: &NamedTypes<'_>, submodule: &Submodule) -> bool
     is_taken(submodule.type_name.as_bytes(), named)
 }
 
-/// Whether one of the types, which have names of their own, has a clash.
-fn has_clash(alloc: Global, types: &[TypeDeclaration]) -> Result<bool, AllocError>
+/// The first fault of flat types, which have names of their own.
+fn flat_fault(alloc: Global, types: &[TypeDeclaration]) -> Result<Option<TypeFault>, AllocError>
     requires { has_duplicate types.now ≡ false }
-    ensures { IfOk result (λ clash. clash ≡ has_clash types.now) }
+    ensures { IfOk result (λ fault. fault ≡ flat_fault types.now) }
 {
     let Some(named) = by_name(alloc, types)? else {
         unreachable!()
     };
-    let clash = one_clashes(alloc, &named, types)?;
-    Ok(clash)
+    if one_clashes(alloc, &named, types)? {
+        return Ok(Some(TypeFault::KindClash));
+    }
+    if has_broken(&named, types) {
+        return Ok(Some(TypeFault::Interface));
+    }
+    Ok(None)
 }
 
 /// Whether one of these types has a clash.

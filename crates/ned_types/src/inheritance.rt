@@ -1,16 +1,19 @@
 //! Types that extend others.
 
-ghost use Rattle.std.specs.Prelude.{◌≡◌, ◌++◌, length, map, Some, IfOk, OnOk};
+ghost use Rattle.std.specs.Prelude.{◌≡◌, ◌++◌, map, IfOk, OnOk};
 ghost use Rattle.std.specs.List.{list_any};
 ghost use Rattle.std.specs.Option.{option_copied};
 ghost use Rattle.ned_types.specs.Types.{is_channel_kind, is_simple_kind};
-ghost use Rattle.ned_types.specs.Inheritance.{base_of, line_of, goes_on, extends_unknown, extends_other, can_extend, is_base, is_channel_of, with_members, joined_with, class_along, class_lines, bare_heir, heir_of, flat_type, types_in};
+ghost use Rattle.ned_types.specs.Inheritance.{base_of, line_of, extends_unknown, extends_other, can_extend, is_base, is_channel_of, with_members, joined_with, class_along, class_lines, bare, bare_heir, flat_by, gathered, heir_of, heirs_first, flat_type, types_in};
+ghost use Rattle.ned_types.specs.Named.{HaveLines, flat_by_lines};
 
 use crate::channels::add_root;
 use crate::copies::{add_gates, add_lines, add_names, add_submodules, copy_type};
 use crate::faults::{is_built_in, is_taken};
 use crate::flat::{class_in, class_of};
+use crate::lines::{Lines, add_lines_of};
 use crate::named::NamedTypes;
+use crate::order::is_interface_kind;
 use ned_syntax::ast::{SectionLine, TypeDeclaration, TypeKind};
 use sim_values::text::Text;
 use sqlite_items::Items;
@@ -95,29 +98,6 @@ fn is_simple_kind(kind: TypeKind) -> bool
     ensures { result ≡ is_simple_kind kind }
 {
     matches!(kind, TypeKind::Simple)
-}
-
-/// Whether a type extends itself, perhaps by way of others.
-pub(crate) fn has_circle(named: &NamedTypes<'_>, types: &[TypeDeclaration]) -> bool
-    ensures { result ≡ list_any (λ t. goes_on (length named.now) named.now (Some t)) types.now }
-{
-    types.iter().any(|declared| goes_on(named, declared))
-}
-
-/// Whether there is still a type after as many steps from this one to what it extends as there are types.
-fn goes_on(named: &NamedTypes<'_>, declared: &TypeDeclaration) -> bool
-    ensures { result ≡ goes_on (length named.now) named.now (Some declared.now) }
-{
-    let mut next = Some(declared);
-    let mut left = named.len();
-    while let Some(found) = next {
-        if left == 0 {
-            return true;
-        }
-        next = base_of(named, found);
-        left -= 1;
-    }
-    false
 }
 
 /// A type, what it extends, what that extends, and so on.
@@ -226,13 +206,62 @@ fn heir_of<'a>(
     Ok(flat)
 }
 
-/// What the type has with all that its bases have.
-fn flat_type<'a>(
+/// Adds the members of these types, those of the first one first.
+fn add_gathered(
+    alloc: Global,
+    flat: &mut TypeDeclaration,
+    line: &[&TypeDeclaration],
+) -> Result<(), AllocError>
+    ensures { OnOk result (flat.new ≡ gathered flat.old (types_in line.now)) }
+{
+    let mut rest = line;
+    while let [declared, after @ ..] = rest {
+        add_members(alloc, flat, declared)?;
+        rest = after;
+    }
+    Ok(())
+}
+
+/// A type without members.
+fn bare(alloc: Global, declared: &TypeDeclaration) -> Result<TypeDeclaration, AllocError>
+    ensures { IfOk result (λ flat. flat ≡ bare declared.now) }
+{
+    Ok(TypeDeclaration {
+        kind: declared.kind,
+        name: declared.name.copy(alloc)?,
+        base: None,
+        interfaces: Items::new(alloc),
+        lines: Items::new(alloc),
+        gates: Items::new(alloc),
+        submodules: Items::new(alloc),
+    })
+}
+
+/// An interface with all that it extends.
+fn flat_interface<'a>(
+    alloc: Global,
+    lines: &Lines<'a>,
+    declared: &'a TypeDeclaration,
+) -> Result<TypeDeclaration, AllocError>
+    ensures { IfOk result (λ flat. flat ≡ flat_by_lines lines.now.entries declared.now) }
+{
+    let mut line = NamedTypes::new(alloc);
+    add_lines_of(alloc, lines, &mut line, declared.interfaces.as_slice())?;
+    let mut flat = bare(alloc, declared)?;
+    let line = line.references(alloc)?;
+    add_gathered(alloc, &mut flat, &line)?;
+    add_members(alloc, &mut flat, declared)?;
+    flat.interfaces = Items::new(alloc);
+    Ok(flat)
+}
+
+/// What a type that is no interface has with all that its bases have.
+fn flat_by<'a>(
     alloc: Global,
     named: &NamedTypes<'a>,
     declared: &'a TypeDeclaration,
 ) -> Result<TypeDeclaration, AllocError>
-    ensures { IfOk result (λ flat. flat ≡ flat_type named.now declared.now) }
+    ensures { IfOk result (λ flat. flat ≡ flat_by named.now declared.now declared.now.base) }
 {
     match &declared.base {
         Some(_) => heir_of(alloc, named, declared),
@@ -240,17 +269,37 @@ fn flat_type<'a>(
     }
 }
 
-/// The flat type of each.
+/// What the type has with all that its bases have.
+fn flat_type<'a>(
+    alloc: Global,
+    named: &NamedTypes<'a>,
+    lines: &Lines<'a>,
+    declared: &'a TypeDeclaration,
+) -> Result<TypeDeclaration, AllocError>
+    requires { HaveLines lines.now.entries (heirs_first named.now) }
+    ensures { IfOk result (λ flat. flat ≡ flat_type named.now declared.now) }
+{
+    if is_interface_kind(declared.kind) {
+        let flat = flat_interface(alloc, lines, declared)?;
+        return Ok(flat);
+    }
+    let flat = flat_by(alloc, named, declared)?;
+    Ok(flat)
+}
+
+/// The flat type of each, where these are the lines of the interfaces among the types.
 pub(crate) fn flat_types<'a>(
     alloc: Global,
     named: &NamedTypes<'a>,
+    lines: &Lines<'a>,
     types: &'a [TypeDeclaration],
 ) -> Result<Items<TypeDeclaration>, AllocError>
+    requires { HaveLines lines.now.entries (heirs_first named.now) }
     ensures { IfOk result (λ flat. flat ≡ map (flat_type named.now) types.now) }
 {
     let mut flat = Items::new(alloc);
     for declared in types {
-        flat.push(flat_type(alloc, named, declared)?)?;
+        flat.push(flat_type(alloc, named, lines, declared)?)?;
     }
     Ok(flat)
 }

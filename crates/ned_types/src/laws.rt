@@ -1,7 +1,7 @@
 //! Laws of types.
 
 ghost use Rattle.ned_types.specs.Circles.{CirclesAreFound};
-ghost use Rattle.ned_types.specs.Example.{ExampleBodies, ExampleChannels, ExampleFaults, ExampleGates, ExampleIsFlat, ExampleNetworks};
+ghost use Rattle.ned_types.specs.Example.{ExampleBodies, ExampleChannels, ExampleExtending, ExampleFaults, ExampleGates, ExampleInterfaces, ExampleIsFlat, ExampleNetworks};
 
 /// The flat types of small examples, their faults, and those of bodies of submodules.
 pub fn examples()
@@ -11,6 +11,8 @@ pub fn examples()
     ensures networks { ExampleNetworks }
     ensures channels { ExampleChannels }
     ensures gates { ExampleGates }
+    ensures interfaces { ExampleInterfaces }
+    ensures extending { ExampleExtending }
 {}
 
 /// A circle is found exactly where one of the types extends itself, perhaps by way of others: it is no matter that the

@@ -3,7 +3,8 @@
 ghost use Rattle.std.specs.Prelude.{◌≡◌, ◌++◌, ◌∷◌, [], false, not, length, IfOk, OnOk};
 ghost use Rattle.std.specs.Option.{option_copied};
 ghost use Rattle.ned_types.specs.Types.{type_named, is_type_named};
-ghost use Rattle.ned_types.specs.Named.{AreNamed};
+ghost use Rattle.ned_types.specs.Named.{AddsName, AreNamed};
+ghost use Rattle.ned_types.specs.Inheritance.{types_in};
 
 use crate::faults::is_built_in;
 use indexmap::IndexMap;
@@ -35,7 +36,7 @@ impl<'a> Model for NamedTypes<'a> {
 
 impl<'a> NamedTypes<'a> {
     /// No types.
-    fn new(alloc: Global) -> NamedTypes<'a>
+    pub(crate) fn new(alloc: Global) -> NamedTypes<'a>
         ensures { result ≡ [] }
     {
         NamedTypes {
@@ -48,6 +49,18 @@ impl<'a> NamedTypes<'a> {
         ensures { result ≡ length self.now }
     {
         self.types.len()
+    }
+
+    #[tactic(auto, using(crate::proofs::NamedLaws::types_of_values))]
+    /// References to them, in order.
+    pub(crate) fn references(&self, alloc: Global) -> Result<Vec<&'a TypeDeclaration>, AllocError>
+        ensures { IfOk result (λ refs. types_in refs.items ≡ self.now) }
+    {
+        let mut refs = Vec::new(alloc);
+        for declared in self.types.values() {
+            refs.push(*declared)?;
+        }
+        Ok(refs)
     }
 
     /// The type of that name.
@@ -65,8 +78,9 @@ impl<'a> NamedTypes<'a> {
     }
 
     /// Adds a type behind the others, unless there is one of its name: then it stands in that one's place.
-    fn add(&mut self, declared: &'a TypeDeclaration) -> Result<bool, AllocError>
+    pub(crate) fn add(&mut self, declared: &'a TypeDeclaration) -> Result<bool, AllocError>
         ensures added { IfOk result (λ added. added ≡ not (is_type_named declared.now.name self.old)) }
+        ensures names { OnOk result (AddsName self.old self.new declared.now) }
         ensures types { OnOk result (is_type_named declared.now.name self.old ≡ false → self.new ≡ self.old ++ declared.now ∷ []) }
     {
         let before = self.types.insert(declared.name.as_bytes(), declared)?;

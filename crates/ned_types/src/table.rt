@@ -25,17 +25,20 @@ pub enum TypeFault {
     /// Two types have one name, or one has that of a built-in channel.
     #[error("DuplicateType")]
     DuplicateType,
-    /// A submodule's type, or what a type extends, isn't declared.
+    /// A submodule's type, what a type extends, or one of its interfaces isn't declared.
     #[error("UnknownType")]
     UnknownType,
     /// A type extends itself, perhaps by way of others.
     #[error("InheritanceCircle")]
     InheritanceCircle,
-    /// What a type extends is of another kind, a parameter, a gate or a submodule is declared twice, a value is given to an undeclared
+    /// What a type extends or one of its interfaces is of another kind, a parameter, a gate or a submodule is declared twice, a value is given to an undeclared
     /// parameter or after a fixed one, by a section or by the body of a submodule, a body declares a parameter, or a submodule's type is
     /// no simple type.
     #[error("KindClash")]
     KindClash,
+    /// A type lacks a parameter or a gate of one of its interfaces.
+    #[error("Interface")]
+    Interface,
     #[error("NoMemory")]
     NoMemory(NoMemory),
 }

@@ -18,3 +18,9 @@ returns-clause-gates c = record { joined = refl; sized = refl; again = refl; twi
 
 pub returns-clause-channels : goal.returns-clause-channels
 returns-clause-channels c = record { ideal = refl; delay = refl; rate = refl; behind = refl; none = refl; fixed = refl; no_rate = refl; no_delay = refl; again = refl; simple = refl; network = refl; unknown = refl; itself = refl }
+
+pub returns-clause-interfaces : goal.returns-clause-interfaces
+returns-clause-interfaces c = record { none = refl; no_parameter = refl; no_gate = refl; other_word = refl; other_unit = refl; other_direction = refl; other_size = refl; more = refl; of_base = refl; extended = refl; network = refl; channel = refl; last = refl }
+
+pub returns-clause-extending : goal.returns-clause-extending
+returns-clause-extending c = record { flat = refl; two_ways = refl; two_ways_fine = refl; named_twice = refl; twice = refl; gate_twice = refl; unknown = refl; unknown_base = refl; simple = refl; built_in = refl; for_channels = refl; base_for_channels = refl; extended_by_simple = refl; submodule = refl; itself = refl; circle = refl; mixed_circle = refl; kept_circle = refl }
