@@ -82,29 +82,6 @@ pub fn with_bases<'a>(
     Ok(along)
 }
 
-/// Where as many steps as there are types lead, from a place to what is extended there.
-fn far_from(bases: &[Option<usize>], at: usize) -> Option<usize> {
-    let mut next = Some(at);
-    for _step in 0..bases.len() {
-        let Some(place) = next else {
-            break;
-        };
-        next = base_at(bases, place);
-    }
-    next
-}
-
-/// The place of a type that extends itself: where there is still a type after that many steps, the way is in a circle.
-fn in_a_circle(bases: &[Option<usize>]) -> Option<usize> {
-    for at in 0..bases.len() {
-        let far = far_from(bases, at);
-        if far.is_some() {
-            return far;
-        }
-    }
-    None
-}
-
 /// Adds that what a type extends isn't declared.
 pub fn tell_unknown_base(
     alloc: Global,
@@ -125,54 +102,6 @@ pub fn tell_unknown_base(
     )?;
     let near = names_of(alloc, types, it.of.kind)?;
     tell_near(told, base, near.as_slice())
-}
-
-/// Adds that a type extends itself.
-fn tell_itself(
-    told: &mut String,
-    sources: &Sources<'_>,
-    files: &[ReadFile],
-    it: &Declared<'_>,
-    base: &[u8],
-) -> Result<(), NoMemory> {
-    let name = it.of.name.as_bytes();
-    let line = line_of(files, it, Sign::Base, base, 0);
-    write!(
-        told,
-        "{}:{line}: the type '{}' extends ",
-        sources.path(it.file),
-        shown(name)
-    )?;
-    if name == base {
-        told.push_str("itself; it can extend another type, or none")?;
-        return Ok(());
-    }
-    write!(
-        told,
-        "'{}', and that in the end '{}' again; let one of them extend another type, or none",
-        shown(base),
-        shown(name)
-    )?;
-    Ok(())
-}
-
-/// Adds that a type extends itself, perhaps by way of others. Answers whether one does.
-pub fn tell_circle(
-    told: &mut String,
-    sources: &Sources<'_>,
-    files: &[ReadFile],
-    types: &[Declared<'_>],
-    bases: &[Option<usize>],
-) -> Result<bool, NoMemory> {
-    let Some(place) = in_a_circle(bases) else {
-        return Ok(false);
-    };
-    if let Some(it) = types.get(place) {
-        if let Some(base) = &it.of.base {
-            tell_itself(told, sources, files, it, base.as_bytes())?;
-        }
-    }
-    Ok(true)
 }
 
 /// Whether it is the place of a type of that kind.

@@ -3,7 +3,8 @@
 use crate::names::shown;
 use crate::ned_files::{Declared, ReadFile, Sign, line_of};
 use crate::sources::Sources;
-use ned_syntax::ast::{GateDeclaration, GateLine, Submodule};
+use ned_syntax::ast::{GateDeclaration, GateLine, SectionLine, Submodule};
+use ned_types::faults::name_in;
 use sim_values::NoMemory;
 use std::fmt::Write;
 
@@ -166,4 +167,114 @@ pub fn tell_second_submodule(
     };
     tell_second(told, sources, files, it, &first, second)?;
     Ok(true)
+}
+
+/// The name that a line of parameters declares.
+fn declared_name(line: &SectionLine) -> Option<&[u8]> {
+    match line {
+        SectionLine::Declaration(it) => Some(it.name.as_bytes()),
+        _ => None,
+    }
+}
+
+/// The first of the types that declares the parameter.
+fn parameter_before<'a>(bases: &[Declared<'a>], name: &[u8]) -> Option<Declared<'a>> {
+    for it in bases {
+        let lines = it.of.lines.as_slice();
+        if lines.iter().any(|line| {
+            matches!(line, SectionLine::Declaration(_)) && name_in(line) == name
+        }) {
+            return Some(*it);
+        }
+    }
+    None
+}
+
+/// A parameter of a type that one of the others declares too, and that one.
+fn shared_parameter<'a>(
+    others: &[Declared<'a>],
+    it: &Declared<'a>,
+) -> Option<(&'a [u8], Declared<'a>)> {
+    for line in it.of.lines.as_slice() {
+        if let Some(name) = declared_name(line) {
+            if let Some(other) = parameter_before(others, name) {
+                return Some((name, other));
+            }
+        }
+    }
+    None
+}
+
+/// A gate of a type that one of the others declares too, and that one.
+fn shared_gate<'a>(others: &[Declared<'a>], it: &Declared<'a>) -> Option<(&'a [u8], Declared<'a>)> {
+    for line in it.of.gates.as_slice() {
+        if let Some(gate) = gate_in(line) {
+            if let Some(other) = gate_before(others, gate.name.as_bytes()) {
+                return Some((gate.name.as_bytes(), other));
+            }
+        }
+    }
+    None
+}
+
+/// Adds that two of the types that one extends, none of which extends the other, declare one member.
+fn tell_shared(
+    told: &mut String,
+    sources: &Sources<'_>,
+    files: &[ReadFile],
+    it: &Declared<'_>,
+    first: &Declared<'_>,
+    other: &Declared<'_>,
+    second: Second<'_>,
+) -> Result<(), NoMemory> {
+    write!(
+        told,
+        "{}:{}: the {} '{}' of '{}' is declared in '{}', at {}:{}, and in '{}', at {}:{}; it can't extend both",
+        sources.path(it.file),
+        line_of(files, it, Sign::Head, first.of.name.as_bytes(), 0),
+        second.what,
+        shown(second.name),
+        shown(it.of.name.as_bytes()),
+        shown(first.of.name.as_bytes()),
+        sources.path(first.file),
+        line_of(files, first, second.sign, second.name, 0),
+        shown(other.of.name.as_bytes()),
+        sources.path(other.file),
+        line_of(files, other, second.sign, second.name, 0)
+    )?;
+    Ok(())
+}
+
+/// Adds that two of the types that one extends declare one member. Answers whether two do.
+pub fn tell_two_bases<'a>(
+    told: &mut String,
+    sources: &Sources<'_>,
+    files: &[ReadFile],
+    bases: &[Declared<'a>],
+    it: &Declared<'a>,
+) -> Result<bool, NoMemory> {
+    for (at, first) in bases.iter().enumerate() {
+        let others = bases.get(at.saturating_add(1)..).unwrap_or(&[]);
+        if let Some((name, other)) = shared_parameter(others, first) {
+            let second = Second {
+                what: "parameter",
+                sign: Sign::Parameter,
+                name,
+                behind: 0,
+            };
+            tell_shared(told, sources, files, it, first, &other, second)?;
+            return Ok(true);
+        }
+        if let Some((name, other)) = shared_gate(others, first) {
+            let second = Second {
+                what: "gate",
+                sign: Sign::Gate,
+                name,
+                behind: 0,
+            };
+            tell_shared(told, sources, files, it, first, &other, second)?;
+            return Ok(true);
+        }
+    }
+    Ok(false)
 }

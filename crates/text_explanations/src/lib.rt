@@ -5,8 +5,10 @@
 
 pub mod bases;
 mod channels;
+mod circles;
 mod gates;
 pub mod ini_lines;
+mod interfaces;
 pub mod members;
 pub mod names;
 pub mod ned_files;

@@ -32,6 +32,8 @@ pub enum Sign {
     Base,
     /// `NAME` or `int NAME`, a line of a parameter.
     Name,
+    /// `NAME`, the last part of a name in the list behind `extends` or `like`.
+    Head,
 }
 
 /// Whether the word declares a parameter.
@@ -77,11 +79,20 @@ fn begins_submodule(tokens: &[Token], at: usize) -> bool {
     }
 }
 
+/// Whether a name at that place is one of a head, behind `extends`, `like`, a comma or a dot.
+fn stands_in_head(tokens: &[Token], at: usize) -> bool {
+    matches!(
+        token_before(tokens, at, 1),
+        Some(Token::Word(Keyword::Extends | Keyword::Like) | Token::Mark(Mark::Comma | Mark::Dot))
+    )
+}
+
 /// Whether the place is one for that sign.
 fn may_stand(tokens: &[Token], at: usize, sign: Sign) -> bool {
     match sign {
         Sign::Name => begins_line(tokens, at),
         Sign::Submodule => begins_submodule(tokens, at),
+        Sign::Head => stands_in_head(tokens, at),
         _ => true,
     }
 }
@@ -110,7 +121,7 @@ fn begins_with(tokens: &[Token], sign: Sign, name: &[u8]) -> bool {
             is_gate_word(*word) && found.is(name)
         }
         (Sign::Base, [Token::Word(Keyword::Extends), base @ ..]) => is_last_part(base, name),
-        (Sign::Name, [Token::Name(found), ..]) => found.is(name),
+        (Sign::Name | Sign::Head, [Token::Name(found), ..]) => found.is(name),
         _ => false,
     }
 }

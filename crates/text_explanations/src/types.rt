@@ -1,10 +1,12 @@
 //! Why the types of the files don't go together.
 
-use crate::bases::{
-    bases_along, bases_of, tell_circle, tell_other_base, tell_unknown_base, with_bases,
-};
+use crate::bases::{bases_along, bases_of, tell_other_base, tell_unknown_base, with_bases};
 use crate::channels::is_built_in;
-use crate::gates::{tell_gates, tell_second_submodule};
+use crate::circles::tell_circle;
+use crate::gates::{tell_gates, tell_second_submodule, tell_two_bases};
+use crate::interfaces::{
+    interfaces_of, is_interface, tell_broken, tell_other_interface, tell_unknown_interface,
+};
 use crate::members::{tell_body, tell_section};
 use crate::names::{shown, tell_near};
 use crate::ned_files::{
@@ -100,7 +102,8 @@ fn tell_unknown_submodule(
     tell_near(told, of, simple.as_slice())
 }
 
-/// Adds that what a type extends, or the type of one of its submodules, isn't declared. Answers whether there is such.
+/// Adds that what a type extends, one of its interfaces, or the type of one of its submodules, isn't declared. Answers whether there is
+/// such.
 fn tell_unknown_in(
     alloc: Global,
     told: &mut String,
@@ -114,6 +117,9 @@ fn tell_unknown_in(
             tell_unknown_base(alloc, told, sources, files, types, it, base.as_bytes())?;
             return Ok(true);
         }
+    }
+    if tell_unknown_interface(alloc, told, sources, files, types, it)? {
+        return Ok(true);
     }
     for submodule in it.of.submodules.as_slice() {
         if !is_known(types, submodule.type_name.as_bytes()) {
@@ -205,9 +211,15 @@ fn tell_clash(
     bases: &[Option<usize>],
 ) -> Result<bool, NoMemory> {
     for (at, it) in types.iter().enumerate() {
-        let along = bases_along(alloc, types, bases, at)?;
+        let along = if is_interface(it.of.kind) {
+            interfaces_of(alloc, types, it)?
+        } else {
+            bases_along(alloc, types, bases, at)?
+        };
         if tell_section(told, sources, files, along.as_slice(), it)?
             || tell_gates(told, sources, files, along.as_slice(), it)?
+            || (is_interface(it.of.kind)
+                && tell_two_bases(told, sources, files, along.as_slice(), it)?)
             || tell_submodules(told, sources, files, types, along.as_slice(), it)?
             || tell_bodies(alloc, told, sources, files, types, it)?
         {
@@ -229,19 +241,27 @@ pub fn tell_types(alloc: Global, told: &mut String, sources: &Sources<'_>) -> Re
     }
     let bases = bases_of(alloc, types.as_slice())?;
     let bases = bases.as_slice();
-    if tell_circle(told, sources, files.as_slice(), types.as_slice(), bases)? {
+    if tell_circle(alloc, told, sources, files.as_slice(), types.as_slice())? {
         return Ok(());
+    }
+    for it in types.as_slice() {
+        if tell_other_interface(told, sources, files.as_slice(), types.as_slice(), it)? {
+            return Ok(());
+        }
     }
     if tell_other_base(told, sources, files.as_slice(), types.as_slice(), bases)? {
         return Ok(());
     }
-    tell_clash(
+    if tell_clash(
         alloc,
         told,
         sources,
         files.as_slice(),
         types.as_slice(),
         bases,
-    )?;
+    )? {
+        return Ok(());
+    }
+    tell_broken(alloc, told, sources, files.as_slice(), types.as_slice())?;
     Ok(())
 }
