@@ -9,3 +9,4 @@ pub mod GateLaws
 pub mod InterfaceLaws
 pub mod OrderLaws
 pub mod LineLaws
+pub mod SectionLaws

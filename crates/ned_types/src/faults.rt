@@ -1,7 +1,7 @@
 //! Why declared types make no model.
 
 ghost use Rattle.std.specs.Prelude.{◌≡◌, ◌||◌, ◌↔◌, false, None, IfOk};
-ghost use Rattle.ned_types.specs.Types.{has_duplicate, is_built_in, is_type_named, names_unknown, is_submodule_known, has_clash, clashes, section_clashes, submodules_clash, is_submodule_simple, is_simple, repeats_submodule, has_other_kind, redeclares, declares, is_declaration, is_declared, is_undeclared, gives_undeclared, gives_again, gives, is_given, is_fixed, name_in, value_in};
+ghost use Rattle.ned_types.specs.Types.{has_duplicate, is_built_in, is_type_named, names_unknown, is_submodule_known, has_clash, clashes, submodules_clash, is_submodule_simple, is_simple, repeats_submodule, has_other_kind, gives, is_fixed, name_in, value_in};
 ghost use Rattle.ned_types.specs.Inheritance.{flat_types};
 ghost use Rattle.ned_types.specs.Building.{Builds, AnswersTable, CanBuild, flat_fault};
 ghost use Rattle.ned_types.specs.WellFormed.{IsWellFormed};
@@ -16,6 +16,7 @@ use crate::inheritance::{flat_types, has_other_base, has_unknown_base};
 use crate::interfaces::{has_broken, has_other_interface, has_unknown_interface};
 use crate::lines::all_lines;
 use crate::named::{NamedTypes, by_name};
+use crate::sections::section_clashes;
 use crate::table::TypeFault;
 use indexmap::IndexSet;
 use ned_syntax::ast::{ParameterValue, SectionLine, Submodule, TypeDeclaration, TypeKind};
@@ -155,19 +156,13 @@ fn clashes(
 ) -> Result<bool, AllocError>
     ensures { IfOk result (λ clash. clash ≡ clashes named.now declared.now) }
 {
-    if section_clashes(declared.lines.as_slice()) {
+    if section_clashes(alloc, declared.lines.as_slice())? {
         return Ok(true);
     }
     if redeclares_gate(alloc, declared.gates.as_slice())? {
         return Ok(true);
     }
     submodules_clash(alloc, named, declared.submodules.as_slice())
-}
-
-fn section_clashes(lines: &[SectionLine]) -> bool
-    ensures { result ≡ section_clashes lines.now }
-{
-    redeclares(lines) || gives_undeclared(lines) || gives_again(lines)
 }
 
 fn submodules_clash(
@@ -180,44 +175,10 @@ fn submodules_clash(
     if repeats_submodule(alloc, submodules)? {
         return Ok(true);
     }
-    Ok(has_other_kind(named, submodules) || bodies_clash(named, submodules))
-}
-
-/// Whether a parameter is declared twice.
-fn redeclares(lines: &[SectionLine]) -> bool
-    ensures { result ≡ redeclares lines.now }
-{
-    let mut rest = lines;
-    while let [line, after @ ..] = rest {
-        if is_declaration(line) && is_declared(name_in(line), after) {
-            return true;
-        }
-        rest = after;
+    if has_other_kind(named, submodules) {
+        return Ok(true);
     }
-    false
-}
-
-pub(crate) fn is_declaration(line: &SectionLine) -> bool
-    ensures { result ≡ is_declaration line.now }
-{
-    matches!(line, SectionLine::Declaration(_))
-}
-
-/// Whether one of the lines declares the parameter.
-fn is_declared(name: &[u8], lines: &[SectionLine]) -> bool
-    ensures { result ≡ is_declared name.now lines.now }
-{
-    lines.iter().any(|line| declares(name, line))
-}
-
-/// Whether the line declares the parameter.
-fn declares(name: &[u8], line: &SectionLine) -> bool
-    ensures { result ≡ declares name.now line.now }
-{
-    match line {
-        SectionLine::Declaration(declaration) => declaration.name.is(name),
-        _ => false,
-    }
+    bodies_clash(alloc, named, submodules)
 }
 
 /// The parameter that a line speaks of.
@@ -242,45 +203,11 @@ pub fn value_in(line: &SectionLine) -> Option<&ParameterValue>
     }
 }
 
-/// Whether a value is given to a parameter that isn't declared.
-fn gives_undeclared(lines: &[SectionLine]) -> bool
-    ensures { result ≡ gives_undeclared lines.now }
-{
-    lines.iter().any(|line| is_undeclared(lines, line))
-}
-
-pub(crate) fn is_undeclared(lines: &[SectionLine], line: &SectionLine) -> bool
-    ensures { result ≡ is_undeclared lines.now line.now }
-{
-    value_in(line).is_some() && !is_declared(name_in(line), lines)
-}
-
-/// Whether a parameter with a fixed value is given another one.
-pub(crate) fn gives_again(lines: &[SectionLine]) -> bool
-    ensures { result ≡ gives_again lines.now }
-{
-    let mut rest = lines;
-    while let [line, after @ ..] = rest {
-        if fixes(line) && is_given(name_in(line), after) {
-            return true;
-        }
-        rest = after;
-    }
-    false
-}
-
 /// Whether the line gives a fixed value.
 pub(crate) fn fixes(line: &SectionLine) -> bool
     ensures { result ≡ is_fixed (value_in line.now) }
 {
     matches!(value_in(line), Some(ParameterValue::Fixed(_)))
-}
-
-/// Whether one of the lines gives the parameter a value.
-fn is_given(name: &[u8], lines: &[SectionLine]) -> bool
-    ensures { result ≡ is_given name.now lines.now }
-{
-    lines.iter().any(|line| gives(name, line))
 }
 
 /// Whether the line gives the parameter a value.

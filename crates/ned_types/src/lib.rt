@@ -13,4 +13,5 @@ pub mod laws;
 mod lines;
 mod named;
 mod order;
+mod sections;
 pub mod table;
