@@ -1,10 +1,15 @@
 //! Names as they are shown, and names that are near to one another.
 
+ghost use Rattle.std.specs.Prelude.{◌≡◌};
+ghost use Rattle.text_explanations.specs.Names.{shown};
+
 use sim_values::NoMemory;
 use std::fmt::Write;
 
 /// The characters of a name.
-pub fn shown(bytes: &[u8]) -> &str {
+pub fn shown(bytes: &[u8]) -> &str
+    ensures { result.now ≡ shown bytes.now }
+{
     match std::str::from_utf8(bytes) {
         Ok(text) => text,
         Err(_) => "?",
