@@ -1,8 +1,11 @@
 //! The files that a run is written to.
 
-ghost use Rattle.std.specs.Prelude.{◌≡◌, [], IfOk, OnOk, string_bytes};
+ghost use Rattle.std.specs.Prelude.{◌≡◌, [], Some, None, IfErr, IfOk, OnOk, codes, string_bytes};
+ghost use Rattle.std.specs.Io.Buffered.{writer_inner};
+ghost use Rattle.std.specs.declared.io.Error.{Error as SystemError};
 ghost use Rattle.sim_values.specs.Counts.{next_count};
 ghost use Rattle.nedrun.specs.Devices.{taken_by, unwritten};
+ghost use Rattle.nedrun.specs.Stops.{IsFailed, IsUnwritable};
 ghost use Rattle.stock_desk.specs.Devices.{untouched};
 
 use crate::stops::Stop;
@@ -54,6 +57,9 @@ impl<'a, R: Files + AllocGlobal> FileOut<'a, R> {
     pub fn new(rt: &'a R, path: String) -> Result<FileOut<'a, R>, Stop>
         ensures taken { IfOk result (λ out. taken_by out ≡ untouched) }
         ensures path { IfOk result (λ out. out.path ≡ path) }
+        ensures file { IfOk result (λ out.
+            string_bytes (writer_inner out.writer).path ≡ string_bytes path) }
+        ensures unmade { IfOk result (λ out. (writer_inner out.writer).file ≡ None) }
     {
         let file = LateFile {
             rt,
@@ -77,6 +83,7 @@ impl<'a, R: Files + AllocGlobal> FileOut<'a, R> {
     pub fn finish(&mut self) -> Result<(), Stop>
         ensures written { OnOk result (unwritten self.new ≡ []) }
         ensures content { self.new.content.bytes ≡ self.old.content.bytes }
+        ensures failed { IfErr result (λ stop. IsUnwritable (string_bytes self.old.path) stop) }
     {
         match self.writer.flush() {
             Ok(()) => Ok(()),
@@ -92,14 +99,21 @@ impl<'a, R: Files + AllocGlobal> FileOut<'a, R> {
     }
 
     /// What ends the program where the last write failed.
-    pub fn stop(&self) -> Stop {
+    pub fn stop(&self) -> Stop
+        ensures unwritable { IsUnwritable (string_bytes self.now.path) result }
+        ensures fault { (error : SystemError) → self.now.fault ≡ Some error
+            → IsFailed (codes "this file can't be written") (string_bytes self.now.path)
+            error result }
+    {
         let fault = self.fault.unwrap_or(io::Error::from(ErrorKind::WriteZero));
         unwritable(self.rt, self.path.as_str(), fault)
     }
 }
 
 /// What ends the program where the file of that path can't be written.
-fn unwritable<R: AllocGlobal>(rt: &R, path: &str, error: io::Error) -> Stop {
+fn unwritable<R: AllocGlobal>(rt: &R, path: &str, error: io::Error) -> Stop
+    ensures { IsFailed (codes "this file can't be written") path.now error result }
+{
     Stop::failed(rt.alloc(), "this file can't be written", path, error)
 }
 
@@ -108,6 +122,8 @@ impl<R: Files> FileOut<'_, R> {
     fn failed(&mut self, error: io::Error) -> WriteFault
         ensures content { self.new.content.bytes ≡ self.old.content.bytes }
         ensures failures { self.new.failures ≡ next_count self.old.failures }
+        ensures fault { self.new.fault ≡ Some error }
+        ensures path { self.new.path ≡ self.old.path }
     {
         self.failures = self.failures.wrapping_add(1);
         self.fault = Some(error);

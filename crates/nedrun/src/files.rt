@@ -1,5 +1,8 @@
 //! Texts of files.
 
+ghost use Rattle.std.specs.Prelude.{codes};
+ghost use Rattle.nedrun.specs.Stops.{IsFailed};
+
 use crate::stops::Stop;
 use ned_syntax::texts::NedTexts;
 use std::io;
@@ -10,7 +13,9 @@ use text_files::reading::ReadFault;
 use text_files::system::SystemFiles;
 
 /// What ends the program where a file can't be read.
-fn unread<R: AllocGlobal>(rt: &R, path: &str, error: io::Error) -> Stop {
+fn unread<R: AllocGlobal>(rt: &R, path: &str, error: io::Error) -> Stop
+    ensures { IsFailed (codes "this file can't be read") path.now error result }
+{
     Stop::failed(rt.alloc(), "this file can't be read", path, error)
 }
 

@@ -1,13 +1,16 @@
 //! Runs a network of modules from its files, and writes the result files of the run.
 #![tactic(auto)]
 
-ghost use Rattle.std.specs.Prelude.{◌≡◌, ◌≤◌, [], IsSome, IfOk, string_bytes};
+ghost use Rattle.std.specs.Prelude.{◌≡◌, ◌≢◌, ◌≤◌, [], Some, Ok, Err, IsErrAnd, IsSome, IfErr, IfOk, string_bytes};
 ghost use Rattle.model_answers.specs.declared.model.Model.{Model};
 ghost use Rattle.model_texts.specs.Models.{IsModelOf};
 ghost use Rattle.stock_modules.specs.Stock.{stock};
 ghost use Rattle.stock_desk.specs.Served.{fresh_machine};
 ghost use Rattle.stock_desk.specs.Serving.{Ends};
 ghost use Rattle.stock_desk.specs.Stops.{at_stop};
+ghost use Rattle.stock_desk.specs.declared.serving.Stop.TheVariants as why;
+ghost use Rattle.nedrun.specs.Stops.{IsStopOf};
+ghost use Rattle.nedrun.specs.declared.stops.Stop.{Stop as StopValue};
 ghost use Rattle.nedrun.specs.declared.user.Ask.TheVariants as ask;
 ghost use Rattle.nedrun.specs.Typing.{AsksInOrder};
 
@@ -57,6 +60,24 @@ fn serve_user<'a, R: Files + Input + Print + Eprint + AllocGlobal>(
     )
 }
 
+/// Why the program ends early, where it does, behind a user who was served so.
+fn ended<R: Files + Input + Print + Eprint + AllocGlobal>(
+    rt: &R,
+    sources: &Sources<'_>,
+    served: Result<(User<'_, R>, serving::Stop), BeginFault>,
+) -> Result<(), Stop>
+    ensures over { IfOk served.entry (λ r. r.1 ≡ why.End → result ≡ Ok tt) }
+    ensures stuck { IfOk served.entry (λ r. r.1 ≢ why.End
+        → (stop : StopValue) → r.0.stop ≡ Some stop → result ≡ Err stop) }
+    ensures refused { IfErr served.entry (λ fault. IsErrAnd result (IsStopOf fault)) }
+{
+    match served {
+        Ok((_, serving::Stop::End)) => Ok(()),
+        Ok((user, _)) => Err(user.into_stop()),
+        Err(fault) => Err(Stop::refused(rt.alloc(), fault, sources)),
+    }
+}
+
 /// Serves the user, and tells why it ended early where it did.
 fn session<R: Files + Input + Print + Eprint + AllocGlobal>(
     rt: &R,
@@ -65,11 +86,7 @@ fn session<R: Files + Input + Print + Eprint + AllocGlobal>(
 ) -> Result<(), Stop>
     requires interval { 1 ≤ words.now.interval }
 {
-    match serve_user(rt, words, sources) {
-        Ok((_, serving::Stop::End)) => Ok(()),
-        Ok((user, _)) => Err(user.into_stop()),
-        Err(fault) => Err(Stop::refused(rt.alloc(), fault, sources)),
-    }
+    ended(rt, sources, serve_user(rt, words, sources))
 }
 
 /// Does what the words ask for.
@@ -88,11 +105,6 @@ fn work<R: Files + Env + Input + Print + Eprint + AllocGlobal>(rt: &R) -> Result
     session(rt, &words, &sources)
 }
 
-/// Status 0 at the end of standard input; 1 where a file or a stream fails, where memory runs out for what the program says or
-/// reads, or where as many lines were read as are; 2 where the words or the texts are refused.
 fn main(rt: HostRuntime) -> ExitCode {
-    match work(&rt) {
-        Ok(()) => ExitCode::SUCCESS,
-        Err(stop) => ExitCode::from(stop.tell(&rt)),
-    }
+    stops::status(&rt, work(&rt))
 }

@@ -1,5 +1,9 @@
 //! What the program prints and writes.
 
+ghost use Rattle.std.specs.Prelude.{◌≡◌, IfErr, IfOk, codes, string_bytes};
+ghost use Rattle.nedrun.specs.Paths.{file_path};
+ghost use Rattle.nedrun.specs.Stops.{Fails, IsFailed};
+
 use crate::stops::Stop;
 use explanations::runs::fault_line;
 use explanations::warnings::warning_lines;
@@ -21,7 +25,10 @@ fn print<R: Print>(rt: &R, line: &[u8]) -> io::Result<()> {
 }
 
 /// What ends the program where an answer can't be printed.
-fn unsaid<R: AllocGlobal>(rt: &R, error: io::Error) -> Stop {
+fn unsaid<R: AllocGlobal>(rt: &R, error: io::Error) -> Stop
+    ensures { IsFailed (codes "the answer can't be printed") (codes "standard output")
+        error result }
+{
     Stop::failed(
         rt.alloc(),
         "the answer can't be printed",
@@ -31,12 +38,17 @@ fn unsaid<R: AllocGlobal>(rt: &R, error: io::Error) -> Stop {
 }
 
 /// What ends the program where an answer wasn't printed, and no more is known.
-pub fn unprinted<R: AllocGlobal>(rt: &R) -> Stop {
+pub fn unprinted<R: AllocGlobal>(rt: &R) -> Stop
+    ensures { Fails (codes "the answer can't be printed") (codes "standard output") result }
+{
     unsaid(rt, io::Error::from(ErrorKind::WriteZero))
 }
 
 /// What ends the program where a line of standard input can't be read.
-pub fn unread_line<R: AllocGlobal>(rt: &R, error: io::Error) -> Stop {
+pub fn unread_line<R: AllocGlobal>(rt: &R, error: io::Error) -> Stop
+    ensures { IsFailed (codes "the next command can't be read") (codes "standard input")
+        error result }
+{
     Stop::failed(
         rt.alloc(),
         "the next command can't be read",
@@ -46,7 +58,10 @@ pub fn unread_line<R: AllocGlobal>(rt: &R, error: io::Error) -> Stop {
 }
 
 /// Prints a line on standard output, or says that it failed.
-pub fn say<R: Print + AllocGlobal>(rt: &R, line: &[u8]) -> Result<(), Stop> {
+pub fn say<R: Print + AllocGlobal>(rt: &R, line: &[u8]) -> Result<(), Stop>
+    ensures { IfErr result (λ stop.
+        Fails (codes "the answer can't be printed") (codes "standard output") stop) }
+{
     match print(rt, line) {
         Ok(()) => Ok(()),
         Err(error) => Err(unsaid(rt, error)),
@@ -54,7 +69,10 @@ pub fn say<R: Print + AllocGlobal>(rt: &R, line: &[u8]) -> Result<(), Stop> {
 }
 
 /// Prints lines for a person on standard error, where there are any.
-fn advise<R: Eprint + AllocGlobal>(rt: &R, lines: &str) -> Result<(), Stop> {
+fn advise<R: Eprint + AllocGlobal>(rt: &R, lines: &str) -> Result<(), Stop>
+    ensures { IfErr result (λ stop.
+        Fails (codes "a warning can't be printed") (codes "standard error") stop) }
+{
     if lines.is_empty() {
         return Ok(());
     }
@@ -70,7 +88,9 @@ fn advise<R: Eprint + AllocGlobal>(rt: &R, lines: &str) -> Result<(), Stop> {
 }
 
 /// Makes the folder of the result files, where it is not there.
-pub fn make_folder<R: Files + AllocGlobal>(rt: &R, directory: &str) -> Result<(), Stop> {
+pub fn make_folder<R: Files + AllocGlobal>(rt: &R, directory: &str) -> Result<(), Stop>
+    ensures { IfErr result (λ stop. Fails (codes "this folder can't be made") directory.now stop) }
+{
     match fs::create_dir_all(rt, directory) {
         Ok(()) => Ok(()),
         Err(error) => Err(Stop::failed(rt.alloc(), "this folder can't be made", directory, error)),
@@ -83,7 +103,10 @@ pub fn file_path(
     directory: &str,
     config: &[u8],
     ending: &str,
-) -> Result<String, AllocError> {
+) -> Result<String, AllocError>
+    ensures { IfOk result (λ path.
+        string_bytes path ≡ file_path directory.now config.now ending.now) }
+{
     let config = shown(config);
     format!(in alloc; "{directory}/{config}-#0.{ending}")
 }

@@ -1,8 +1,10 @@
 //! Why the program ends early.
 
 ghost use Rattle.std.specs.Prelude.{◌≡◌};
+ghost use Rattle.std.specs.Process.{exit_status};
+ghost use Rattle.clap.specs.Values.{kind_of};
 ghost use Rattle.sim_values.specs.Memory.{no_memory};
-ghost use Rattle.nedrun.specs.Stops.{IsNamed, IsStopOf};
+ghost use Rattle.nedrun.specs.Stops.{IsFailed, IsNamed, IsStatus, IsStopOf, status_of, words_status};
 ghost use Rattle.nedrun.specs.declared.stops.Stop.TheVariants as stops;
 
 use clap::error::ErrorKind;
@@ -14,6 +16,7 @@ use sim_values::NoMemory;
 use sim_values::text::Text;
 use std::alloc::{AllocError, AllocFailed, Global};
 use std::io;
+use std::process::ExitCode;
 use text_explanations::names::shown;
 use text_explanations::sources::Sources;
 
@@ -54,29 +57,52 @@ impl Stop {
     }
 
     /// What ends the program where a file, a folder or a stream failed.
-    pub fn failed(alloc: Global, what: &str, name: &str, error: io::Error) -> Stop {
+    pub fn failed(alloc: Global, what: &str, name: &str, error: io::Error) -> Stop
+        ensures { IsFailed what.now name.now error result }
+    {
         match format!(in alloc; "{name}: {what}") {
             Ok(line) => Stop::Failed(line, error),
             Err(error) => error.into(),
         }
     }
 
-    /// Says it, on standard error but for help, and answers the status. The first line has the name of a refusal, the second
-    /// is for a person.
-    pub fn tell<R: Print + Eprint>(&self, rt: &R) -> u8 {
-        let (told, status) = match self {
-            Stop::Words(error) => (error.print(rt), words_status(error)),
-            Stop::Refused(text, line) => (say_refused(rt, text, line.as_str()), 2),
-            Stop::Failed(line, error) => (eprintln!(rt; "nedrun: {error}\n{line}"), 1),
-            Stop::Spent => (
-                eprintln!(rt;
-                    "nedrun: the limit of {MOST_LINES} command lines is reached: start the program again"
-                ),
-                1,
+    /// The status of a program that ends for it.
+    fn status(&self) -> u8
+        ensures { result ≡ status_of self.now }
+    {
+        match self {
+            Stop::Words(error) => words_status(error),
+            Stop::Refused(_, _) => 2,
+            Stop::Failed(_, _) | Stop::Spent | Stop::NoMemory(_) => 1,
+        }
+    }
+
+    /// Says it, on standard error but for help. The first line has the name of a refusal, the second is for a person.
+    fn tell<R: Print + Eprint>(&self, rt: &R) -> io::Result<()> {
+        match self {
+            Stop::Words(error) => error.print(rt),
+            Stop::Refused(text, line) => say_refused(rt, text, line.as_str()),
+            Stop::Failed(line, error) => eprintln!(rt; "nedrun: {error}\n{line}"),
+            Stop::Spent => eprintln!(rt;
+                "nedrun: the limit of {MOST_LINES} command lines is reached: start the program again"
             ),
-            Stop::NoMemory(_) => (eprintln!(rt; "nedrun: NoMemory"), 1),
-        };
-        if told.is_ok() { status } else { 1 }
+            Stop::NoMemory(_) => eprintln!(rt; "nedrun: NoMemory"),
+        }
+    }
+}
+
+/// The status of the program, which says why it ends early where it does: 0 at the end of standard input; 1 where a file or a
+/// stream fails, where memory runs out for what the program says or reads, or where as many lines were read as are; 2 where the
+/// words or the texts are refused.
+pub fn status<R: Print + Eprint>(rt: &R, ended: Result<(), Stop>) -> ExitCode
+    ensures { IsStatus ended (exit_status result) }
+{
+    match ended {
+        Ok(()) => ExitCode::SUCCESS,
+        Err(stop) => match stop.tell(rt) {
+            Ok(()) => ExitCode::from(stop.status()),
+            Err(_) => ExitCode::FAILURE,
+        },
     }
 }
 
@@ -94,7 +120,9 @@ fn line_for(alloc: Global, fault: BeginFault, sources: &Sources<'_>) -> String {
 }
 
 /// The status after words that aren't as they should be.
-fn words_status(error: &clap::Error) -> u8 {
+fn words_status(error: &clap::Error) -> u8
+    ensures { result ≡ words_status (kind_of error.now) }
+{
     match error.kind() {
         ErrorKind::OutOfMemory => 1,
         ErrorKind::DisplayHelp | ErrorKind::DisplayVersion => 0,

@@ -1,10 +1,13 @@
 //! Who asks by lines of standard input, and hears by lines of standard output.
 
-ghost use Rattle.std.specs.Prelude.{◌≡◌, [], ◌∷◌, ◌++◌, None, IsSome, IfOk, OnOk, OnErr, codes};
+ghost use Rattle.std.specs.Prelude.{◌≡◌, [], ◌∷◌, ◌++◌, Some, None, IsSome, IsSomeAnd, IfOk, OnOk, OnErr, codes, string_bytes};
 ghost use Rattle.std.specs.Fmt.{decimal};
 ghost use Rattle.nedrun.specs.Asking.{left_of};
-ghost use Rattle.nedrun.specs.Devices.{taken_by, unwritten};
+ghost use Rattle.nedrun.specs.Devices.{path_of, taken_by, unwritten};
+ghost use Rattle.nedrun.specs.Paths.{file_path};
+ghost use Rattle.nedrun.specs.Stops.{IsOutOfMemory, IsUnread, IsUnwritable};
 ghost use Rattle.nedrun.specs.Typing.{AsksInOrder, AsksNext};
+ghost use Rattle.nedrun.specs.declared.stops.Stop.{Stop as StopValue};
 ghost use Rattle.nedrun.specs.declared.user.Ask.TheVariants as ask;
 ghost use Rattle.stock_desk.specs.Devices.{untouched, HasFailed};
 ghost use Rattle.stock_desk.specs.Stops.{at_stop};
@@ -92,7 +95,9 @@ impl<'a, R: Files + Input + Print + Eprint + AllocGlobal> User<'a, R> {
     }
 
     /// Why the user couldn't go on.
-    pub fn into_stop(self) -> Stop {
+    pub fn into_stop(self) -> Stop
+        ensures { (stop : StopValue) → self.entry.stop ≡ Some stop → result ≡ stop }
+    {
         let User {
             rt,
             words: _,
@@ -117,6 +122,7 @@ impl<'a, R: Files + Input + Print + Eprint + AllocGlobal> User<'a, R> {
         ensures lines { self.new.lines ≡ self.old.lines }
         ensures transcript { self.new.transcript ≡ self.old.transcript }
         ensures stuck { IsSome self.new.stop }
+        ensures reason { self.new.stop ≡ Some stop }
     {
         self.stop = Some(stop);
         Gone
@@ -134,6 +140,7 @@ impl<'a, R: Files + Input + Print + Eprint + AllocGlobal> User<'a, R> {
         ensures over { IfOk result (λ next. next ≡ None
             → (self.new.ask ≡ ask.Line) × (self.new.lines.buffer.bytes ≡ [])) }
         ensures stuck { OnErr result (IsSome self.new.stop) }
+        ensures reason { OnErr result (IsSomeAnd self.new.stop IsOutOfMemory) }
         ensures words { self.new.words ≡ self.old.words }
         ensures heard { self.new.transcript.heard ≡ self.old.transcript.heard }
     {
@@ -159,6 +166,7 @@ impl<'a, R: Files + Input + Print + Eprint + AllocGlobal> User<'a, R> {
         ensures over { IfOk result (λ next. next ≡ None
             → (self.new.ask ≡ ask.Line) × (self.new.lines.buffer.bytes ≡ [])) }
         ensures stuck { OnErr result (IsSome self.new.stop) }
+        ensures reason { OnErr result (IsSomeAnd self.new.stop IsOutOfMemory) }
         ensures words { self.new.words ≡ self.old.words }
         ensures heard { self.new.transcript.heard ≡ self.old.transcript.heard }
     {
@@ -184,6 +192,9 @@ impl<'a, R: Files + Input + Print + Eprint + AllocGlobal> User<'a, R> {
         ensures over { IfOk result (λ next. next ≡ None
             → (self.new.ask ≡ ask.Line) × (self.new.lines.buffer.bytes ≡ [])) }
         ensures stuck { OnErr result (IsSome self.new.stop) }
+        ensures reason { let before = self.old.lines.source.failures in
+            let after = self.new.lines.source.failures in
+            OnErr result (IsSomeAnd self.new.stop (IsUnread before after self.new.lines.buffer)) }
         ensures words { self.new.words ≡ self.old.words }
         ensures heard { self.new.transcript.heard ≡ self.old.transcript.heard }
     {
@@ -250,6 +261,10 @@ impl<'a, R: Files + Input + Print + Eprint + AllocGlobal> User<'a, R> {
         ensures config { IfOk result (λ pages. pages.config.bytes ≡ config.now) }
         ensures scalars { IfOk result (λ pages. taken_by pages.scalars ≡ untouched) }
         ensures vectors { IfOk result (λ pages. taken_by pages.vectors ≡ untouched) }
+        ensures scalars_path { IfOk result (λ pages. string_bytes pages.scalars.path
+            ≡ file_path (string_bytes self.now.words.now.directory) config.now (codes "sca")) }
+        ensures vectors_path { IfOk result (λ pages. string_bytes pages.vectors.path
+            ≡ file_path (string_bytes self.now.words.now.directory) config.now (codes "vec")) }
     {
         let directory = self.words.directory.as_str();
         let mut name = Noted::new();
@@ -320,6 +335,10 @@ impl<'a, R: Files + Input + Print + Eprint + AllocGlobal> Client<FileOut<'a, R>>
         ensures config { IfOk result (λ pages. pages.config.bytes ≡ config.now) }
         ensures scalars { IfOk result (λ pages. taken_by pages.scalars ≡ untouched) }
         ensures vectors { IfOk result (λ pages. taken_by pages.vectors ≡ untouched) }
+        ensures scalars_path { IfOk result (λ pages. string_bytes pages.scalars.path
+            ≡ file_path (string_bytes self.old.words.now.directory) config.now (codes "sca")) }
+        ensures vectors_path { IfOk result (λ pages. string_bytes pages.vectors.path
+            ≡ file_path (string_bytes self.old.words.now.directory) config.now (codes "vec")) }
         ensures heard { self.new.transcript.heard ≡ self.old.transcript.heard }
         ensures stuck { OnErr result (IsSome self.new.stop) }
         ensures label { self.new.words.now.limit ≡ self.old.words.now.limit }
@@ -359,6 +378,8 @@ impl<'a, R: Files + Input + Print + Eprint + AllocGlobal> Client<FileOut<'a, R>>
         requires kept { AsksInOrder self.old.words.now.limit self.old.ask self.old.transcript.asked
             self.old.lines.source.given.bytes self.old.lines.buffer }
         requires failed { HasFailed page _written (taken_by pages.scalars) (taken_by pages.vectors) }
+        // The reason names the file of the device that failed.
+        ensures named { IsSomeAnd self.new.stop (IsUnwritable (path_of page pages.entry)) }
         ensures kept { AsksInOrder self.new.words.now.limit self.new.ask self.new.transcript.asked
             self.new.lines.source.given.bytes self.new.lines.buffer }
         ensures stuck { IsSome self.new.stop }

@@ -1,6 +1,8 @@
 //! What the program is asked for.
 
-ghost use Rattle.std.specs.Prelude.{◌≤◌, IfOk};
+ghost use Rattle.std.specs.Prelude.{◌≡◌, ◌≤◌, [], IfOk, codes, map, option_map, unwrap_or, string_bytes};
+ghost use Rattle.clap.specs.Matches.{found_of, matched_of, one_text, raw_values};
+ghost use Rattle.nedrun.specs.Words.{folder_of, IsGiven, IsIntervalOf, IsLimitOf};
 
 use crate::stops::Stop;
 use clap::{Arg, ArgAction, ArgMatches, Command, value_parser};
@@ -123,9 +125,17 @@ fn command<'a>(alloc: Global) -> Result<Command<'a>, AllocError> {
     with_files(alloc, command)
 }
 
+/// The limit that was given.
+fn given_limit(matches: &ArgMatches<'_>) -> u64
+    ensures { IsLimitOf (one_text (found_of matches.now) (codes "limit")) result }
+{
+    matches.get_one::<u64>("limit").unwrap_or(1000000)
+}
+
 /// The interval that was given: `clap` takes none below 1.
 fn given_interval(matches: &ArgMatches<'_>) -> u64
-    ensures { 1 ≤ result }
+    ensures given { IsIntervalOf (one_text (found_of matches.now) (codes "interval")) result }
+    ensures positive { 1 ≤ result }
 {
     match matches.get_one::<u64>("interval") {
         Some(interval) if interval >= 1 => interval,
@@ -134,8 +144,33 @@ fn given_interval(matches: &ArgMatches<'_>) -> u64
 }
 
 /// The folder of that name: an empty one is the folder that the program runs in.
-fn folder(name: &str) -> &str {
+fn folder(name: &str) -> &str
+    ensures { result.now ≡ folder_of name.now }
+{
     if name.is_empty() { "." } else { name }
+}
+
+/// Texts of their own, in the same order.
+fn copies(alloc: Global, texts: &[&str]) -> Result<Vec<String>, AllocError>
+    ensures { IfOk result (λ copies.
+        map string_bytes copies.items ≡ map (λ text. text.now) texts.now) }
+{
+    let mut copies = Vec::new(alloc);
+    for text in texts {
+        copies.push(String::from_str(alloc, text)?)?;
+    }
+    Ok(copies)
+}
+
+/// The paths of the NED files that were given.
+fn given_paths(alloc: Global, matches: &ArgMatches<'_>) -> Result<Vec<String>, AllocError>
+    ensures { IfOk result (λ paths. map string_bytes paths.items
+        ≡ unwrap_or (option_map raw_values (matched_of (found_of matches.now) (codes "ned"))) []) }
+{
+    match matches.get_strs("ned") {
+        Some(paths) => copies(alloc, paths),
+        None => Ok(Vec::new(alloc)),
+    }
 }
 
 /// The words that the program was started with.
@@ -152,6 +187,24 @@ fn given_words<R: Env + AllocGlobal>(rt: &R) -> Result<Vec<String>, Stop> {
 }
 
 impl Words {
+    /// What the words say that were given.
+    fn given(alloc: Global, matches: &ArgMatches<'_>) -> Result<Words, AllocError>
+        ensures given { IfOk result (λ words. IsGiven (found_of matches.now) words) }
+        ensures interval { IfOk result (λ words. 1 ≤ words.interval) }
+    {
+        Ok(Words {
+            config: String::from_str(alloc, matches.get_str("config").unwrap_or("General"))?,
+            limit: given_limit(matches),
+            interval: given_interval(matches),
+            directory: String::from_str(
+                alloc,
+                folder(matches.get_str("directory").unwrap_or(".")),
+            )?,
+            ini: String::from_str(alloc, matches.get_str("ini").unwrap_or(""))?,
+            texts: given_paths(alloc, matches)?,
+        })
+    }
+
     /// The program's own words.
     pub fn read<R: Env + AllocGlobal>(rt: &R) -> Result<Words, Stop>
         ensures interval { IfOk result (λ words. 1 ≤ words.interval) }
@@ -159,20 +212,6 @@ impl Words {
         let alloc = rt.alloc();
         let given = given_words(rt)?;
         let matches = command(alloc)?.try_get_matches_from(given.as_slice())?;
-        let mut texts = Vec::new(alloc);
-        for path in matches.get_strs("ned").unwrap_or(&[]) {
-            texts.push(String::from_str(alloc, path)?)?;
-        }
-        Ok(Words {
-            config: String::from_str(alloc, matches.get_str("config").unwrap_or("General"))?,
-            limit: matches.get_one::<u64>("limit").unwrap_or(1000000),
-            interval: given_interval(&matches),
-            directory: String::from_str(
-                alloc,
-                folder(matches.get_str("directory").unwrap_or(".")),
-            )?,
-            ini: String::from_str(alloc, matches.get_str("ini").unwrap_or(""))?,
-            texts,
-        })
+        Ok(Words::given(alloc, &matches)?)
     }
 }

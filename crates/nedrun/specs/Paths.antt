@@ -1,0 +1,7 @@
+-- The paths of the files of a run.
+use Rattle.std.specs.Prelude.{ℕ, List, ◌++◌, codes}
+use Rattle.text_explanations.specs.Names.{shown}
+
+-- THE PATH of a file of a run: it stands in the folder, and is named by the configuration, with that ending
+abbrev pub file_path : List ℕ → List ℕ → List ℕ → List ℕ
+file_path directory config ending = directory ++ (codes "/" ++ (shown config ++ (codes "-#0." ++ ending)))
