@@ -13,11 +13,11 @@ use Rattle.ned_syntax.specs.declared.ast.NedFile.{NedFile}
 use Rattle.ned_syntax.specs.declared.ast.TypeDeclaration.{TypeDeclaration}
 use Rattle.ned_syntax.specs.Grammar.{file}
 use Rattle.ned_syntax.specs.NedText.{IsNedFile}
-use Rattle.ned_types.specs.declared.table.TypeFault.{TypeFault}
-use Rattle.ned_types.specs.declared.table.TypeFault.TheVariants as types
+use Rattle.type_building.specs.declared.table.TypeFault.{TypeFault}
+use Rattle.type_building.specs.declared.table.TypeFault.TheVariants as types
 use Rattle.ned_types.specs.Types.{types_of}
-use Rattle.ned_types.specs.Inheritance.{flat_types}
-use Rattle.ned_types.specs.Building.{fault_of}
+use Rattle.type_building.specs.Inheritance.{flat_types}
+use Rattle.type_building.specs.Building.{fault_of}
 use Rattle.model_texts.specs.declared.begin.BeginFault.{BeginFault}
 use Rattle.model_texts.specs.declared.begin.BeginFault.TheVariants as fault
 

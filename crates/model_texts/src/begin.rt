@@ -7,8 +7,8 @@ ghost use Rattle.ini_config.specs.Meaning.{IsIniText};
 ghost use Rattle.ini_config.specs.Sections.{IsChain, is_section};
 ghost use Rattle.ned_syntax.specs.NedText.{IsNedFile};
 ghost use Rattle.ned_types.specs.Types.{types_of};
-ghost use Rattle.ned_types.specs.Inheritance.{flat_types};
-ghost use Rattle.ned_types.specs.Building.{fault_of};
+ghost use Rattle.type_building.specs.Inheritance.{flat_types};
+ghost use Rattle.type_building.specs.Building.{fault_of};
 ghost use Rattle.model_texts.specs.Models.{AreNedFiles, IsModelOf, IsOnlyModelOf, IsRuledOut, RefusesFile, RefusesFiles, RefusesIni, RefusesTypes, RefusesConfig, Refuses, is_large, is_too_large};
 
 use ini_config::error::{ChainError, IniError};
@@ -17,12 +17,13 @@ use model_answers::model::Model;
 use ned_syntax::ast::NedFile;
 use ned_syntax::parse::parse_ned;
 use ned_syntax::texts::NedTexts;
-use ned_types::table::{TypeFault, TypeTable};
+use ned_types::table::TypeTable;
 use ned_values::error::NedError;
 use sim_values::NoMemory;
 use sim_values::text::{MAX_LENGTH, Text};
 use sqlite_items::Items;
 use std::alloc::{AllocError, Global};
+use type_building::table::{TypeFault, build};
 
 /// How many NED files a model has at most.
 pub const MAX_FILES: usize = 256;
@@ -147,7 +148,7 @@ fn table_of(alloc: Global, files: Vec<NedFile>) -> Result<TypeTable, BeginFault>
         IfOk result (λ table. (table ≡ flat_types types) × (fault_of types ≡ None)) }
     ensures refused { IfErr result (λ fault. RefusesTypes (types_of files.items) fault) }
 {
-    match TypeTable::build(alloc, files) {
+    match build(alloc, files) {
         Ok(table) => Ok(table),
         Err(TypeFault::DuplicateType) => Err(BeginFault::DuplicateType),
         Err(TypeFault::UnknownType) => Err(BeginFault::UnknownType),

@@ -1,12 +1,1 @@
-pub mod WellFormedLaws
-pub mod BuildingLaws
-pub mod InheritanceLaws
 pub mod Near
-pub mod Repeats
-pub mod NamedLaws
-pub mod Circles
-pub mod GateLaws
-pub mod InterfaceLaws
-pub mod OrderLaws
-pub mod LineLaws
-pub mod SectionLaws

@@ -1,11 +1,3 @@
 pub mod Types
 pub mod Flat
-pub mod Channels
-pub mod Interfaces
-pub mod Inheritance
-pub mod Circles
 pub mod WellFormed
-pub mod Building
-pub mod Seen
-pub mod Example
-pub mod Named

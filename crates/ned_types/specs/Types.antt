@@ -2,6 +2,8 @@
 use Rattle.std.specs.Prelude.{ℕ, Bool, true, false, not, ◌||◌, ◌&&◌, List, [], ◌∷◌, ◌++◌, Option, Some, None, is_some, if◌then◌else◌, codes}
 use Rattle.std.specs.List.{list_any}
 use Rattle.std.specs.Str.{bytes_eq}
+use Rattle.ned_syntax.specs.declared.ast.GateSize.{GateSize}
+use Rattle.ned_syntax.specs.declared.ast.GateSize.TheVariants as size
 use Rattle.ned_syntax.specs.declared.ast.GateLine.{GateLine}
 use Rattle.ned_syntax.specs.declared.ast.GateLine.TheVariants as gate
 use Rattle.ned_syntax.specs.declared.ast.NedFile.{NedFile}
@@ -248,3 +250,11 @@ clashes types t = section_clashes t.lines || (redeclares_gate t.gates || submodu
 
 abbrev pub has_clash : List TypeDeclaration → Bool
 has_clash types = list_any (λ t. clashes types t) types
+
+-- ---- gates
+
+-- whether it is a vector, whatever its size
+abbrev pub is_vector : GateSize → Bool
+is_vector size.Single = false
+is_vector size.Open = true
+is_vector (size.Sized e) = true

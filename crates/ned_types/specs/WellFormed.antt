@@ -11,8 +11,7 @@ use Rattle.ned_syntax.specs.declared.ast.Submodule.{Submodule}
 use Rattle.ned_syntax.specs.declared.ast.TypeDeclaration.{TypeDeclaration}
 use Rattle.ned_syntax.specs.declared.ast.TypeKind.{TypeKind}
 use Rattle.ned_syntax.specs.declared.ast.TypeKind.TheVariants.{Simple}
-use Rattle.ned_types.specs.Types.{is_built_in, is_fixed, name_in, value_in}
-use Rattle.ned_types.specs.Interfaces.{is_vector}
+use Rattle.ned_types.specs.Types.{is_built_in, is_fixed, name_in, value_in, is_vector}
 
 -- it is one of these
 abbrev pub IsAmong : {X : Type 0} → X → List X → Type 0

@@ -4,8 +4,7 @@ ghost use Rattle.std.specs.Prelude.{◌≡◌, IfOk};
 ghost use Rattle.std.specs.Option.{option_copied, option_map};
 ghost use Rattle.ned_types.specs.Flat.{declares_statistic, last_value, declaration_named, class_in, class_of, submodule_named, is_statistic_declared, statistic_named, last_statistic, statistic_at, statistics_of};
 
-use crate::copies::copy_statistic;
-use crate::faults::{gives, value_in};
+use crate::given::{gives, value_in};
 use ned_syntax::ast::{
     Declaration, ParameterValue, SectionLine, Statistic, Submodule, TypeDeclaration,
 };
@@ -40,7 +39,7 @@ pub fn declaration_named<'a>(name: &[u8], lines: &'a [SectionLine]) -> Option<&'
 }
 
 /// The class that the lines name.
-pub(crate) fn class_in(lines: &[SectionLine]) -> Option<&[u8]>
+pub fn class_in(lines: &[SectionLine]) -> Option<&[u8]>
     ensures { option_copied result ≡ class_in lines.now }
 {
     for line in lines {
@@ -139,6 +138,17 @@ fn statistic_at<'a>(
         Some(last) => Some(last),
         None => Some(first),
     }
+}
+
+/// An equal statistic.
+pub fn copy_statistic(alloc: Global, statistic: &Statistic) -> Result<Statistic, AllocError>
+    ensures { IfOk result (λ copy. copy ≡ statistic.now) }
+{
+    Ok(Statistic {
+        name: statistic.name.copy(alloc)?,
+        source: statistic.source.copy(alloc)?,
+        modes: Items::from_slice(alloc, statistic.modes.as_slice())?,
+    })
 }
 
 /// The statistics that the lines declare, in the order of the first line of each name, each as the

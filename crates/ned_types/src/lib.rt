@@ -1,17 +1,6 @@
-//! The types of a model: the table of all declared types, and what each is when it stands alone.
+//! The types of a model: the table of flat types, and what each says of parameters, submodules and statistics.
 #![tactic(auto)]
 
-mod bodies;
-mod channels;
-mod copies;
-pub mod faults;
 pub mod flat;
-mod gates;
-mod inheritance;
-mod interfaces;
-pub mod laws;
-mod lines;
-mod named;
-mod order;
-mod sections;
+pub mod given;
 pub mod table;

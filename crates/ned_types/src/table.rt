@@ -2,58 +2,17 @@
 
 ghost use Rattle.std.specs.Prelude.{◌≡◌, IfOk, slice_get};
 ghost use Rattle.std.specs.Option.{option_copied};
-ghost use Rattle.ned_types.specs.Types.{type_named, types_of};
-ghost use Rattle.ned_types.specs.Inheritance.{flat_types};
-ghost use Rattle.ned_types.specs.Building.{AnswersTable, Builds, CanBuild};
+ghost use Rattle.ned_types.specs.Types.{type_named};
 ghost use Rattle.ned_types.specs.Flat.{submodule_named};
 ghost use Rattle.ned_types.specs.WellFormed.{HaveOwnNames, IsAmong, IsWellFormed};
 
-use crate::faults;
 use crate::flat::submodule_named;
 use indexmap::IndexMap;
-use ned_syntax::ast::{NedFile, Submodule, TypeDeclaration};
-use sim_values::NoMemory;
+use ned_syntax::ast::{Submodule, TypeDeclaration};
 use sqlite_items::Items;
 use std::alloc::{AllocError, Global};
 use std::marker::Model;
 use std::rc::Rc;
-use thiserror::Error;
-
-/// Why declared types make no model. Of several reasons the first in this order is told.
-#[derive(Clone, Copy, Debug, PartialEq, Eq, Error)]
-pub enum TypeFault {
-    /// Two types have one name, or one has that of a built-in channel.
-    #[error("DuplicateType")]
-    DuplicateType,
-    /// A submodule's type, what a type extends, or one of its interfaces isn't declared.
-    #[error("UnknownType")]
-    UnknownType,
-    /// A type extends itself, perhaps by way of others.
-    #[error("InheritanceCircle")]
-    InheritanceCircle,
-    /// What a type extends or one of its interfaces is of another kind, a parameter, a gate or a submodule is declared twice, a value is given to an undeclared
-    /// parameter or after a fixed one, by a section or by the body of a submodule, a body declares a parameter, or a submodule's type is
-    /// no simple type.
-    #[error("KindClash")]
-    KindClash,
-    /// A type lacks a parameter or a gate of one of its interfaces.
-    #[error("Interface")]
-    Interface,
-    #[error("NoMemory")]
-    NoMemory(NoMemory),
-}
-
-impl From<AllocError> for TypeFault {
-    ghost use Rattle.std.specs.Prelude.{◌≡◌};
-    ghost use Rattle.sim_values.specs.Memory.{no_memory};
-    ghost use Rattle.ned_types.specs.declared.table.TypeFault.TheVariants.{NoMemory};
-
-    ghost from_gives = { λ _ e. e ≡ NoMemory no_memory };
-
-    fn from(error: AllocError) -> TypeFault {
-        TypeFault::NoMemory(error.into())
-    }
-}
 
 /// The flat types of all that are declared, in the order of the files and within them, which contracts see as their list. They
 /// keep the rules of types. A flat type has what its bases have, and extends nothing. A copy shares them.
@@ -81,18 +40,11 @@ impl Model for TypeTable {
 }
 
 impl TypeTable {
-    /// The table of the files' types, or the first reason why they make none.
-    pub fn build(alloc: Global, files: Vec<NedFile>) -> Result<TypeTable, TypeFault>
-        // The table has the flat types of all files, or the first fault is told.
-        ensures built { Builds (types_of files.items) result }
-        // What is built keeps the rules of types.
-        ensures rules { IfOk result IsWellFormed }
-        // Types that keep the rules are built, unless memory runs out.
-        ensures complete { CanBuild (types_of files.items)
-            → AnswersTable (flat_types (types_of files.items)) result }
+    /// The table of these types, which keep the rules.
+    pub fn of(alloc: Global, types: Items<TypeDeclaration>) -> Result<TypeTable, AllocError>
+        requires { IsWellFormed types }
+        ensures { IfOk result (λ table. table ≡ types) }
     {
-        let declared = joined(alloc, files)?;
-        let types = faults::flattened(alloc, declared.as_slice())?;
         let places = shared(alloc, places_of(alloc, types.as_slice())?)?;
         let types = shared(alloc, types)?;
         Ok(TypeTable { types, places })
@@ -193,17 +145,6 @@ fn found_near<'a>(submodules: &'a [Submodule], place: usize, name: &[u8]) -> Opt
         Some(found) if found.name.is(name) => Some(found),
         _ => submodule_named(name, submodules),
     }
-}
-
-/// The types of all files, one file after the other.
-fn joined(alloc: Global, files: Vec<NedFile>) -> Result<Items<TypeDeclaration>, AllocError>
-    ensures { IfOk result (λ types. types ≡ types_of files.items) }
-{
-    let mut types = Items::new(alloc);
-    for file in files {
-        types.append(file.types)?;
-    }
-    Ok(types)
 }
 
 /// The first type of that name.

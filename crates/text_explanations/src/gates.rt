@@ -4,7 +4,7 @@ use crate::names::shown;
 use crate::ned_files::{Declared, ReadFile, Sign, line_of};
 use crate::sources::Sources;
 use ned_syntax::ast::{GateDeclaration, GateLine, SectionLine, Submodule};
-use ned_types::faults::name_in;
+use ned_types::given::name_in;
 use sim_values::NoMemory;
 use std::fmt::Write;
 

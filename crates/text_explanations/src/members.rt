@@ -8,7 +8,7 @@ use crate::ned_files::{
 };
 use crate::sources::Sources;
 use ned_syntax::ast::{ParameterValue, SectionLine, Submodule};
-use ned_types::faults::{name_in, value_in};
+use ned_types::given::{name_in, value_in};
 use ned_types::flat::submodule_named;
 use sim_values::NoMemory;
 use std::alloc::Global;

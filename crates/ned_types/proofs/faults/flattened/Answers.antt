@@ -1,8 +1,0 @@
-use Rattle.ned_types.proofs.BuildingLaws.{rules_by, complete_by}
-use Rattle.ned_types.proofs.faults.flattened.Goals as goal
-
-pub returns-clause-rules : goal.returns-clause-rules
-returns-clause-rules c = rules_by c.args.types.now c.built.result c.built.ensures
-
-pub returns-clause-complete : goal.returns-clause-complete
-returns-clause-complete c = complete_by c.args.types.now c.built.result c.built.ensures

@@ -1,6 +1,0 @@
-use Rattle.std.proofs.Common.{◌∙◌}
-use Rattle.ned_types.proofs.Repeats.{none_seen}
-use Rattle.ned_types.proofs.faults.repeats_submodule.Goals as goal
-
-pub returns : goal.returns
-returns c = c.in_ok-repeats.ensures ∙ none_seen c.new-seen.result.keys c.args.submodules.now c.new-seen.ensures.empty

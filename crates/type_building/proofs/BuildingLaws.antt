@@ -1,0 +1,190 @@
+-- Types have no fault exactly where they can be built.
+use Rattle.std.proofs.Common.{◌≡◌, ◌≢◌, inl, inr, ℕ, Bool, true, false, not, ◌||◌, List, [], ◌∷◌, map, length, Option, Some, None, Result, Ok, Err, IfOk, refl, sym, ap, subst, ◌∙◌, if◌then◌else◌}
+use Rattle.std.specs.Str.{bytes_eq}
+use Rattle.ned_syntax.specs.declared.ast.Submodule.{Submodule}
+use Rattle.ned_syntax.specs.declared.ast.TypeDeclaration.{TypeDeclaration}
+use Rattle.ned_syntax.specs.declared.ast.TypeKind.{TypeKind}
+use Rattle.ned_syntax.specs.declared.ast.TypeKind.TheVariants.{Simple, Network, Channel, ModuleInterface, ChannelInterface}
+use Rattle.type_building.specs.declared.table.TypeFault.{TypeFault}
+use Rattle.type_building.specs.declared.table.TypeFault.TheVariants.{DuplicateType, UnknownType, InheritanceCircle, KindClash, Interface, NoMemory}
+use Rattle.ned_types.specs.Types as t
+use Rattle.type_building.specs.Interfaces as f
+use Rattle.type_building.specs.Circles.{ExtendsItself}
+use Rattle.type_building.specs.Inheritance as i
+use Rattle.type_building.specs.Building.{fault_of, Builds, AnswersTable, CanBuild, MayExtend}
+use Rattle.ned_types.specs.Flat.{or_else}
+use Rattle.ned_types.specs.WellFormed.{IsAmong, StandsBefore, IsWellFormed}
+use Rattle.type_building.proofs.WellFormedLaws.{types_apart, false_not, any_made, any_told, among_second, no_duplicate, no_unknown, no_clash, well_formed, named_is, named_found, or_second, any_is, names_same, type_is}
+use Rattle.type_building.proofs.Circles.{circle_is_one}
+use Rattle.type_building.proofs.InterfaceLaws.{kept_made, kept_told}
+
+-- ---- flat types have the names and kinds of the types, and their submodules
+
+joined_name : (flat : TypeDeclaration) (ts : List TypeDeclaration) → (i.joined_with flat ts).name ≡ flat.name
+joined_name flat [] = refl
+joined_name flat (t ∷ ts) = joined_name flat ts
+
+gathered_name : (flat : TypeDeclaration) (ts : List TypeDeclaration) → (i.gathered flat ts).name ≡ flat.name
+gathered_name flat [] = refl
+gathered_name flat (t ∷ ts) = gathered_name (i.with_members flat t) ts
+
+flat_name : (all : List TypeDeclaration) (a : TypeDeclaration) → (i.flat_type all a).name ≡ a.name
+flat_name all a = of_kind (t.is_interface_kind a.kind)
+  where
+    by : (base : Option (List ℕ)) → (i.flat_by all a base).name ≡ a.name
+    by None = refl
+    by (Some name) = joined_name (i.bare_heir all a) (i.line_of all a)
+
+    of_kind : (b : Bool) → (i.flat_as b all a).name ≡ a.name
+    of_kind true = gathered_name (i.bare a) (i.interfaces_behind (i.heirs_first all) a.interfaces)
+    of_kind false = by a.base
+
+flat_has : (types : List TypeDeclaration) (a : TypeDeclaration) → IsAmong a types → (s : Submodule) → IsAmong s a.submodules → IsAmong s (i.flat_type types a).submodules
+flat_has [] a is s in-a = absurd is
+flat_has (u ∷ ts) a is s in-a = of_kind (t.is_interface_kind a.kind)
+  where
+    by : (base : Option (List ℕ)) → IsAmong s (i.flat_by (u ∷ ts) a base).submodules
+    by None = in-a
+    by (Some name) = among_second s (i.joined_with (i.bare_heir (u ∷ ts) a) (i.line_within (length ts) (u ∷ ts) (i.base_of (u ∷ ts) a.base))).submodules a.submodules in-a
+
+    of_kind : (b : Bool) → IsAmong s (i.flat_as b (u ∷ ts) a).submodules
+    of_kind true = among_second s (i.gathered (i.bare a) (i.interfaces_behind (i.heirs_first (u ∷ ts)) a.interfaces)).submodules a.submodules in-a
+    of_kind false = by a.base
+
+among_flat : (all : List TypeDeclaration) (a : TypeDeclaration) (ts : List TypeDeclaration) → IsAmong a ts → IsAmong (i.flat_type all a) (map (i.flat_type all) ts)
+among_flat all a [] is = absurd is
+among_flat all a (t ∷ ts) (inl e) = inl (ap (i.flat_type all) e)
+among_flat all a (t ∷ ts) (inr is) = inr (among_flat all a ts is)
+
+named_flat : (all : List TypeDeclaration) (name : List ℕ) (ts : List TypeDeclaration) → t.is_type_named name (map (i.flat_type all) ts) ≡ t.is_type_named name ts
+named_flat all name [] = refl
+named_flat all name (a ∷ ts) =
+    ap (λ (n : List ℕ). bytes_eq n name || t.is_type_named name (map (i.flat_type all) ts)) (flat_name all a)
+    ∙ ap (λ (b : Bool). bytes_eq a.name name || b) (named_flat all name ts)
+
+pub duplicate_flat : (all ts : List TypeDeclaration) → t.has_duplicate (map (i.flat_type all) ts) ≡ t.has_duplicate ts
+duplicate_flat all [] = refl
+duplicate_flat all (a ∷ ts) =
+    ap (λ (n : List ℕ). (t.is_built_in n || t.is_type_named n (map (i.flat_type all) ts)) || t.has_duplicate (map (i.flat_type all) ts)) (flat_name all a)
+    ∙ ap (λ (b : Bool). (t.is_built_in a.name || b) || t.has_duplicate (map (i.flat_type all) ts)) (named_flat all a.name ts)
+    ∙ ap (λ (b : Bool). (t.is_built_in a.name || t.is_type_named a.name ts) || b) (duplicate_flat all ts)
+
+known_flat : (all types : List TypeDeclaration) (s : Submodule) → t.is_submodule_known (map (i.flat_type all) types) s ≡ t.is_submodule_known types s
+known_flat all types s = ap (λ (b : Bool). t.is_built_in s.type_name || b) (named_flat all s.type_name types)
+
+unknown_in : (all types : List TypeDeclaration) (ss : List Submodule) → t.names_unknown (map (i.flat_type all) types) ss ≡ t.names_unknown types ss
+unknown_in all types [] = refl
+unknown_in all types (s ∷ ss) =
+    ap (λ (b : Bool). not b || t.names_unknown (map (i.flat_type all) types) ss) (known_flat all types s)
+    ∙ ap (λ (b : Bool). not (t.is_submodule_known types s) || b) (unknown_in all types ss)
+
+-- where the submodules of all flat types have known types, so have those of the types
+unknown_flat : (types : List TypeDeclaration) → t.has_unknown (i.flat_types types) ≡ false → t.has_unknown types ≡ false
+unknown_flat types none = any_made (λ a. t.names_unknown types a.submodules) types (λ a is. any_made (λ s. not (t.is_submodule_known types s)) a.submodules (λ s in-a. any_told (λ r. not (t.is_submodule_known types r)) (i.flat_type types a).submodules (flat a is) s (flat_has types a is s in-a)))
+  where
+    flat : (a : TypeDeclaration) → IsAmong a types → t.names_unknown types (i.flat_type types a).submodules ≡ false
+    flat a is = sym (unknown_in types types (i.flat_type types a).submodules) ∙ any_told (λ x. t.names_unknown (i.flat_types types) x.submodules) (i.flat_types types) none (i.flat_type types a) (among_flat types a types is)
+
+-- ---- no fault
+
+-- none of the tests is passed where nothing is told
+no_fault : (duplicate unknown circle other clash broken : Bool) → or_else (if duplicate then Some DuplicateType else (if unknown then Some UnknownType else (if circle then Some InheritanceCircle else (if other then Some KindClash else None)))) (if clash then Some KindClash else (if broken then Some Interface else None)) ≡ None → (duplicate ≡ false) × (clash ≡ false) × (broken ≡ false)
+no_fault false false false false false false h = (refl, refl, refl)
+no_fault false false false false false true h = absurd cc
+no_fault false false false false true broken h = absurd cc
+no_fault false false false true clash broken h = absurd cc
+no_fault false false true other clash broken h = absurd cc
+no_fault false true circle other clash broken h = absurd cc
+no_fault true unknown circle other clash broken h = absurd cc
+
+-- types without a fault have flat types that keep the rules
+pub flat_rules : (types : List TypeDeclaration) → fault_of types ≡ None → IsWellFormed (i.flat_types types)
+flat_rules types none =
+    let parts = no_fault (t.has_duplicate types) (t.has_unknown types || (i.has_unknown_base types || f.has_unknown_interface types)) (i.has_circle types) (i.has_other_base types || f.has_other_interface types) (t.has_clash (i.flat_types types)) (f.has_broken (i.flat_types types)) none in
+    let duplicate = duplicate_flat types types ∙ parts.0 in
+    well_formed (i.flat_types types) duplicate parts.1 (kept_told (i.flat_types types) (types_apart (i.flat_types types) duplicate) parts.2)
+
+-- ---- what is extended
+
+or_first : (x y : Bool) → x ≡ true → (x || y) ≡ true
+or_first x y h = ap (λ b. b || y) h
+
+known_name : (types : List TypeDeclaration) (kind : TypeKind) (name : List ℕ) → MayExtend kind name types → (t.is_built_in name || t.is_type_named name types) ≡ true
+known_name types Simple name m = or_second (t.is_built_in name) _ (named_found types Simple name m)
+known_name types Network name m = or_second (t.is_built_in name) _ (named_found types Network name m)
+known_name types Channel name (inl built_in) = or_first (t.is_built_in name) _ built_in
+known_name types Channel name (inr m) = or_second (t.is_built_in name) _ (named_found types Channel name m)
+known_name types ModuleInterface name m = absurd m
+known_name types ChannelInterface name m = absurd m
+
+known_base : (types : List TypeDeclaration) (kind : TypeKind) (base : Option (List ℕ)) → ((name : List ℕ) → base ≡ Some name → MayExtend kind name types) → i.extends_unknown types base ≡ false
+known_base types kind None h = refl
+known_base types kind (Some name) h = false_not _ (known_name types kind name (h name refl))
+
+abbrev AreApart : List TypeDeclaration → Type 0
+AreApart types = (a b : TypeDeclaration) → StandsBefore a b types → a.name ≢ b.name
+
+fitting : (types : List TypeDeclaration) (kind : TypeKind) (name : List ℕ) → AreApart types → MayExtend kind name types → (i.is_channel_of kind name || i.is_base kind (t.type_named name types)) ≡ true
+fitting types Simple name apart m = ap (i.is_base Simple) (named_is types Simple name apart m) ∙ ap t.is_simple_kind m.3
+fitting types Network name apart m = ap (i.is_base Network) (named_is types Network name apart m) ∙ ap t.is_network_kind m.3
+fitting types Channel name apart (inl built_in) = or_first (t.is_built_in name) _ built_in
+fitting types Channel name apart (inr m) = or_second (t.is_built_in name) _ (ap (i.is_base Channel) (named_is types Channel name apart m) ∙ ap t.is_channel_kind m.3)
+fitting types ModuleInterface name apart m = absurd m
+fitting types ChannelInterface name apart m = absurd m
+
+fitting_base : (types : List TypeDeclaration) (kind : TypeKind) (base : Option (List ℕ)) → AreApart types → ((name : List ℕ) → base ≡ Some name → MayExtend kind name types) → i.extends_other types kind base ≡ false
+fitting_base types kind None apart h = refl
+fitting_base types kind (Some name) apart h = false_not _ (fitting types kind name apart (h name refl))
+
+-- ---- interfaces
+
+abbrev IsInterfaceOf : TypeKind → List ℕ → List TypeDeclaration → Type 0
+IsInterfaceOf kind name types = (x : TypeDeclaration) × IsAmong x types × (x.name ≡ name) × (f.can_keep kind x.kind ≡ true)
+
+known_interfaces : (types : List TypeDeclaration) (kind : TypeKind) (names : List (List ℕ)) → ((name : List ℕ) → IsAmong name names → IsInterfaceOf kind name types) → f.names_no_type types names ≡ false
+known_interfaces types kind names h = any_made (λ n. not (t.is_built_in n || t.is_type_named n types)) names (λ n is. let x = h n is in false_not _ (or_second (t.is_built_in n) _ (any_is (λ u. bytes_eq u.name n) types x.0 x.1 (names_same x.0.name n x.2))))
+
+fitting_interfaces : (types : List TypeDeclaration) (kind : TypeKind) (names : List (List ℕ)) → AreApart types → ((name : List ℕ) → IsAmong name names → IsInterfaceOf kind name types) → f.keeps_other types kind names ≡ false
+fitting_interfaces types kind names apart h = any_made (λ n. not (f.is_interface_for kind (t.type_named n types))) names (λ n is. false_not _ (one n (h n is)))
+  where
+    one : (n : List ℕ) → IsInterfaceOf kind n types → f.is_interface_for kind (t.type_named n types) ≡ true
+    one n x = ap (λ (m : List ℕ). f.is_interface_for kind (t.type_named m types)) (sym x.2) ∙ ap (f.is_interface_for kind) (type_is types x.0 apart x.1) ∙ x.3
+
+no_circle : (types : List TypeDeclaration) → (ExtendsItself types → ⊥) → i.has_circle types ≡ false
+no_circle types none = by (i.has_circle types) refl
+  where
+    by : (b : Bool) → i.has_circle types ≡ b → b ≡ false
+    by true e = absurd (none (circle_is_one types e))
+    by false e = refl
+
+-- types that keep the rules have no fault
+pub faultless : (types : List TypeDeclaration) → CanBuild types → fault_of types ≡ None
+faultless types w =
+    let duplicate : t.has_duplicate types ≡ false = sym (duplicate_flat types types) ∙ no_duplicate (i.flat_types types) w.flat in
+    let unknown : t.has_unknown types ≡ false = unknown_flat types (no_unknown (i.flat_types types) w.flat) in
+    let bases : i.has_unknown_base types ≡ false = any_made (λ a. i.extends_unknown types a.base) types (λ a is. known_base types a.kind a.base (w.bases a is)) in
+    let interfaces : f.has_unknown_interface types ≡ false = any_made (λ a. f.names_no_type types a.interfaces) types (λ a is. known_interfaces types a.kind a.interfaces (w.interfaces a is)) in
+    let circle : i.has_circle types ≡ false = no_circle types w.roots in
+    let kept : f.has_other_interface types ≡ false = any_made (λ a. f.keeps_other types a.kind a.interfaces) types (λ a is. fitting_interfaces types a.kind a.interfaces (types_apart types duplicate) (w.interfaces a is)) in
+    let whole : f.has_broken (i.flat_types types) ≡ false = kept_made (i.flat_types types) w.flat.interfaces in
+    let others : i.has_other_base types ≡ false = any_made (λ a. i.extends_other types a.kind a.base) types (λ a is. fitting_base types a.kind a.base (types_apart types duplicate) (w.bases a is)) in
+    let clash : t.has_clash (i.flat_types types) ≡ false = no_clash (i.flat_types types) w.flat in
+    rw (duplicate, unknown, bases, interfaces, circle, others, kept, clash, whole) refl
+
+-- ---- answers
+
+pub rules_by : (types : List TypeDeclaration) (r : Result (List TypeDeclaration) TypeFault) → Builds types r → IfOk r IsWellFormed
+rules_by types (Ok table) b = subst IsWellFormed (sym b.0) (flat_rules types b.1)
+rules_by types (Err e) b = tt
+
+some_none : {X : Type 0} (x : X) (o : Option X) → o ≡ Some x → o ≡ None → ⊥
+some_none x o e f = absurd cc
+
+pub complete_by : (types : List TypeDeclaration) (r : Result (List TypeDeclaration) TypeFault) → Builds types r → CanBuild types → AnswersTable (i.flat_types types) r
+complete_by types (Ok table) b w = b.0
+complete_by types (Err (NoMemory _)) b w = tt
+complete_by types (Err DuplicateType) b w = some_none _ _ b (faultless types w)
+complete_by types (Err UnknownType) b w = some_none _ _ b (faultless types w)
+complete_by types (Err InheritanceCircle) b w = some_none _ _ b (faultless types w)
+complete_by types (Err KindClash) b w = some_none _ _ b (faultless types w)
+complete_by types (Err Interface) b w = some_none _ _ b (faultless types w)

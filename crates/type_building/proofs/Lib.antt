@@ -1,0 +1,11 @@
+pub mod WellFormedLaws
+pub mod BuildingLaws
+pub mod InheritanceLaws
+pub mod Repeats
+pub mod NamedLaws
+pub mod Circles
+pub mod GateLaws
+pub mod InterfaceLaws
+pub mod OrderLaws
+pub mod LineLaws
+pub mod SectionLaws

@@ -1,0 +1,210 @@
+-- Types by their names: what is found, what is added, and when two have one name.
+use Rattle.std.proofs.Common.{◌≡◌, ℕ, zero, suc, ◌-◌, ◌≤◌, ◌<◌, Bool, true, false, not, ◌||◌, List, [], ◌∷◌, ◌++◌, Option, Some, None, refl, sym, ap, ◌∙◌, arith, length, append_assoc, take, drop, slice_index_or, bytes_eq, Bor, if◌then◌else◌}
+use Rattle.std.specs.Prelude.{is_some, is_none}
+use Rattle.std.specs.Map.{lookup, values_of}
+use Rattle.std.specs.Option.{option_map}
+use Rattle.ned_syntax.specs.declared.ast.TypeDeclaration.{TypeDeclaration}
+use Rattle.ned_types.specs.Types.{type_named, is_built_in, is_type_named, has_duplicate}
+use Rattle.type_building.specs.Inheritance.{types_in}
+use Rattle.type_building.specs.Named.{types_at, HaveNames, is_one_taken}
+use Rattle.type_building.proofs.WellFormedLaws.{same_names, names_same, names_apart, apart_names}
+use Rattle.indexmap.specs.IndexMap.{insert_entry}
+
+abbrev Entry : Type 0
+Entry = Bor (List ℕ) × Bor TypeDeclaration
+
+-- ---- what is found
+
+pub turned : (a b : List ℕ) → bytes_eq a b ≡ bytes_eq b a
+turned a b = by (bytes_eq a b) refl
+  where
+    by : (c : Bool) → bytes_eq a b ≡ c → bytes_eq a b ≡ bytes_eq b a
+    by true e = e ∙ sym (names_same b a (sym (same_names a b e)))
+    by false e = e ∙ sym (apart_names b a (λ q. names_apart a b e (sym q)))
+
+at_name : (e : Entry) (name : List ℕ) → e.0.now ≡ e.1.now.name → bytes_eq name e.0.now ≡ bytes_eq e.1.now.name name
+at_name e name h = ap (bytes_eq name) h ∙ turned name e.1.now.name
+
+pub found : (name : List ℕ) (es : List Entry) → HaveNames es → option_map (λ (r : Bor TypeDeclaration). r.now) (lookup (λ (k : Bor (List ℕ)). bytes_eq name k.now) es) ≡ type_named name (types_at es)
+found name [] h = refl
+found name (e ∷ es) h = by (bytes_eq name e.0.now) (bytes_eq e.1.now.name name) (at_name e name h.0) (found name es h.1)
+  where
+    by : (b c : Bool) → b ≡ c → option_map (λ (r : Bor TypeDeclaration). r.now) (lookup (λ (k : Bor (List ℕ)). bytes_eq name k.now) es) ≡ type_named name (types_at es)
+        → option_map (λ (r : Bor TypeDeclaration). r.now) (if b then Some e.1 else lookup (λ (k : Bor (List ℕ)). bytes_eq name k.now) es) ≡ (if c then Some e.1.now else type_named name (types_at es))
+    by true true p later = refl
+    by false false p later = later
+    by true false p later = absurd cc
+    by false true p later = absurd cc
+
+-- a type is found exactly where one has the name
+pub is_found : (name : List ℕ) (ts : List TypeDeclaration) → is_some (type_named name ts) ≡ is_type_named name ts
+is_found name [] = refl
+is_found name (t ∷ ts) = by (bytes_eq t.name name) (is_found name ts)
+  where
+    by : (b : Bool) → is_some (type_named name ts) ≡ is_type_named name ts → is_some (if b then Some t else type_named name ts) ≡ (b || is_type_named name ts)
+    by true later = refl
+    by false later = later
+
+pub some_of : (o : Option (Bor TypeDeclaration)) → is_some o ≡ is_some (option_map (λ (r : Bor TypeDeclaration). r.now) o)
+some_of (Some r) = refl
+some_of None = refl
+
+-- and in the map
+pub is_there : (name : List ℕ) (es : List Entry) → HaveNames es → is_some (lookup (λ (k : Bor (List ℕ)). bytes_eq name k.now) es) ≡ is_type_named name (types_at es)
+is_there name es h = some_of (lookup (λ (k : Bor (List ℕ)). bytes_eq name k.now) es) ∙ ap is_some (found name es h) ∙ is_found name (types_at es)
+
+-- nothing stands there exactly where no type has the name
+pub is_absent : (k : Bor (List ℕ)) (name : List ℕ) (es : List Entry) → HaveNames es → k.now ≡ name → is_none (lookup (λ (y : Bor (List ℕ)). bytes_eq k.now y.now) es) ≡ not (is_type_named name (types_at es))
+is_absent k name es h n = none_of (lookup (λ (y : Bor (List ℕ)). bytes_eq k.now y.now) es) ∙ ap not (is_there k.now es h) ∙ ap (λ (m : List ℕ). not (is_type_named m (types_at es))) n
+  where
+    none_of : (o : Option (Bor TypeDeclaration)) → is_none o ≡ not (is_some o)
+    none_of (Some r) = refl
+    none_of None = refl
+
+-- what it tells that nothing is there
+pub told_none : (o : Option (Bor TypeDeclaration)) (none : Bool) → is_some o ≡ not none → none ≡ is_none o
+told_none (Some r) true e = absurd cc
+told_none (Some r) false e = refl
+told_none None true e = refl
+told_none None false e = absurd cc
+
+-- ---- what is added
+
+pub have_more : (k : Bor (List ℕ)) (t : Bor TypeDeclaration) (es : List Entry) → k.now ≡ t.now.name → HaveNames es → HaveNames (insert_entry (λ (x y : Bor (List ℕ)). bytes_eq x.now y.now) es k t)
+have_more k t [] n h = (n, tt)
+have_more k t (e ∷ es) n h = by (bytes_eq k.now e.0.now) refl (have_more k t es n h.1)
+  where
+    by : (b : Bool) → bytes_eq k.now e.0.now ≡ b → HaveNames (insert_entry (λ (x y : Bor (List ℕ)). bytes_eq x.now y.now) es k t) → HaveNames (if b then (e.0, t) ∷ es else e ∷ insert_entry (λ (x y : Bor (List ℕ)). bytes_eq x.now y.now) es k t)
+    by true p later = (sym (same_names k.now e.0.now p) ∙ n, h.1)
+    by false p later = (h.0, later)
+
+pub added : (k : Bor (List ℕ)) (t : Bor TypeDeclaration) (es : List Entry) → k.now ≡ t.now.name → HaveNames es → is_type_named t.now.name (types_at es) ≡ false → types_at (insert_entry (λ (x y : Bor (List ℕ)). bytes_eq x.now y.now) es k t) ≡ types_at es ++ t.now ∷ []
+added k t [] n h none = refl
+added k t (e ∷ es) n h none = by (bytes_eq k.now e.0.now) (bytes_eq e.1.now.name t.now.name) (at_name e k.now h.0 ∙ ap (bytes_eq e.1.now.name) n) none (added k t es n h.1)
+  where
+    by : (b c : Bool) → b ≡ c → (c || is_type_named t.now.name (types_at es)) ≡ false → (is_type_named t.now.name (types_at es) ≡ false → types_at (insert_entry (λ (x y : Bor (List ℕ)). bytes_eq x.now y.now) es k t) ≡ types_at es ++ t.now ∷ [])
+        → types_at (if b then (e.0, t) ∷ es else e ∷ insert_entry (λ (x y : Bor (List ℕ)). bytes_eq x.now y.now) es k t) ≡ e.1.now ∷ types_at es ++ t.now ∷ []
+    by false false p q later = ap (λ ts. e.1.now ∷ ts) (later q)
+    by true true p q later = absurd cc
+    by true false p q later = absurd cc
+    by false true p q later = absurd cc
+
+-- ---- two types of one name
+
+pub or_zero : (a : Bool) → (a || false) ≡ a
+or_zero true = refl
+or_zero false = refl
+
+pub or_joined : (a b c : Bool) → ((a || b) || c) ≡ (a || (b || c))
+or_joined true b c = refl
+or_joined false b c = refl
+
+or_one : (a : Bool) → (a || true) ≡ true
+or_one true = refl
+or_one false = refl
+
+mixed : (a b c d : Bool) → ((a || b) || (c || d)) ≡ ((a || c) || (b || d))
+mixed true b c d = refl
+mixed false b true d = or_one b
+mixed false b false d = refl
+
+named_more : (name : List ℕ) (seen : List TypeDeclaration) (t : TypeDeclaration) → is_type_named name (seen ++ t ∷ []) ≡ (is_type_named name seen || bytes_eq t.name name)
+named_more name [] t = or_zero (bytes_eq t.name name)
+named_more name (s ∷ seen) t = ap (λ (b : Bool). bytes_eq s.name name || b) (named_more name seen t) ∙ sym (or_joined (bytes_eq s.name name) (is_type_named name seen) (bytes_eq t.name name))
+
+taken_more : (seen : List TypeDeclaration) (t : TypeDeclaration) (ts : List TypeDeclaration) → is_one_taken (seen ++ t ∷ []) ts ≡ (is_one_taken seen ts || is_type_named t.name ts)
+taken_more seen t [] = refl
+taken_more seen t (u ∷ ts) =
+    ap (λ b. b || is_one_taken (seen ++ t ∷ []) ts) (named_more u.name seen t ∙ ap (λ b. is_type_named u.name seen || b) (turned t.name u.name))
+    ∙ ap (λ b. (is_type_named u.name seen || bytes_eq u.name t.name) || b) (taken_more seen t ts)
+    ∙ mixed (is_type_named u.name seen) (bytes_eq u.name t.name) (is_one_taken seen ts) (is_type_named t.name ts)
+
+take_all : (ts : List TypeDeclaration) (n : ℕ) → length ts ≤ n → take n ts ≡ ts
+take_all [] zero h = refl
+take_all [] (suc n) h = refl
+take_all (t ∷ ts) zero h = absurd (omega (arith, h))
+take_all (t ∷ ts) (suc n) h = ap (λ rs. t ∷ rs) (take_all ts n (omega (arith, h)))
+
+abbrev pub is_taken_from : List TypeDeclaration → List TypeDeclaration → Bool
+is_taken_from seen rest = is_one_taken seen rest || has_duplicate rest
+
+-- no type is left
+pub none_left : (seen rest types : List TypeDeclaration) → length rest < 1 → is_taken_from seen rest ≡ has_duplicate types → seen ++ rest ≡ types → (has_duplicate types ≡ false) × (seen ≡ types)
+none_left seen [] types h d e = (sym d, sym (nil seen) ∙ e)
+  where
+    nil : (ts : List TypeDeclaration) → ts ++ [] ≡ ts
+    nil [] = refl
+    nil (t ∷ ts) = ap (λ rs. t ∷ rs) (nil ts)
+none_left seen (t ∷ ts) types h d e = absurd (omega (arith, h))
+
+-- the next one has the name of a built-in channel
+pub channel_name : (seen rest : List TypeDeclaration) (d : TypeDeclaration) → 1 ≤ length rest → is_built_in (slice_index_or rest 0 d).name ≡ true → is_taken_from seen rest ≡ true
+channel_name seen [] d h e = absurd (omega (arith, h))
+channel_name seen (t ∷ ts) d h e = ap (λ b. is_one_taken seen (t ∷ ts) || ((b || is_type_named t.name ts) || has_duplicate ts)) e ∙ or_one (is_one_taken seen (t ∷ ts))
+
+-- or that of one before it
+pub name_before : (seen rest : List TypeDeclaration) (d : TypeDeclaration) → 1 ≤ length rest → is_type_named (slice_index_or rest 0 d).name seen ≡ true → is_taken_from seen rest ≡ true
+name_before seen [] d h e = absurd (omega (arith, h))
+name_before seen (t ∷ ts) d h e = ap (λ b. (b || is_one_taken seen ts) || has_duplicate (t ∷ ts)) e
+
+-- or another one
+pub name_of_its_own : (seen rest : List TypeDeclaration) (d : TypeDeclaration) → 1 ≤ length rest → is_built_in (slice_index_or rest 0 d).name ≡ false → is_type_named (slice_index_or rest 0 d).name seen ≡ false
+    → is_taken_from (seen ++ slice_index_or rest 0 d ∷ []) (take (length rest - 1) (drop 1 rest)) ≡ is_taken_from seen rest
+name_of_its_own seen [] d h e f = absurd (omega (arith, h))
+name_of_its_own seen (t ∷ ts) d h e f =
+    ap (λ rs. is_taken_from (seen ++ t ∷ []) rs) (take_all ts (length (t ∷ ts) - 1) (omega arith))
+    ∙ ap (λ b. b || has_duplicate ts) (taken_more seen t ts)
+    ∙ or_joined (is_one_taken seen ts) (is_type_named t.name ts) (has_duplicate ts)
+    ∙ sym (ap (λ b. is_one_taken seen ts || ((b || is_type_named t.name ts) || has_duplicate ts)) e)
+    ∙ sym (ap (λ b. (b || is_one_taken seen ts) || ((is_built_in t.name || is_type_named t.name ts) || has_duplicate ts)) f)
+
+-- and then it is seen
+pub one_moved : (seen rest types : List TypeDeclaration) (d : TypeDeclaration) → 1 ≤ length rest → seen ++ rest ≡ types → (seen ++ slice_index_or rest 0 d ∷ []) ++ take (length rest - 1) (drop 1 rest) ≡ types
+one_moved seen [] types d h e = absurd (omega (arith, h))
+one_moved seen (t ∷ ts) types d h e =
+    ap (λ rs. (seen ++ t ∷ []) ++ rs) (take_all ts (length (t ∷ ts) - 1) (omega arith))
+    ∙ append_assoc seen (t ∷ []) ts
+    ∙ e
+
+-- at first none is seen
+pub none_seen : (seen types : List TypeDeclaration) → seen ≡ [] → (seen ++ types ≡ types) × (is_taken_from seen types ≡ has_duplicate types)
+none_seen seen types e = (ap (λ (ns : List TypeDeclaration). ns ++ types) e, ap (λ (ns : List TypeDeclaration). is_taken_from ns types) e ∙ ap (λ (b : Bool). b || has_duplicate types) (none_of types))
+  where
+    none_of : (ts : List TypeDeclaration) → is_one_taken [] ts ≡ false
+    none_of [] = refl
+    none_of (t ∷ ts) = none_of ts
+
+-- what the answer of an addition tells
+pub told_there : (b x : Bool) → b ≡ not x → b ≡ false → x ≡ true
+told_there b true e f = refl
+told_there b false e f = absurd cc
+
+pub told_new : (b x : Bool) → b ≡ not x → b ≡ true → x ≡ false
+told_new b false e f = refl
+told_new b true e f = absurd cc
+
+-- ---- names, whatever stands at them
+
+or_again : (a b : Bool) → (a || b) ≡ ((a || b) || a)
+or_again true b = refl
+or_again false true = refl
+or_again false false = refl
+
+pub names_added : (k : Bor (List ℕ)) (t : Bor TypeDeclaration) (es : List Entry) (name : List ℕ) → k.now ≡ t.now.name → HaveNames es → is_type_named name (types_at (insert_entry (λ (x y : Bor (List ℕ)). bytes_eq x.now y.now) es k t)) ≡ (is_type_named name (types_at es) || bytes_eq t.now.name name)
+names_added k t [] name n h = or_zero (bytes_eq t.now.name name)
+names_added k t (e ∷ es) name n h = by (bytes_eq k.now e.0.now) refl (names_added k t es name n h.1)
+  where
+    by : (b : Bool) → bytes_eq k.now e.0.now ≡ b → is_type_named name (types_at (insert_entry (λ (x y : Bor (List ℕ)). bytes_eq x.now y.now) es k t)) ≡ (is_type_named name (types_at es) || bytes_eq t.now.name name)
+        → is_type_named name (types_at (if b then (e.0, t) ∷ es else e ∷ insert_entry (λ (x y : Bor (List ℕ)). bytes_eq x.now y.now) es k t)) ≡ ((bytes_eq e.1.now.name name || is_type_named name (types_at es)) || bytes_eq t.now.name name)
+    by true p later =
+        let same : t.now.name ≡ e.1.now.name = sym n ∙ same_names k.now e.0.now p ∙ h.0 in
+        or_again (bytes_eq t.now.name name) (is_type_named name (types_at es))
+        ∙ ap (λ (m : List ℕ). (bytes_eq m name || is_type_named name (types_at es)) || bytes_eq t.now.name name) same
+    by false p later =
+        ap (λ b. bytes_eq e.1.now.name name || b) later
+        ∙ sym (or_joined (bytes_eq e.1.now.name name) (is_type_named name (types_at es)) (bytes_eq t.now.name name))
+
+-- the types that the values of a map lead to
+pub types_of_values : (es : List Entry) → types_in (values_of es) ≡ types_at es
+types_of_values [] = refl
+types_of_values (e ∷ es) = ap (λ ts. e.1.now ∷ ts) (types_of_values es)

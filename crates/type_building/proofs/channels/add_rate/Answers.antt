@@ -1,0 +1,17 @@
+use Rattle.std.proofs.Common.{◌++◌, ◌∷◌, [], ap, ◌∙◌, append_assoc, List, Some}
+use Rattle.ned_syntax.specs.declared.ast.ParameterWord.TheVariants as word
+use Rattle.ned_syntax.specs.declared.ast.SectionLine.{SectionLine}
+use Rattle.sim_values.specs.declared.value.Dimension.TheVariants.{Rate}
+use Rattle.sim_values.specs.declared.value.Value.TheVariants as values
+use Rattle.std.specs.Prelude.{pos}
+use Rattle.type_building.specs.Channels.{built_in_line, error_lines}
+use Rattle.type_building.proofs.channels.add_rate.Goals as goal
+
+pub returns : goal.returns
+returns c =
+    let line = c.in_ok-built_in_line.field-0 in
+    let is = c.in_ok-built_in_line.ensures ∙ ap (λ (name : List _). built_in_line name word.Double (Some Rate) (values.Quantity Rate (pos 0))) c.as_slice-name.ensures in
+    c.in_ok-add_errors.ensures
+    ∙ ap (λ (ls : List SectionLine). ls ++ error_lines) c.in_ok-push.ensures.ok
+    ∙ append_assoc c.args.lines.now (line ∷ []) error_lines
+    ∙ ap (λ (l : SectionLine). c.args.lines.now ++ l ∷ error_lines) is

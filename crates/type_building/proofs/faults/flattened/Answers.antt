@@ -1,0 +1,8 @@
+use Rattle.type_building.proofs.BuildingLaws.{rules_by, complete_by}
+use Rattle.type_building.proofs.faults.flattened.Goals as goal
+
+pub returns-clause-rules : goal.returns-clause-rules
+returns-clause-rules c = rules_by c.args.types.now c.built.result c.built.ensures
+
+pub returns-clause-complete : goal.returns-clause-complete
+returns-clause-complete c = complete_by c.args.types.now c.built.result c.built.ensures

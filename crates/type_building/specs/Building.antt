@@ -1,0 +1,64 @@
+-- Why declared types make no model, and the table of those that do.
+use Rattle.std.specs.Prelude.{◌≡◌, ◌⊎◌, ℕ, true, ◌||◌, List, Option, Some, None, Result, Ok, Err, if◌then◌else◌}
+use Rattle.ned_syntax.specs.declared.ast.TypeDeclaration.{TypeDeclaration}
+use Rattle.ned_syntax.specs.declared.ast.TypeKind.{TypeKind}
+use Rattle.ned_syntax.specs.declared.ast.TypeKind.TheVariants.{Simple, Network, Channel, ModuleInterface, ChannelInterface}
+use Rattle.type_building.specs.declared.table.TypeFault.{TypeFault}
+use Rattle.type_building.specs.declared.table.TypeFault.TheVariants.{DuplicateType, UnknownType, InheritanceCircle, KindClash, Interface, NoMemory}
+use Rattle.ned_types.specs.Types.{has_duplicate, has_unknown, has_clash, is_built_in}
+use Rattle.ned_types.specs.Flat.{or_else}
+use Rattle.type_building.specs.Interfaces.{has_broken, has_other_interface, has_unknown_interface, can_keep}
+use Rattle.type_building.specs.Circles.{ExtendsItself}
+use Rattle.type_building.specs.Inheritance.{has_unknown_base, has_circle, has_other_base, flat_types}
+use Rattle.ned_types.specs.WellFormed.{IsAmong, IsTypeOf, IsWellFormed}
+
+-- the faults of names and bases, in their order
+abbrev pub base_fault : List TypeDeclaration → Option TypeFault
+base_fault types =
+    if has_duplicate types then Some DuplicateType
+    else (if has_unknown types || (has_unknown_base types || has_unknown_interface types) then Some UnknownType
+    else (if has_circle types then Some InheritanceCircle
+    else (if has_other_base types || has_other_interface types then Some KindClash else None)))
+
+-- the faults of flat types: a clash in one of them, and then a member of an interface that one lacks
+abbrev pub flat_fault : List TypeDeclaration → Option TypeFault
+flat_fault types = if has_clash types then Some KindClash else (if has_broken types then Some Interface else None)
+
+-- why the types make no model, where they don't
+abbrev pub fault_of : List TypeDeclaration → Option TypeFault
+fault_of types = or_else (base_fault types) (flat_fault (flat_types types))
+
+-- the answer to these types: the flat type of each, or their first fault; or memory ran out
+abbrev pub Builds : List TypeDeclaration → Result (List TypeDeclaration) TypeFault → Type 0
+Builds types (Ok table) = (table ≡ flat_types types) × (fault_of types ≡ None)
+Builds types (Err (NoMemory _)) = Unit {0}
+Builds types (Err fault) = fault_of types ≡ Some fault
+
+-- this table, or want of memory
+abbrev pub AnswersTable : List TypeDeclaration → Result (List TypeDeclaration) TypeFault → Type 0
+AnswersTable types (Ok table) = table ≡ types
+AnswersTable types (Err (NoMemory _)) = Unit {0}
+AnswersTable types (Err DuplicateType) = ⊥
+AnswersTable types (Err UnknownType) = ⊥
+AnswersTable types (Err InheritanceCircle) = ⊥
+AnswersTable types (Err KindClash) = ⊥
+AnswersTable types (Err Interface) = ⊥
+
+-- a type of that kind may extend what has that name: a type among these, which is of its own kind, or for a channel a built-in one
+abbrev pub MayExtend : TypeKind → List ℕ → List TypeDeclaration → Type 0
+MayExtend Simple name types = IsTypeOf Simple name types
+MayExtend Network name types = IsTypeOf Network name types
+MayExtend Channel name types = (is_built_in name ≡ true) ⊎ IsTypeOf Channel name types
+MayExtend ModuleInterface name types = ⊥
+MayExtend ChannelInterface name types = ⊥
+
+-- THE RULES of types that extend others:
+pub record CanBuild (types : List TypeDeclaration) : Type 0 where
+  -- what is extended is among these and of the kind of what extends it, or a built-in channel that a channel extends;
+  pub bases : (t : TypeDeclaration) → IsAmong t types → (name : List ℕ) → t.base ≡ Some name → MayExtend t.kind name types
+  -- each interface is among these too, and one for types of that kind;
+  pub interfaces : (t : TypeDeclaration) → IsAmong t types → (name : List ℕ) → IsAmong name t.interfaces → (i : TypeDeclaration) × IsAmong i types × (i.name ≡ name) × (can_keep t.kind i.kind ≡ true)
+  -- no type extends itself, perhaps by way of others;
+  pub roots : ExtendsItself types → ⊥
+  -- and the flat types keep the rules of types.
+  pub flat : IsWellFormed (flat_types types)

@@ -1,0 +1,229 @@
+-- Types that extend others: the bases of a type, and what it has with all that they have.
+-- OMNeT++ Simulation Manual, "Inheritance".
+use Rattle.std.specs.Prelude.{ℕ, zero, suc, Bool, true, false, not, ◌||◌, ◌&&◌, List, [], ◌∷◌, ◌++◌, length, map, Option, Some, None, if◌then◌else◌}
+use Rattle.std.specs.Borrow.{Bor}
+use Rattle.std.specs.List.{filter, list_any}
+use Rattle.std.specs.Option.{option_and_then}
+use Rattle.std.specs.Str.{bytes_eq}
+use Rattle.ned_syntax.specs.declared.ast.SectionLine.{SectionLine}
+use Rattle.ned_syntax.specs.declared.ast.SectionLine.TheVariants as line
+use Rattle.ned_syntax.specs.declared.ast.TypeDeclaration.{TypeDeclaration}
+use Rattle.ned_syntax.specs.declared.ast.TypeKind.{TypeKind}
+use Rattle.ned_syntax.specs.declared.ast.TypeKind.TheVariants.{Simple, Network, Channel, ModuleInterface, ChannelInterface}
+use Rattle.ned_types.specs.Types.{type_named, is_built_in, is_type_named, is_simple_kind, is_network_kind, is_channel_kind, is_interface_kind}
+use Rattle.type_building.specs.Channels.{root_lines}
+use Rattle.ned_types.specs.Flat.{class_in, class_of, named_or}
+
+-- ---- bases
+
+-- the type of the name that is extended
+abbrev pub base_of : List TypeDeclaration → Option (List ℕ) → Option TypeDeclaration
+base_of types base = option_and_then (λ name. type_named name types) base
+
+-- a type, what it extends, what that extends, and so on, so many of them
+abbrev pub line_within : ℕ → List TypeDeclaration → Option TypeDeclaration → List TypeDeclaration
+line_within n types None = []
+line_within zero types (Some t) = []
+line_within (suc n) types (Some t) = t ∷ line_within n types (base_of types t.base)
+
+-- the same up to the root, as no line without a circle has more types than there are
+abbrev pub line_of : List TypeDeclaration → TypeDeclaration → List TypeDeclaration
+line_of types t = line_within (length types) types (Some t)
+
+-- ---- the order of types
+
+-- whether one of the types has the name of a base
+abbrev pub is_base_among : List TypeDeclaration → Option (List ℕ) → Bool
+is_base_among types None = false
+is_base_among types (Some name) = is_type_named name types
+
+-- whether one of the types has one of the names
+abbrev pub is_one_among : List TypeDeclaration → List (List ℕ) → Bool
+is_one_among types names = list_any (λ n. is_type_named n types) names
+
+-- whether a type extends one of these; what an interface extends are its interfaces
+abbrev pub extends_one : List TypeDeclaration → TypeDeclaration → Bool
+extends_one types t = is_base_among types t.base || (is_interface_kind t.kind && is_one_among types t.interfaces)
+
+-- those of the types that extend one of them
+abbrev pub heirs : List TypeDeclaration → List TypeDeclaration
+heirs types = filter (λ t. extends_one types t) types
+
+-- those that extend none of them
+abbrev pub roots : List TypeDeclaration → List TypeDeclaration
+roots types = filter (λ t. not (extends_one types t)) types
+
+-- the types that are left where the roots were taken away so many times
+abbrev pub left_after : ℕ → List TypeDeclaration → List TypeDeclaration
+left_after zero types = types
+left_after (suc n) types = left_after n (heirs types)
+
+abbrev pub is_one_left : List TypeDeclaration → Bool
+is_one_left [] = false
+is_one_left (t ∷ ts) = true
+
+-- whether a type extends itself, perhaps by way of others: some are left where the roots were taken away as many times as there
+-- are types
+abbrev pub has_circle : List TypeDeclaration → Bool
+has_circle types = is_one_left (left_after (length types) types)
+
+-- the types that were taken away, in that order
+abbrev pub taken_within : ℕ → List TypeDeclaration → List TypeDeclaration
+taken_within zero types = []
+taken_within (suc n) types = roots types ++ taken_within n (heirs types)
+
+-- types in the reverse order, before others
+abbrev pub turned_onto : List TypeDeclaration → List TypeDeclaration → List TypeDeclaration
+turned_onto [] others = others
+turned_onto (t ∷ ts) others = turned_onto ts (t ∷ others)
+
+-- all types, each before what it extends, where there is no circle
+abbrev pub heirs_first : List TypeDeclaration → List TypeDeclaration
+heirs_first types = turned_onto (taken_within (length types) types) []
+
+-- ---- unknown bases
+
+-- whether what is extended isn't there
+abbrev pub extends_unknown : List TypeDeclaration → Option (List ℕ) → Bool
+extends_unknown types None = false
+extends_unknown types (Some name) = not (is_built_in name || is_type_named name types)
+
+abbrev pub has_unknown_base : List TypeDeclaration → Bool
+has_unknown_base types = list_any (λ t. extends_unknown types t.base) types
+
+-- whether a type of the first kind may extend one of the second: a simple type a simple type, a network a network, and a
+-- channel a channel; what an interface extends stands among its interfaces
+abbrev pub can_extend : TypeKind → TypeKind → Bool
+can_extend Simple of = is_simple_kind of
+can_extend Network of = is_network_kind of
+can_extend Channel of = is_channel_kind of
+can_extend ModuleInterface of = false
+can_extend ChannelInterface of = false
+
+abbrev pub is_base : TypeKind → Option TypeDeclaration → Bool
+is_base kind None = false
+is_base kind (Some t) = can_extend kind t.kind
+
+-- whether it is a channel that extends a built-in one
+abbrev pub is_channel_of : TypeKind → List ℕ → Bool
+is_channel_of kind name = is_channel_kind kind && is_built_in name
+
+-- whether what is extended isn't of the kind of the type that extends it
+abbrev pub extends_other : List TypeDeclaration → TypeKind → Option (List ℕ) → Bool
+extends_other types kind None = false
+extends_other types kind (Some name) = not (is_channel_of kind name || is_base kind (type_named name types))
+
+abbrev pub has_other_base : List TypeDeclaration → Bool
+has_other_base types = list_any (λ t. extends_other types t.kind t.base) types
+
+-- ---- flat types
+
+-- a type with the members of another one behind its own; those begin with what a built-in channel has that the other extends
+abbrev pub with_members : TypeDeclaration → TypeDeclaration → TypeDeclaration
+with_members flat t = record {
+  kind = flat.kind;
+  name = flat.name;
+  base = flat.base;
+  interfaces = flat.interfaces ++ t.interfaces;
+  lines = (flat.lines ++ root_lines t.base) ++ t.lines;
+  gates = flat.gates ++ t.gates;
+  submodules = flat.submodules ++ t.submodules;
+}
+
+-- a type with the members of all these, those of the last one first
+abbrev pub joined_with : TypeDeclaration → List TypeDeclaration → TypeDeclaration
+joined_with flat [] = flat
+joined_with flat (t ∷ ts) = with_members (joined_with flat ts) t
+
+-- the class of a type: the one that it names, or else that of its base; of the root at last its own name
+abbrev pub class_along : List TypeDeclaration → List ℕ
+class_along [] = []
+class_along (t ∷ []) = class_of t
+class_along (t ∷ u ∷ ts) = named_or (class_in t.lines) (class_along (u ∷ ts))
+
+-- the line that names the class, where there is one
+abbrev pub class_lines : Bool → List ℕ → List SectionLine
+class_lines true class = line.Class class ∷ []
+class_lines false class = []
+
+-- a type that extends another, before it has any member. The class of a simple type stands before its lines, as the first
+-- class that lines name counts; types of other kinds have none
+abbrev pub bare_heir : List TypeDeclaration → TypeDeclaration → TypeDeclaration
+bare_heir types t = record {
+  kind = t.kind;
+  name = t.name;
+  base = None;
+  interfaces = [];
+  lines = class_lines (is_simple_kind t.kind) (class_along (line_of types t));
+  gates = [];
+  submodules = [];
+}
+
+-- a type that extends another, with all that its bases have, what the root has first and its own last
+abbrev pub heir_of : List TypeDeclaration → TypeDeclaration → TypeDeclaration
+heir_of types t = joined_with (bare_heir types t) (line_of types t)
+
+abbrev pub flat_by : List TypeDeclaration → TypeDeclaration → Option (List ℕ) → TypeDeclaration
+flat_by types t None = t
+flat_by types t (Some name) = heir_of types t
+
+-- ---- flat interfaces
+
+-- a type behind others, unless one of them has its name
+abbrev pub once_behind : List TypeDeclaration → TypeDeclaration → List TypeDeclaration
+once_behind line t = if is_type_named t.name line then line else line ++ t ∷ []
+
+abbrev pub all_behind : List TypeDeclaration → List TypeDeclaration → List TypeDeclaration
+all_behind line [] = line
+all_behind line (t ∷ ts) = all_behind (once_behind line t) ts
+
+-- the types of lists, one list behind the other, each where it comes first
+abbrev pub joined_behind : List TypeDeclaration → List (List TypeDeclaration) → List TypeDeclaration
+joined_behind line [] = line
+joined_behind line (more ∷ others) = joined_behind (all_behind line more) others
+
+-- the interface of that name, behind all that it extends, where these types stand before what they extend
+abbrev pub line_named : List TypeDeclaration → List ℕ → List TypeDeclaration
+line_named [] name = []
+line_named (t ∷ ts) name =
+    if is_interface_kind t.kind && bytes_eq t.name name
+    then once_behind (joined_behind [] (map (λ n. line_named ts n) t.interfaces)) t
+    else line_named ts name
+
+-- interfaces of these names and all that they extend, each once and behind what it extends itself
+abbrev pub interfaces_behind : List TypeDeclaration → List (List ℕ) → List TypeDeclaration
+interfaces_behind ordered names = joined_behind [] (map (λ n. line_named ordered n) names)
+
+-- a type with the members of all these, those of the first one first
+abbrev pub gathered : TypeDeclaration → List TypeDeclaration → TypeDeclaration
+gathered flat [] = flat
+gathered flat (t ∷ ts) = gathered (with_members flat t) ts
+
+-- a type without members
+abbrev pub bare : TypeDeclaration → TypeDeclaration
+bare t = record { kind = t.kind; name = t.name; base = None; interfaces = []; lines = []; gates = []; submodules = [] }
+
+abbrev pub without_interfaces : TypeDeclaration → TypeDeclaration
+without_interfaces t = record { kind = t.kind; name = t.name; base = t.base; interfaces = []; lines = t.lines; gates = t.gates; submodules = t.submodules }
+
+-- an interface with all that it extends, each once: its own members are the last
+abbrev pub flat_interface : List TypeDeclaration → TypeDeclaration → TypeDeclaration
+flat_interface ordered t = without_interfaces (with_members (gathered (bare t) (interfaces_behind ordered t.interfaces)) t)
+
+-- ---- flat types of all kinds
+
+abbrev pub flat_as : Bool → List TypeDeclaration → TypeDeclaration → TypeDeclaration
+flat_as true types t = flat_interface (heirs_first types) t
+flat_as false types t = flat_by types t t.base
+
+-- THE FLAT TYPE: what the type has with all that its bases have, which extends nothing
+abbrev pub flat_type : List TypeDeclaration → TypeDeclaration → TypeDeclaration
+flat_type types t = flat_as (is_interface_kind t.kind) types t
+
+-- the flat type of each
+abbrev pub flat_types : List TypeDeclaration → List TypeDeclaration
+flat_types types = map (flat_type types) types
+
+-- the types that references lead to
+abbrev pub types_in : List (Bor TypeDeclaration) → List TypeDeclaration
+types_in refs = map (λ (r : Bor TypeDeclaration). r.now) refs

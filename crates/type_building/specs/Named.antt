@@ -1,0 +1,66 @@
+-- Types by their names.
+use Rattle.std.specs.Prelude.{◌≡◌, ℕ, Bool, true, false, ◌||◌, List, [], ◌∷◌, map, Option, Some, None}
+use Rattle.std.specs.Borrow.{Bor}
+use Rattle.std.specs.Map.{lookup}
+use Rattle.std.specs.Str.{bytes_eq}
+use Rattle.std.specs.List.{list_any}
+use Rattle.ned_syntax.specs.declared.ast.TypeDeclaration.{TypeDeclaration}
+use Rattle.ned_types.specs.Types.{has_duplicate, is_type_named, is_interface_kind, names_unknown}
+use Rattle.type_building.specs.Interfaces.{keeps_other, names_no_type}
+use Rattle.type_building.specs.Inheritance.{extends_unknown, extends_other, line_named, joined_behind, gathered, bare, with_members, without_interfaces}
+
+-- the types that stand in a map
+abbrev pub types_at : List (Bor (List ℕ) × Bor TypeDeclaration) → List TypeDeclaration
+types_at entries = map (λ (e : Bor (List ℕ) × Bor TypeDeclaration). e.1.now) entries
+
+-- each stands at its name
+abbrev pub HaveNames : List (Bor (List ℕ) × Bor TypeDeclaration) → Type 0
+HaveNames [] = Unit {0}
+HaveNames (e ∷ es) = (e.0.now ≡ e.1.now.name) × HaveNames es
+
+-- whether one of these has the name of one of those
+abbrev pub is_one_taken : List TypeDeclaration → List TypeDeclaration → Bool
+is_one_taken seen types = list_any (λ t. is_type_named t.name seen) types
+
+-- all types are there, or nothing is where two have one name
+abbrev pub AreNamed : List TypeDeclaration → Option (List TypeDeclaration) → Type 0
+AreNamed types None = has_duplicate types ≡ true
+AreNamed types (Some named) = (has_duplicate types ≡ false) × (named ≡ types)
+
+-- whether some of the types name what is neither a type nor a built-in channel
+abbrev pub is_unknown_named : List TypeDeclaration → List TypeDeclaration → Bool
+is_unknown_named types some =
+    list_any (λ t. names_unknown types t.submodules) some
+    || (list_any (λ t. extends_unknown types t.base) some || list_any (λ t. names_no_type types t.interfaces) some)
+
+-- whether some of the types name what is of another kind than it should be
+abbrev pub is_other_named : List TypeDeclaration → List TypeDeclaration → Bool
+is_other_named types some = list_any (λ t. extends_other types t.kind t.base) some || list_any (λ t. keeps_other types t.kind t.interfaces) some
+
+-- these have the names that those have
+abbrev pub HaveNamesOf : List TypeDeclaration → List TypeDeclaration → Type 0
+HaveNamesOf these those = (name : List ℕ) → is_type_named name these ≡ is_type_named name those
+
+-- these have the names that those have, and the name of a type
+abbrev pub AddsName : List TypeDeclaration → List TypeDeclaration → TypeDeclaration → Type 0
+AddsName those these t = (name : List ℕ) → is_type_named name these ≡ (is_type_named name those || bytes_eq t.name name)
+
+-- the line that stands at a name
+abbrev pub line_or_none : Option (List TypeDeclaration) → List TypeDeclaration
+line_or_none None = []
+line_or_none (Some line) = line
+
+abbrev pub line_at : List (Bor (List ℕ) × List TypeDeclaration) → List ℕ → List TypeDeclaration
+line_at entries name = line_or_none (lookup (λ k. bytes_eq name k.now) entries)
+
+-- at each name stands the line of the interface of that name
+abbrev pub HaveLines : List (Bor (List ℕ) × List TypeDeclaration) → List TypeDeclaration → Type 0
+HaveLines entries ordered = (name : List ℕ) → line_at entries name ≡ line_named ordered name
+
+-- the line of an interface was added to those of types that stand behind it
+abbrev pub AddsLine : List (Bor (List ℕ) × List TypeDeclaration) → List (Bor (List ℕ) × List TypeDeclaration) → TypeDeclaration → Type 0
+AddsLine before after t = (ordered : List TypeDeclaration) → HaveLines before ordered → is_interface_kind t.kind ≡ true → HaveLines after (t ∷ ordered)
+
+-- an interface with all that it extends, by their lines
+abbrev pub flat_by_lines : List (Bor (List ℕ) × List TypeDeclaration) → TypeDeclaration → TypeDeclaration
+flat_by_lines entries t = without_interfaces (with_members (gathered (bare t) (joined_behind [] (map (line_at entries) t.interfaces))) t)

@@ -1,0 +1,94 @@
+//! What the built-in channels have.
+//! See OMNeT++ Simulation Manual, "Channels".
+
+ghost use Rattle.std.specs.Prelude.{◌≡◌, ◌++◌, IfOk, OnOk};
+ghost use Rattle.type_building.specs.Channels.{built_in_line, built_in_lines, delay_lines, error_lines, rate_lines, root_lines};
+
+use ned_syntax::ast::{Declaration, Expression, ParameterValue, ParameterWord, SectionLine};
+use sim_values::text::Text;
+use sim_values::value::{Dimension, Value};
+use sqlite_items::Items;
+use std::alloc::{AllocError, Global};
+
+/// A parameter with a default.
+fn built_in_line(
+    alloc: Global,
+    name: &[u8],
+    word: ParameterWord,
+    unit: Option<Dimension>,
+    value: Value,
+) -> Result<SectionLine, AllocError>
+    ensures { IfOk result (λ line. line ≡ built_in_line name.now word unit value) }
+{
+    Ok(SectionLine::Declaration(Declaration {
+        name: Text::from_bytes(alloc, name)?,
+        word,
+        unit,
+        value: Some(ParameterValue::Default(Expression::Literal(value))),
+    }))
+}
+
+/// Adds what a DelayChannel has.
+fn add_delay(alloc: Global, lines: &mut Items<SectionLine>) -> Result<(), AllocError>
+    ensures { OnOk result (lines.new ≡ lines.old ++ delay_lines) }
+{
+    let (time, flag) = (Value::Quantity(Dimension::Time, 0), Value::Truth(false));
+    let (name, unit) = (b"delay".as_slice(), Some(Dimension::Time));
+    lines.push(built_in_line(alloc, name, ParameterWord::Double, unit, time)?)?;
+    let name = b"disabled".as_slice();
+    lines.push(built_in_line(alloc, name, ParameterWord::Bool, None, flag)?)?;
+    Ok(())
+}
+
+/// Adds how often bits and packets are lost.
+fn add_errors(alloc: Global, lines: &mut Items<SectionLine>) -> Result<(), AllocError>
+    ensures { OnOk result (lines.new ≡ lines.old ++ error_lines) }
+{
+    let (ber, per) = (b"ber".as_slice(), b"per".as_slice());
+    lines.push(built_in_line(alloc, ber, ParameterWord::Int, None, Value::Whole(0))?)?;
+    lines.push(built_in_line(alloc, per, ParameterWord::Int, None, Value::Whole(0))?)?;
+    Ok(())
+}
+
+/// Adds what a DatarateChannel has besides.
+fn add_rate(alloc: Global, lines: &mut Items<SectionLine>) -> Result<(), AllocError>
+    ensures { OnOk result (lines.new ≡ lines.old ++ rate_lines) }
+{
+    let (rate, unit) = (Value::Quantity(Dimension::Rate, 0), Some(Dimension::Rate));
+    let name = b"datarate".as_slice();
+    lines.push(built_in_line(alloc, name, ParameterWord::Double, unit, rate)?)?;
+    add_errors(alloc, lines)?;
+    Ok(())
+}
+
+/// Adds what the built-in channel of that name has.
+fn add_built_in(
+    alloc: Global,
+    lines: &mut Items<SectionLine>,
+    name: &[u8],
+) -> Result<(), AllocError>
+    ensures { OnOk result (lines.new ≡ lines.old ++ built_in_lines name.now) }
+{
+    if name == b"DelayChannel".as_slice() {
+        return add_delay(alloc, lines);
+    }
+    if name == b"DatarateChannel".as_slice() {
+        add_delay(alloc, lines)?;
+        add_rate(alloc, lines)?;
+    }
+    Ok(())
+}
+
+/// Adds what the built-in channel has that a type extends, where it extends one.
+pub(crate) fn add_root(
+    alloc: Global,
+    lines: &mut Items<SectionLine>,
+    base: &Option<Text>,
+) -> Result<(), AllocError>
+    ensures { OnOk result (lines.new ≡ lines.old ++ root_lines base.now) }
+{
+    match base {
+        Some(name) => add_built_in(alloc, lines, name.as_bytes()),
+        None => Ok(()),
+    }
+}

@@ -1,0 +1,48 @@
+//! Gates that are declared twice.
+
+ghost use Rattle.std.specs.Prelude.{◌≡◌, ◌||◌, ◌++◌, false, not, IfOk, OnOk};
+ghost use Rattle.ned_types.specs.Types.{redeclares_gate};
+ghost use Rattle.type_building.specs.Seen.{declared_gate, declares_one, is_one_gate_named, names_in};
+
+use indexmap::IndexSet;
+use ned_syntax::ast::GateLine;
+use std::alloc::{AllocError, Global};
+
+/// Whether a gate is declared twice. The names that were seen stand in a set, so each is compared with few.
+pub(crate) fn redeclares_gate(alloc: Global, gates: &[GateLine]) -> Result<bool, AllocError>
+    ensures { IfOk result (λ again. again ≡ redeclares_gate gates.now) }
+{
+    let mut seen = IndexSet::new(alloc);
+    let again = declares_seen(&mut seen, gates)?;
+    Ok(again)
+}
+
+/// Whether one of these lines declares a gate whose name was seen before.
+fn declares_seen<'a>(
+    seen: &mut IndexSet<&'a [u8]>,
+    gates: &'a [GateLine],
+) -> Result<bool, AllocError>
+    ensures { IfOk result (λ again. again
+        ≡ (is_one_gate_named (names_in seen.old.keys) gates.now || redeclares_gate gates.now)) }
+{
+    let mut rest = gates;
+    while let [line, after @ ..] = rest {
+        if !see_gate(seen, line)? {
+            return Ok(true);
+        }
+        rest = after;
+    }
+    Ok(false)
+}
+
+/// Adds the name of the gate that the line declares, if it declares one. Answers whether it is new.
+fn see_gate<'a>(seen: &mut IndexSet<&'a [u8]>, line: &'a GateLine) -> Result<bool, AllocError>
+    ensures new { IfOk result (λ new. new ≡ not (declares_one (names_in seen.old.keys) line.now)) }
+    ensures names { OnOk result (declares_one (names_in seen.old.keys) line.now ≡ false
+        → names_in seen.new.keys ≡ names_in seen.old.keys ++ declared_gate line.now) }
+{
+    match line {
+        GateLine::Declaration(gate) => Ok(seen.insert(gate.name.as_bytes())?),
+        GateLine::Refinement(_) => Ok(true),
+    }
+}

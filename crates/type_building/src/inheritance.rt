@@ -1,0 +1,305 @@
+//! Types that extend others.
+
+ghost use Rattle.std.specs.Prelude.{◌≡◌, ◌++◌, map, IfOk, OnOk};
+ghost use Rattle.std.specs.List.{list_any};
+ghost use Rattle.std.specs.Option.{option_copied};
+ghost use Rattle.ned_types.specs.Types.{is_channel_kind, is_simple_kind};
+ghost use Rattle.type_building.specs.Inheritance.{base_of, line_of, extends_unknown, extends_other, can_extend, is_base, is_channel_of, with_members, joined_with, class_along, class_lines, bare, bare_heir, flat_by, gathered, heir_of, heirs_first, flat_type, types_in};
+ghost use Rattle.type_building.specs.Named.{HaveLines, flat_by_lines};
+
+use crate::channels::add_root;
+use crate::copies::{add_gates, add_lines, add_names, add_submodules, copy_type};
+use crate::faults::{is_built_in, is_taken};
+use crate::lines::{Lines, add_lines_of};
+use crate::named::NamedTypes;
+use crate::order::is_interface_kind;
+use ned_syntax::ast::{SectionLine, TypeDeclaration, TypeKind};
+use ned_types::flat::{class_in, class_of};
+use sim_values::text::Text;
+use sqlite_items::Items;
+use std::alloc::{AllocError, Global};
+
+/// What the type extends.
+fn base_of<'a>(named: &NamedTypes<'a>, declared: &TypeDeclaration) -> Option<&'a TypeDeclaration>
+    ensures { option_copied result ≡ base_of named.now declared.now.base }
+{
+    match &declared.base {
+        Some(name) => named.find(name.as_bytes()),
+        None => None,
+    }
+}
+
+/// Whether what one of the types extends isn't there.
+pub(crate) fn has_unknown_base(named: &NamedTypes<'_>, types: &[TypeDeclaration]) -> bool
+    ensures { result ≡ list_any (λ t. extends_unknown named.now t.base) types.now }
+{
+    types
+        .iter()
+        .any(|declared| extends_unknown(named, &declared.base))
+}
+
+fn extends_unknown(named: &NamedTypes<'_>, base: &Option<Text>) -> bool
+    ensures { result ≡ extends_unknown named.now base.now }
+{
+    match base {
+        Some(name) => !is_taken(name.as_bytes(), named),
+        None => false,
+    }
+}
+
+/// Whether what one of the types extends isn't of its kind.
+pub(crate) fn has_other_base(named: &NamedTypes<'_>, types: &[TypeDeclaration]) -> bool
+    ensures { result ≡ list_any (λ t. extends_other named.now t.kind t.base) types.now }
+{
+    types.iter().any(|declared| extends_other(named, declared.kind, &declared.base))
+}
+
+fn extends_other(named: &NamedTypes<'_>, kind: TypeKind, base: &Option<Text>) -> bool
+    ensures { result ≡ extends_other named.now kind base.now }
+{
+    match base {
+        Some(name) => {
+            !(is_channel_of(kind, name.as_bytes()) || is_base(kind, named.find(name.as_bytes())))
+        }
+        None => false,
+    }
+}
+
+/// Whether it is a channel that extends a built-in one.
+fn is_channel_of(kind: TypeKind, name: &[u8]) -> bool
+    ensures { result ≡ is_channel_of kind name.now }
+{
+    matches!(kind, TypeKind::Channel) && is_built_in(name)
+}
+
+/// Whether a type of the first kind may extend one of the second.
+fn can_extend(kind: TypeKind, of: TypeKind) -> bool
+    ensures { result ≡ can_extend kind of }
+{
+    match kind {
+        TypeKind::Simple => matches!(of, TypeKind::Simple),
+        TypeKind::Network => matches!(of, TypeKind::Network),
+        TypeKind::Channel => matches!(of, TypeKind::Channel),
+        TypeKind::ModuleInterface | TypeKind::ChannelInterface => false,
+    }
+}
+
+/// Whether a type of that kind may extend this one.
+fn is_base(kind: TypeKind, declared: Option<&TypeDeclaration>) -> bool
+    ensures { result ≡ is_base kind (option_copied declared.entry) }
+{
+    match declared {
+        Some(declared) => can_extend(kind, declared.kind),
+        None => false,
+    }
+}
+
+fn is_simple_kind(kind: TypeKind) -> bool
+    ensures { result ≡ is_simple_kind kind }
+{
+    matches!(kind, TypeKind::Simple)
+}
+
+/// A type, what it extends, what that extends, and so on.
+fn line_of<'a>(
+    alloc: Global,
+    named: &NamedTypes<'a>,
+    declared: &'a TypeDeclaration,
+) -> Result<Vec<&'a TypeDeclaration>, AllocError>
+    ensures { IfOk result (λ line. types_in line.items ≡ line_of named.now declared.now) }
+{
+    let mut line = Vec::new(alloc);
+    let mut next = Some(declared);
+    let mut left = named.len();
+    while let Some(found) = next {
+        if left == 0 {
+            break;
+        }
+        line.push(found)?;
+        next = base_of(named, found);
+        left -= 1;
+    }
+    Ok(line)
+}
+
+/// Adds the members of a type behind those of the other, and before them what the built-in channel has that it extends.
+fn add_members(
+    alloc: Global,
+    flat: &mut TypeDeclaration,
+    declared: &TypeDeclaration,
+) -> Result<(), AllocError>
+    ensures { OnOk result (flat.new ≡ with_members flat.old declared.now) }
+{
+    add_names(alloc, &mut flat.interfaces, declared.interfaces.as_slice())?;
+    add_root(alloc, &mut flat.lines, &declared.base)?;
+    add_lines(alloc, &mut flat.lines, declared.lines.as_slice())?;
+    add_gates(alloc, &mut flat.gates, declared.gates.as_slice())?;
+    add_submodules(alloc, &mut flat.submodules, declared.submodules.as_slice())
+}
+
+/// Adds the members of these types, those of the last one first.
+fn add_joined(
+    alloc: Global,
+    flat: &mut TypeDeclaration,
+    line: Vec<&TypeDeclaration>,
+) -> Result<(), AllocError>
+    ensures { OnOk result (flat.new ≡ joined_with flat.old (types_in line.entry.items)) }
+{
+    let mut rest = line;
+    while let Some(declared) = rest.pop() {
+        add_members(alloc, flat, declared)?;
+    }
+    Ok(())
+}
+
+/// The class that the first of these types names that names one, or else that of the last one.
+fn class_along<'a>(line: &[&'a TypeDeclaration]) -> &'a [u8]
+    ensures { result.now ≡ class_along (types_in line.now) }
+{
+    let mut rest = line;
+    while let [declared, after @ ..] = rest {
+        if after.is_empty() {
+            return class_of(declared);
+        }
+        if let Some(name) = class_in(declared.lines.as_slice()) {
+            return name;
+        }
+        rest = after;
+    }
+    b"".as_slice()
+}
+
+/// The line that names the class of a type that extends another, where it is a simple type.
+fn class_lines(
+    alloc: Global,
+    declared: &TypeDeclaration,
+    line: &[&TypeDeclaration],
+) -> Result<Items<SectionLine>, AllocError>
+    ensures { IfOk result (λ lines. lines ≡ class_lines (is_simple_kind declared.now.kind) (class_along (types_in line.now))) }
+{
+    let mut lines = Items::new(alloc);
+    if is_simple_kind(declared.kind) {
+        lines.push(SectionLine::Class(Text::from_bytes(alloc, class_along(line))?))?;
+    }
+    Ok(lines)
+}
+
+/// A type that extends another, with all that its bases have.
+fn heir_of<'a>(
+    alloc: Global,
+    named: &NamedTypes<'a>,
+    declared: &'a TypeDeclaration,
+) -> Result<TypeDeclaration, AllocError>
+    ensures { IfOk result (λ flat. flat ≡ heir_of named.now declared.now) }
+{
+    let line = line_of(alloc, named, declared)?;
+    let mut flat = TypeDeclaration {
+        kind: declared.kind,
+        name: declared.name.copy(alloc)?,
+        base: None,
+        interfaces: Items::new(alloc),
+        lines: class_lines(alloc, declared, &line)?,
+        gates: Items::new(alloc),
+        submodules: Items::new(alloc),
+    };
+    add_joined(alloc, &mut flat, line)?;
+    Ok(flat)
+}
+
+/// Adds the members of these types, those of the first one first.
+fn add_gathered(
+    alloc: Global,
+    flat: &mut TypeDeclaration,
+    line: &[&TypeDeclaration],
+) -> Result<(), AllocError>
+    ensures { OnOk result (flat.new ≡ gathered flat.old (types_in line.now)) }
+{
+    let mut rest = line;
+    while let [declared, after @ ..] = rest {
+        add_members(alloc, flat, declared)?;
+        rest = after;
+    }
+    Ok(())
+}
+
+/// A type without members.
+fn bare(alloc: Global, declared: &TypeDeclaration) -> Result<TypeDeclaration, AllocError>
+    ensures { IfOk result (λ flat. flat ≡ bare declared.now) }
+{
+    Ok(TypeDeclaration {
+        kind: declared.kind,
+        name: declared.name.copy(alloc)?,
+        base: None,
+        interfaces: Items::new(alloc),
+        lines: Items::new(alloc),
+        gates: Items::new(alloc),
+        submodules: Items::new(alloc),
+    })
+}
+
+/// An interface with all that it extends.
+fn flat_interface<'a>(
+    alloc: Global,
+    lines: &Lines<'a>,
+    declared: &'a TypeDeclaration,
+) -> Result<TypeDeclaration, AllocError>
+    ensures { IfOk result (λ flat. flat ≡ flat_by_lines lines.now.entries declared.now) }
+{
+    let mut line = NamedTypes::new(alloc);
+    add_lines_of(alloc, lines, &mut line, declared.interfaces.as_slice())?;
+    let mut flat = bare(alloc, declared)?;
+    let line = line.references(alloc)?;
+    add_gathered(alloc, &mut flat, &line)?;
+    add_members(alloc, &mut flat, declared)?;
+    flat.interfaces = Items::new(alloc);
+    Ok(flat)
+}
+
+/// What a type that is no interface has with all that its bases have.
+fn flat_by<'a>(
+    alloc: Global,
+    named: &NamedTypes<'a>,
+    declared: &'a TypeDeclaration,
+) -> Result<TypeDeclaration, AllocError>
+    ensures { IfOk result (λ flat. flat ≡ flat_by named.now declared.now declared.now.base) }
+{
+    match &declared.base {
+        Some(_) => heir_of(alloc, named, declared),
+        None => copy_type(alloc, declared),
+    }
+}
+
+/// What the type has with all that its bases have.
+fn flat_type<'a>(
+    alloc: Global,
+    named: &NamedTypes<'a>,
+    lines: &Lines<'a>,
+    declared: &'a TypeDeclaration,
+) -> Result<TypeDeclaration, AllocError>
+    requires { HaveLines lines.now.entries (heirs_first named.now) }
+    ensures { IfOk result (λ flat. flat ≡ flat_type named.now declared.now) }
+{
+    if is_interface_kind(declared.kind) {
+        let flat = flat_interface(alloc, lines, declared)?;
+        return Ok(flat);
+    }
+    let flat = flat_by(alloc, named, declared)?;
+    Ok(flat)
+}
+
+/// The flat type of each, where these are the lines of the interfaces among the types.
+pub(crate) fn flat_types<'a>(
+    alloc: Global,
+    named: &NamedTypes<'a>,
+    lines: &Lines<'a>,
+    types: &'a [TypeDeclaration],
+) -> Result<Items<TypeDeclaration>, AllocError>
+    requires { HaveLines lines.now.entries (heirs_first named.now) }
+    ensures { IfOk result (λ flat. flat ≡ map (flat_type named.now) types.now) }
+{
+    let mut flat = Items::new(alloc);
+    for declared in types {
+        flat.push(flat_type(alloc, named, lines, declared)?)?;
+    }
+    Ok(flat)
+}

@@ -1,0 +1,22 @@
+//! Laws of types.
+
+ghost use Rattle.type_building.specs.Circles.{CirclesAreFound};
+ghost use Rattle.type_building.specs.Example.{ExampleBodies, ExampleChannels, ExampleExtending, ExampleFaults, ExampleGates, ExampleInterfaces, ExampleIsFlat, ExampleNetworks};
+
+/// The flat types of small examples, their faults, and those of bodies of submodules.
+pub fn examples()
+    ensures flat { ExampleIsFlat }
+    ensures faults { ExampleFaults }
+    ensures bodies { ExampleBodies }
+    ensures networks { ExampleNetworks }
+    ensures channels { ExampleChannels }
+    ensures gates { ExampleGates }
+    ensures interfaces { ExampleInterfaces }
+    ensures extending { ExampleExtending }
+{}
+
+/// A circle is found exactly where one of the types extends itself, perhaps by way of others: it is no matter that the
+/// definition counts steps.
+pub fn circles()
+    ensures { CirclesAreFound }
+{}

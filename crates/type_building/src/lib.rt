@@ -1,0 +1,16 @@
+//! What files declare, made into a table of flat types: inheritance, interfaces, and why there is no table.
+#![tactic(auto)]
+
+mod bodies;
+mod channels;
+mod copies;
+mod faults;
+mod gates;
+mod inheritance;
+mod interfaces;
+pub mod laws;
+mod lines;
+mod named;
+mod order;
+mod sections;
+pub mod table;

@@ -1,0 +1,120 @@
+//! Interfaces with all that they extend.
+
+ghost use Rattle.std.specs.Prelude.{◌≡◌, [], false, map, IfOk, OnOk};
+ghost use Rattle.std.specs.Option.{option_copied};
+ghost use Rattle.type_building.specs.Inheritance.{all_behind, has_circle, heirs_first, joined_behind, once_behind, turned_onto, types_in};
+ghost use Rattle.type_building.specs.Named.{AddsLine, HaveLines, line_at};
+
+use crate::named::NamedTypes;
+use crate::order::{is_interface_kind, take_all};
+use indexmap::IndexMap;
+use ned_syntax::ast::TypeDeclaration;
+use sim_values::text::Text;
+use std::alloc::{AllocError, Global};
+
+/// At the name of each interface those that it extends, and itself behind them.
+pub(crate) type Lines<'a> = IndexMap<&'a [u8], NamedTypes<'a>>;
+
+/// Adds a type behind the others, unless one of them has its name.
+fn add_once<'a>(line: &mut NamedTypes<'a>, declared: &'a TypeDeclaration) -> Result<(), AllocError>
+    ensures { OnOk result (line.new ≡ once_behind line.old declared.now) }
+{
+    if !line.has(declared.name.as_bytes()) {
+        let _new = line.add(declared)?;
+    }
+    Ok(())
+}
+
+/// Adds types behind others, those whose names aren't there.
+fn add_behind<'a>(line: &mut NamedTypes<'a>, more: &[&'a TypeDeclaration]) -> Result<(), AllocError>
+    ensures { OnOk result (line.new ≡ all_behind line.old (types_in more.now)) }
+{
+    let mut rest = more;
+    while let [declared, after @ ..] = rest {
+        add_once(line, declared)?;
+        rest = after;
+    }
+    Ok(())
+}
+
+/// Adds the line of the interface of that name, where there is one.
+fn add_line<'a>(
+    alloc: Global,
+    lines: &Lines<'a>,
+    line: &mut NamedTypes<'a>,
+    name: &[u8],
+) -> Result<(), AllocError>
+    ensures { OnOk result (line.new ≡ all_behind line.old (line_at lines.now.entries name.now)) }
+{
+    match lines.get(name) {
+        Some(more) => {
+            let refs = more.references(alloc)?;
+            add_behind(line, &refs)
+        }
+        None => Ok(()),
+    }
+}
+
+/// Adds the lines of the interfaces of these names.
+pub(crate) fn add_lines_of<'a>(
+    alloc: Global,
+    lines: &Lines<'a>,
+    line: &mut NamedTypes<'a>,
+    names: &[Text],
+) -> Result<(), AllocError>
+    ensures { OnOk result (line.new ≡ joined_behind line.old (map (line_at lines.now.entries) names.now)) }
+{
+    let mut rest = names;
+    while let [name, after @ ..] = rest {
+        add_line(alloc, lines, line, name.as_bytes())?;
+        rest = after;
+    }
+    Ok(())
+}
+
+/// Adds the line of an interface: those of what it extends, and itself.
+fn add_interface<'a>(
+    alloc: Global,
+    lines: &mut Lines<'a>,
+    declared: &'a TypeDeclaration,
+) -> Result<(), AllocError>
+    ensures { OnOk result (AddsLine lines.old.entries lines.new.entries declared.now) }
+{
+    let mut line = NamedTypes::new(alloc);
+    add_lines_of(alloc, lines, &mut line, declared.interfaces.as_slice())?;
+    add_once(&mut line, declared)?;
+    lines.insert(declared.name.as_bytes(), line)?;
+    Ok(())
+}
+
+/// The lines of the interfaces among these types, each of which stands behind all that it extends.
+fn lines_of<'a>(alloc: Global, order: &[&'a TypeDeclaration]) -> Result<Lines<'a>, AllocError>
+    ensures { IfOk result (λ lines. HaveLines lines.entries (turned_onto (types_in order.now) [])) }
+{
+    let mut lines = IndexMap::new(alloc);
+    let mut rest = order;
+    while let [declared, after @ ..] = rest {
+        if is_interface_kind(declared.kind) {
+            add_interface(alloc, &mut lines, declared)?;
+        }
+        rest = after;
+    }
+    Ok(lines)
+}
+
+#[tactic(auto, using(crate::proofs::LineLaws::lines_fit))]
+/// Whether a type extends itself, perhaps by way of others; and where none does, the lines of all interfaces among the types.
+pub(crate) fn all_lines<'a>(
+    alloc: Global,
+    types: &'a [TypeDeclaration],
+) -> Result<(bool, Lines<'a>), AllocError>
+    ensures circle { IfOk result (λ r. r.0 ≡ has_circle types.now) }
+    ensures lines { IfOk result (λ r. has_circle types.now ≡ false → HaveLines r.1.entries (heirs_first types.now)) }
+{
+    let mut order = Vec::new(alloc);
+    if take_all(alloc, &mut order, types)? {
+        return Ok((true, IndexMap::new(alloc)));
+    }
+    let lines = lines_of(alloc, &order)?;
+    Ok((false, lines))
+}

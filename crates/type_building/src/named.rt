@@ -1,0 +1,110 @@
+//! Types by their names.
+
+ghost use Rattle.std.specs.Prelude.{◌≡◌, ◌++◌, ◌∷◌, [], false, not, length, IfOk, OnOk};
+ghost use Rattle.std.specs.Option.{option_copied};
+ghost use Rattle.ned_types.specs.Types.{type_named, is_type_named};
+ghost use Rattle.type_building.specs.Named.{AddsName, AreNamed};
+ghost use Rattle.type_building.specs.Inheritance.{types_in};
+
+use crate::faults::is_built_in;
+use indexmap::IndexMap;
+use ned_syntax::ast::TypeDeclaration;
+use std::alloc::{AllocError, Global};
+use std::marker::Model;
+
+/// Types, which contracts see as their list. Each is found by its name at once, however many there are.
+#[derive(Drop)]
+pub(crate) struct NamedTypes<'a> {
+    types: IndexMap<&'a [u8], &'a TypeDeclaration>,
+}
+
+impl<'a> Model for NamedTypes<'a> {
+    ghost use Rattle.std.specs.Prelude.{List};
+    ghost use Rattle.std.specs.Coded.{coded_list};
+    ghost use Rattle.ned_syntax.specs.contracts.ast.TypeDeclaration.{the_row};
+    ghost use Rattle.ned_syntax.specs.declared.ast.TypeDeclaration.{TypeDeclaration};
+    ghost use Rattle.type_building.specs.Named.{types_at, HaveNames};
+
+    ghost Value = { List TypeDeclaration };
+
+    ghost coded = { coded_list the_row.coded };
+
+    ghost view = { λ n. types_at n.types.entries };
+
+    ghost invariant = { λ n. HaveNames n.types.entries };
+}
+
+impl<'a> NamedTypes<'a> {
+    /// No types.
+    pub(crate) fn new(alloc: Global) -> NamedTypes<'a>
+        ensures { result ≡ [] }
+    {
+        NamedTypes {
+            types: IndexMap::new(alloc),
+        }
+    }
+
+    /// How many there are.
+    pub(crate) fn len(&self) -> usize
+        ensures { result ≡ length self.now }
+    {
+        self.types.len()
+    }
+
+    #[tactic(auto, using(crate::proofs::NamedLaws::types_of_values))]
+    /// References to them, in order.
+    pub(crate) fn references(&self, alloc: Global) -> Result<Vec<&'a TypeDeclaration>, AllocError>
+        ensures { IfOk result (λ refs. types_in refs.items ≡ self.now) }
+    {
+        let mut refs = Vec::new(alloc);
+        for declared in self.types.values() {
+            refs.push(*declared)?;
+        }
+        Ok(refs)
+    }
+
+    /// The type of that name.
+    pub(crate) fn find(&self, name: &[u8]) -> Option<&'a TypeDeclaration>
+        ensures { option_copied result ≡ type_named name.now self.now }
+    {
+        self.types.get(name).copied()
+    }
+
+    /// Whether there is one of that name.
+    pub(crate) fn has(&self, name: &[u8]) -> bool
+        ensures { result ≡ is_type_named name.now self.now }
+    {
+        self.find(name).is_some()
+    }
+
+    /// Adds a type behind the others, unless there is one of its name: then it stands in that one's place.
+    pub(crate) fn add(&mut self, declared: &'a TypeDeclaration) -> Result<bool, AllocError>
+        ensures added { IfOk result (λ added. added ≡ not (is_type_named declared.now.name self.old)) }
+        ensures names { OnOk result (AddsName self.old self.new declared.now) }
+        ensures types { OnOk result (is_type_named declared.now.name self.old ≡ false → self.new ≡ self.old ++ declared.now ∷ []) }
+    {
+        let before = self.types.insert(declared.name.as_bytes(), declared)?;
+        Ok(before.is_none())
+    }
+}
+
+/// The types by their names; or nothing, where two have one name, or one that of a built-in channel.
+pub(crate) fn by_name<'a>(
+    alloc: Global,
+    types: &'a [TypeDeclaration],
+) -> Result<Option<NamedTypes<'a>>, AllocError>
+    ensures { IfOk result (AreNamed types.now) }
+{
+    let mut named = NamedTypes::new(alloc);
+    let mut rest = types;
+    while let [declared, after @ ..] = rest {
+        if is_built_in(declared.name.as_bytes()) {
+            return Ok(None);
+        }
+        if !named.add(declared)? {
+            return Ok(None);
+        }
+        rest = after;
+    }
+    Ok(Some(named))
+}

@@ -1,0 +1,130 @@
+//! The order in which types stand behind all that they extend.
+
+ghost use Rattle.std.specs.Prelude.{◌≡◌, ◌++◌, false, not, length, IfOk, OnOk};
+ghost use Rattle.std.specs.List.{filter};
+ghost use Rattle.type_building.specs.Inheritance.{extends_one, has_circle, heirs, is_base_among, is_one_among, roots, taken_within, types_in};
+ghost use Rattle.ned_types.specs.Types.{is_interface_kind};
+ghost use Rattle.type_building.specs.Named.{HaveNamesOf};
+
+use crate::named::NamedTypes;
+use ned_syntax::ast::{TypeDeclaration, TypeKind};
+use sim_values::text::Text;
+use std::alloc::{AllocError, Global};
+
+/// Whether it is a kind of interfaces.
+pub(crate) fn is_interface_kind(kind: TypeKind) -> bool
+    ensures { result ≡ is_interface_kind kind }
+{
+    matches!(kind, TypeKind::ModuleInterface | TypeKind::ChannelInterface)
+}
+
+/// Whether one of the types has the name of a base.
+fn is_base_among(named: &NamedTypes<'_>, base: &Option<Text>) -> bool
+    ensures { result ≡ is_base_among named.now base.now }
+{
+    match base {
+        Some(name) => named.has(name.as_bytes()),
+        None => false,
+    }
+}
+
+/// Whether one of the types has one of the names.
+fn is_one_among(named: &NamedTypes<'_>, names: &[Text]) -> bool
+    ensures { result ≡ is_one_among named.now names.now }
+{
+    names.iter().any(|name| named.has(name.as_bytes()))
+}
+
+/// Whether a type extends one of these.
+fn extends_one(named: &NamedTypes<'_>, declared: &TypeDeclaration) -> bool
+    ensures { result ≡ extends_one named.now declared.now }
+{
+    is_base_among(named, &declared.base)
+        || (is_interface_kind(declared.kind) && is_one_among(named, declared.interfaces.as_slice()))
+}
+
+/// References to these.
+fn references(alloc: Global, types: &[TypeDeclaration]) -> Result<Vec<&TypeDeclaration>, AllocError>
+    ensures { IfOk result (λ refs. types_in refs.items ≡ types.now) }
+{
+    let mut refs = Vec::new(alloc);
+    for declared in types {
+        refs.push(declared)?;
+    }
+    Ok(refs)
+}
+
+/// Types that have the names of these.
+fn names_of<'a>(alloc: Global, types: &[&'a TypeDeclaration]) -> Result<NamedTypes<'a>, AllocError>
+    ensures { IfOk result (λ named. HaveNamesOf named (types_in types.now)) }
+{
+    let mut named = NamedTypes::new(alloc);
+    let mut rest = types;
+    while let [declared, after @ ..] = rest {
+        let _new = named.add(declared)?;
+        rest = after;
+    }
+    Ok(named)
+}
+
+/// Adds those of the types that extend none of the others to the order. Answers the others.
+fn part<'a>(
+    alloc: Global,
+    named: &NamedTypes<'_>,
+    order: &mut Vec<&'a TypeDeclaration>,
+    types: &[&'a TypeDeclaration],
+) -> Result<Vec<&'a TypeDeclaration>, AllocError>
+    ensures others { IfOk result (λ others. types_in others.items ≡ filter (λ t. extends_one named.now t) (types_in types.now)) }
+    ensures taken { OnOk result (types_in order.new.items
+        ≡ types_in order.old.items ++ filter (λ t. not (extends_one named.now t)) (types_in types.now)) }
+{
+    let mut others = Vec::new(alloc);
+    let mut rest = types;
+    while let [declared, after @ ..] = rest {
+        if extends_one(named, declared) {
+            others.push(*declared)?;
+        } else {
+            order.push(*declared)?;
+        }
+        rest = after;
+    }
+    Ok(others)
+}
+
+/// Adds those of the types that extend none of them to the order. Answers the others.
+fn take_roots<'a>(
+    alloc: Global,
+    order: &mut Vec<&'a TypeDeclaration>,
+    types: &[&'a TypeDeclaration],
+) -> Result<Vec<&'a TypeDeclaration>, AllocError>
+    ensures others { IfOk result (λ others. types_in others.items ≡ heirs (types_in types.now)) }
+    ensures taken { OnOk result (types_in order.new.items ≡ types_in order.old.items ++ roots (types_in types.now)) }
+{
+    let named = names_of(alloc, types)?;
+    let others = part(alloc, &named, order, types)?;
+    Ok(others)
+}
+
+/// Adds the types to the order, each behind all that it extends. Answers whether one extends itself, perhaps by way of others:
+/// then the order is of no use.
+pub(crate) fn take_all<'a>(
+    alloc: Global,
+    order: &mut Vec<&'a TypeDeclaration>,
+    types: &'a [TypeDeclaration],
+) -> Result<bool, AllocError>
+    ensures circle { IfOk result (λ circle. circle ≡ has_circle types.now) }
+    ensures taken { OnOk result (has_circle types.now ≡ false
+        → types_in order.new.items ≡ types_in order.old.items ++ taken_within (length types.now) types.now) }
+{
+    let mut rest = references(alloc, types)?;
+    let mut left = types.len();
+    while left > 0 {
+        let others = take_roots(alloc, order, &rest)?;
+        if others.len() == rest.len() {
+            return Ok(!rest.is_empty());
+        }
+        rest = others;
+        left -= 1;
+    }
+    Ok(!rest.is_empty())
+}

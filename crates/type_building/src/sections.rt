@@ -1,0 +1,156 @@
+//! Parameter sections: what is declared twice, and given without a declaration or behind a fixed value. The names that were seen
+//! stand in sets, so each line is compared with few.
+
+ghost use Rattle.std.specs.Prelude.{◌≡◌, ◌||◌, not, IfOk, OnOk};
+ghost use Rattle.std.specs.List.{list_any};
+ghost use Rattle.std.specs.Str.{bytes_eq};
+ghost use Rattle.ned_types.specs.Types.{section_clashes, is_declaration, declares, is_declared, redeclares, gives_fixed, is_fixed_in, gives_again};
+ghost use Rattle.type_building.specs.Seen.{names_in, is_in, AddsNames, redeclares_seen, gives_seen, gives_unseen};
+
+use indexmap::IndexSet;
+use ned_syntax::ast::SectionLine;
+use ned_types::given::{fixes, name_in, value_in};
+use std::alloc::{AllocError, Global};
+
+/// Whether a parameter is declared twice, or a value is given to one that isn't declared or has a fixed one.
+pub(crate) fn section_clashes(alloc: Global, lines: &[SectionLine]) -> Result<bool, AllocError>
+    ensures { IfOk result (λ clash. clash ≡ section_clashes lines.now) }
+{
+    let mut declared = IndexSet::new(alloc);
+    if see_declared(&mut declared, lines)? {
+        return Ok(true);
+    }
+    if one_gives_unseen(&declared, lines) {
+        return Ok(true);
+    }
+    gives_again(alloc, lines)
+}
+
+/// Adds the names of the parameters that these lines declare. Answers whether one was seen before, or is declared twice.
+pub(crate) fn see_declared<'a>(
+    declared: &mut IndexSet<&'a [u8]>,
+    lines: &'a [SectionLine],
+) -> Result<bool, AllocError>
+    ensures again { IfOk result (λ again. again
+        ≡ (list_any (redeclares_seen (names_in declared.old.keys)) lines.now || redeclares lines.now)) }
+    ensures names { OnOk result (AddsNames (names_in declared.old.keys) (λ n. is_declared n lines.now) (names_in declared.new.keys)) }
+{
+    let mut again = false;
+    let mut rest = lines;
+    while let [line, after @ ..] = rest {
+        let seen = see_declaration(declared, line)?;
+        again = again || seen;
+        rest = after;
+    }
+    Ok(again)
+}
+
+/// Adds the name of the parameter that the line declares, if it declares one. Answers whether it was seen before.
+fn see_declaration<'a>(
+    declared: &mut IndexSet<&'a [u8]>,
+    line: &'a SectionLine,
+) -> Result<bool, AllocError>
+    ensures again { IfOk result (λ again. again ≡ redeclares_seen (names_in declared.old.keys) line.now) }
+    ensures names { OnOk result (AddsNames (names_in declared.old.keys) (λ n. declares n line.now) (names_in declared.new.keys)) }
+{
+    if !is_declaration(line) {
+        return Ok(false);
+    }
+    let new = see(declared, name_in(line))?;
+    Ok(!new)
+}
+
+/// Adds the names of the parameters that these lines give fixed values.
+pub(crate) fn see_fixed<'a>(
+    fixed: &mut IndexSet<&'a [u8]>,
+    lines: &'a [SectionLine],
+) -> Result<(), AllocError>
+    ensures { OnOk result (AddsNames (names_in fixed.old.keys) (λ n. is_fixed_in n lines.now) (names_in fixed.new.keys)) }
+{
+    let mut rest = lines;
+    while let [line, after @ ..] = rest {
+        see_fixing(fixed, line)?;
+        rest = after;
+    }
+    Ok(())
+}
+
+/// Adds the name of the parameter that the line gives a fixed value, if it gives one.
+fn see_fixing<'a>(fixed: &mut IndexSet<&'a [u8]>, line: &'a SectionLine) -> Result<(), AllocError>
+    ensures { OnOk result (AddsNames (names_in fixed.old.keys) (λ n. gives_fixed n line.now) (names_in fixed.new.keys)) }
+{
+    if fixes(line) {
+        see(fixed, name_in(line))?;
+    }
+    Ok(())
+}
+
+/// Adds a name. Answers whether it is new.
+fn see<'a>(seen: &mut IndexSet<&'a [u8]>, name: &'a [u8]) -> Result<bool, AllocError>
+    ensures new { IfOk result (λ new. new ≡ not (is_in name.now (names_in seen.old.keys))) }
+    ensures names { OnOk result (AddsNames (names_in seen.old.keys) (λ n. bytes_eq name.now n) (names_in seen.new.keys)) }
+{
+    Ok(seen.insert(name)?)
+}
+
+/// Whether a parameter with a fixed value is given another one.
+pub(crate) fn gives_again(alloc: Global, lines: &[SectionLine]) -> Result<bool, AllocError>
+    ensures { IfOk result (λ again. again ≡ gives_again lines.now) }
+{
+    let mut fixed = IndexSet::new(alloc);
+    let again = one_gives_seen(&mut fixed, lines)?;
+    Ok(again)
+}
+
+/// Whether one of these lines gives a value to a parameter that was seen, or is given a fixed value before it.
+fn one_gives_seen<'a>(
+    seen: &mut IndexSet<&'a [u8]>,
+    lines: &'a [SectionLine],
+) -> Result<bool, AllocError>
+    ensures { IfOk result (λ again. again
+        ≡ (list_any (gives_seen (names_in seen.old.keys)) lines.now || gives_again lines.now)) }
+{
+    let mut rest = lines;
+    while let [line, after @ ..] = rest {
+        if gives_seen(seen, line) {
+            return Ok(true);
+        }
+        see_fixing(seen, line)?;
+        rest = after;
+    }
+    Ok(false)
+}
+
+/// Whether the line gives a value to a parameter that was seen.
+pub(crate) fn gives_seen(seen: &IndexSet<&[u8]>, line: &SectionLine) -> bool
+    ensures { result ≡ gives_seen (names_in seen.now.keys) line.now }
+{
+    value_in(line).is_some() && is_seen(seen, name_in(line))
+}
+
+/// Whether one of these lines gives a value to a parameter that wasn't seen.
+fn one_gives_unseen(seen: &IndexSet<&[u8]>, lines: &[SectionLine]) -> bool
+    ensures { result ≡ list_any (gives_unseen (names_in seen.now.keys)) lines.now }
+{
+    lines.iter().any(|line| gives_unseen(seen, line))
+}
+
+/// Whether the line gives a value to a parameter that wasn't seen.
+pub(crate) fn gives_unseen(seen: &IndexSet<&[u8]>, line: &SectionLine) -> bool
+    ensures { result ≡ gives_unseen (names_in seen.now.keys) line.now }
+{
+    value_in(line).is_some() && !is_seen(seen, name_in(line))
+}
+
+/// Whether the name was seen.
+fn is_seen(seen: &IndexSet<&[u8]>, name: &[u8]) -> bool
+    ensures { result ≡ is_in name.now (names_in seen.now.keys) }
+{
+    seen.contains(name)
+}
+
+pub(crate) fn is_declaration(line: &SectionLine) -> bool
+    ensures { result ≡ is_declaration line.now }
+{
+    matches!(line, SectionLine::Declaration(_))
+}

@@ -1,0 +1,78 @@
+//! The table of the types that files declare, or why they make none.
+
+ghost use Rattle.std.specs.Prelude.{◌≡◌, IfOk};
+ghost use Rattle.ned_types.specs.Types.{types_of};
+ghost use Rattle.ned_types.specs.WellFormed.{IsWellFormed};
+ghost use Rattle.type_building.specs.Inheritance.{flat_types};
+ghost use Rattle.type_building.specs.Building.{AnswersTable, Builds, CanBuild};
+
+use crate::faults;
+use ned_syntax::ast::{NedFile, TypeDeclaration};
+use ned_types::table::TypeTable;
+use sim_values::NoMemory;
+use sqlite_items::Items;
+use std::alloc::{AllocError, Global};
+use thiserror::Error;
+
+/// Why declared types make no model. Of several reasons the first in this order is told.
+#[derive(Clone, Copy, Debug, PartialEq, Eq, Error)]
+pub enum TypeFault {
+    /// Two types have one name, or one has that of a built-in channel.
+    #[error("DuplicateType")]
+    DuplicateType,
+    /// A submodule's type, what a type extends, or one of its interfaces isn't declared.
+    #[error("UnknownType")]
+    UnknownType,
+    /// A type extends itself, perhaps by way of others.
+    #[error("InheritanceCircle")]
+    InheritanceCircle,
+    /// What a type extends or one of its interfaces is of another kind, a parameter, a gate or a submodule is declared twice, a value is given to an undeclared
+    /// parameter or after a fixed one, by a section or by the body of a submodule, a body declares a parameter, or a submodule's type is
+    /// no simple type.
+    #[error("KindClash")]
+    KindClash,
+    /// A type lacks a parameter or a gate of one of its interfaces.
+    #[error("Interface")]
+    Interface,
+    #[error("NoMemory")]
+    NoMemory(NoMemory),
+}
+
+impl From<AllocError> for TypeFault {
+    ghost use Rattle.std.specs.Prelude.{◌≡◌};
+    ghost use Rattle.sim_values.specs.Memory.{no_memory};
+    ghost use Rattle.type_building.specs.declared.table.TypeFault.TheVariants.{NoMemory};
+
+    ghost from_gives = { λ _ e. e ≡ NoMemory no_memory };
+
+    fn from(error: AllocError) -> TypeFault {
+        TypeFault::NoMemory(error.into())
+    }
+}
+
+/// The table of the files' types, or the first reason why they make none.
+pub fn build(alloc: Global, files: Vec<NedFile>) -> Result<TypeTable, TypeFault>
+    // The table has the flat types of all files, or the first fault is told.
+    ensures built { Builds (types_of files.items) result }
+    // What is built keeps the rules of types.
+    ensures rules { IfOk result IsWellFormed }
+    // Types that keep the rules are built, unless memory runs out.
+    ensures complete { CanBuild (types_of files.items)
+        → AnswersTable (flat_types (types_of files.items)) result }
+{
+    let declared = joined(alloc, files)?;
+    let types = faults::flattened(alloc, declared.as_slice())?;
+    let table = TypeTable::of(alloc, types)?;
+    Ok(table)
+}
+
+/// The types of all files, one file after the other.
+fn joined(alloc: Global, files: Vec<NedFile>) -> Result<Items<TypeDeclaration>, AllocError>
+    ensures { IfOk result (λ types. types ≡ types_of files.items) }
+{
+    let mut types = Items::new(alloc);
+    for file in files {
+        types.append(file.types)?;
+    }
+    Ok(types)
+}
