@@ -5,7 +5,7 @@ ghost use Rattle.ned_tokens.specs.Rule.{Reads, begins, many};
 ghost use Rattle.ned_syntax.specs.Grammar as grammar;
 
 use crate::ast::{Expression, GateDeclaration, GateDirection, GateLine, GateRefinement, GateSize};
-use crate::leaves::{begins_mark, begins_name, begins_word, ended, mark, name, word};
+use crate::leaves::{begins_mark, begins_name, begins_word, ended, mark, name, refused, word};
 use crate::properties::{properties, says_loose};
 use ned_expressions::chains::expression;
 use ned_tokens::refusal::Refusal;
@@ -117,8 +117,8 @@ fn declared_gate(alloc: Global, tokens: &[Token]) -> Result<(GateLine, &[Token])
 {
     let (direction, rest) = read!(direction(tokens));
     let (name, rest) = read!(name(alloc, rest));
-    let (size, rest) = read!(gate_size(alloc, rest));
-    let (said, rest) = read!(properties(alloc, rest));
+    let (size, rest) = read_behind!(name, gate_size(alloc, rest));
+    let (said, rest) = read_behind!((name, size), properties(alloc, rest));
     Ok((
         GateLine::Declaration(GateDeclaration {
             name,
@@ -136,8 +136,8 @@ fn refined_gate(alloc: Global, tokens: &[Token]) -> Result<(GateLine, &[Token]),
     ensures { Reads grammar.refined_gate tokens.now result }
 {
     let (name, rest) = read!(name(alloc, tokens));
-    let (size, rest) = read!(refined_size(alloc, rest));
-    let (said, rest) = read!(properties(alloc, rest));
+    let (size, rest) = read_behind!(name, refined_size(alloc, rest));
+    let (said, rest) = read_behind!((name, size), properties(alloc, rest));
     Ok((
         GateLine::Refinement(GateRefinement {
             name,

@@ -12,6 +12,17 @@ macro_rules! read {
     };
 }
 
+/// The value that was read; at a refusal what was read before it is dropped, by a call for each: in a function of its own each exit would
+/// open the drop of a tree.
+macro_rules! read_behind {
+    ($held:expr, $reading:expr) => {
+        match $reading {
+            Ok(it) => it,
+            Err(refusal) => return Err(refused($held, refusal)),
+        }
+    };
+}
+
 pub mod ast;
 mod bodies;
 mod dotted;

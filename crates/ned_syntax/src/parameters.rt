@@ -5,7 +5,7 @@ ghost use Rattle.ned_tokens.specs.Rule.{Gives, Reads, begins, many, optional};
 ghost use Rattle.ned_syntax.specs.Grammar as grammar;
 
 use crate::ast::{Assignment, Declaration, ParameterValue, ParameterWord, SectionLine};
-use crate::leaves::{begins_mark, begins_name, begins_word, ended, mark, name, word};
+use crate::leaves::{begins_mark, begins_name, begins_word, ended, mark, name, refused, word};
 use crate::literals::value;
 use crate::properties::{Effect, first_unit, plain_line, properties};
 use crate::statistics::{begins_statistic, statistic};
@@ -41,7 +41,7 @@ fn read_valued(alloc: Global, tokens: &[Token]) -> Result<(Valued, &[Token]), Re
 {
     let rest = read!(mark(Mark::Equals, tokens));
     let (value, rest) = read!(value(alloc, rest));
-    let (behind, rest) = read!(properties(alloc, rest));
+    let (behind, rest) = read_behind!(value, properties(alloc, rest));
     Ok((Valued { value, behind }, rest))
 }
 
@@ -63,7 +63,7 @@ fn read_tail(alloc: Global, tokens: &[Token]) -> Result<(Tail, &[Token]), Refusa
     ensures { Reads grammar.tail tokens.now result }
 {
     let (before, rest) = read!(properties(alloc, tokens));
-    let (valued, rest) = read!(optional_value(alloc, rest));
+    let (valued, rest) = read_behind!(before, optional_value(alloc, rest));
     Ok((Tail { before, valued }, rest))
 }
 
@@ -164,7 +164,7 @@ fn any_declaration(alloc: Global, tokens: &[Token]) -> Result<(Declaration, &[To
     let rest = read!(volatile(tokens));
     let (word, rest) = read!(parameter_word(rest));
     let (name, rest) = read!(name(alloc, rest));
-    let (tail, rest) = read!(read_tail(alloc, rest));
+    let (tail, rest) = read_behind!(name, read_tail(alloc, rest));
     Ok((declared(word, name, tail), rest))
 }
 
@@ -188,7 +188,7 @@ pub(crate) fn declaration(
 {
     let (declaration, rest) = read!(any_declaration(alloc, tokens));
     if !is_measured(&declaration) {
-        return Err(Refusal::At(rest.len()));
+        return Err(refused(declaration, Refusal::At(rest.len())));
     }
     Ok((declaration, rest))
 }
