@@ -11,7 +11,7 @@ use Rattle.ned_types.specs.Types as t
 use Rattle.type_building.specs.Interfaces as f
 use Rattle.type_building.specs.Circles.{ExtendsItself}
 use Rattle.type_building.specs.Inheritance as i
-use Rattle.type_building.specs.Building.{fault_of, Builds, AnswersTable, CanBuild, MayExtend}
+use Rattle.type_building.specs.Building.{base_fault, flat_fault, fault_of, AreFaultless, Builds, AnswersTable, CanBuild, MayExtend}
 use Rattle.ned_types.specs.Flat.{or_else}
 use Rattle.ned_types.specs.WellFormed.{IsAmong, StandsBefore, IsWellFormed}
 use Rattle.type_building.proofs.WellFormedLaws.{types_apart, false_not, any_made, any_told, among_second, no_duplicate, no_unknown, no_clash, well_formed, named_is, named_found, or_second, any_is, names_same, type_is}
@@ -188,3 +188,18 @@ complete_by types (Err UnknownType) b w = some_none _ _ b (faultless types w)
 complete_by types (Err InheritanceCircle) b w = some_none _ _ b (faultless types w)
 complete_by types (Err KindClash) b w = some_none _ _ b (faultless types w)
 complete_by types (Err Interface) b w = some_none _ _ b (faultless types w)
+
+-- ---- types whose names and bases have no fault: what is left is that of their flat types
+
+no_base_fault : (fault : Option TypeFault) (rest : Option TypeFault) → fault ≡ None → or_else fault rest ≡ rest
+no_base_fault None rest e = refl
+no_base_fault (Some fault) rest e = absurd cc
+
+pub built_flat : (types : List TypeDeclaration) (r : Result (List TypeDeclaration) TypeFault) → base_fault types ≡ None → AreFaultless (i.flat_types types) r → Builds types r
+built_flat types (Ok table) e h = (h.0, no_base_fault (base_fault types) (flat_fault (i.flat_types types)) e ∙ h.1)
+built_flat types (Err (NoMemory m)) e h = tt
+built_flat types (Err DuplicateType) e h = no_base_fault (base_fault types) (flat_fault (i.flat_types types)) e ∙ h
+built_flat types (Err UnknownType) e h = no_base_fault (base_fault types) (flat_fault (i.flat_types types)) e ∙ h
+built_flat types (Err InheritanceCircle) e h = no_base_fault (base_fault types) (flat_fault (i.flat_types types)) e ∙ h
+built_flat types (Err KindClash) e h = no_base_fault (base_fault types) (flat_fault (i.flat_types types)) e ∙ h
+built_flat types (Err Interface) e h = no_base_fault (base_fault types) (flat_fault (i.flat_types types)) e ∙ h

@@ -16,6 +16,7 @@ use Rattle.ned_syntax.specs.declared.ast.SectionLine.TheVariants as line
 use Rattle.ned_syntax.specs.declared.ast.TypeDeclaration.{TypeDeclaration}
 use Rattle.type_building.specs.Interfaces as i
 use Rattle.ned_types.specs.Types as t
+use Rattle.ned_types.specs.Types.{is_vector}
 use Rattle.ned_types.specs.WellFormed.{IsAmong, StandsBefore, HasMembers}
 use Rattle.type_building.proofs.WellFormedLaws.{any_found, any_is, any_made, any_told, false_not, names_same, not_false, or_false, same_names, type_is}
 
@@ -109,13 +110,13 @@ lacks_none lines line.Ignored h = refl
 -- ---- gates
 
 abbrev HasGate : List GateLine → GateDeclaration → Type 0
-HasGate gates d = (e : GateDeclaration) × IsAmong (gate.Declaration e) gates × (e.name ≡ d.name) × (e.direction ≡ d.direction) × (i.is_vector e.size ≡ i.is_vector d.size)
+HasGate gates d = (e : GateDeclaration) × IsAmong (gate.Declaration e) gates × (e.name ≡ d.name) × (e.direction ≡ d.direction) × (is_vector e.size ≡ is_vector d.size)
 
 gate_declared_as : (d : GateDeclaration) (g : GateLine) (gates : List GateLine) → IsAmong g gates → i.declares_gate_as d g ≡ true → HasGate gates d
 gate_declared_as d (gate.Declaration e) gates is h =
     let p = and_both (bytes_eq e.name d.name) _ h in
     let q = and_both (i.is_direction e.direction d.direction) _ p.1 in
-    (e, is, same_names e.name d.name p.0, direction_is e.direction d.direction q.0, alike_told (i.is_vector e.size) (i.is_vector d.size) q.1)
+    (e, is, same_names e.name d.name p.0, direction_is e.direction d.direction q.0, alike_told (is_vector e.size) (is_vector d.size) q.1)
 gate_declared_as d (gate.Refinement r) gates is h = absurd (false≢true h)
 
 gate_told : (gates : List GateLine) (d : GateDeclaration) → i.has_gate gates d ≡ true → HasGate gates d
@@ -124,7 +125,7 @@ gate_told gates d h = let found = any_found (λ g. i.declares_gate_as d g) gates
 gate_made : (gates : List GateLine) (d : GateDeclaration) → HasGate gates d → i.has_gate gates d ≡ true
 gate_made gates d h =
     let same : i.is_direction h.0.direction d.direction ≡ true = ap (i.is_direction h.0.direction) (sym h.3) ∙ direction_same h.0.direction in
-    any_is (λ g. i.declares_gate_as d g) gates (gate.Declaration h.0) h.1 (both_and (bytes_eq h.0.name d.name) _ (names_same h.0.name d.name h.2) (both_and (i.is_direction h.0.direction d.direction) _ same (alike_made (i.is_vector h.0.size) (i.is_vector d.size) h.4)))
+    any_is (λ g. i.declares_gate_as d g) gates (gate.Declaration h.0) h.1 (both_and (bytes_eq h.0.name d.name) _ (names_same h.0.name d.name h.2) (both_and (i.is_direction h.0.direction d.direction) _ same (alike_made (is_vector h.0.size) (is_vector d.size) h.4)))
 
 lacks_no_gate : (gates : List GateLine) (g : GateLine) → ((d : GateDeclaration) → g ≡ gate.Declaration d → HasGate gates d) → i.lacks_gate gates g ≡ false
 lacks_no_gate gates (gate.Declaration d) h = false_not _ (gate_made gates d (h d refl))

@@ -34,6 +34,12 @@ Builds types (Ok table) = (table ≡ flat_types types) × (fault_of types ≡ No
 Builds types (Err (NoMemory _)) = Unit {0}
 Builds types (Err fault) = fault_of types ≡ Some fault
 
+-- these flat types where they have no fault, or their first one; or memory ran out
+abbrev pub AreFaultless : List TypeDeclaration → Result (List TypeDeclaration) TypeFault → Type 0
+AreFaultless types (Ok table) = (table ≡ types) × (flat_fault types ≡ None)
+AreFaultless types (Err (NoMemory _)) = Unit {0}
+AreFaultless types (Err fault) = flat_fault types ≡ Some fault
+
 -- this table, or want of memory
 abbrev pub AnswersTable : List TypeDeclaration → Result (List TypeDeclaration) TypeFault → Type 0
 AnswersTable types (Ok table) = table ≡ types

@@ -1,19 +1,19 @@
 //! Why declared types make no model.
 
-ghost use Rattle.std.specs.Prelude.{◌≡◌, ◌||◌, ◌↔◌, false, None, IfOk};
+ghost use Rattle.std.specs.Prelude.{◌≡◌, ◌||◌, ◌↔◌, false, None, IfOk, map};
 ghost use Rattle.ned_types.specs.Types.{has_duplicate, is_built_in, is_type_named, names_unknown, is_submodule_known, has_clash, clashes, submodules_clash, is_submodule_simple, is_simple, repeats_submodule, has_other_kind};
-ghost use Rattle.type_building.specs.Inheritance.{flat_types};
-ghost use Rattle.type_building.specs.Building.{Builds, AnswersTable, CanBuild, flat_fault};
+ghost use Rattle.type_building.specs.Inheritance.{flat_type, flat_types, heirs_first};
+ghost use Rattle.type_building.specs.Building.{Builds, AnswersTable, AreFaultless, CanBuild, flat_fault};
 ghost use Rattle.ned_types.specs.WellFormed.{IsWellFormed};
 ghost use Rattle.std.specs.List.{list_any};
-ghost use Rattle.type_building.specs.Named.{is_other_named, is_unknown_named};
+ghost use Rattle.type_building.specs.Named.{HaveLines, is_other_named, is_unknown_named};
 ghost use Rattle.type_building.specs.Seen.{is_one_named, names_in};
 
 use crate::bodies::bodies_clash;
 use crate::gates::redeclares_gate;
 use crate::inheritance::{flat_types, has_other_base, has_unknown_base};
 use crate::interfaces::{has_broken, has_other_interface, has_unknown_interface};
-use crate::lines::all_lines;
+use crate::lines::{Lines, all_lines};
 use crate::named::{NamedTypes, by_name};
 use crate::sections::section_clashes;
 use crate::table::TypeFault;
@@ -36,28 +36,73 @@ pub(crate) fn flattened(
     built(alloc, types)
 }
 
-#[tactic(auto, using(crate::proofs::BuildingLaws::duplicate_flat))]
 fn built(alloc: Global, types: &[TypeDeclaration]) -> Result<Items<TypeDeclaration>, TypeFault>
     ensures { Builds types.now result }
 {
-    let Some(named) = by_name(alloc, types)? else {
-        return Err(TypeFault::DuplicateType);
-    };
-    if is_unknown_named(&named, types) {
+    match by_name(alloc, types)? {
+        Some(named) => built_by(alloc, &named, types),
+        None => Err(TypeFault::DuplicateType),
+    }
+}
+
+/// The flat type of each of these types, which have names of their own, or their first fault.
+#[tactic(auto, using(crate::proofs::BuildingLaws::duplicate_flat, crate::proofs::BuildingLaws::built_flat))]
+fn built_by<'a>(
+    alloc: Global,
+    named: &NamedTypes<'a>,
+    types: &'a [TypeDeclaration],
+) -> Result<Items<TypeDeclaration>, TypeFault>
+    requires names { named.now ≡ types.now }
+    requires apart { has_duplicate types.now ≡ false }
+    ensures { Builds types.now result }
+{
+    if is_unknown_named(named, types) {
         return Err(TypeFault::UnknownType);
     }
     let (circle, lines) = all_lines(alloc, types)?;
     if circle {
-        return Err(TypeFault::InheritanceCircle);
+        return Err(refused(lines, TypeFault::InheritanceCircle));
     }
-    if is_other_named(&named, types) {
-        return Err(TypeFault::KindClash);
+    if is_other_named(named, types) {
+        return Err(refused(lines, TypeFault::KindClash));
     }
-    let flat = flat_types(alloc, &named, &lines, types)?;
-    if let Some(fault) = flat_fault(alloc, flat.as_slice())? {
-        return Err(fault);
+    let flat = flat_over(alloc, named, lines, types)?;
+    faultless(alloc, flat)
+}
+
+/// A fault, behind which what was made before it is dropped: in a function of its own each exit would open that drop.
+fn refused<T: Drop>(_held: T, fault: TypeFault) -> TypeFault
+    ensures { result ≡ fault }
+{
+    fault
+}
+
+/// The flat type of each, where these are the lines of the interfaces among the types, which nothing needs behind it.
+fn flat_over<'a>(
+    alloc: Global,
+    named: &NamedTypes<'a>,
+    lines: Lines<'a>,
+    types: &'a [TypeDeclaration],
+) -> Result<Items<TypeDeclaration>, AllocError>
+    requires { HaveLines lines.entries (heirs_first named.now) }
+    ensures { IfOk result (λ flat. flat ≡ map (flat_type named.now) types.now) }
+{
+    flat_types(alloc, named, &lines, types)
+}
+
+/// Flat types, which have names of their own, where they have no fault.
+fn faultless(
+    alloc: Global,
+    types: Items<TypeDeclaration>,
+) -> Result<Items<TypeDeclaration>, TypeFault>
+    requires { has_duplicate types ≡ false }
+    ensures { AreFaultless types result }
+{
+    match flat_fault(alloc, types.as_slice()) {
+        Ok(None) => Ok(types),
+        Ok(Some(fault)) => Err(refused(types, fault)),
+        Err(error) => Err(refused(types, error.into())),
     }
-    Ok(flat)
 }
 
 /// Whether one of the types names what is neither a type nor a built-in channel.
@@ -117,13 +162,25 @@ fn flat_fault(alloc: Global, types: &[TypeDeclaration]) -> Result<Option<TypeFau
     requires { has_duplicate types.now ≡ false }
     ensures { IfOk result (λ fault. fault ≡ flat_fault types.now) }
 {
-    let Some(named) = by_name(alloc, types)? else {
-        unreachable!()
-    };
-    if one_clashes(alloc, &named, types)? {
+    match by_name(alloc, types)? {
+        Some(named) => flat_fault_by(alloc, &named, types),
+        None => unreachable!(),
+    }
+}
+
+/// The first fault of flat types, which these are by their names.
+fn flat_fault_by(
+    alloc: Global,
+    named: &NamedTypes<'_>,
+    types: &[TypeDeclaration],
+) -> Result<Option<TypeFault>, AllocError>
+    requires { named.now ≡ types.now }
+    ensures { IfOk result (λ fault. fault ≡ flat_fault types.now) }
+{
+    if one_clashes(alloc, named, types)? {
         return Ok(Some(TypeFault::KindClash));
     }
-    if has_broken(&named, types) {
+    if has_broken(named, types) {
         return Ok(Some(TypeFault::Interface));
     }
     Ok(None)

@@ -1,11 +1,11 @@
 //! Types that extend others.
 
-ghost use Rattle.std.specs.Prelude.{◌≡◌, ◌++◌, map, IfOk, OnOk};
+ghost use Rattle.std.specs.Prelude.{◌≡◌, ◌++◌, [], map, Ok, IfOk, OnOk};
 ghost use Rattle.std.specs.List.{list_any};
 ghost use Rattle.std.specs.Option.{option_copied};
 ghost use Rattle.ned_types.specs.Types.{is_channel_kind, is_simple_kind};
-ghost use Rattle.type_building.specs.Inheritance.{base_of, line_of, extends_unknown, extends_other, can_extend, is_base, is_channel_of, with_members, joined_with, class_along, class_lines, bare, bare_heir, flat_by, gathered, heir_of, heirs_first, flat_type, types_in};
-ghost use Rattle.type_building.specs.Named.{HaveLines, flat_by_lines};
+ghost use Rattle.type_building.specs.Inheritance.{base_of, line_of, extends_unknown, extends_other, can_extend, is_base, is_channel_of, with_members, joined_with, class_along, class_lines, bare, bare_heir, flat_by, gathered, heir_of, heirs_first, flat_type, joined_behind, types_in};
+ghost use Rattle.type_building.specs.Named.{HaveLines, flat_by_lines, line_at};
 
 use crate::channels::add_root;
 use crate::copies::{add_gates, add_lines, add_names, add_submodules, copy_type};
@@ -237,6 +237,55 @@ fn bare(alloc: Global, declared: &TypeDeclaration) -> Result<TypeDeclaration, Al
     })
 }
 
+/// What was changed, where that succeeded: in a function of its own each exit would open the drop of a type.
+fn changed<T: Drop>(value: T, done: Result<(), AllocError>) -> Result<T, AllocError>
+    ensures same { IfOk result (λ same. same ≡ value) }
+    ensures done { IfOk result (λ _. done ≡ Ok tt) }
+{
+    done?;
+    Ok(value)
+}
+
+/// The types that the lines of these names have, one line behind the other, each type once.
+fn lines_behind<'a>(
+    alloc: Global,
+    lines: &Lines<'a>,
+    names: &[Text],
+) -> Result<Vec<&'a TypeDeclaration>, AllocError>
+    ensures { IfOk result (λ line.
+        types_in line.items ≡ joined_behind [] (map (line_at lines.now.entries) names.now)) }
+{
+    let mut line = NamedTypes::new(alloc);
+    add_lines_of(alloc, lines, &mut line, names)?;
+    line.references(alloc)
+}
+
+/// A type with the members of these, those of the first one first.
+fn with_gathered(
+    alloc: Global,
+    flat: TypeDeclaration,
+    line: &[&TypeDeclaration],
+) -> Result<TypeDeclaration, AllocError>
+    ensures { IfOk result (λ whole. whole ≡ gathered flat (types_in line.now)) }
+{
+    let mut flat = flat;
+    let done = add_gathered(alloc, &mut flat, line);
+    changed(flat, done)
+}
+
+/// A type with the members of another behind its own.
+fn with_own(
+    alloc: Global,
+    flat: TypeDeclaration,
+    declared: &TypeDeclaration,
+) -> Result<TypeDeclaration, AllocError>
+    ensures { IfOk result (λ whole. whole ≡ with_members flat declared.now) }
+{
+    let mut flat = flat;
+    let done = add_members(alloc, &mut flat, declared);
+    changed(flat, done)
+}
+
 /// An interface with all that it extends.
 fn flat_interface<'a>(
     alloc: Global,
@@ -245,12 +294,10 @@ fn flat_interface<'a>(
 ) -> Result<TypeDeclaration, AllocError>
     ensures { IfOk result (λ flat. flat ≡ flat_by_lines lines.now.entries declared.now) }
 {
-    let mut line = NamedTypes::new(alloc);
-    add_lines_of(alloc, lines, &mut line, declared.interfaces.as_slice())?;
-    let mut flat = bare(alloc, declared)?;
-    let line = line.references(alloc)?;
-    add_gathered(alloc, &mut flat, &line)?;
-    add_members(alloc, &mut flat, declared)?;
+    let line = lines_behind(alloc, lines, declared.interfaces.as_slice())?;
+    let flat = bare(alloc, declared)?;
+    let flat = with_gathered(alloc, flat, &line)?;
+    let mut flat = with_own(alloc, flat, declared)?;
     flat.interfaces = Items::new(alloc);
     Ok(flat)
 }
