@@ -18,7 +18,7 @@ use Rattle.ned_syntax.specs.declared.properties.PropertyName.{PropertyName}
 use Rattle.ned_syntax.specs.declared.properties.PropertyName.TheVariants as names
 use Rattle.ned_syntax.specs.declared.statistics.Except.{Except}
 use Rattle.ned_syntax.specs.declared.statistics.Except.TheVariants as except_is
-use Rattle.ned_syntax.specs.Grammar.{said_in, word, mark, name, in_parens, expression, default_value, value_rule, property_name, bracketed, index, body, property, mode_word, question, mode_rule, next_mode, modes, group, loose_token, piece, pieces, loose_text, no_value, source_value, record_value, source_tail, record_tail, source_word, record_word, source_part, record_part, other_part, record_or_other, any_part, part, next_part, statistic_body, optional_body, indexed_statistic, unnamed_statistic, named_or_not, statistic_tail, statistic_word, statistic, plain_name, plain_line, property_text, property_line, valued, tail, parameter_word, volatile, any_declaration, declaration, assignment, assigned_or_said, any_line, section_line, heading, section, dotted, direction, open_size, size_value, size_tail, vector_size, gate_size, size_in_brackets, refined_size, declared_gate, refined_gate, any_gate, gate_line, gate_section, gates, base_name, optional_base, next_dotted, dotted_list, names_behind, optional_names, head, gated_block, simple, ignored_property, assigned_or_ignored, any_body_line, body_line, body_section, optional_semi, braced_body, no_body, submodule_body, submodule, submodules, network_block, network, module_type, section_block, channel, interface_kind, interface, channel_or_interface, type_rule, package_line, import_token, import_text, import_line, file_property, import_or_property, silent, silent_entry, entry, file, turn_of, property_name_of, mode_of, loose_of, source_of, record_of, statistic_of, plain_name_of, parameter_word_of, direction_of, interface_kind_of, is_measured, is_source, is_record, is_statistic, is_loose_property, plain_of, import_of}
+use Rattle.ned_syntax.specs.Grammar.{said_in, word, mark, name, in_parens, expression, default_value, value_rule, property_name, bracketed, index, body, property, mode_word, question, mode_rule, next_mode, modes, group, loose_token, piece, pieces, loose_text, no_value, source_value, record_value, source_tail, record_tail, source_word, record_word, source_part, record_part, other_part, record_or_other, any_part, part, next_part, statistic_body, optional_body, indexed_statistic, unnamed_statistic, named_or_not, statistic_tail, statistic_word, statistic, plain_name, plain_line, property_text, property_line, valued, tail, parameter_word, volatile, any_declaration, declaration, assignment, assigned_or_said, any_line, section_line, heading, section, dotted, direction, open_size, size_value, size_tail, vector_size, gate_size, size_in_brackets, refined_size, declared_gate, refined_gate, any_gate, gate_line, gate_section, gates, base_name, optional_base, next_dotted, dotted_list, names_behind, optional_names, head, gated_block, simple, ignored_property, assigned_or_ignored, any_body_line, body_line, body_section, optional_semi, braced_body, no_body, submodule_body, submodule, submodules, network_block, network, module_type, section_block, channel, interface_kind, interface, channel_or_interface, type_rule, package_line, import_token, import_text, import_line, file_property, import_or_property, silent, silent_entry, lone, entry, file, turn_of, property_name_of, mode_of, loose_of, source_of, record_of, statistic_of, plain_name_of, parameter_word_of, direction_of, interface_kind_of, is_measured, is_source, is_record, is_statistic, is_loose_property, plain_of, import_of}
 pub use Rattle.ned_values.proofs.GrammarLaws.{word-lawful, mark-lawful, name-lawful}
 pub use Rattle.ned_expressions.proofs.ExpressionLaws.{expression-lawful}
 use Rattle.ned_tokens.proofs.Laws.{Lawful, token-lawful, such_that-lawful, either-lawful, optional-lawful, then, before, after, mapped}
@@ -951,7 +951,7 @@ pub silent_entry-lawful : Lawful silent_entry
 unfolding silent_entry
 silent_entry-lawful = mapped silent-lawful
 
-silent_apart : (t : Token) → (made Some type_rule).starts t ≡ true → silent_entry.starts t ≡ false
+silent_apart : (t : Token) → (made (λ t. Some (lone t)) type_rule).starts t ≡ true → silent_entry.starts t ≡ false
 unfolding silent_entry silent import_or_property file_property property import_line package_line type_rule module_type simple network channel_or_interface channel interface interface_kind word mark
 silent_apart (token.Word k.Simple) e = refl
 silent_apart (token.Word k.Network) e = refl
@@ -963,7 +963,7 @@ silent_apart _ e = absurd (false≢true e)
 
 pub entry-lawful : Lawful entry
 unfolding entry silent_entry silent import_or_property file_property property import_line package_line type_rule module_type simple network channel_or_interface channel interface interface_kind word mark
-entry-lawful = either-lawful silent_entry (made Some type_rule) silent_entry-lawful (mapped type-lawful) refl refl silent_apart
+entry-lawful = either-lawful silent_entry (made (λ t. Some (lone t)) type_rule) silent_entry-lawful (mapped type-lawful) refl refl silent_apart
 
 pub entry-full : entry.empty ≡ false
 unfolding entry type_rule channel_or_interface interface interface_kind

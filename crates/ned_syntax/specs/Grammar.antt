@@ -31,6 +31,7 @@ use Rattle.ned_syntax.specs.declared.ast.GateSize.{GateSize}
 use Rattle.ned_syntax.specs.declared.ast.GateSize.TheVariants as sizes
 use Rattle.ned_syntax.specs.declared.ast.GateLine.{GateLine}
 use Rattle.ned_syntax.specs.declared.ast.GateLine.TheVariants as gate_lines
+use Rattle.ned_syntax.specs.declared.ast.NestedType.{NestedType}
 use Rattle.ned_syntax.specs.declared.ast.TypeDeclaration.{TypeDeclaration}
 use Rattle.ned_syntax.specs.declared.ast.TypeKind.{TypeKind}
 use Rattle.ned_syntax.specs.declared.ast.TypeKind.TheVariants as kinds
@@ -738,15 +739,19 @@ import_or_property = either import_line file_property
 unfoldable pub silent : Rule (Unit {0})
 silent = either package_line import_or_property
 
-unfoldable pub silent_entry : Rule (Option TypeDeclaration)
+unfoldable pub silent_entry : Rule (Option NestedType)
 silent_entry = made (λ _. None) silent
 
+-- a type that declares no others
+abbrev pub lone : TypeDeclaration → NestedType
+lone t = record { declared = t; types = [] }
+
 -- what a file has: a type, or what has no effect
-unfoldable pub entry : Rule (Option TypeDeclaration)
-entry = either silent_entry (made Some type_rule)
+unfoldable pub entry : Rule (Option NestedType)
+entry = either silent_entry (made (λ t. Some (lone t)) type_rule)
 
 -- the types among what a file has
-abbrev pub types_in : List (Option TypeDeclaration) → List TypeDeclaration
+abbrev pub types_in : List (Option NestedType) → List NestedType
 types_in [] = []
 types_in (None ∷ es) = types_in es
 types_in (Some t ∷ es) = t ∷ types_in es

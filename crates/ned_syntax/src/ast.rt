@@ -151,8 +151,16 @@ pub struct TypeDeclaration {
     pub submodules: Items<Submodule>,
 }
 
+/// A type, with those that its `types:` section declares.
+#[derive(Drop)]
+pub struct NestedType {
+    pub declared: TypeDeclaration,
+    /// The types that are declared within it, in order; none but in a network.
+    pub types: Items<NestedType>,
+}
+
 /// The declarations of a NED text, in order.
 #[derive(Drop)]
 pub struct NedFile {
-    pub types: Items<TypeDeclaration>,
+    pub types: Items<NestedType>,
 }

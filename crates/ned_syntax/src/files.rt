@@ -5,7 +5,7 @@ ghost use Rattle.ned_tokens.specs.Rule.{Gives, Reads, begins, all_read, map_read
 ghost use Rattle.ned_tokens.specs.Lexing as lex;
 ghost use Rattle.ned_syntax.specs.Grammar as grammar;
 
-use crate::ast::{NedFile, TypeDeclaration};
+use crate::ast::{NedFile, NestedType};
 use crate::dotted::dotted;
 use crate::leaves::{begins_word, mark, word};
 use crate::properties::{begins_property, property};
@@ -156,7 +156,7 @@ fn begins_silent(tokens: &[Token]) -> bool
 fn silent_entry(
     alloc: Global,
     tokens: &[Token],
-) -> Result<(Option<TypeDeclaration>, &[Token]), Refusal>
+) -> Result<(Option<NestedType>, &[Token]), Refusal>
     ensures { Reads grammar.silent_entry tokens.now result }
 {
     let rest = read!(silent(alloc, tokens));
@@ -165,14 +165,15 @@ fn silent_entry(
 
 /// `entry = silent_entry | type`.
 #[tactic(auto, unfolding(crate::specs::Grammar::entry, crate::specs::Grammar::silent_entry))]
-fn entry(alloc: Global, tokens: &[Token]) -> Result<(Option<TypeDeclaration>, &[Token]), Refusal>
+fn entry(alloc: Global, tokens: &[Token]) -> Result<(Option<NestedType>, &[Token]), Refusal>
     ensures { Reads grammar.entry tokens.now result }
 {
     if begins_silent(tokens) {
         return silent_entry(alloc, tokens);
     }
     let (declared, rest) = read!(type_declaration(alloc, tokens));
-    Ok((Some(declared), rest))
+    let types = Items::new(alloc);
+    Ok((Some(NestedType { declared, types }), rest))
 }
 
 #[tactic(auto, unfolding(crate::specs::Grammar::entry, crate::specs::Grammar::silent_entry))]
@@ -183,7 +184,7 @@ fn begins_entry(tokens: &[Token]) -> bool
 }
 
 /// The types of `{ entry }`.
-fn entries(alloc: Global, tokens: &[Token]) -> Result<(Items<TypeDeclaration>, &[Token]), Refusal>
+fn entries(alloc: Global, tokens: &[Token]) -> Result<(Items<NestedType>, &[Token]), Refusal>
     ensures { Gives (λ x. (x.0, x.1.now)) result (map_read grammar.types_in ((many grammar.entry).read tokens.now)) }
 {
     let mut types = Items::new(alloc);
