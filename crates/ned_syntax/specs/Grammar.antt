@@ -1,6 +1,6 @@
 -- The grammar of NED over tokens, a definition for each rule (OMNeT++ Simulation Manual, "NED Language Grammar").
 -- `a ⊗ b` is a and then b; `a ▷ b` the same with the value of b, `a ◁ b` with that of a.
-use Rattle.std.specs.Prelude.{ℕ, Bool, true, false, ◌||◌, not, List, [], ◌∷◌, Option, Some, None, Ok, if◌then◌else◌, codes, is_some, unwrap_or, nat_lt, ◌&&◌, ◌==◌}
+use Rattle.std.specs.Prelude.{ℕ, zero, suc, Bool, true, false, ◌||◌, not, List, [], ◌∷◌, Option, Some, None, Ok, if◌then◌else◌, codes, is_some, unwrap_or, nat_lt, ◌&&◌, ◌==◌}
 use Rattle.std.specs.Str.{bytes_eq}
 use Rattle.sim_values.specs.declared.value.Dimension.{Dimension}
 use Rattle.ned_tokens.specs.declared.token.Keyword.{Keyword}
@@ -31,7 +31,7 @@ use Rattle.ned_syntax.specs.declared.ast.GateSize.{GateSize}
 use Rattle.ned_syntax.specs.declared.ast.GateSize.TheVariants as sizes
 use Rattle.ned_syntax.specs.declared.ast.GateLine.{GateLine}
 use Rattle.ned_syntax.specs.declared.ast.GateLine.TheVariants as gate_lines
-use Rattle.ned_syntax.specs.declared.ast.NestedType.{NestedType}
+use Rattle.ned_syntax.specs.declared.ast.NestedType.{NestedType, roll-NestedType}
 use Rattle.ned_syntax.specs.declared.ast.TypeDeclaration.{TypeDeclaration}
 use Rattle.ned_syntax.specs.declared.ast.TypeKind.{TypeKind}
 use Rattle.ned_syntax.specs.declared.ast.TypeKind.TheVariants as kinds
@@ -628,35 +628,51 @@ braced_body = body_block ◁ optional_semi
 unfoldable pub no_body : Rule (List SectionLine)
 no_body = made (λ _. []) (mark m.Semi)
 
--- ";" | "{" body_section "}" [";"]
-unfoldable pub submodule_body : Rule (List SectionLine)
-submodule_body = either no_body braced_body
+-- ";" | "{" body_section "}" [";"], the latter only where a block may be opened: n more may be open at once
+unfoldable pub submodule_body : ℕ → Rule (List SectionLine)
+submodule_body zero = no_body
+submodule_body (suc n) = either no_body braced_body
 
 -- ":" dotted submodule_body
-abbrev pub submodule_type : Rule (Bytes × List SectionLine)
-submodule_type = mark m.Colon ▷ (dotted ⊗ submodule_body)
+abbrev pub submodule_type : ℕ → Rule (Bytes × List SectionLine)
+submodule_type n = mark m.Colon ▷ (dotted ⊗ submodule_body n)
 
 -- name ":" dotted ( ";" | "{" body_section "}" [";"] )
-unfoldable pub submodule : Rule Submodule
-submodule = made (λ p. record { name = p.0; type_name = p.1.0; body = p.1.1 }) (name ⊗ submodule_type)
+unfoldable pub submodule : ℕ → Rule Submodule
+submodule n = made (λ p. record { name = p.0; type_name = p.1.0; body = p.1.1 }) (name ⊗ submodule_type n)
 
 -- ["submodules" ":" { submodule }]
-unfoldable pub submodules : Rule (List Submodule)
-submodules = made listed (optional (word k.Submodules ▷ (mark m.Colon ▷ many submodule)))
+unfoldable pub submodules : ℕ → Rule (List Submodule)
+submodules n = made listed (optional (word k.Submodules ▷ (mark m.Colon ▷ many (submodule n))))
 
--- "{" [params] [gates] [submodules] "}"
-unfoldable pub network_block : Rule (List SectionLine × (List GateLine × List Submodule))
-network_block = mark m.Open ▷ ((section ⊗ (gates ⊗ submodules)) ◁ mark m.Close)
+-- ---- networks, which declare types of their own
 
--- "network" head "{" [params] [gates] [submodules] "}"
-unfoldable pub network : Rule TypeDeclaration
-network = made
-    (λ p. record { kind = kinds.Network; name = p.0.name; base = p.0.base; interfaces = p.0.interfaces; lines = p.1.0; gates = p.1.1.0; submodules = p.1.1.1 })
-    (word k.Network ▷ (head ⊗ network_block))
+-- a type that declares no others
+abbrev pub lone : TypeDeclaration → NestedType
+lone t = roll-NestedType (record { declared = t; types = [] })
+
+-- ["types" ":" { type }], for types of this rule
+unfoldable pub inner_types : Rule NestedType → Rule (List NestedType)
+inner_types inner = made listed (optional (word k.Types ▷ (mark m.Colon ▷ many inner)))
+
+-- "{" [params] [gates] [types] [submodules] "}", in which n more blocks may be open at once
+unfoldable pub network_block : ℕ → Rule NestedType → Rule (List SectionLine × (List GateLine × (List NestedType × List Submodule)))
+network_block n inner = mark m.Open ▷ ((section ⊗ (gates ⊗ (inner_types inner ⊗ submodules n))) ◁ mark m.Close)
+
+-- "network" head "{" [params] [gates] [types] [submodules] "}"
+unfoldable pub network : ℕ → Rule NestedType → Rule NestedType
+network n inner = made
+    (λ p. roll-NestedType (record {
+      declared = record { kind = kinds.Network; name = p.0.name; base = p.0.base; interfaces = p.0.interfaces; lines = p.1.0; gates = p.1.1.0; submodules = p.1.1.1.1 };
+      types = p.1.1.1.0;
+    }))
+    (word k.Network ▷ (head ⊗ network_block n inner))
 
 -- a type of modules
-unfoldable pub module_type : Rule TypeDeclaration
-module_type = either simple network
+unfoldable pub module_type : ℕ → Rule NestedType → Rule NestedType
+module_type n inner = either (made lone simple) (network n inner)
+
+-- ---- channels and interfaces
 
 -- "{" [params] "}"
 unfoldable pub section_block : Rule (List SectionLine)
@@ -686,8 +702,24 @@ interface = made
 unfoldable pub channel_or_interface : Rule TypeDeclaration
 channel_or_interface = either channel interface
 
-unfoldable pub type_rule : Rule TypeDeclaration
-type_rule = either module_type channel_or_interface
+-- ---- types of any kind
+
+-- a type in whose own block n more may be open at once, and in which a network's types are of this rule
+unfoldable pub any_type : ℕ → Rule NestedType → Rule NestedType
+any_type n inner = either (module_type n inner) (made lone channel_or_interface)
+
+-- where no block may be opened no type stands: each has one
+unfoldable pub no_type : Rule NestedType
+no_type = one_token (λ _. None)
+
+-- a type with at most this many blocks ("{") open at once
+unfoldable pub type_within : ℕ → Rule NestedType
+type_within zero = no_type
+type_within (suc n) = any_type n (type_within n)
+
+-- as many blocks may be open at once
+abbrev pub max_blocks : ℕ
+max_blocks = 32
 
 -- ---- what a file has besides types, of which nothing has an effect
 
@@ -742,13 +774,9 @@ silent = either package_line import_or_property
 unfoldable pub silent_entry : Rule (Option NestedType)
 silent_entry = made (λ _. None) silent
 
--- a type that declares no others
-abbrev pub lone : TypeDeclaration → NestedType
-lone t = record { declared = t; types = [] }
-
 -- what a file has: a type, or what has no effect
 unfoldable pub entry : Rule (Option NestedType)
-entry = either silent_entry (made (λ t. Some (lone t)) type_rule)
+entry = either silent_entry (made Some (type_within max_blocks))
 
 -- the types among what a file has
 abbrev pub types_in : List (Option NestedType) → List NestedType
