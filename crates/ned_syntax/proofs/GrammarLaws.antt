@@ -1,5 +1,5 @@
 -- Each rule of the grammar keeps the laws.
-use Rattle.std.proofs.Common.{◌≡◌, ℕ, Bool, true, false, cond, not, ◌||◌, List, ◌∷◌, Option, Some, None, refl, ap}
+use Rattle.std.proofs.Common.{◌≡◌, ℕ, zero, suc, ◌-◌, ◌<◌, Bool, true, false, cond, not, ◌&&◌, ◌||◌, List, [], ◌∷◌, Option, Some, None, Err, length, refl, sym, ap, ◌∙◌, arith}
 use Rattle.std.specs.Prelude.{is_some, codes}
 use Rattle.std.proofs.lemmas.Bool.{false≢true}
 use Rattle.std.specs.Str.{bytes_eq}
@@ -9,16 +9,17 @@ use Rattle.ned_tokens.specs.declared.token.Keyword.TheVariants as k
 use Rattle.ned_tokens.specs.declared.token.Mark.TheVariants as m
 use Rattle.ned_tokens.specs.declared.token.Token.{Token}
 use Rattle.ned_tokens.specs.declared.token.Token.TheVariants as token
-use Rattle.ned_tokens.specs.Rule.{◌⊗◌, ◌◁◌, ◌▷◌, made, optional, many}
+use Rattle.ned_tokens.specs.Rule.{Rule, begins, ◌⊗◌, ◌◁◌, ◌▷◌, made, optional, many}
 use Rattle.ned_tokens.specs.Balanced.{balanced}
 use Rattle.ned_syntax.specs.declared.ast.ParameterValue.TheVariants as given
 use Rattle.ned_syntax.specs.declared.ast.SectionLine.TheVariants as lines
+use Rattle.ned_syntax.specs.declared.ast.NestedType.{NestedType}
 use Rattle.ned_syntax.specs.declared.ast.GateSize.TheVariants as sizes
 use Rattle.ned_syntax.specs.declared.properties.PropertyName.{PropertyName}
 use Rattle.ned_syntax.specs.declared.properties.PropertyName.TheVariants as names
 use Rattle.ned_syntax.specs.declared.statistics.Except.{Except}
 use Rattle.ned_syntax.specs.declared.statistics.Except.TheVariants as except_is
-use Rattle.ned_syntax.specs.Grammar.{said_in, word, mark, name, in_parens, expression, default_value, value_rule, property_name, bracketed, index, body, property, mode_word, question, mode_rule, next_mode, modes, group, loose_token, piece, pieces, loose_text, no_value, source_value, record_value, source_tail, record_tail, source_word, record_word, source_part, record_part, other_part, record_or_other, any_part, part, next_part, statistic_body, optional_body, indexed_statistic, unnamed_statistic, named_or_not, statistic_tail, statistic_word, statistic, plain_name, plain_line, property_text, property_line, valued, tail, parameter_word, volatile, any_declaration, declaration, assignment, assigned_or_said, any_line, section_line, heading, section, dotted, direction, open_size, size_value, size_tail, vector_size, gate_size, size_in_brackets, refined_size, declared_gate, refined_gate, any_gate, gate_line, gate_section, gates, base_name, optional_base, next_dotted, dotted_list, names_behind, optional_names, head, gated_block, simple, ignored_property, assigned_or_ignored, any_body_line, body_line, body_section, optional_semi, braced_body, no_body, submodule_body, submodule, submodules, network_block, network, module_type, section_block, channel, interface_kind, interface, channel_or_interface, type_rule, package_line, import_token, import_text, import_line, file_property, import_or_property, silent, silent_entry, lone, entry, file, turn_of, property_name_of, mode_of, loose_of, source_of, record_of, statistic_of, plain_name_of, parameter_word_of, direction_of, interface_kind_of, is_measured, is_source, is_record, is_statistic, is_loose_property, plain_of, import_of}
+use Rattle.ned_syntax.specs.Grammar.{said_in, word, mark, name, in_parens, expression, default_value, value_rule, property_name, bracketed, index, body, property, mode_word, question, mode_rule, next_mode, modes, group, loose_token, piece, pieces, loose_text, no_value, source_value, record_value, source_tail, record_tail, source_word, record_word, source_part, record_part, other_part, record_or_other, any_part, part, next_part, statistic_body, optional_body, indexed_statistic, unnamed_statistic, named_or_not, statistic_tail, statistic_word, statistic, plain_name, plain_line, property_text, property_line, valued, tail, parameter_word, volatile, any_declaration, declaration, assignment, assigned_or_said, any_line, section_line, heading, section, dotted, direction, open_size, size_value, size_tail, vector_size, gate_size, size_in_brackets, refined_size, declared_gate, refined_gate, any_gate, gate_line, gate_section, gates, base_name, optional_base, next_dotted, dotted_list, names_behind, optional_names, head, gated_block, simple, ignored_property, assigned_or_ignored, any_body_line, body_line, body_section, optional_semi, braced_body, no_body, any_body, submodule_body, submodule, submodules, inner_types, network_block, network, module_type, section_block, channel, interface_kind, interface, channel_or_interface, any_type, no_type, type_within, max_blocks, package_line, import_token, import_text, import_line, file_property, import_or_property, silent, silent_entry, lone, entry, file, turn_of, property_name_of, mode_of, loose_of, source_of, record_of, statistic_of, plain_name_of, parameter_word_of, direction_of, interface_kind_of, is_measured, is_source, is_record, is_statistic, is_loose_property, plain_of, import_of}
 pub use Rattle.ned_values.proofs.GrammarLaws.{word-lawful, mark-lawful, name-lawful}
 pub use Rattle.ned_expressions.proofs.ExpressionLaws.{expression-lawful}
 use Rattle.ned_tokens.proofs.Laws.{Lawful, token-lawful, such_that-lawful, either-lawful, optional-lawful, then, before, after, mapped}
@@ -736,86 +737,169 @@ no_body_apart (token.Mark m.Open) e = refl
 no_body_apart (token.Mark _) e = absurd (false≢true e)
 no_body_apart _ e = absurd (false≢true e)
 
-pub submodule_body-lawful : Lawful submodule_body
-unfolding submodule_body no_body braced_body mark
-submodule_body-lawful = either-lawful no_body braced_body no_body-lawful braced_body-lawful refl refl no_body_apart
+pub any_body-lawful : Lawful any_body
+unfolding any_body no_body braced_body mark
+any_body-lawful = either-lawful no_body braced_body no_body-lawful braced_body-lawful refl refl no_body_apart
 
-body_apart : (t : Token) → submodule_body.starts t ≡ true → dotted.goes_on t ≡ false
-unfolding submodule_body no_body braced_body dotted mark name
-body_apart (token.Mark m.Semi) e = refl
-body_apart (token.Mark m.Open) e = refl
-body_apart (token.Mark _) e = absurd (false≢true e)
-body_apart _ e = absurd (false≢true e)
+pub submodule_body-lawful : (n : ℕ) → Lawful (submodule_body n)
+unfolding submodule_body
+submodule_body-lawful zero = no_body-lawful
+submodule_body-lawful (suc n) = any_body-lawful
 
-pub submodule-lawful : Lawful submodule
+-- with none more a body has no braces
+pub submodule_body-none : (n : ℕ) → n ≡ 0 → submodule_body n ≡ no_body
+unfolding submodule_body
+submodule_body-none zero h = refl
+submodule_body-none (suc n) h = absurd (omega (arith, h))
+
+pub submodule_body-some : (n : ℕ) → 0 < n → submodule_body n ≡ any_body
+unfolding submodule_body
+submodule_body-some zero h = absurd (omega (arith, h))
+submodule_body-some (suc n) h = refl
+
+body_apart : (n : ℕ) (t : Token) → (submodule_body n).starts t ≡ true → dotted.goes_on t ≡ false
+unfolding submodule_body any_body no_body braced_body dotted mark name
+body_apart zero (token.Mark m.Semi) e = refl
+body_apart zero (token.Mark _) e = absurd (false≢true e)
+body_apart zero _ e = absurd (false≢true e)
+body_apart (suc n) (token.Mark m.Semi) e = refl
+body_apart (suc n) (token.Mark m.Open) e = refl
+body_apart (suc n) (token.Mark _) e = absurd (false≢true e)
+body_apart (suc n) _ e = absurd (false≢true e)
+
+pub submodule-lawful : (n : ℕ) → Lawful (submodule n)
 unfolding submodule name mark
-submodule-lawful = mapped (then name-lawful (before (mark-lawful m.Colon) (then dotted-lawful submodule_body-lawful body_apart) (λ t e. refl)) (λ t e. refl))
+submodule-lawful n = mapped (then name-lawful (before (mark-lawful m.Colon) (then dotted-lawful (submodule_body-lawful n) (body_apart n)) (λ t e. refl)) (λ t e. refl))
 
-pub submodule-full : submodule.empty ≡ false
+pub submodule-full : (n : ℕ) → (submodule n).empty ≡ false
 unfolding submodule name
-submodule-full = refl
+submodule-full n = refl
 
-submodules_apart : (t : Token) → submodule.starts t ≡ true → submodule.goes_on t ≡ false
-unfolding submodule submodule_body no_body braced_body body_section heading optional_semi dotted name mark
-submodules_apart (token.Name _) e = refl
-submodules_apart _ e = absurd (false≢true e)
+submodules_apart : (n : ℕ) (t : Token) → (submodule n).starts t ≡ true → (submodule n).goes_on t ≡ false
+unfolding submodule submodule_body any_body no_body braced_body body_section heading optional_semi dotted name mark
+submodules_apart zero (token.Name _) e = refl
+submodules_apart zero _ e = absurd (false≢true e)
+submodules_apart (suc n) (token.Name _) e = refl
+submodules_apart (suc n) _ e = absurd (false≢true e)
 
-pub submodules-lawful : Lawful submodules
+pub submodules-lawful : (n : ℕ) → Lawful (submodules n)
 unfolding submodules word mark
-submodules-lawful = mapped (optional-lawful (word k.Submodules ▷ (mark m.Colon ▷ many submodule)) (before (word-lawful k.Submodules) (before (mark-lawful m.Colon) (many-lawful submodule submodule-lawful submodule-full submodules_apart) (λ t e. refl)) (λ t e. refl)) refl)
+submodules-lawful n = mapped (optional-lawful (word k.Submodules ▷ (mark m.Colon ▷ many (submodule n))) (before (word-lawful k.Submodules) (before (mark-lawful m.Colon) (many-lawful (submodule n) (submodule-lawful n) (submodule-full n) (submodules_apart n)) (λ t e. refl)) (λ t e. refl)) refl)
+
+-- ---- types within a network
+
+-- the words with which a type begins
+abbrev pub is_type_word : Token → Bool
+is_type_word (token.Word k.Simple) = true
+is_type_word (token.Word k.Network) = true
+is_type_word (token.Word k.Channel) = true
+is_type_word (token.Word k.ModuleInterface) = true
+is_type_word (token.Word k.ChannelInterface) = true
+is_type_word _ = false
+
+-- what holds of a rule of types, however many blocks may be open in them
+pub record IsTypeRule (r : Rule NestedType) : Type 0 where
+  pub lawful : Lawful r
+  pub full : r.empty ≡ false
+  pub ends : (t : Token) → r.goes_on t ≡ false
+  pub outside : (t : Token) → is_type_word t ≡ false → r.starts t ≡ false
+
+types_apart : (inner : Rule NestedType) → IsTypeRule inner → (t : Token) → inner.starts t ≡ true → inner.goes_on t ≡ false
+types_apart inner is t e = is.ends t
+
+pub inner_types-lawful : (inner : Rule NestedType) → IsTypeRule inner → Lawful (inner_types inner)
+unfolding inner_types word mark
+inner_types-lawful inner is = mapped (optional-lawful (word k.Types ▷ (mark m.Colon ▷ many inner)) (before (word-lawful k.Types) (before (mark-lawful m.Colon) (many-lawful inner is.lawful is.full (types_apart inner is)) (λ t e. refl)) (λ t e. refl)) refl)
+
+submodules_behind_types : (n : ℕ) (inner : Rule NestedType) → IsTypeRule inner → (t : Token) → (submodules n).starts t ≡ true → (inner_types inner).goes_on t ≡ false
+unfolding submodules inner_types word mark
+submodules_behind_types n inner is (token.Word k.Submodules) e = rw (is.outside (token.Word k.Submodules) refl, is.ends (token.Word k.Submodules)) refl
+submodules_behind_types n inner is (token.Word _) e = absurd (false≢true e)
+submodules_behind_types n inner is _ e = absurd (false≢true e)
+
+pub types_and_submodules-lawful : (n : ℕ) (inner : Rule NestedType) → IsTypeRule inner → Lawful (inner_types inner ⊗ submodules n)
+types_and_submodules-lawful n inner is = then (inner_types-lawful inner is) (submodules-lawful n) (submodules_behind_types n inner is)
 
 -- ---- networks
 
-submodules_behind_gates : (t : Token) → submodules.starts t ≡ true → gates.goes_on t ≡ false
-unfolding submodules gates gate_section gate_line any_gate declared_gate refined_gate direction word mark name
-submodules_behind_gates (token.Word k.Submodules) e = refl
-submodules_behind_gates (token.Word _) e = absurd (false≢true e)
-submodules_behind_gates _ e = absurd (false≢true e)
+types_behind_gates : (n : ℕ) (inner : Rule NestedType) (t : Token) → (inner_types inner ⊗ submodules n).starts t ≡ true → gates.goes_on t ≡ false
+unfolding inner_types submodules gates gate_section gate_line any_gate declared_gate refined_gate direction word mark name
+types_behind_gates n inner (token.Word k.Types) e = refl
+types_behind_gates n inner (token.Word k.Submodules) e = refl
+types_behind_gates n inner (token.Word _) e = absurd (false≢true e)
+types_behind_gates n inner _ e = absurd (false≢true e)
 
-section_apart : (t : Token) → (gates ⊗ submodules).starts t ≡ true → section.goes_on t ≡ false
-unfolding submodules gates gate_section section heading section_line any_line assigned_or_said property_line assignment declaration any_declaration volatile parameter_word word mark name
-section_apart (token.Word k.Gates) e = refl
-section_apart (token.Word k.Submodules) e = refl
-section_apart (token.Word _) e = absurd (false≢true e)
-section_apart _ e = absurd (false≢true e)
+section_apart : (n : ℕ) (inner : Rule NestedType) (t : Token) → (gates ⊗ (inner_types inner ⊗ submodules n)).starts t ≡ true → section.goes_on t ≡ false
+unfolding inner_types submodules gates gate_section section heading section_line any_line assigned_or_said property_line assignment declaration any_declaration volatile parameter_word word mark name
+section_apart n inner (token.Word k.Gates) e = refl
+section_apart n inner (token.Word k.Types) e = refl
+section_apart n inner (token.Word k.Submodules) e = refl
+section_apart n inner (token.Word _) e = absurd (false≢true e)
+section_apart n inner _ e = absurd (false≢true e)
 
-pub gates_and_submodules-lawful : Lawful (gates ⊗ submodules)
-gates_and_submodules-lawful = then gates-lawful submodules-lawful submodules_behind_gates
+pub gates_and_others-lawful : (n : ℕ) (inner : Rule NestedType) → IsTypeRule inner → Lawful (gates ⊗ (inner_types inner ⊗ submodules n))
+gates_and_others-lawful n inner is = then gates-lawful (types_and_submodules-lawful n inner is) (types_behind_gates n inner)
 
-pub network_parts-lawful : Lawful (section ⊗ (gates ⊗ submodules))
-network_parts-lawful = then section-lawful gates_and_submodules-lawful section_apart
+pub network_parts-lawful : (n : ℕ) (inner : Rule NestedType) → IsTypeRule inner → Lawful (section ⊗ (gates ⊗ (inner_types inner ⊗ submodules n)))
+network_parts-lawful n inner is = then section-lawful (gates_and_others-lawful n inner is) (section_apart n inner)
 
-network_ends : (t : Token) → (mark m.Close).starts t ≡ true → (section ⊗ (gates ⊗ submodules)).goes_on t ≡ false
-unfolding submodules submodule submodule_body no_body braced_body body_section optional_semi dotted gates gate_section gate_line any_gate declared_gate refined_gate direction section heading section_line any_line assigned_or_said property_line assignment declaration any_declaration volatile parameter_word word mark name
-network_ends (token.Mark m.Close) e = refl
-network_ends (token.Mark _) e = absurd (false≢true e)
-network_ends _ e = absurd (false≢true e)
+neither : (p q r : Bool) → p ≡ false → r ≡ false → p || (q && r) ≡ false
+neither true q r h k = absurd (false≢true (sym h))
+neither false true r h k = k
+neither false false r h k = refl
 
-pub network_block-lawful : Lawful network_block
+-- where neither part goes on, both do not
+both_end : {X Y : Type 0} (a : Rule X) (b : Rule Y) (t : Token) → a.goes_on t ≡ false → b.goes_on t ≡ false → (a ⊗ b).goes_on t ≡ false
+both_end a b t h k = neither (b.goes_on t) b.empty (a.goes_on t) k h
+
+submodules_end : (n : ℕ) → (submodules n).goes_on (token.Mark m.Close) ≡ false
+unfolding submodules submodule submodule_body any_body no_body braced_body body_section heading optional_semi dotted word mark name
+submodules_end zero = refl
+submodules_end (suc n) = refl
+
+types_end : (inner : Rule NestedType) → IsTypeRule inner → (inner_types inner).goes_on (token.Mark m.Close) ≡ false
+unfolding inner_types word mark
+types_end inner is = rw (is.outside (token.Mark m.Close) refl, is.ends (token.Mark m.Close)) refl
+
+gates_end : gates.goes_on (token.Mark m.Close) ≡ false
+unfolding gates gate_section gate_line any_gate declared_gate refined_gate direction word mark name
+gates_end = refl
+
+section_end : section.goes_on (token.Mark m.Close) ≡ false
+unfolding section heading section_line any_line assigned_or_said property_line assignment declaration any_declaration volatile parameter_word word mark name
+section_end = refl
+
+network_ends : (n : ℕ) (inner : Rule NestedType) → IsTypeRule inner → (t : Token) → (mark m.Close).starts t ≡ true → (section ⊗ (gates ⊗ (inner_types inner ⊗ submodules n))).goes_on t ≡ false
+unfolding mark
+network_ends n inner is (token.Mark m.Close) e = both_end section (gates ⊗ (inner_types inner ⊗ submodules n)) (token.Mark m.Close) section_end (both_end gates (inner_types inner ⊗ submodules n) (token.Mark m.Close) gates_end (both_end (inner_types inner) (submodules n) (token.Mark m.Close) (types_end inner is) (submodules_end n)))
+network_ends n inner is (token.Mark _) e = absurd (false≢true e)
+network_ends n inner is _ e = absurd (false≢true e)
+
+pub network_block-lawful : (n : ℕ) (inner : Rule NestedType) → IsTypeRule inner → Lawful (network_block n inner)
 unfolding network_block mark
-network_block-lawful = before (mark-lawful m.Open) (after network_parts-lawful (mark-lawful m.Close) network_ends) (λ t e. refl)
+network_block-lawful n inner is = before (mark-lawful m.Open) (after (network_parts-lawful n inner is) (mark-lawful m.Close) (network_ends n inner is)) (λ t e. refl)
 
-network_block_apart : (t : Token) → network_block.starts t ≡ true → head.goes_on t ≡ false
+network_block_apart : (n : ℕ) (inner : Rule NestedType) (t : Token) → (network_block n inner).starts t ≡ true → head.goes_on t ≡ false
 unfolding network_block head optional_names names_behind dotted_list next_dotted optional_base base_name dotted word mark name
-network_block_apart (token.Mark m.Open) e = refl
-network_block_apart (token.Mark _) e = absurd (false≢true e)
-network_block_apart _ e = absurd (false≢true e)
+network_block_apart n inner (token.Mark m.Open) e = refl
+network_block_apart n inner (token.Mark _) e = absurd (false≢true e)
+network_block_apart n inner _ e = absurd (false≢true e)
 
-pub network-lawful : Lawful network
+pub network-lawful : (n : ℕ) (inner : Rule NestedType) → IsTypeRule inner → Lawful (network n inner)
 unfolding network word
-network-lawful = mapped (before (word-lawful k.Network) (then head-lawful network_block-lawful network_block_apart) (λ t e. refl))
+network-lawful n inner is = mapped (before (word-lawful k.Network) (then head-lawful (network_block-lawful n inner is) (network_block_apart n inner)) (λ t e. refl))
 
 -- ---- types
 
-simple_apart : (t : Token) → network.starts t ≡ true → simple.starts t ≡ false
+simple_apart : (n : ℕ) (inner : Rule NestedType) (t : Token) → (network n inner).starts t ≡ true → (made lone simple).starts t ≡ false
 unfolding network simple word
-simple_apart (token.Word k.Network) e = refl
-simple_apart (token.Word _) e = absurd (false≢true e)
-simple_apart _ e = absurd (false≢true e)
+simple_apart n inner (token.Word k.Network) e = refl
+simple_apart n inner (token.Word _) e = absurd (false≢true e)
+simple_apart n inner _ e = absurd (false≢true e)
 
-pub module_type-lawful : Lawful module_type
+pub module_type-lawful : (n : ℕ) (inner : Rule NestedType) → IsTypeRule inner → Lawful (module_type n inner)
 unfolding module_type simple network word
-module_type-lawful = either-lawful simple network simple-lawful network-lawful refl refl simple_apart
+module_type-lawful n inner is = either-lawful (made lone simple) (network n inner) (mapped simple-lawful) (network-lawful n inner is) refl refl (simple_apart n inner)
 
 section_ends : (t : Token) → (mark m.Close).starts t ≡ true → section.goes_on t ≡ false
 unfolding section heading section_line any_line assigned_or_said property_line assignment declaration any_declaration volatile parameter_word word mark name
@@ -869,21 +953,67 @@ pub channel_or_interface-lawful : Lawful channel_or_interface
 unfolding channel_or_interface channel interface interface_kind word
 channel_or_interface-lawful = either-lawful channel interface channel-lawful interface-lawful refl refl channel_apart
 
-module_type_apart : (t : Token) → channel_or_interface.starts t ≡ true → module_type.starts t ≡ false
+module_type_apart : (n : ℕ) (inner : Rule NestedType) (t : Token) → (made lone channel_or_interface).starts t ≡ true → (module_type n inner).starts t ≡ false
 unfolding channel_or_interface channel interface interface_kind module_type simple network word
-module_type_apart (token.Word k.Channel) e = refl
-module_type_apart (token.Word k.ModuleInterface) e = refl
-module_type_apart (token.Word k.ChannelInterface) e = refl
-module_type_apart (token.Word _) e = absurd (false≢true e)
-module_type_apart _ e = absurd (false≢true e)
+module_type_apart n inner (token.Word k.Channel) e = refl
+module_type_apart n inner (token.Word k.ModuleInterface) e = refl
+module_type_apart n inner (token.Word k.ChannelInterface) e = refl
+module_type_apart n inner (token.Word _) e = absurd (false≢true e)
+module_type_apart n inner _ e = absurd (false≢true e)
 
-pub type-lawful : Lawful type_rule
-unfolding type_rule module_type simple network channel_or_interface interface interface_kind word
-type-lawful = either-lawful module_type channel_or_interface module_type-lawful channel_or_interface-lawful refl refl module_type_apart
+any_type-lawful : (n : ℕ) (inner : Rule NestedType) → IsTypeRule inner → Lawful (any_type n inner)
+unfolding any_type module_type simple network channel_or_interface interface interface_kind word
+any_type-lawful n inner is = either-lawful (module_type n inner) (made lone channel_or_interface) (module_type-lawful n inner is) (mapped channel_or_interface-lawful) refl refl (module_type_apart n inner)
 
-pub type-full : type_rule.empty ≡ false
-unfolding type_rule channel_or_interface interface interface_kind
-type-full = refl
+any_type_outside : (n : ℕ) (inner : Rule NestedType) (t : Token) → is_type_word t ≡ false → (any_type n inner).starts t ≡ false
+unfolding any_type module_type simple network channel_or_interface channel interface interface_kind word
+any_type_outside n inner (token.Word k.Simple) e = absurd (false≢true (sym e))
+any_type_outside n inner (token.Word k.Network) e = absurd (false≢true (sym e))
+any_type_outside n inner (token.Word k.Channel) e = absurd (false≢true (sym e))
+any_type_outside n inner (token.Word k.ModuleInterface) e = absurd (false≢true (sym e))
+any_type_outside n inner (token.Word k.ChannelInterface) e = absurd (false≢true (sym e))
+any_type_outside n inner (token.Word _) e = refl
+any_type_outside n inner _ e = refl
+
+any_type_ends : (n : ℕ) (inner : Rule NestedType) (t : Token) → (any_type n inner).goes_on t ≡ false
+unfolding any_type module_type simple network channel_or_interface channel interface interface_kind gated_block network_block section_block section heading gates inner_types submodules optional_names head name mark
+any_type_ends n inner t = refl
+
+any_type-full : (n : ℕ) (inner : Rule NestedType) → (any_type n inner).empty ≡ false
+unfolding any_type channel_or_interface interface interface_kind
+any_type-full n inner = refl
+
+-- what holds of a network's types holds of the types that the network is one of
+pub any_type-is : (n : ℕ) (inner : Rule NestedType) → IsTypeRule inner → IsTypeRule (any_type n inner)
+any_type-is n inner is = record { lawful = any_type-lawful n inner is; full = any_type-full n inner; ends = any_type_ends n inner; outside = any_type_outside n inner }
+
+pub no_type-is : IsTypeRule no_type
+unfolding no_type
+no_type-is = record { lawful = token-lawful (λ _. None); full = refl; ends = λ t. refl; outside = λ t e. refl }
+
+pub type-is : (n : ℕ) → IsTypeRule (type_within n)
+unfolding type_within
+type-is zero = no_type-is
+type-is (suc n) = any_type-is n (type_within n) (type-is n)
+
+-- one block further in
+pub type_within-step : (n : ℕ) → 0 < n → type_within n ≡ any_type (n - 1) (type_within (n - 1))
+unfolding type_within
+type_within-step zero h = absurd (omega (arith, h))
+type_within-step (suc n) h = let e : suc n - 1 ≡ n = omega arith in ap (λ (d : ℕ). any_type d (type_within d)) (sym e)
+
+-- where no block may be opened no type is read, and no token begins one
+pub type_within-none : (n : ℕ) (ts : List Token) → n ≡ 0 → (type_within n).read ts ≡ Err (length ts)
+unfolding type_within no_type
+type_within-none zero [] h = refl
+type_within-none zero (t ∷ ts) h = refl
+type_within-none (suc n) ts h = absurd (omega (arith, h))
+
+pub type_within-starts : (n : ℕ) (ts : List Token) → n ≡ 0 → begins (type_within n).starts ts ≡ false
+unfolding type_within no_type
+type_within-starts zero [] h = refl
+type_within-starts zero (t ∷ ts) h = refl
+type_within-starts (suc n) ts h = absurd (omega (arith, h))
 
 -- ---- what a file has besides types
 
@@ -951,27 +1081,42 @@ pub silent_entry-lawful : Lawful silent_entry
 unfolding silent_entry
 silent_entry-lawful = mapped silent-lawful
 
-silent_apart : (t : Token) → (made (λ t. Some (lone t)) type_rule).starts t ≡ true → silent_entry.starts t ≡ false
-unfolding silent_entry silent import_or_property file_property property import_line package_line type_rule module_type simple network channel_or_interface channel interface interface_kind word mark
-silent_apart (token.Word k.Simple) e = refl
-silent_apart (token.Word k.Network) e = refl
-silent_apart (token.Word k.Channel) e = refl
-silent_apart (token.Word k.ModuleInterface) e = refl
-silent_apart (token.Word k.ChannelInterface) e = refl
-silent_apart (token.Word _) e = absurd (false≢true e)
-silent_apart _ e = absurd (false≢true e)
+word_of_type : (r : Rule NestedType) → IsTypeRule r → (t : Token) → r.starts t ≡ true → (b : Bool) → is_type_word t ≡ b → is_type_word t ≡ true
+word_of_type r is t e true h = h
+word_of_type r is t e false h = absurd (false≢true (sym (is.outside t h) ∙ e))
+
+silent_without_type : (t : Token) → is_type_word t ≡ true → silent_entry.starts t ≡ false
+unfolding silent_entry silent import_or_property file_property property import_line package_line word mark
+silent_without_type (token.Word k.Simple) e = refl
+silent_without_type (token.Word k.Network) e = refl
+silent_without_type (token.Word k.Channel) e = refl
+silent_without_type (token.Word k.ModuleInterface) e = refl
+silent_without_type (token.Word k.ChannelInterface) e = refl
+silent_without_type (token.Word _) e = absurd (false≢true e)
+silent_without_type _ e = absurd (false≢true e)
+
+silent_apart : (t : Token) → (made Some (type_within max_blocks)).starts t ≡ true → silent_entry.starts t ≡ false
+silent_apart t e = silent_without_type t (word_of_type (type_within max_blocks) (type-is max_blocks) t e (is_type_word t) refl)
+
+silent_entry-full : silent_entry.empty ≡ false
+unfolding silent_entry silent import_or_property file_property property mark
+silent_entry-full = refl
 
 pub entry-lawful : Lawful entry
-unfolding entry silent_entry silent import_or_property file_property property import_line package_line type_rule module_type simple network channel_or_interface channel interface interface_kind word mark
-entry-lawful = either-lawful silent_entry (made (λ t. Some (lone t)) type_rule) silent_entry-lawful (mapped type-lawful) refl refl silent_apart
+unfolding entry
+entry-lawful = either-lawful silent_entry (made Some (type_within max_blocks)) silent_entry-lawful (mapped (type-is max_blocks).lawful) silent_entry-full (type-is max_blocks).full silent_apart
 
 pub entry-full : entry.empty ≡ false
-unfolding entry type_rule channel_or_interface interface interface_kind
-entry-full = refl
+unfolding entry
+entry-full = (type-is max_blocks).full
+
+silent_ends : (t : Token) → silent_entry.goes_on t ≡ false
+unfolding silent_entry silent import_or_property file_property import_line import_text package_line dotted name mark
+silent_ends t = refl
 
 entries_apart : (t : Token) → entry.starts t ≡ true → entry.goes_on t ≡ false
-unfolding entry silent_entry silent import_or_property file_property import_line import_text package_line dotted type_rule module_type simple network channel_or_interface channel interface interface_kind gated_block network_block section_block section heading gates submodules optional_names head name mark
-entries_apart t e = refl
+unfolding entry
+entries_apart t e = rw (silent_ends t) ((type-is max_blocks).ends t)
 
 pub file-lawful : Lawful file
 unfolding file

@@ -1,5 +1,5 @@
 -- The tokens before the first that can't go on begin some spelling of each rule.
-use Rattle.std.proofs.Common.{◌≡◌, ℕ, true, List, [], ◌∷◌, ◌++◌, Option, Some, None, refl, sym, ap, ◌∙◌, append_assoc}
+use Rattle.std.proofs.Common.{◌≡◌, ℕ, zero, suc, ◌<◌, true, false, List, [], ◌∷◌, ◌++◌, Option, Some, None, Err, refl, sym, ap, ◌∙◌, append_assoc, arith}
 use Rattle.std.proofs.lemmas.List.{append-nil}
 use Rattle.std.specs.Prelude.{codes, is_some}
 use Rattle.sim_values.specs.declared.value.Dimension.TheVariants as dimension
@@ -8,7 +8,7 @@ use Rattle.ned_tokens.specs.declared.token.Keyword.TheVariants as k
 use Rattle.ned_tokens.specs.declared.token.Mark.TheVariants as m
 use Rattle.ned_tokens.specs.declared.token.Token.{Token}
 use Rattle.ned_tokens.specs.declared.token.Token.TheVariants as token
-use Rattle.ned_tokens.specs.Rule.{◌⊗◌, ◌◁◌, ◌▷◌, made, such_that, optional, many}
+use Rattle.ned_tokens.specs.Rule.{Rule, begins, ◌⊗◌, ◌◁◌, ◌▷◌, made, such_that, optional, many}
 use Rattle.ned_tokens.specs.Balanced.{balanced_read}
 use Rattle.ned_tokens.specs.Viable.{CanGoOn}
 use Rattle.ned_syntax.specs.declared.ast.ParameterValue.TheVariants as given
@@ -18,6 +18,7 @@ use Rattle.ned_syntax.specs.declared.ast.SectionLine.TheVariants as lines
 use Rattle.ned_syntax.specs.declared.ast.GateDirection.TheVariants as directions
 use Rattle.ned_syntax.specs.declared.ast.GateSize.TheVariants as sizes
 use Rattle.ned_syntax.specs.declared.ast.TypeKind.TheVariants as kinds
+use Rattle.ned_syntax.specs.declared.ast.NestedType.{NestedType}
 use Rattle.ned_syntax.specs.declared.ast.Declaration.{Declaration}
 use Rattle.ned_syntax.specs.declared.ast.ParameterWord.{ParameterWord}
 use Rattle.ned_syntax.specs.declared.parameters.Valued.{Valued}
@@ -31,9 +32,10 @@ use Rattle.ned_syntax.specs.declared.properties.Effect.{Effect}
 use Rattle.ned_syntax.specs.declared.properties.Effect.TheVariants as effects
 use Rattle.ned_syntax.specs.declared.statistics.Except.{Except}
 use Rattle.ned_syntax.specs.declared.statistics.Except.TheVariants as except_is
-use Rattle.ned_syntax.specs.Grammar.{word, mark, name, in_parens, expression, default_value, value_rule, property_name, bracketed, index, body, property, mode_word, question, mode_rule, next_mode, modes, group, loose_token, piece, pieces, loose_text, no_value, source_value, record_value, source_tail, record_tail, source_word, record_word, source_part, record_part, other_part, record_or_other, any_part, part, next_part, statistic_body, optional_body, indexed_statistic, unnamed_statistic, named_or_not, statistic_tail, statistic_word, statistic, plain_name, plain_line, property_text, property_line, valued, tail, parameter_word, volatile, any_declaration, declaration, assignment, assigned_or_said, any_line, section_line, heading, section, dotted, direction, open_size, size_value, size_tail, vector_size, gate_size, size_in_brackets, refined_size, declared_gate, refined_gate, any_gate, gate_line, gate_section, gates, base_name, optional_base, next_dotted, dotted_list, names_behind, optional_names, head, gated_block, simple, ignored_property, assigned_or_ignored, any_body_line, body_line, body_section, optional_semi, braced_body, no_body, submodule_body, submodule, submodules, network_block, network, module_type, section_block, channel, interface_kind, interface, channel_or_interface, type_rule, package_line, import_token, import_text, import_line, file_property, import_or_property, silent, silent_entry, lone, entry, file, turn_of, import_of, property_name_of, mode_of, loose_of, source_of, record_of, statistic_of, plain_name_of, parameter_word_of, direction_of, interface_kind_of, is_measured, first_unit, unit_behind, declared}
-use Rattle.ned_tokens.proofs.ViableLaws.{Viable, token-viable, such_that-viable, either-viable, optional-viable, many-viable, balanced-viable, then_on, before_on, after_on, mapped_on}
-use Rattle.ned_tokens.proofs.Laws.{mapped}
+use Rattle.ned_syntax.specs.Grammar.{word, mark, name, in_parens, expression, default_value, value_rule, property_name, bracketed, index, body, property, mode_word, question, mode_rule, next_mode, modes, group, loose_token, piece, pieces, loose_text, no_value, source_value, record_value, source_tail, record_tail, source_word, record_word, source_part, record_part, other_part, record_or_other, any_part, part, next_part, statistic_body, optional_body, indexed_statistic, unnamed_statistic, named_or_not, statistic_tail, statistic_word, statistic, plain_name, plain_line, property_text, property_line, valued, tail, parameter_word, volatile, any_declaration, declaration, assignment, assigned_or_said, any_line, section_line, heading, section, dotted, direction, open_size, size_value, size_tail, vector_size, gate_size, size_in_brackets, refined_size, declared_gate, refined_gate, any_gate, gate_line, gate_section, gates, base_name, optional_base, next_dotted, dotted_list, names_behind, optional_names, head, gated_block, simple, ignored_property, assigned_or_ignored, any_body_line, body_line, body_section, optional_semi, braced_body, no_body, any_body, submodule_body, submodule, submodules, inner_types, network_block, network, module_type, section_block, channel, interface_kind, interface, channel_or_interface, any_type, no_type, type_within, max_blocks, package_line, import_token, import_text, import_line, file_property, import_or_property, silent, silent_entry, lone, entry, file, turn_of, import_of, property_name_of, mode_of, loose_of, source_of, record_of, statistic_of, plain_name_of, parameter_word_of, direction_of, interface_kind_of, is_measured, first_unit, unit_behind, declared}
+use Rattle.ned_tokens.proofs.ViableLaws.{Ready, Viable, token-viable, such_that-viable, either-viable, optional-viable, many-viable, balanced-viable, then_on, before_on, after_on, mapped_on}
+use Rattle.ned_tokens.proofs.Laws.{mapped, done}
+use Rattle.ned_tokens.proofs.Many.{many_ends}
 use Rattle.ned_tokens.proofs.BalancedLaws.{balanced-lawful}
 use Rattle.ned_values.proofs.ViableGrammar.{word_on, mark_on, letter, name_on}
 use Rattle.ned_expressions.proofs.ViableExpressions.{expression_on}
@@ -482,29 +484,39 @@ no_body_on : Viable no_body
 unfolding no_body
 no_body_on = mapped_on (mark_on m.Semi refl)
 
-submodule_body_on : Viable submodule_body
+any_body_on : Viable any_body
+unfolding any_body
+any_body_on = either-viable no_body braced_body no_body_on braced_body_on
+
+submodule_body_on : (n : ℕ) → Viable (submodule_body n)
 unfolding submodule_body
-submodule_body_on = either-viable no_body braced_body no_body_on braced_body_on
+submodule_body_on zero = no_body_on
+submodule_body_on (suc n) = any_body_on
 
-submodule_on : Viable submodule
+submodule_on : (n : ℕ) → Viable (submodule n)
 unfolding submodule
-submodule_on = mapped_on (then_on laws.name-lawful name_on (before_on (laws.mark-lawful m.Colon) (mark_on m.Colon refl) (then_on laws.dotted-lawful dotted_on submodule_body_on)))
+submodule_on n = mapped_on (then_on laws.name-lawful name_on (before_on (laws.mark-lawful m.Colon) (mark_on m.Colon refl) (then_on laws.dotted-lawful dotted_on (submodule_body_on n))))
 
-submodules_on : Viable submodules
+submodules_on : (n : ℕ) → Viable (submodules n)
 unfolding submodules
-submodules_on = mapped_on (optional-viable (word k.Submodules ▷ (mark m.Colon ▷ many submodule)) (before_on (laws.word-lawful k.Submodules) (word_on k.Submodules refl) (before_on (laws.mark-lawful m.Colon) (mark_on m.Colon refl) (many-viable submodule laws.submodule-lawful laws.submodule-full submodule_on))))
+submodules_on n = mapped_on (optional-viable (word k.Submodules ▷ (mark m.Colon ▷ many (submodule n))) (before_on (laws.word-lawful k.Submodules) (word_on k.Submodules refl) (before_on (laws.mark-lawful m.Colon) (mark_on m.Colon refl) (many-viable (submodule n) (laws.submodule-lawful n) (laws.submodule-full n) (submodule_on n)))))
 
-network_block_on : Viable network_block
+-- Where no block may be opened there is no type, but a list of none: so this is said of lists of types.
+inner_types_on : (inner : Rule NestedType) → Viable (many inner) → Viable (inner_types inner)
+unfolding inner_types
+inner_types_on inner on = mapped_on (optional-viable (word k.Types ▷ (mark m.Colon ▷ many inner)) (before_on (laws.word-lawful k.Types) (word_on k.Types refl) (before_on (laws.mark-lawful m.Colon) (mark_on m.Colon refl) on)))
+
+network_block_on : (n : ℕ) (inner : Rule NestedType) → laws.IsTypeRule inner → Viable (many inner) → Viable (network_block n inner)
 unfolding network_block
-network_block_on = before_on (laws.mark-lawful m.Open) (mark_on m.Open refl) (after_on laws.network_parts-lawful (then_on laws.section-lawful section_on (then_on laws.gates-lawful gates_on submodules_on)) (mark_on m.Close refl))
+network_block_on n inner is on = before_on (laws.mark-lawful m.Open) (mark_on m.Open refl) (after_on (laws.network_parts-lawful n inner is) (then_on laws.section-lawful section_on (then_on laws.gates-lawful gates_on (then_on (laws.inner_types-lawful inner is) (inner_types_on inner on) (submodules_on n)))) (mark_on m.Close refl))
 
-network_on : Viable network
+network_on : (n : ℕ) (inner : Rule NestedType) → laws.IsTypeRule inner → Viable (many inner) → Viable (network n inner)
 unfolding network
-network_on = mapped_on (before_on (laws.word-lawful k.Network) (word_on k.Network refl) (then_on laws.head-lawful head_on network_block_on))
+network_on n inner is on = mapped_on (before_on (laws.word-lawful k.Network) (word_on k.Network refl) (then_on laws.head-lawful head_on (network_block_on n inner is on)))
 
-module_type_on : Viable module_type
+module_type_on : (n : ℕ) (inner : Rule NestedType) → laws.IsTypeRule inner → Viable (many inner) → Viable (module_type n inner)
 unfolding module_type
-module_type_on = either-viable simple network simple_on network_on
+module_type_on n inner is on = either-viable (made lone simple) (network n inner) (mapped_on simple_on) (network_on n inner is on)
 
 section_block_on : Viable section_block
 unfolding section_block
@@ -526,9 +538,31 @@ channel_or_interface_on : Viable channel_or_interface
 unfolding channel_or_interface
 channel_or_interface_on = either-viable channel interface channel_on interface_on
 
-type_on : Viable type_rule
-unfolding type_rule
-type_on = either-viable module_type channel_or_interface module_type_on channel_or_interface_on
+any_type_on : (n : ℕ) (inner : Rule NestedType) → laws.IsTypeRule inner → Viable (many inner) → Viable (any_type n inner)
+unfolding any_type
+any_type_on n inner is on = either-viable (module_type n inner) (made lone channel_or_interface) (module_type_on n inner is on) (mapped_on channel_or_interface_on)
+
+-- a list of types where none stands is read whatever comes
+no_types_on : Viable (many no_type)
+unfolding no_type
+no_types_on = record { stuck = stuck; some = ([], [], refl) }
+  where
+    none : (ts : List Token) → begins no_type.starts ts ≡ false
+    none [] = refl
+    none (t ∷ ts) = refl
+
+    stuck : (ts : List Token) (n : ℕ) → (many no_type).read ts ≡ Err n → Ready (many no_type) ts n
+    stuck ts n e = let no : done {A = List NestedType × List Token} ([], ts) ≡ Err n = sym (many_ends no_type laws.no_type-is.lawful laws.no_type-is.full ts (none ts)) ∙ e in absurd cc
+
+types_on : (n : ℕ) → Viable (many (type_within n))
+unfolding type_within
+types_on zero = no_types_on
+types_on (suc n) = many-viable (type_within (suc n)) (laws.type-is (suc n)).lawful (laws.type-is (suc n)).full (any_type_on n (type_within n) (laws.type-is n) (types_on n))
+
+type_on : (n : ℕ) → 0 < n → Viable (type_within n)
+unfolding type_within
+type_on zero h = absurd (omega (arith, h))
+type_on (suc n) h = any_type_on n (type_within n) (laws.type-is n) (types_on n)
 
 package_line_on : Viable package_line
 unfolding package_line
@@ -560,7 +594,7 @@ silent_on = either-viable package_line import_or_property package_line_on import
 
 entry_on : Viable entry
 unfolding entry silent_entry
-entry_on = either-viable silent_entry (made (λ t. Some (lone t)) type_rule) (mapped_on silent_on) (mapped_on type_on)
+entry_on = either-viable silent_entry (made Some (type_within max_blocks)) (mapped_on silent_on) (mapped_on (type_on max_blocks (omega arith)))
 
 pub file_on : Viable file
 unfolding file

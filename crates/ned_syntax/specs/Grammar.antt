@@ -628,10 +628,14 @@ braced_body = body_block ◁ optional_semi
 unfoldable pub no_body : Rule (List SectionLine)
 no_body = made (λ _. []) (mark m.Semi)
 
--- ";" | "{" body_section "}" [";"], the latter only where a block may be opened: n more may be open at once
+-- ";" | "{" body_section "}" [";"]
+unfoldable pub any_body : Rule (List SectionLine)
+any_body = either no_body braced_body
+
+-- a body where n more blocks may be open at once: with none more it has no braces
 unfoldable pub submodule_body : ℕ → Rule (List SectionLine)
 submodule_body zero = no_body
-submodule_body (suc n) = either no_body braced_body
+submodule_body (suc n) = any_body
 
 -- ":" dotted submodule_body
 abbrev pub submodule_type : ℕ → Rule (Bytes × List SectionLine)

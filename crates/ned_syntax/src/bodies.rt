@@ -127,18 +127,29 @@ fn no_body(alloc: Global, tokens: &[Token]) -> Result<(Items<SectionLine>, &[Tok
     Ok((Items::new(alloc), rest))
 }
 
-/// The lines of a submodule's body; none where a `;` stands in its place.
-/// `submodule_body = no_body | braced_body`.
-#[tactic(auto, unfolding(crate::specs::Grammar::submodule_body, crate::specs::Grammar::no_body, crate::specs::Grammar::mark))]
-pub(crate) fn submodule_body(
-    alloc: Global,
-    tokens: &[Token],
-) -> Result<(Items<SectionLine>, &[Token]), Refusal>
-    ensures { Reads grammar.submodule_body tokens.now result }
+/// `any_body = no_body | braced_body`.
+#[tactic(auto, unfolding(crate::specs::Grammar::any_body, crate::specs::Grammar::no_body, crate::specs::Grammar::mark))]
+fn any_body(alloc: Global, tokens: &[Token]) -> Result<(Items<SectionLine>, &[Token]), Refusal>
+    ensures { Reads grammar.any_body tokens.now result }
 {
     if begins_mark(Mark::Semi, tokens) {
         no_body(alloc, tokens)
     } else {
         braced_body(alloc, tokens)
     }
+}
+
+/// The lines of a submodule's body; none where a `;` stands in its place.
+/// `submodule_body = any_body`, and `no_body` where no block may be opened.
+pub(crate) fn submodule_body(
+    alloc: Global,
+    blocks: u32,
+    tokens: &[Token],
+) -> Result<(Items<SectionLine>, &[Token]), Refusal>
+    ensures { Reads (grammar.submodule_body blocks) tokens.now result }
+{
+    if blocks == 0 {
+        return no_body(alloc, tokens);
+    }
+    any_body(alloc, tokens)
 }

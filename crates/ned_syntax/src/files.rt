@@ -15,6 +15,9 @@ use ned_tokens::token::{Keyword, Mark, Token};
 use sqlite_items::Items;
 use std::alloc::Global;
 
+/// As many blocks may be open at once.
+const MAX_BLOCKS: u32 = 32;
+
 /// `package_line = "package" dotted ";"`.
 #[tactic(auto, unfolding(crate::specs::Grammar::package_line))]
 fn package_line(alloc: Global, tokens: &[Token]) -> Result<&[Token], Refusal>
@@ -153,10 +156,7 @@ fn begins_silent(tokens: &[Token]) -> bool
 
 /// `silent_entry = silent`.
 #[tactic(auto, unfolding(crate::specs::Grammar::silent_entry))]
-fn silent_entry(
-    alloc: Global,
-    tokens: &[Token],
-) -> Result<(Option<NestedType>, &[Token]), Refusal>
+fn silent_entry(alloc: Global, tokens: &[Token]) -> Result<(Option<NestedType>, &[Token]), Refusal>
     ensures { Reads grammar.silent_entry tokens.now result }
 {
     let rest = read!(silent(alloc, tokens));
@@ -171,16 +171,15 @@ fn entry(alloc: Global, tokens: &[Token]) -> Result<(Option<NestedType>, &[Token
     if begins_silent(tokens) {
         return silent_entry(alloc, tokens);
     }
-    let (declared, rest) = read!(type_declaration(alloc, tokens));
-    let types = Items::new(alloc);
-    Ok((Some(NestedType { declared, types }), rest))
+    let (declared, rest) = read!(type_declaration(alloc, MAX_BLOCKS, tokens));
+    Ok((Some(declared), rest))
 }
 
 #[tactic(auto, unfolding(crate::specs::Grammar::entry, crate::specs::Grammar::silent_entry))]
 fn begins_entry(tokens: &[Token]) -> bool
     ensures { result ≡ begins grammar.entry.starts tokens.now }
 {
-    begins_silent(tokens) || begins_type(tokens)
+    begins_silent(tokens) || begins_type(MAX_BLOCKS, tokens)
 }
 
 /// The types of `{ entry }`.

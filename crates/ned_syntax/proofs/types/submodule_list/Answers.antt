@@ -6,13 +6,13 @@ use Rattle.ned_syntax.proofs.GrammarLaws.{submodule-lawful, submodule-full}
 use Rattle.ned_syntax.proofs.types.submodule_list.Goals as goal
 
 pub returns-in-Err : goal.returns-in-Err
-returns-in-Err c = fails grammar.submodule submodule-lawful submodule-full c.in-Err.refusal c.items.submodules c.items.rest.now ((many grammar.submodule).read c.args.tokens.now) (cc) c.in-Err.ensures c.items.invariant
+returns-in-Err c = fails (grammar.submodule c.args.blocks) (submodule-lawful c.args.blocks) (submodule-full c.args.blocks) c.in-Err.refusal c.items.submodules c.items.rest.now ((many (grammar.submodule c.args.blocks)).read c.args.tokens.now) (cc) c.in-Err.ensures c.items.invariant
 
 pub items-smaller : goal.items-smaller
-items-smaller c = shorter grammar.submodule submodule-lawful submodule-full c.items.rest.now c.in-Ok.it.0 c.in-Ok.it.1.now c.in-Ok.ensures
+items-smaller c = shorter (grammar.submodule c.args.blocks) (submodule-lawful c.args.blocks) (submodule-full c.args.blocks) c.items.rest.now c.in-Ok.it.0 c.in-Ok.it.1.now c.in-Ok.ensures
 
 pub items-preserved : goal.items-preserved
-items-preserved c = rw c.in_ok-push.ensures.ok (goes_on grammar.submodule submodule-lawful submodule-full c.items.submodules c.items.rest.now c.in-Ok.it.0 c.in-Ok.it.1.now ((many grammar.submodule).read c.args.tokens.now) (cc) c.in-Ok.ensures c.items.invariant)
+items-preserved c = rw c.in_ok-push.ensures.ok (goes_on (grammar.submodule c.args.blocks) (submodule-lawful c.args.blocks) (submodule-full c.args.blocks) c.items.submodules c.items.rest.now c.in-Ok.it.0 c.in-Ok.it.1.now ((many (grammar.submodule c.args.blocks)).read c.args.tokens.now) (cc) c.in-Ok.ensures c.items.invariant)
 
 pub returns : goal.returns
-returns c = ends grammar.submodule submodule-lawful submodule-full c.items.submodules c.items.rest.now ((many grammar.submodule).read c.args.tokens.now) (cc) c.items.invariant
+returns c = ends (grammar.submodule c.args.blocks) (submodule-lawful c.args.blocks) (submodule-full c.args.blocks) c.items.submodules c.items.rest.now ((many (grammar.submodule c.args.blocks)).read c.args.tokens.now) (cc) c.items.invariant

@@ -5,7 +5,7 @@ use Rattle.ned_syntax.specs.Grammar as grammar
 use Rattle.ned_syntax.proofs.types.submodule_list.Given as goal
 
 abbrev pub invariant-items : goal.invariant-items
-invariant-items l = with_front l.submodules ((many grammar.submodule).read l.rest) ≡ (many grammar.submodule).read l.tokens
+invariant-items l = with_front l.submodules ((many (grammar.submodule l.blocks)).read l.rest) ≡ (many (grammar.submodule l.blocks)).read l.tokens
 
 abbrev pub decreases-items : goal.decreases-items
 decreases-items l = length l.rest
