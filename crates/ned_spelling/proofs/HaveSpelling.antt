@@ -1,5 +1,5 @@
 -- Each token of a standard spelling has a spelling.
-use Rattle.std.proofs.Common.{ℕ, Bool, true, false, List, [], ◌∷◌, ◌++◌, Option, Some, None, refl}
+use Rattle.std.proofs.Common.{ℕ, zero, suc, Bool, true, false, List, [], ◌∷◌, ◌++◌, map, Option, Some, None, refl, sym, subst}
 use Rattle.sim_values.specs.declared.value.Dimension.{Dimension}
 use Rattle.sim_values.specs.declared.value.Dimension.TheVariants as dimension
 use Rattle.ned_tokens.specs.declared.token.Keyword.{Keyword}
@@ -28,9 +28,12 @@ use Rattle.ned_syntax.specs.declared.ast.GateLine.TheVariants as gate_lines
 use Rattle.ned_syntax.specs.declared.ast.TypeKind.{TypeKind}
 use Rattle.ned_syntax.specs.declared.ast.TypeKind.TheVariants as kinds
 use Rattle.ned_syntax.specs.declared.ast.TypeDeclaration.{TypeDeclaration}
+use Rattle.ned_syntax.specs.declared.ast.NestedType.{NestedType, out-NestedType}
+use Rattle.ned_syntax.specs.declared.ast.NestedType.TheFolds.{fold_out-NestedType}
 use Rattle.ned_syntax.specs.declared.ast.NedFile.{NedFile}
-use Rattle.ned_spelling.specs.Declarations.{listed_tokens, given_tokens, valued_tokens, unit_tokens, declaration_tokens, mode_name, question_tokens, mode_tokens, next_mode_tokens, record_tokens, statistic_tokens, line_tokens, section_line_tokens, section_tokens, body_tokens, submodule_tokens, submodules_tokens, base_tokens, next_name_tokens, names_tokens, head_tokens, in_braces, interface_tokens, bracket_tokens, size_tokens, refined_size_tokens, loose_tokens, gate_tokens, gate_line_tokens, gates_tokens, kind_tokens, type_tokens, file_tokens}
-use Rattle.ned_spelling.proofs.Spellable.{Each, IfThere, CanBeExpression, CanBeGiven, CanBeDeclaration, CanBeStatistic, CanBeLine, CanBeBodyLine, CanBeSubmodule, CanBeSize, CanBeGate, CanBeInterface, CanBeParts, CanBeType, CanBeFile}
+use Rattle.ned_syntax.specs.Grammar.{max_blocks}
+use Rattle.ned_spelling.specs.Declarations.{listed_tokens, given_tokens, valued_tokens, unit_tokens, declaration_tokens, mode_name, question_tokens, mode_tokens, next_mode_tokens, record_tokens, statistic_tokens, line_tokens, section_line_tokens, section_tokens, body_tokens, submodule_tokens, submodules_tokens, base_tokens, next_name_tokens, names_tokens, head_tokens, in_braces, interface_tokens, bracket_tokens, size_tokens, refined_size_tokens, loose_tokens, gate_tokens, gate_line_tokens, gates_tokens, types_tokens, kind_tokens, tokens_at, type_tokens, file_tokens}
+use Rattle.ned_spelling.proofs.Spellable.{Each, IfThere, CanBeExpression, CanBeGiven, CanBeDeclaration, CanBeStatistic, CanBeLine, CanBeBodyLine, CanBeSubmodule, CanBeSize, CanBeGate, CanBeInterface, CanBeParts, CanBeTypes, CanBeNested, CanBeFile}
 
 -- two lists in a row
 have-append : (ts us : List Token) → HaveSpelling ts → HaveSpelling us → HaveSpelling (ts ++ us)
@@ -141,16 +144,16 @@ have_body [] h = (tt, tt)
 have_body (line ∷ ls) h = (tt, (tt, (tt, have-append (listed_tokens section_line_tokens (line ∷ ls)) (token.Mark m.Close ∷ []) (have_listed section_line_tokens CanBeBodyLine have_body_line (line ∷ ls) h) (tt, tt))))
 
 -- a submodule
-have_submodule : (s : Submodule) → CanBeSubmodule s → HaveSpelling (submodule_tokens s)
-have_submodule s h = (h.0, (tt, (h.1, have_body s.body h.2)))
+have_submodule : (n : ℕ) (s : Submodule) → CanBeSubmodule n s → HaveSpelling (submodule_tokens s)
+have_submodule n s h = (h.0, (tt, (h.1, have_body s.body h.2)))
 
 -- a parameter section
 have_section : (ls : List SectionLine) → Each CanBeLine ls → HaveSpelling (section_tokens ls)
 have_section ls h = (tt, (tt, have_listed section_line_tokens CanBeLine have_section_line ls h))
 
 -- the submodules of a network
-have_submodules : (ss : List Submodule) → Each CanBeSubmodule ss → HaveSpelling (submodules_tokens ss)
-have_submodules ss h = (tt, (tt, have_listed submodule_tokens CanBeSubmodule have_submodule ss h))
+have_submodules : (n : ℕ) (ss : List Submodule) → Each (CanBeSubmodule n) ss → HaveSpelling (submodules_tokens ss)
+have_submodules n ss h = (tt, (tt, have_listed submodule_tokens (CanBeSubmodule n) (have_submodule n) ss h))
 
 -- what a type extends
 have_base : (base : Option (List ℕ)) → IfThere IsName base → HaveSpelling (base_tokens base)
@@ -226,21 +229,37 @@ have_interface w d h parts =
     let inside = have_block (section_tokens d.lines ++ gates_tokens d.gates) (have_gated d parts.1 parts.2) in
     (tt, (h, have-append (names_tokens k.Extends d.interfaces) (in_braces (section_tokens d.lines ++ gates_tokens d.gates)) (have_names k.Extends d.interfaces parts.0) inside))
 
--- a type of each kind
-have_kind : (kind : TypeKind) (d : TypeDeclaration) → IsName d.name → CanBeParts kind d → HaveSpelling (kind_tokens kind d)
-have_kind kinds.Simple d h parts = (tt, have_parts d (section_tokens d.lines ++ gates_tokens d.gates) (have_head d h parts.0 parts.1) (have_gated d parts.2 parts.3))
-have_kind kinds.Network d h parts =
-    let last = have-append (gates_tokens d.gates) (submodules_tokens d.submodules) (have_gates d.gates parts.3) (have_submodules d.submodules parts.4) in
-    let inside = have-append (section_tokens d.lines) (gates_tokens d.gates ++ submodules_tokens d.submodules) (have_section d.lines parts.2) last in
-    (tt, have_parts d (section_tokens d.lines ++ (gates_tokens d.gates ++ submodules_tokens d.submodules)) (have_head d h parts.0 parts.1) inside)
-have_kind kinds.Channel d h parts = (tt, have_parts d (section_tokens d.lines) (have_head d h parts.0 parts.1) (have_section d.lines parts.2))
-have_kind kinds.ModuleInterface d h parts = have_interface k.ModuleInterface d h parts
-have_kind kinds.ChannelInterface d h parts = have_interface k.ChannelInterface d h parts
+-- the tokens of types, one type behind the other
+have_each : (P : NestedType → Type 0) → ((t : NestedType) → P t → HaveSpelling (type_tokens t)) → (ts : List NestedType) → Each P ts → HaveSpelling (listed_tokens (λ us. us) (map type_tokens ts))
+have_each P one [] h = tt
+have_each P one (t ∷ ts) h = have-append (type_tokens t) (listed_tokens (λ us. us) (map type_tokens ts)) (one t h.0) (have_each P one ts h.1)
 
--- a type
-have_type : (d : TypeDeclaration) → CanBeType d → HaveSpelling (type_tokens d)
-have_type d h = have_kind d.kind d h.0 h.1
+-- the types of a network, where there are some
+have_types : (P : NestedType → Type 0) → ((t : NestedType) → P t → HaveSpelling (type_tokens t)) → (ts : List NestedType) → Each P ts → HaveSpelling (types_tokens (map type_tokens ts))
+have_types P one [] h = tt
+have_types P one (t ∷ ts) h = (tt, (tt, have_each P one (t ∷ ts) h))
+
+-- a type of each kind
+have_kind : (n : ℕ) (P : NestedType → Type 0) → ((t : NestedType) → P t → HaveSpelling (type_tokens t)) → (kind : TypeKind) (d : TypeDeclaration) (ts : List NestedType) → IsName d.name → CanBeParts n kind d → CanBeTypes kind P ts → HaveSpelling (kind_tokens kind d (map type_tokens ts))
+have_kind n P one kinds.Simple d ts h parts inner = (tt, have_parts d (section_tokens d.lines ++ gates_tokens d.gates) (have_head d h parts.0 parts.1) (have_gated d parts.2 parts.3))
+have_kind n P one kinds.Network d ts h parts inner =
+    let types = types_tokens (map type_tokens ts) in
+    let last = have-append types (submodules_tokens d.submodules) (have_types P one ts inner) (have_submodules n d.submodules parts.4) in
+    let behind = have-append (gates_tokens d.gates) (types ++ submodules_tokens d.submodules) (have_gates d.gates parts.3) last in
+    let inside = have-append (section_tokens d.lines) (gates_tokens d.gates ++ (types ++ submodules_tokens d.submodules)) (have_section d.lines parts.2) behind in
+    (tt, have_parts d (section_tokens d.lines ++ (gates_tokens d.gates ++ (types ++ submodules_tokens d.submodules))) (have_head d h parts.0 parts.1) inside)
+have_kind n P one kinds.Channel d ts h parts inner = (tt, have_parts d (section_tokens d.lines) (have_head d h parts.0 parts.1) (have_section d.lines parts.2))
+have_kind n P one kinds.ModuleInterface d ts h parts inner = have_interface k.ModuleInterface d h parts
+have_kind n P one kinds.ChannelInterface d ts h parts inner = have_interface k.ChannelInterface d h parts
+
+-- a type with at most n blocks open at once
+have_type : (n : ℕ) (t : NestedType) → CanBeNested n t → HaveSpelling (type_tokens t)
+unfolding CanBeNested
+have_type zero t h = absurd h
+have_type (suc n) t h =
+    let x = out-NestedType t in
+    subst HaveSpelling (sym (fold_out-NestedType (List Token) tokens_at t)) (have_kind n (CanBeNested n) (have_type n) x.declared.kind x.declared x.types h.0.0 h.0.1 h.1)
 
 -- a file
 pub have_file : (f : NedFile) → CanBeFile f → HaveSpelling (file_tokens f)
-have_file f h = have_listed type_tokens CanBeType have_type f.types h
+have_file f h = have_listed type_tokens (CanBeNested max_blocks) (have_type max_blocks) f.types h

@@ -1,5 +1,5 @@
 -- What a text declares can be declared.
-use Rattle.std.proofs.Common.{◌≡◌, ℕ, Bool, true, List, [], ◌∷◌, ◌++◌, Option, Some, None, inl, inr, refl, sym, ap, subst}
+use Rattle.std.proofs.Common.{◌≡◌, ℕ, zero, suc, Bool, true, List, [], ◌∷◌, ◌++◌, Option, Some, None, inl, inr, refl, sym, ap, subst}
 use Rattle.std.specs.Prelude.{is_some, unwrap_or}
 use Rattle.std.proofs.lemmas.Bool.{false≢true}
 use Rattle.sim_values.specs.declared.value.Dimension.{Dimension}
@@ -19,6 +19,7 @@ use Rattle.ned_expressions.specs.Spelling.{expression_tokens}
 use Rattle.ned_syntax.specs.declared.ast.ParameterWord.{ParameterWord}
 use Rattle.ned_syntax.specs.declared.ast.ParameterWord.TheVariants as words
 use Rattle.ned_syntax.specs.declared.ast.Declaration.{Declaration}
+use Rattle.ned_syntax.specs.declared.ast.Submodule.{Submodule}
 use Rattle.ned_syntax.specs.declared.ast.SectionLine.{SectionLine}
 use Rattle.ned_syntax.specs.declared.ast.GateSize.{GateSize}
 use Rattle.ned_syntax.specs.declared.ast.GateLine.{GateLine}
@@ -26,6 +27,8 @@ use Rattle.ned_syntax.specs.declared.heads.Head.{Head}
 use Rattle.ned_syntax.specs.declared.ast.TypeKind.{TypeKind}
 use Rattle.ned_syntax.specs.declared.ast.TypeKind.TheVariants as kinds
 use Rattle.ned_syntax.specs.declared.ast.TypeDeclaration.{TypeDeclaration}
+use Rattle.ned_syntax.specs.declared.ast.NestedType.{NestedType, out-NestedType, roll-NestedType, the_lemmas}
+use Rattle.ned_syntax.specs.declared.ast.NestedType.TheOpen.{NestedType-F}
 use Rattle.ned_syntax.specs.declared.ast.NedFile.{NedFile}
 use Rattle.ned_syntax.specs.declared.properties.PropertyName.{PropertyName}
 use Rattle.ned_syntax.specs.declared.properties.PropertyName.TheVariants as names
@@ -37,8 +40,8 @@ use Rattle.ned_syntax.specs.declared.statistics.Except.TheVariants as except_is
 use Rattle.ned_syntax.specs.declared.statistics.Said.{Said}
 use Rattle.ned_syntax.specs.declared.parameters.Valued.{Valued}
 use Rattle.ned_syntax.specs.declared.parameters.Tail.{Tail}
-use Rattle.ned_syntax.specs.Grammar.{word, mark, name, name_of, expression, default_value, value_rule, in_parens, turn_of, bracketed, index, body, unit_effect, said_by_word, said, effect_of, property, modes, loose_text, no_value, source_value, record_value, source_tail, record_tail, source_word, record_word, source_part, record_part, part_or_other, other_part, record_or_other, any_part, part, next_part, nothing_said, over, over_all, statistic_body, optional_body, statistic_line, indexed_statistic, unnamed_statistic, named_or_not, line_or_ignored, statistic_tail, statistic_word, statistic, plain_name, line_of, plain_line, property_text, property_line, valued, tail, value_in, unit_in, parameter_word, volatile, any_declaration, is_measured_word, declaration, assignment, assigned_or_said, any_line, section_line, heading, section, dotted, direction, open_size, size_value, size_tail, vector_size, size_or_single, gate_size, size_in_brackets, refined_size, declared_gate, refined_gate, any_gate, gate_line, gate_section, gates, base_name, optional_base, next_dotted, dotted_list, names_behind, optional_names, head, gated_block, simple, ignored_property, assigned_or_ignored, any_body_line, body_line, body_section, optional_semi, braced_body, no_body, submodule_body, submodule, listed, submodules, network_block, network, module_type, section_block, channel, interface_kind_of, interface_kind, interface, channel_or_interface, type_rule, silent, silent_entry, entry, types_in, file}
-use Rattle.ned_spelling.proofs.Spellable.{Each, IfThere, CanBeExpression, CanBeGiven, CanBeUnit, CanBeDeclaration, CanBeAssignment, CanBeLine, CanBeBodyLine, CanBeSubmodule, CanBeSize, CanBeGate, CanBeParts, CanBeType, CanBeFile}
+use Rattle.ned_syntax.specs.Grammar.{word, mark, name, name_of, expression, default_value, value_rule, in_parens, turn_of, bracketed, index, body, unit_effect, said_by_word, said, effect_of, property, modes, loose_text, no_value, source_value, record_value, source_tail, record_tail, source_word, record_word, source_part, record_part, part_or_other, other_part, record_or_other, any_part, part, next_part, nothing_said, over, over_all, statistic_body, optional_body, statistic_line, indexed_statistic, unnamed_statistic, named_or_not, line_or_ignored, statistic_tail, statistic_word, statistic, plain_name, line_of, plain_line, property_text, property_line, valued, tail, value_in, unit_in, parameter_word, volatile, any_declaration, is_measured_word, declaration, assignment, assigned_or_said, any_line, section_line, heading, section, dotted, direction, open_size, size_value, size_tail, vector_size, size_or_single, gate_size, size_in_brackets, refined_size, declared_gate, refined_gate, any_gate, gate_line, gate_section, gates, base_name, optional_base, next_dotted, dotted_list, names_behind, optional_names, head, gated_block, simple, ignored_property, assigned_or_ignored, any_body_line, body_line, body_section, optional_semi, braced_body, no_body, any_body, submodule_body, submodule, listed, submodules, lone, inner_types, network_block, network, module_type, section_block, channel, interface_kind_of, interface_kind, interface, channel_or_interface, any_type, no_type, type_within, max_blocks, silent, silent_entry, entry, types_in, file}
+use Rattle.ned_spelling.proofs.Spellable.{Each, IfThere, CanBeExpression, CanBeGiven, CanBeUnit, CanBeDeclaration, CanBeAssignment, CanBeLine, CanBeBodyLine, HasRoom, CanBeSubmodule, CanBeSize, CanBeGate, CanBeParts, CanBeType, CanBeTypes, CanBeLayer, CanBeNested, CanBeFile}
 
 -- what sound tokens spell by the rule is so
 record Keeps {X : Type 0} (r : Rule X) (P : X → Type 0) : Type 0 where
@@ -379,15 +382,35 @@ keeps_body_section : Keeps body_section (Each CanBeBodyLine)
 unfolding body_section body_line
 keeps_body_section = before heading (each (after (mark m.Semi) keeps_body_line))
 
+-- lines that have room
+abbrev CanBeBody : ℕ → List SectionLine → Type 0
+CanBeBody n ls = Each CanBeBodyLine ls × HasRoom n ls
+
+-- where a block may be opened lines have room
+has_room : (n : ℕ) (ls : List SectionLine) → HasRoom (suc n) ls
+has_room n [] = tt
+has_room n (line ∷ ls) = tt
+
+-- no body
+keeps_no_body : (n : ℕ) → Keeps no_body (CanBeBody n)
+unfolding no_body
+keeps_no_body n = mapped (λ x h. (tt, tt)) (anything (mark m.Semi))
+
+-- a body in braces
+keeps_braced_body : Keeps braced_body (Each CanBeBodyLine)
+unfolding braced_body
+keeps_braced_body = after optional_semi (before (mark m.Open) (after (mark m.Close) keeps_body_section))
+
 -- the body of a submodule
-keeps_submodule_body : Keeps submodule_body (Each CanBeBodyLine)
-unfolding submodule_body no_body braced_body
-keeps_submodule_body = choice (mapped (λ x h. tt) (anything (mark m.Semi))) (after optional_semi (before (mark m.Open) (after (mark m.Close) keeps_body_section)))
+keeps_submodule_body : (n : ℕ) → Keeps (submodule_body n) (CanBeBody n)
+unfolding submodule_body any_body
+keeps_submodule_body zero = keeps_no_body zero
+keeps_submodule_body (suc n) = choice (keeps_no_body (suc n)) (weaker (λ ls h. (h, has_room n ls)) keeps_braced_body)
 
 -- a submodule
-keeps_submodule : Keeps submodule CanBeSubmodule
+keeps_submodule : (n : ℕ) → Keeps (submodule n) (CanBeSubmodule n)
 unfolding submodule
-keeps_submodule = mapped (λ p h. (h.0, h.1.0, h.1.1)) (then keeps_name (before (mark m.Colon) (then keeps_dotted keeps_submodule_body)))
+keeps_submodule n = mapped (λ p h. (h.0, h.1.0, h.1.1.0, h.1.1.1)) (then keeps_name (before (mark m.Colon) (then keeps_dotted (keeps_submodule_body n))))
 
 -- what is listed, or nothing
 listed_can : {X : Type 0} (P : X → Type 0) (xs : Option (List X)) → IfThere (Each P) xs → Each P (listed xs)
@@ -395,9 +418,9 @@ listed_can P None h = tt
 listed_can P (Some xs) h = h
 
 -- the submodules
-keeps_submodules : Keeps submodules (Each CanBeSubmodule)
+keeps_submodules : (n : ℕ) → Keeps (submodules n) (Each (CanBeSubmodule n))
 unfolding submodules
-keeps_submodules = mapped (listed_can CanBeSubmodule) (perhaps (before (word k.Submodules) (before (mark m.Colon) (each keeps_submodule))))
+keeps_submodules n = mapped (listed_can (CanBeSubmodule n)) (perhaps (before (word k.Submodules) (before (mark m.Colon) (each (keeps_submodule n)))))
 
 -- ---- gates
 
@@ -454,17 +477,49 @@ keeps_head : Keeps head CanBeHead
 unfolding head
 keeps_head = mapped (λ p h. (h.0, h.1.0, h.1.1)) (then keeps_name (then keeps_base (keeps_names k.Like)))
 
--- a type of modules
-keeps_module_type : Keeps module_type CanBeType
-unfolding module_type simple network gated_block network_block
-keeps_module_type = choice
-    (mapped (λ p h. (h.0.0, (h.0.1, h.0.2, h.1.0, h.1.1, refl))) (before (word k.Simple) (then keeps_head (before (mark m.Open) (after (mark m.Close) (then keeps_section keeps_gates))))))
-    (mapped (λ p h. (h.0.0, (h.0.1, h.0.2, h.1.0, h.1.1.0, h.1.1.1))) (before (word k.Network) (then keeps_head (before (mark m.Open) (after (mark m.Close) (then keeps_section (then keeps_gates keeps_submodules)))))))
+-- a simple module
+keeps_simple : (n : ℕ) → Keeps simple (CanBeType n)
+unfolding simple gated_block
+keeps_simple n = mapped (λ p h. (h.0.0, (h.0.1, h.0.2, h.1.0, h.1.1, refl))) (before (word k.Simple) (then keeps_head (before (mark m.Open) (after (mark m.Close) (then keeps_section keeps_gates)))))
+
+-- the types of a network
+keeps_inner_types : (inner : Rule NestedType) (P : NestedType → Type 0) → Keeps inner P → Keeps (inner_types inner) (Each P)
+unfolding inner_types
+keeps_inner_types inner P h = mapped (listed_can P) (perhaps (before (word k.Types) (before (mark m.Colon) (each h))))
+
+-- a type whose layer can be so
+abbrev CanBeOpened : ℕ → (NestedType → Type 0) → NestedType → Type 0
+CanBeOpened n P t = CanBeLayer n P (out-NestedType t)
+
+-- the layer that a type is made of
+opened_again : (x : NestedType-F NestedType) → out-NestedType (roll-NestedType x) ≡ x
+opened_again x = search the_lemmas
+
+made_can : (n : ℕ) (P : NestedType → Type 0) (x : NestedType-F NestedType) → CanBeLayer n P x → CanBeOpened n P (roll-NestedType x)
+made_can n P x h = subst (CanBeLayer n P) (sym (opened_again x)) h
+
+-- a network of these parts
+network_can : (n : ℕ) (P : NestedType → Type 0) (h : Head) (ls : List SectionLine) (gs : List GateLine) (ts : List NestedType) (ss : List Submodule) → CanBeHead h → Each CanBeLine ls → Each CanBeGate gs → Each P ts → Each (CanBeSubmodule n) ss → CanBeOpened n P (roll-NestedType (record { declared = record { kind = kinds.Network; name = h.name; base = h.base; interfaces = h.interfaces; lines = ls; gates = gs; submodules = ss }; types = ts }))
+network_can n P h ls gs ts ss head_is l g t s = made_can n P (record { declared = record { kind = kinds.Network; name = h.name; base = h.base; interfaces = h.interfaces; lines = ls; gates = gs; submodules = ss }; types = ts }) ((head_is.0, (head_is.1, head_is.2, l, g, s)), t)
+
+-- a network
+keeps_network : (n : ℕ) (inner : Rule NestedType) (P : NestedType → Type 0) → Keeps inner P → Keeps (network n inner) (CanBeOpened n P)
+unfolding network network_block
+keeps_network n inner P h = mapped (λ p h. network_can n P p.0 p.1.0 p.1.1.0 p.1.1.1.0 p.1.1.1.1 h.0 h.1.0 h.1.1.0 h.1.1.1.0 h.1.1.1.1) (before (word k.Network) (then keeps_head (before (mark m.Open) (after (mark m.Close) (then keeps_section (then keeps_gates (then (keeps_inner_types inner P h) (keeps_submodules n))))))))
+
+-- no types within
+no_types_can : (kind : TypeKind) (P : NestedType → Type 0) → CanBeTypes kind P []
+no_types_can kinds.Network P = tt
+no_types_can _ P = refl
+
+-- a type that declares none
+lone_can : (n : ℕ) (P : NestedType → Type 0) (d : TypeDeclaration) → CanBeType n d → CanBeOpened n P (lone d)
+lone_can n P d h = made_can n P (record { declared = d; types = [] }) (h, no_types_can d.kind P)
 
 -- a type of channels
-keeps_channel : Keeps channel CanBeType
+keeps_channel : (n : ℕ) → Keeps channel (CanBeType n)
 unfolding channel section_block
-keeps_channel = mapped (λ p h. (h.0.0, (h.0.1, h.0.2, h.1, refl, refl))) (before (word k.Channel) (then keeps_head (before (mark m.Open) (after (mark m.Close) keeps_section))))
+keeps_channel n = mapped (λ p h. (h.0.0, (h.0.1, h.0.2, h.1, refl, refl))) (before (word k.Channel) (then keeps_head (before (mark m.Open) (after (mark m.Close) keeps_section))))
 
 -- the kind of an interface
 abbrev IsInterfaceKind : TypeKind → Type 0
@@ -484,28 +539,34 @@ keeps_interface_kind = one interface_kind_of IsInterfaceKind go
     go _ x h e = absurd (false≢true (ap is_some e))
 
 -- an interface of either kind
-interface_can : (kind : TypeKind) (text : List ℕ) (names : List (List ℕ)) (ls : List SectionLine) (gs : List GateLine) → IsInterfaceKind kind → Each IsName names → Each CanBeLine ls → Each CanBeGate gs → CanBeParts kind (record { kind = kind; name = text; base = None; interfaces = names; lines = ls; gates = gs; submodules = [] })
-interface_can kinds.ModuleInterface text names ls gs h k l n = (k, l, n, refl, refl)
-interface_can kinds.ChannelInterface text names ls gs h k l n = (k, l, n, refl, refl)
-interface_can _ text names ls gs h k l n = absurd h
+interface_can : (n : ℕ) (kind : TypeKind) (text : List ℕ) (names : List (List ℕ)) (ls : List SectionLine) (gs : List GateLine) → IsInterfaceKind kind → Each IsName names → Each CanBeLine ls → Each CanBeGate gs → CanBeParts n kind (record { kind = kind; name = text; base = None; interfaces = names; lines = ls; gates = gs; submodules = [] })
+interface_can n kinds.ModuleInterface text names ls gs h k l g = (k, l, g, refl, refl)
+interface_can n kinds.ChannelInterface text names ls gs h k l g = (k, l, g, refl, refl)
+interface_can n _ text names ls gs h k l g = absurd h
 
 -- an interface
-keeps_interface : Keeps interface CanBeType
+keeps_interface : (n : ℕ) → Keeps interface (CanBeType n)
 unfolding interface gated_block
-keeps_interface = mapped (λ p h. (h.1.0, interface_can p.0 p.1.0 p.1.1.0 p.1.1.1.0 p.1.1.1.1 h.0 h.1.1.0 h.1.1.1.0 h.1.1.1.1)) (then keeps_interface_kind (then keeps_name (then (keeps_names k.Extends) (before (mark m.Open) (after (mark m.Close) (then keeps_section keeps_gates))))))
+keeps_interface n = mapped (λ p h. (h.1.0, interface_can n p.0 p.1.0 p.1.1.0 p.1.1.1.0 p.1.1.1.1 h.0 h.1.1.0 h.1.1.1.0 h.1.1.1.1)) (then keeps_interface_kind (then keeps_name (then (keeps_names k.Extends) (before (mark m.Open) (after (mark m.Close) (then keeps_section keeps_gates))))))
 
--- a type
-keeps_type : Keeps type_rule CanBeType
-unfolding type_rule channel_or_interface
-keeps_type = choice keeps_module_type (choice keeps_channel keeps_interface)
+-- a type of any kind
+keeps_any_type : (n : ℕ) (inner : Rule NestedType) (P : NestedType → Type 0) → Keeps inner P → Keeps (any_type n inner) (CanBeOpened n P)
+unfolding any_type module_type channel_or_interface
+keeps_any_type n inner P h = choice (choice (mapped (lone_can n P) (keeps_simple n)) (keeps_network n inner P h)) (mapped (lone_can n P) (choice (keeps_channel n) (keeps_interface n)))
+
+-- a type with at most n blocks open at once
+keeps_type : (n : ℕ) → Keeps (type_within n) (CanBeNested n)
+unfolding type_within no_type CanBeNested
+keeps_type zero = one (λ _. None) (CanBeNested zero) (λ t x h e. absurd (false≢true (ap is_some e)))
+keeps_type (suc n) = keeps_any_type n (type_within n) (CanBeNested n) (keeps_type n)
 
 -- a type, or what has no effect
-keeps_entry : Keeps entry (IfThere CanBeType)
+keeps_entry : Keeps entry (IfThere (CanBeNested max_blocks))
 unfolding entry silent_entry
-keeps_entry = choice (mapped (λ x h. tt) (anything silent)) (mapped (λ d h. h) keeps_type)
+keeps_entry = choice (mapped (λ x h. tt) (anything silent)) (mapped (λ d h. h) (keeps_type max_blocks))
 
 -- the types of a file
-types_can : (es : List (Option TypeDeclaration)) → Each (IfThere CanBeType) es → Each CanBeType (types_in es)
+types_can : (es : List (Option NestedType)) → Each (IfThere (CanBeNested max_blocks)) es → Each (CanBeNested max_blocks) (types_in es)
 types_can [] h = tt
 types_can (None ∷ es) h = types_can es h.1
 types_can (Some d ∷ es) h = (h.0, types_can es h.1)

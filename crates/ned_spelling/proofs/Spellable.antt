@@ -1,5 +1,5 @@
 -- What a text can declare.
-use Rattle.std.proofs.Common.{◌≡◌, true, List, [], ◌∷◌, Option, Some, None}
+use Rattle.std.proofs.Common.{◌≡◌, ℕ, zero, suc, true, List, [], ◌∷◌, Option, Some, None}
 use Rattle.std.specs.Prelude.{is_some}
 use Rattle.sim_values.specs.declared.value.Dimension.{Dimension}
 use Rattle.ned_spelling.specs.Tokens.{IsName, HaveSpelling}
@@ -23,7 +23,10 @@ use Rattle.ned_syntax.specs.declared.ast.GateLine.TheVariants as gate_lines
 use Rattle.ned_syntax.specs.declared.ast.TypeKind.{TypeKind}
 use Rattle.ned_syntax.specs.declared.ast.TypeKind.TheVariants as kinds
 use Rattle.ned_syntax.specs.declared.ast.TypeDeclaration.{TypeDeclaration}
+use Rattle.ned_syntax.specs.declared.ast.NestedType.{NestedType, out-NestedType}
+use Rattle.ned_syntax.specs.declared.ast.NestedType.TheOpen.{NestedType-F}
 use Rattle.ned_syntax.specs.declared.ast.NedFile.{NedFile}
+use Rattle.ned_syntax.specs.Grammar.{max_blocks}
 
 -- P holds of each
 abbrev pub Each : {X : Type 0} → (X → Type 0) → List X → Type 0
@@ -80,9 +83,15 @@ CanBeBodyLine (lines.Statistic s) = ⊥
 CanBeBodyLine (lines.Class text) = ⊥
 CanBeBodyLine lines.Ignored = Unit {0}
 
--- two names and a body
-abbrev pub CanBeSubmodule : Submodule → Type 0
-CanBeSubmodule s = IsName s.name × IsName s.type_name × Each CanBeBodyLine s.body
+-- Where n more blocks may be open at once a body has lines only if n is not zero.
+abbrev pub HasRoom : ℕ → List SectionLine → Type 0
+HasRoom n [] = Unit {0}
+HasRoom zero (line ∷ ls) = ⊥
+HasRoom (suc n) (line ∷ ls) = Unit {0}
+
+-- two names, and a body that has room
+abbrev pub CanBeSubmodule : ℕ → Submodule → Type 0
+CanBeSubmodule n s = IsName s.name × IsName s.type_name × Each CanBeBodyLine s.body × HasRoom n s.body
 
 -- a size, where the gate is a vector of one
 abbrev pub CanBeSize : GateSize → Type 0
@@ -98,18 +107,32 @@ CanBeGate (gate_lines.Refinement g) = IsName g.name × IfThere CanBeExpression g
 abbrev pub CanBeInterface : TypeDeclaration → Type 0
 CanBeInterface d = Each IsName d.interfaces × Each CanBeLine d.lines × Each CanBeGate d.gates × (d.base ≡ None) × (d.submodules ≡ [])
 
--- A simple module has no submodules, a channel neither them nor gates.
-abbrev pub CanBeParts : TypeKind → TypeDeclaration → Type 0
-CanBeParts kinds.Simple d = IfThere IsName d.base × Each IsName d.interfaces × Each CanBeLine d.lines × Each CanBeGate d.gates × (d.submodules ≡ [])
-CanBeParts kinds.Network d = IfThere IsName d.base × Each IsName d.interfaces × Each CanBeLine d.lines × Each CanBeGate d.gates × Each CanBeSubmodule d.submodules
-CanBeParts kinds.Channel d = IfThere IsName d.base × Each IsName d.interfaces × Each CanBeLine d.lines × (d.gates ≡ []) × (d.submodules ≡ [])
-CanBeParts kinds.ModuleInterface d = CanBeInterface d
-CanBeParts kinds.ChannelInterface d = CanBeInterface d
+-- A simple module has no submodules, a channel neither them nor gates. Within its block n more may be open at once.
+abbrev pub CanBeParts : ℕ → TypeKind → TypeDeclaration → Type 0
+CanBeParts n kinds.Simple d = IfThere IsName d.base × Each IsName d.interfaces × Each CanBeLine d.lines × Each CanBeGate d.gates × (d.submodules ≡ [])
+CanBeParts n kinds.Network d = IfThere IsName d.base × Each IsName d.interfaces × Each CanBeLine d.lines × Each CanBeGate d.gates × Each (CanBeSubmodule n) d.submodules
+CanBeParts n kinds.Channel d = IfThere IsName d.base × Each IsName d.interfaces × Each CanBeLine d.lines × (d.gates ≡ []) × (d.submodules ≡ [])
+CanBeParts n kinds.ModuleInterface d = CanBeInterface d
+CanBeParts n kinds.ChannelInterface d = CanBeInterface d
 
 -- a name, and the parts of the kind
-abbrev pub CanBeType : TypeDeclaration → Type 0
-CanBeType d = IsName d.name × CanBeParts d.kind d
+abbrev pub CanBeType : ℕ → TypeDeclaration → Type 0
+CanBeType n d = IsName d.name × CanBeParts n d.kind d
+
+-- Only a network declares types, of which P holds.
+abbrev pub CanBeTypes : TypeKind → (NestedType → Type 0) → List NestedType → Type 0
+CanBeTypes kinds.Network P ts = Each P ts
+CanBeTypes _ P ts = ts ≡ []
+
+-- a type, and those within it
+abbrev pub CanBeLayer : ℕ → (NestedType → Type 0) → NestedType-F NestedType → Type 0
+CanBeLayer n P t = CanBeType n t.declared × CanBeTypes t.declared.kind P t.types
+
+-- a type with at most this many blocks open at once
+unfoldable pub CanBeNested : ℕ → NestedType → Type 0
+CanBeNested zero t = ⊥
+CanBeNested (suc n) t = CanBeLayer n (CanBeNested n) (out-NestedType t)
 
 -- each type can be declared
 abbrev pub CanBeFile : NedFile → Type 0
-CanBeFile f = Each CanBeType f.types
+CanBeFile f = Each (CanBeNested max_blocks) f.types

@@ -1,5 +1,5 @@
 -- The standard tokens of declarations say them.
-use Rattle.std.proofs.Common.{◌≡◌, ℕ, Bool, true, false, List, [], ◌∷◌, ◌++◌, Option, Some, None, inl, inr, refl, sym, ap, subst, append-nil, codes}
+use Rattle.std.proofs.Common.{◌≡◌, ℕ, zero, suc, map, Bool, true, false, List, [], ◌∷◌, ◌++◌, Option, Some, None, inl, inr, refl, sym, ap, subst, append-nil, codes}
 use Rattle.sim_values.specs.declared.value.Dimension.{Dimension}
 use Rattle.sim_values.specs.declared.value.Dimension.TheVariants as dimension
 use Rattle.ned_tokens.specs.declared.token.Keyword.{Keyword}
@@ -36,6 +36,8 @@ use Rattle.ned_syntax.specs.declared.ast.GateLine.TheVariants as gate_lines
 use Rattle.ned_syntax.specs.declared.ast.TypeKind.{TypeKind}
 use Rattle.ned_syntax.specs.declared.ast.TypeKind.TheVariants as kinds
 use Rattle.ned_syntax.specs.declared.ast.TypeDeclaration.{TypeDeclaration}
+use Rattle.ned_syntax.specs.declared.ast.NestedType.{NestedType, out-NestedType, roll-NestedType, the_lemmas}
+use Rattle.ned_syntax.specs.declared.ast.NestedType.TheFolds.{fold_out-NestedType}
 use Rattle.ned_syntax.specs.declared.ast.NedFile.{NedFile}
 use Rattle.ned_syntax.specs.declared.properties.Effect.{Effect}
 use Rattle.ned_syntax.specs.declared.properties.Effect.TheVariants as effects
@@ -45,9 +47,9 @@ use Rattle.ned_syntax.specs.declared.statistics.Part.TheVariants as part_is
 use Rattle.ned_syntax.specs.declared.parameters.Valued.{Valued}
 use Rattle.ned_tokens.specs.Words.{or_else}
 use Rattle.ned_tokens.specs.Balanced.{balanced}
-use Rattle.ned_syntax.specs.Grammar.{turn_of, effect_of, said_in, statistic_line, other_part, first_unit, unit_behind, value_in, unit_in, is_measured_word, valued, tail, parameter_word, volatile, any_declaration, declaration, assignment, source_word, source_value, source_tail, source_part, record_word, record_value, record_tail, record_part, no_value, record_or_other, any_part, part, next_part, statistic_body, optional_body, indexed_statistic, unnamed_statistic, named_or_not, statistic_tail, statistic_word, statistic, plain_name, plain_line, property_text, property_line, assigned_or_said, any_line, section_line, heading, section, dotted, direction, open_size, size_value, size_tail, vector_size, gate_size, size_in_brackets, refined_size, declared_gate, refined_gate, any_gate, gate_line, gate_section, gates, says_loose, base_name, optional_base, next_dotted, dotted_list, names_behind, optional_names, head, gated_block, simple, ignored_property, assigned_or_ignored, any_body_line, body_line, body_section, optional_semi, braced_body, no_body, submodule_body, submodule, submodules, network_block, network, module_type, section_block, channel, interface_kind, interface, channel_or_interface, type_rule, silent_entry, entry, types_in, file, word, mark, name, is_word, is_mark, expression, default_value, value_rule, in_parens, property_name, bracketed, index, body, property, mode_word, question, mode_rule, next_mode, modes}
-use Rattle.ned_spelling.specs.Declarations.{listed_tokens, given_tokens, valued_tokens, unit_tokens, parameter_keyword, declaration_tokens, assignment_tokens, mode_name, question_tokens, mode_tokens, next_mode_tokens, record_tokens, statistic_tokens, line_tokens, section_line_tokens, section_tokens, body_tokens, submodule_tokens, submodules_tokens, base_tokens, next_name_tokens, names_tokens, in_braces, interface_tokens, direction_keyword, size_tokens, refined_size_tokens, loose_tokens, gate_tokens, gate_line_tokens, gates_tokens, kind_tokens, type_tokens, file_tokens}
-use Rattle.ned_spelling.proofs.Spellable.{Each, IfThere, CanBeExpression, CanBeGiven, CanBeUnit, CanBeDeclaration, CanBeAssignment, CanBeLine, CanBeBodyLine, CanBeSubmodule, CanBeSize, CanBeGate, CanBeInterface, CanBeParts, CanBeType, CanBeFile}
+use Rattle.ned_syntax.specs.Grammar.{turn_of, effect_of, said_in, statistic_line, other_part, first_unit, unit_behind, value_in, unit_in, is_measured_word, valued, tail, parameter_word, volatile, any_declaration, declaration, assignment, source_word, source_value, source_tail, source_part, record_word, record_value, record_tail, record_part, no_value, record_or_other, any_part, part, next_part, statistic_body, optional_body, indexed_statistic, unnamed_statistic, named_or_not, statistic_tail, statistic_word, statistic, plain_name, plain_line, property_text, property_line, assigned_or_said, any_line, section_line, heading, section, dotted, direction, open_size, size_value, size_tail, vector_size, gate_size, size_in_brackets, refined_size, declared_gate, refined_gate, any_gate, gate_line, gate_section, gates, says_loose, base_name, optional_base, next_dotted, dotted_list, names_behind, optional_names, head, gated_block, simple, ignored_property, assigned_or_ignored, any_body_line, body_line, body_section, optional_semi, braced_body, no_body, any_body, submodule_body, submodule, submodules, lone, inner_types, network_block, network, module_type, section_block, channel, interface_kind, interface, channel_or_interface, any_type, type_within, max_blocks, silent_entry, entry, types_in, file, word, mark, name, is_word, is_mark, expression, default_value, value_rule, in_parens, property_name, bracketed, index, body, property, mode_word, question, mode_rule, next_mode, modes}
+use Rattle.ned_spelling.specs.Declarations.{listed_tokens, given_tokens, valued_tokens, unit_tokens, parameter_keyword, declaration_tokens, assignment_tokens, mode_name, question_tokens, mode_tokens, next_mode_tokens, record_tokens, statistic_tokens, line_tokens, section_line_tokens, section_tokens, body_tokens, submodule_tokens, submodules_tokens, base_tokens, next_name_tokens, names_tokens, in_braces, interface_tokens, direction_keyword, size_tokens, refined_size_tokens, loose_tokens, gate_tokens, gate_line_tokens, gates_tokens, types_tokens, kind_tokens, tokens_at, type_tokens, file_tokens}
+use Rattle.ned_spelling.proofs.Spellable.{Each, IfThere, CanBeExpression, CanBeGiven, CanBeUnit, CanBeDeclaration, CanBeAssignment, CanBeLine, CanBeBodyLine, HasRoom, CanBeSubmodule, CanBeSize, CanBeGate, CanBeInterface, CanBeParts, CanBeTypes, CanBeNested, CanBeFile}
 
 -- these tokens spell this value by the rule
 record Spells {X : Type 0} (r : Rule X) (ts : List Token) (x : X) : Type 0 where
@@ -447,20 +449,22 @@ unfolding braced_body
 a_braced_body ls h = subst (λ (ts : List Token). Spells braced_body ts ls) (append-nil (token.Mark m.Open ∷ (section_tokens ls ++ token.Mark m.Close ∷ []))) (after (before (a_mark m.Open) (after (a_body_section ls h) (a_mark m.Close))) no_semi)
 
 -- the body of a submodule
-a_submodule_body : (ls : List SectionLine) → Each CanBeBodyLine ls → Spells submodule_body (body_tokens ls) ls
-unfolding submodule_body no_body
-a_submodule_body [] h = this braced_body (mapped (a_mark m.Semi))
-a_submodule_body (line ∷ ls) h = that no_body (a_braced_body (line ∷ ls) h)
+a_submodule_body : (n : ℕ) (ls : List SectionLine) → Each CanBeBodyLine ls → HasRoom n ls → Spells (submodule_body n) (body_tokens ls) ls
+unfolding submodule_body any_body no_body
+a_submodule_body zero [] h room = mapped (a_mark m.Semi)
+a_submodule_body zero (line ∷ ls) h room = absurd room
+a_submodule_body (suc n) [] h room = this braced_body (mapped (a_mark m.Semi))
+a_submodule_body (suc n) (line ∷ ls) h room = that no_body (a_braced_body (line ∷ ls) h)
 
 -- a submodule
-a_submodule : (s : Submodule) → CanBeSubmodule s → Spells submodule (submodule_tokens s) s
+a_submodule : (n : ℕ) (s : Submodule) → CanBeSubmodule n s → Spells (submodule n) (submodule_tokens s) s
 unfolding submodule
-a_submodule s h = mapped (then (a_name s.name) (before (a_mark m.Colon) (then (a_dotted s.type_name) (a_submodule_body s.body h.2))))
+a_submodule n s h = mapped (then (a_name s.name) (before (a_mark m.Colon) (then (a_dotted s.type_name) (a_submodule_body n s.body h.2 h.3))))
 
 -- the submodules
-the_submodules : (ss : List Submodule) → Each CanBeSubmodule ss → Spells submodules (submodules_tokens ss) ss
+the_submodules : (n : ℕ) (ss : List Submodule) → Each (CanBeSubmodule n) ss → Spells (submodules n) (submodules_tokens ss) ss
 unfolding submodules
-the_submodules ss h = mapped (some (before (a_word k.Submodules) (before (a_mark m.Colon) (each submodule submodule_tokens CanBeSubmodule a_submodule ss h))))
+the_submodules n ss h = mapped (some (before (a_word k.Submodules) (before (a_mark m.Colon) (each (submodule n) submodule_tokens (CanBeSubmodule n) (a_submodule n) ss h))))
 
 -- what a type extends
 a_base : (base : Option (List ℕ)) → Spells optional_base (base_tokens base) base
@@ -562,10 +566,25 @@ a_gated_block : (ls : List SectionLine) (gs : List GateLine) → Each CanBeLine 
 unfolding gated_block
 a_gated_block ls gs h k = before (a_mark m.Open) (after (then (a_section ls h) (the_gates gs k)) (a_mark m.Close))
 
--- parameters, gates and submodules in braces
-a_network_block : (ls : List SectionLine) (gs : List GateLine) (ss : List Submodule) → Each CanBeLine ls → Each CanBeGate gs → Each CanBeSubmodule ss → Spells network_block (in_braces (section_tokens ls ++ (gates_tokens gs ++ submodules_tokens ss))) (ls, (gs, ss))
+-- each type by its tokens
+abbrev Spelled : Rule NestedType → (NestedType → Type 0) → Type 0
+Spelled inner P = (t : NestedType) → P t → Spells inner (type_tokens t) t
+
+-- types, one behind the other
+each_type : (inner : Rule NestedType) (P : NestedType → Type 0) → Spelled inner P → (ts : List NestedType) → Each P ts → Spells (many inner) (listed_tokens (λ us. us) (map type_tokens ts)) ts
+each_type inner P a_type [] all = none inner
+each_type inner P a_type (t ∷ ts) all = more (a_type t all.0) (each_type inner P a_type ts all.1)
+
+-- the types of a network
+the_types : (inner : Rule NestedType) (P : NestedType → Type 0) → Spelled inner P → (ts : List NestedType) → Each P ts → Spells (inner_types inner) (types_tokens (map type_tokens ts)) ts
+unfolding inner_types
+the_types inner P a_type [] all = mapped (nothing (word k.Types ▷ (mark m.Colon ▷ many inner)))
+the_types inner P a_type (t ∷ ts) all = mapped (some (before (a_word k.Types) (before (a_mark m.Colon) (each_type inner P a_type (t ∷ ts) all))))
+
+-- parameters, gates, types and submodules in braces
+a_network_block : (n : ℕ) (inner : Rule NestedType) (P : NestedType → Type 0) → Spelled inner P → (ls : List SectionLine) (gs : List GateLine) (ts : List NestedType) (ss : List Submodule) → Each CanBeLine ls → Each CanBeGate gs → Each P ts → Each (CanBeSubmodule n) ss → Spells (network_block n inner) (in_braces (section_tokens ls ++ (gates_tokens gs ++ (types_tokens (map type_tokens ts) ++ submodules_tokens ss)))) (ls, (gs, (ts, ss)))
 unfolding network_block
-a_network_block ls gs ss h k l = before (a_mark m.Open) (after (then (a_section ls h) (then (the_gates gs k) (the_submodules ss l))) (a_mark m.Close))
+a_network_block n inner P a_type ls gs ts ss h k j l = before (a_mark m.Open) (after (then (a_section ls h) (then (the_gates gs k) (then (the_types inner P a_type ts j) (the_submodules n ss l)))) (a_mark m.Close))
 
 -- parameters in braces
 a_section_block : (ls : List SectionLine) → Each CanBeLine ls → Spells section_block (in_braces (section_tokens ls)) ls
@@ -576,13 +595,17 @@ a_section_block ls h = before (a_mark m.Open) (after (a_section ls h) (a_mark m.
 abbrev type_with : TypeKind → List ℕ → Option (List ℕ) → List (List ℕ) → List SectionLine → List GateLine → List Submodule → TypeDeclaration
 type_with kind text base is ls gs ss = record { kind = kind; name = text; base = base; interfaces = is; lines = ls; gates = gs; submodules = ss }
 
+-- a type with these types within it
+abbrev nested_with : TypeDeclaration → List NestedType → NestedType
+nested_with d ts = roll-NestedType (record { declared = d; types = ts })
+
 -- an interface, by the word of its kind
-an_interface : (kind : TypeKind) (w : Keyword) (text : List ℕ) (base : Option (List ℕ)) (is : List (List ℕ)) (ls : List SectionLine) (gs : List GateLine) (ss : List Submodule) → Spells interface_kind (token.Word w ∷ []) kind → CanBeInterface (type_with kind text base is ls gs ss) → Spells type_rule (interface_tokens w (type_with kind text base is ls gs ss)) (type_with kind text base is ls gs ss)
-unfolding type_rule channel_or_interface interface
+an_interface : (kind : TypeKind) (w : Keyword) (text : List ℕ) (base : Option (List ℕ)) (is : List (List ℕ)) (ls : List SectionLine) (gs : List GateLine) (ss : List Submodule) → Spells interface_kind (token.Word w ∷ []) kind → CanBeInterface (type_with kind text base is ls gs ss) → Spells channel_or_interface (interface_tokens w (type_with kind text base is ls gs ss)) (type_with kind text base is ls gs ss)
+unfolding channel_or_interface interface
 an_interface kind w text base is ls gs ss word_is h =
     let no_base = sym h.3 in
     let none_below = sym h.4 in
-    that module_type (that channel (to (mapped (then word_is (then (a_name text) (then (the_names k.Extends is) (a_gated_block ls gs h.1 h.2))))) (λ i. type_with kind text (no_base i) is ls gs (none_below i))))
+    that channel (to (mapped (then word_is (then (a_name text) (then (the_names k.Extends is) (a_gated_block ls gs h.1 h.2))))) (λ i. type_with kind text (no_base i) is ls gs (none_below i)))
 
 -- the word of an interface of modules, and that of one of channels
 a_module_interface_word : Spells interface_kind (token.Word k.ModuleInterface ∷ []) kinds.ModuleInterface
@@ -593,47 +616,71 @@ a_channel_interface_word : Spells interface_kind (token.Word k.ChannelInterface 
 unfolding interface_kind
 a_channel_interface_word = one (token.Word k.ChannelInterface) refl
 
--- a type of each kind
-kind_spells : (kind : TypeKind) (text : List ℕ) (base : Option (List ℕ)) (is : List (List ℕ)) (ls : List SectionLine) (gs : List GateLine) (ss : List Submodule) → CanBeParts kind (type_with kind text base is ls gs ss) → Spells type_rule (kind_tokens kind (type_with kind text base is ls gs ss)) (type_with kind text base is ls gs ss)
-unfolding type_rule module_type simple network channel_or_interface channel
-kind_spells kinds.Simple text base is ls gs ss h =
+-- a simple module
+a_simple : (text : List ℕ) (base : Option (List ℕ)) (is : List (List ℕ)) (ls : List SectionLine) (gs : List GateLine) (ss : List Submodule) (n : ℕ) → CanBeParts n kinds.Simple (type_with kinds.Simple text base is ls gs ss) → Spells simple (kind_tokens kinds.Simple (type_with kinds.Simple text base is ls gs ss) []) (type_with kinds.Simple text base is ls gs ss)
+unfolding simple
+a_simple text base is ls gs ss n h =
     let none_below = sym h.4 in
-    this channel_or_interface (this network (to (mapped (before (a_word k.Simple) (then (a_head text base is) (a_gated_block ls gs h.2 h.3)))) (λ i. type_with kinds.Simple text base is ls gs (none_below i))))
-kind_spells kinds.Network text base is ls gs ss h = this channel_or_interface (that simple (mapped (before (a_word k.Network) (then (a_head text base is) (a_network_block ls gs ss h.2 h.3 h.4)))))
-kind_spells kinds.Channel text base is ls gs ss h =
+    to (mapped (before (a_word k.Simple) (then (a_head text base is) (a_gated_block ls gs h.2 h.3)))) (λ i. type_with kinds.Simple text base is ls gs (none_below i))
+
+-- a channel
+a_channel : (text : List ℕ) (base : Option (List ℕ)) (is : List (List ℕ)) (ls : List SectionLine) (gs : List GateLine) (ss : List Submodule) (n : ℕ) → CanBeParts n kinds.Channel (type_with kinds.Channel text base is ls gs ss) → Spells channel_or_interface (kind_tokens kinds.Channel (type_with kinds.Channel text base is ls gs ss) []) (type_with kinds.Channel text base is ls gs ss)
+unfolding channel_or_interface channel
+a_channel text base is ls gs ss n h =
     let no_gates = sym h.3 in
     let none_below = sym h.4 in
-    that module_type (this interface (to (mapped (before (a_word k.Channel) (then (a_head text base is) (a_section_block ls h.2)))) (λ i. type_with kinds.Channel text base is ls (no_gates i) (none_below i))))
-kind_spells kinds.ModuleInterface text base is ls gs ss h = an_interface kinds.ModuleInterface k.ModuleInterface text base is ls gs ss a_module_interface_word h
-kind_spells kinds.ChannelInterface text base is ls gs ss h = an_interface kinds.ChannelInterface k.ChannelInterface text base is ls gs ss a_channel_interface_word h
+    this interface (to (mapped (before (a_word k.Channel) (then (a_head text base is) (a_section_block ls h.2)))) (λ i. type_with kinds.Channel text base is ls (no_gates i) (none_below i)))
 
--- a type
-a_type : (d : TypeDeclaration) → CanBeType d → Spells type_rule (type_tokens d) d
-a_type d h = kind_spells d.kind d.name d.base d.interfaces d.lines d.gates d.submodules h.1
+-- a type that declares none
+alone : {r : Rule TypeDeclaration} {us : List Token} {d : TypeDeclaration} (ts : List NestedType) → ts ≡ [] → Spells r us d → Spells (made lone r) us (nested_with d ts)
+alone {d = d} ts e p = to (mapped p) (ap (nested_with d) (sym e))
+
+-- a type of each kind
+kind_spells : (n : ℕ) (inner : Rule NestedType) (P : NestedType → Type 0) → Spelled inner P → (kind : TypeKind) (text : List ℕ) (base : Option (List ℕ)) (is : List (List ℕ)) (ls : List SectionLine) (gs : List GateLine) (ss : List Submodule) (ts : List NestedType) → CanBeParts n kind (type_with kind text base is ls gs ss) → CanBeTypes kind P ts → Spells (any_type n inner) (kind_tokens kind (type_with kind text base is ls gs ss) (map type_tokens ts)) (nested_with (type_with kind text base is ls gs ss) ts)
+unfolding any_type module_type network
+kind_spells n inner P a_type kinds.Simple text base is ls gs ss ts h none_in = this (made lone channel_or_interface) (this (network n inner) (alone ts none_in (a_simple text base is ls gs ss n h)))
+kind_spells n inner P a_type kinds.Network text base is ls gs ss ts h each_in = this (made lone channel_or_interface) (that (made lone simple) (mapped (before (a_word k.Network) (then (a_head text base is) (a_network_block n inner P a_type ls gs ts ss h.2 h.3 each_in h.4)))))
+kind_spells n inner P a_type kinds.Channel text base is ls gs ss ts h none_in = that (module_type n inner) (alone ts none_in (a_channel text base is ls gs ss n h))
+kind_spells n inner P a_type kinds.ModuleInterface text base is ls gs ss ts h none_in = that (module_type n inner) (alone ts none_in (an_interface kinds.ModuleInterface k.ModuleInterface text base is ls gs ss a_module_interface_word h))
+kind_spells n inner P a_type kinds.ChannelInterface text base is ls gs ss ts h none_in = that (module_type n inner) (alone ts none_in (an_interface kinds.ChannelInterface k.ChannelInterface text base is ls gs ss a_channel_interface_word h))
+
+-- a type is made of its layer
+made_again : (t : NestedType) → roll-NestedType (out-NestedType t) ≡ t
+made_again t = search the_lemmas
+
+-- a type with at most n blocks open at once
+a_type : (n : ℕ) (t : NestedType) → CanBeNested n t → Spells (type_within n) (type_tokens t) t
+unfolding type_within CanBeNested
+a_type zero t h = absurd h
+a_type (suc n) t h =
+    let x = out-NestedType t in
+    let d = x.declared in
+    let spelled = kind_spells n (type_within n) (CanBeNested n) (a_type n) d.kind d.name d.base d.interfaces d.lines d.gates d.submodules x.types h.0.1 h.1 in
+    to (subst (λ (us : List Token). Spells (any_type n (type_within n)) us (roll-NestedType x)) (sym (fold_out-NestedType (List Token) tokens_at t)) spelled) (made_again t)
 
 -- a type of a file
-an_entry : (d : TypeDeclaration) → CanBeType d → Spells entry (type_tokens d) (Some d)
+an_entry : (t : NestedType) → CanBeNested max_blocks t → Spells entry (type_tokens t) (Some t)
 unfolding entry
-an_entry d h = that silent_entry (mapped (a_type d h))
+an_entry t h = that silent_entry (mapped (a_type max_blocks t h))
 
 -- types as what a file has
-abbrev as_entries : List TypeDeclaration → List (Option TypeDeclaration)
+abbrev as_entries : List NestedType → List (Option NestedType)
 as_entries [] = []
-as_entries (d ∷ ds) = Some d ∷ as_entries ds
+as_entries (t ∷ ts) = Some t ∷ as_entries ts
 
 -- all of them are its types
-types_again : (ds : List TypeDeclaration) → types_in (as_entries ds) ≡ ds
+types_again : (ts : List NestedType) → types_in (as_entries ts) ≡ ts
 types_again [] = refl
-types_again (d ∷ ds) = ap (λ (l : List TypeDeclaration). d ∷ l) (types_again ds)
+types_again (t ∷ ts) = ap (λ (l : List NestedType). t ∷ l) (types_again ts)
 
 -- the types of a file
-the_entries : (ds : List TypeDeclaration) → Each CanBeType ds → Spells (many entry) (listed_tokens type_tokens ds) (as_entries ds)
+the_entries : (ts : List NestedType) → Each (CanBeNested max_blocks) ts → Spells (many entry) (listed_tokens type_tokens ts) (as_entries ts)
 the_entries [] all = none entry
-the_entries (d ∷ ds) all = more (an_entry d all.0) (the_entries ds all.1)
+the_entries (t ∷ ts) all = more (an_entry t all.0) (the_entries ts all.1)
 
 -- a file of these types
-abbrev file_with : List TypeDeclaration → NedFile
-file_with ds = record { types = ds }
+abbrev file_with : List NestedType → NedFile
+file_with ts = record { types = ts }
 
 -- a file
 a_file : (f : NedFile) → CanBeFile f → Spells file (file_tokens f) f

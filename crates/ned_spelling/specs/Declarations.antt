@@ -32,6 +32,8 @@ use Rattle.ned_syntax.specs.declared.ast.GateLine.TheVariants as gate_lines
 use Rattle.ned_syntax.specs.declared.ast.TypeKind.{TypeKind}
 use Rattle.ned_syntax.specs.declared.ast.TypeKind.TheVariants as kinds
 use Rattle.ned_syntax.specs.declared.ast.TypeDeclaration.{TypeDeclaration}
+use Rattle.ned_syntax.specs.declared.ast.NestedType.{NestedType, fold-NestedType}
+use Rattle.ned_syntax.specs.declared.ast.NestedType.TheOpen.{NestedType-F}
 use Rattle.ned_syntax.specs.declared.ast.NedFile.{NedFile}
 use Rattle.ned_syntax.specs.Grammar.{file}
 use Rattle.ned_syntax.specs.NedText.{IsNedFile}
@@ -209,17 +211,26 @@ in_braces ts = token.Mark m.Open ∷ (ts ++ token.Mark m.Close ∷ [])
 abbrev pub interface_tokens : Keyword → TypeDeclaration → List Token
 interface_tokens w d = token.Word w ∷ token.Name d.name ∷ (names_tokens k.Extends d.interfaces ++ in_braces (section_tokens d.lines ++ gates_tokens d.gates))
 
--- A simple module has parameters and gates, a network submodules too, a channel parameters alone.
-abbrev pub kind_tokens : TypeKind → TypeDeclaration → List Token
-kind_tokens kinds.Simple d = token.Word k.Simple ∷ (head_tokens d ++ in_braces (section_tokens d.lines ++ gates_tokens d.gates))
-kind_tokens kinds.Network d = token.Word k.Network ∷ (head_tokens d ++ in_braces (section_tokens d.lines ++ (gates_tokens d.gates ++ submodules_tokens d.submodules)))
-kind_tokens kinds.Channel d = token.Word k.Channel ∷ (head_tokens d ++ in_braces (section_tokens d.lines))
-kind_tokens kinds.ModuleInterface d = interface_tokens k.ModuleInterface d
-kind_tokens kinds.ChannelInterface d = interface_tokens k.ChannelInterface d
+-- the types of a network, each by its tokens, where there are some
+abbrev pub types_tokens : List (List Token) → List Token
+types_tokens [] = []
+types_tokens (ts ∷ tss) = token.Word k.Types ∷ token.Mark m.Colon ∷ listed_tokens (λ us. us) (ts ∷ tss)
+
+-- A simple module has parameters and gates, a network types of its own and submodules too, a channel parameters alone.
+abbrev pub kind_tokens : TypeKind → TypeDeclaration → List (List Token) → List Token
+kind_tokens kinds.Simple d inner = token.Word k.Simple ∷ (head_tokens d ++ in_braces (section_tokens d.lines ++ gates_tokens d.gates))
+kind_tokens kinds.Network d inner = token.Word k.Network ∷ (head_tokens d ++ in_braces (section_tokens d.lines ++ (gates_tokens d.gates ++ (types_tokens inner ++ submodules_tokens d.submodules))))
+kind_tokens kinds.Channel d inner = token.Word k.Channel ∷ (head_tokens d ++ in_braces (section_tokens d.lines))
+kind_tokens kinds.ModuleInterface d inner = interface_tokens k.ModuleInterface d
+kind_tokens kinds.ChannelInterface d inner = interface_tokens k.ChannelInterface d
+
+-- one type, with the tokens of each type within it in its place
+abbrev pub tokens_at : NestedType-F (List Token) → List Token
+tokens_at t = kind_tokens t.declared.kind t.declared t.types
 
 -- a type, as its kind has it
-abbrev pub type_tokens : TypeDeclaration → List Token
-type_tokens d = kind_tokens d.kind d
+abbrev pub type_tokens : NestedType → List Token
+type_tokens t = fold-NestedType (List Token) tokens_at t
 
 -- one type behind the other
 abbrev pub file_tokens : NedFile → List Token

@@ -12,14 +12,16 @@ use Rattle.ned_syntax.specs.declared.ast.GateDirection.TheVariants as directions
 use Rattle.ned_syntax.specs.declared.ast.GateSize.TheVariants as sizes
 use Rattle.ned_syntax.specs.declared.ast.GateLine.TheVariants as gate_lines
 use Rattle.ned_syntax.specs.declared.ast.TypeKind.TheVariants as kinds
+use Rattle.ned_syntax.specs.declared.ast.NestedType.{roll-NestedType}
 use Rattle.ned_syntax.specs.declared.ast.NedFile.{NedFile}
+use Rattle.ned_syntax.specs.Grammar.{lone}
 use Rattle.ned_spelling.specs.Declarations.{spelled}
 
--- a simple module with a line and a gate of each kind, one that extends it, a channel, interfaces of both kinds, and a network with a line and a submodule with a body
+-- a simple module with a line and a gate of each kind, one that extends it, a channel, interfaces of both kinds, and a network with a line, types of its own and a submodule with a body
 abbrev pub example : NedFile
 example = record {
   types =
-      record {
+      lone (record {
         kind = kinds.Simple;
         name = codes "Source";
         base = None;
@@ -38,8 +40,8 @@ example = record {
             ∷ gate_lines.Declaration (record { name = codes "port"; direction = directions.Inout; size = sizes.Sized (expressions.Literal (values.Whole (pos 2))); loose = true })
             ∷ [];
         submodules = [];
-      }
-      ∷ record {
+      })
+      ∷ lone (record {
         kind = kinds.Simple;
         name = codes "Slow";
         base = Some (codes "Source");
@@ -50,8 +52,8 @@ example = record {
             ∷ gate_lines.Refinement (record { name = codes "out"; size = None; loose = true })
             ∷ [];
         submodules = [];
-      }
-      ∷ record {
+      })
+      ∷ lone (record {
         kind = kinds.Channel;
         name = codes "Wire";
         base = Some (codes "DelayChannel");
@@ -59,8 +61,8 @@ example = record {
         lines = lines.Assignment (record { name = codes "delay"; value = Some (given.Fixed (expressions.Literal (values.Quantity dimension.Time (pos 1000)))) }) ∷ [];
         gates = [];
         submodules = [];
-      }
-      ∷ record {
+      })
+      ∷ lone (record {
         kind = kinds.ModuleInterface;
         name = codes "Port";
         base = None;
@@ -68,29 +70,38 @@ example = record {
         lines = [];
         gates = gate_lines.Declaration (record { name = codes "port"; direction = directions.Inout; size = sizes.Open; loose = false }) ∷ [];
         submodules = [];
-      }
-      ∷ record { kind = kinds.ChannelInterface; name = codes "Line"; base = None; interfaces = []; lines = []; gates = []; submodules = [] }
-      ∷ record {
-        kind = kinds.Network;
-        name = codes "Net";
-        base = None;
-        interfaces = [];
-        lines = lines.Declaration (record { name = codes "size"; word = words.Int; unit = None; value = Some (given.Fixed (expressions.Literal (values.Whole (pos 2)))) }) ∷ [];
-        gates = [];
-        submodules =
-            record { name = codes "a"; type_name = codes "Source"; body = [] }
-            ∷ record {
-              name = codes "b";
-              type_name = codes "Source";
-              body = lines.Assignment (record { name = codes "offset"; value = Some (given.Fixed (expressions.Literal (values.Whole (pos 3)))) }) ∷ lines.Ignored ∷ [];
-            }
+      })
+      ∷ lone (record { kind = kinds.ChannelInterface; name = codes "Line"; base = None; interfaces = []; lines = []; gates = []; submodules = [] })
+      ∷ roll-NestedType (record {
+        declared = record {
+          kind = kinds.Network;
+          name = codes "Net";
+          base = None;
+          interfaces = [];
+          lines = lines.Declaration (record { name = codes "size"; word = words.Int; unit = None; value = Some (given.Fixed (expressions.Literal (values.Whole (pos 2)))) }) ∷ [];
+          gates = [];
+          submodules =
+              record { name = codes "a"; type_name = codes "Source"; body = [] }
+              ∷ record {
+                name = codes "b";
+                type_name = codes "Source";
+                body = lines.Assignment (record { name = codes "offset"; value = Some (given.Fixed (expressions.Literal (values.Whole (pos 3)))) }) ∷ lines.Ignored ∷ [];
+              }
+              ∷ [];
+        };
+        types =
+            lone (record { kind = kinds.Simple; name = codes "Part"; base = None; interfaces = []; lines = []; gates = []; submodules = [] })
+            ∷ roll-NestedType (record {
+              declared = record { kind = kinds.Network; name = codes "Pair"; base = None; interfaces = []; lines = []; gates = []; submodules = record { name = codes "p"; type_name = codes "Half"; body = [] } ∷ [] };
+              types = lone (record { kind = kinds.Simple; name = codes "Half"; base = None; interfaces = []; lines = []; gates = []; submodules = [] }) ∷ [];
+            })
             ∷ [];
-      }
+      })
       ∷ [];
 }
 
 abbrev pub example_text : List ℕ
-example_text = codes "simple Source {\nparameters: double interval @unit(ps) = default(1000000000000ps);\nint offset = - 5;\nlabel = \"a\\tb\";\n@class(Src);\n@ignored;\n@statistic[sent](source = packetSent;\nrecord = count, sum?);\ngates: input in @loose;\noutput out[];\ninout port[2] @loose;\n}\nsimple Slow extends Source like Port, Named {\nparameters: gates: out[3];\nout @loose;\n}\nchannel Wire extends DelayChannel like Line {\nparameters: delay = 1000ps;\n}\nmoduleinterface Port extends First, Second {\nparameters: gates: inout port[];\n}\nchannelinterface Line {\nparameters: }\nnetwork Net {\nparameters: int size = 2;\nsubmodules: a: Source;\nb: Source {\nparameters: offset = 3;\n@ignored;\n}\n}\n"
+example_text = codes "simple Source {\nparameters: double interval @unit(ps) = default(1000000000000ps);\nint offset = - 5;\nlabel = \"a\\tb\";\n@class(Src);\n@ignored;\n@statistic[sent](source = packetSent;\nrecord = count, sum?);\ngates: input in @loose;\noutput out[];\ninout port[2] @loose;\n}\nsimple Slow extends Source like Port, Named {\nparameters: gates: out[3];\nout @loose;\n}\nchannel Wire extends DelayChannel like Line {\nparameters: delay = 1000ps;\n}\nmoduleinterface Port extends First, Second {\nparameters: gates: inout port[];\n}\nchannelinterface Line {\nparameters: }\nnetwork Net {\nparameters: int size = 2;\ntypes: simple Part {\nparameters: }\nnetwork Pair {\nparameters: types: simple Half {\nparameters: }\nsubmodules: p: Half;\n}\nsubmodules: a: Source;\nb: Source {\nparameters: offset = 3;\n@ignored;\n}\n}\n"
 
 -- The example is spelled so.
 abbrev pub ExampleIsSpelled : Type 0

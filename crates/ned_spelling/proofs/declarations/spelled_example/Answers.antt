@@ -1,4 +1,4 @@
-use Rattle.std.proofs.Common.{◌≡◌, List, [], ◌∷◌, codes, ap}
+use Rattle.std.proofs.Common.{◌≡◌, List, [], ◌∷◌, map, codes, ap}
 use Rattle.std.specs.Fmt.{digits}
 use Rattle.sim_values.specs.declared.value.Value.{Value}
 use Rattle.sim_values.specs.declared.value.Dimension.TheVariants as dimension
@@ -11,7 +11,10 @@ use Rattle.ned_expressions.specs.declared.ast.Expression.TheVariants as expressi
 use Rattle.ned_expressions.specs.declared.ast.Sign.TheVariants as signs
 use Rattle.ned_expressions.specs.Spelling.{literal_tokens, expression_tokens}
 use Rattle.ned_spelling.specs.Tokens.{spell, word_text, mark_text, unit_text}
-use Rattle.ned_spelling.specs.Declarations.{file_tokens, spelled}
+use Rattle.ned_syntax.specs.declared.ast.TypeDeclaration.{TypeDeclaration}
+use Rattle.ned_syntax.specs.declared.ast.NestedType.{NestedType, roll-NestedType}
+use Rattle.ned_syntax.specs.declared.ast.NestedType.TheFolds.{fold-roll-NestedType}
+use Rattle.ned_spelling.specs.Declarations.{kind_tokens, tokens_at, type_tokens, file_tokens, spelled}
 use Rattle.ned_spelling.specs.Example.{example}
 use Rattle.ned_spelling.proofs.declarations.spelled_example.Goals as goal
 
@@ -21,13 +24,16 @@ at_literal v = search the_lemmas
 at_minus : (e : Expression) → expression_tokens (expressions.Signed signs.Minus e) ≡ token.Mark m.Minus ∷ expression_tokens e
 at_minus e = search the_lemmas
 
+at_type : (d : TypeDeclaration) (ts : List NestedType) → type_tokens (roll-NestedType (record { declared = d; types = ts })) ≡ kind_tokens d.kind d (map type_tokens ts)
+at_type d ts = fold-roll-NestedType (List Token) tokens_at (record { declared = d; types = ts })
+
 -- the tokens of the example
 abbrev tokens : List Token
-tokens = token.Word k.Simple ∷ token.Name (codes "Source") ∷ token.Mark m.Open ∷ token.Word k.Parameters ∷ token.Mark m.Colon ∷ token.Word k.Double ∷ token.Name (codes "interval") ∷ token.Mark m.At ∷ token.Name (codes "unit") ∷ token.Mark m.LeftParen ∷ token.Name (codes "ps") ∷ token.Mark m.RightParen ∷ token.Mark m.Equals ∷ token.Word k.Default ∷ token.Mark m.LeftParen ∷ token.Quantity dimension.Time 1000000000000 ∷ token.Mark m.RightParen ∷ token.Mark m.Semi ∷ token.Word k.Int ∷ token.Name (codes "offset") ∷ token.Mark m.Equals ∷ token.Mark m.Minus ∷ token.Number 5 ∷ token.Mark m.Semi ∷ token.Name (codes "label") ∷ token.Mark m.Equals ∷ token.Literal (codes "a\tb") ∷ token.Mark m.Semi ∷ token.Mark m.At ∷ token.Name (codes "class") ∷ token.Mark m.LeftParen ∷ token.Name (codes "Src") ∷ token.Mark m.RightParen ∷ token.Mark m.Semi ∷ token.Mark m.At ∷ token.Name (codes "ignored") ∷ token.Mark m.Semi ∷ token.Mark m.At ∷ token.Name (codes "statistic") ∷ token.Mark m.LeftBracket ∷ token.Name (codes "sent") ∷ token.Mark m.RightBracket ∷ token.Mark m.LeftParen ∷ token.Name (codes "source") ∷ token.Mark m.Equals ∷ token.Name (codes "packetSent") ∷ token.Mark m.Semi ∷ token.Name (codes "record") ∷ token.Mark m.Equals ∷ token.Name (codes "count") ∷ token.Mark m.Comma ∷ token.Name (codes "sum") ∷ token.Mark m.Question ∷ token.Mark m.RightParen ∷ token.Mark m.Semi ∷ token.Word k.Gates ∷ token.Mark m.Colon ∷ token.Word k.Input ∷ token.Name (codes "in") ∷ token.Mark m.At ∷ token.Name (codes "loose") ∷ token.Mark m.Semi ∷ token.Word k.Output ∷ token.Name (codes "out") ∷ token.Mark m.LeftBracket ∷ token.Mark m.RightBracket ∷ token.Mark m.Semi ∷ token.Word k.Inout ∷ token.Name (codes "port") ∷ token.Mark m.LeftBracket ∷ token.Number 2 ∷ token.Mark m.RightBracket ∷ token.Mark m.At ∷ token.Name (codes "loose") ∷ token.Mark m.Semi ∷ token.Mark m.Close ∷ token.Word k.Simple ∷ token.Name (codes "Slow") ∷ token.Word k.Extends ∷ token.Name (codes "Source") ∷ token.Word k.Like ∷ token.Name (codes "Port") ∷ token.Mark m.Comma ∷ token.Name (codes "Named") ∷ token.Mark m.Open ∷ token.Word k.Parameters ∷ token.Mark m.Colon ∷ token.Word k.Gates ∷ token.Mark m.Colon ∷ token.Name (codes "out") ∷ token.Mark m.LeftBracket ∷ token.Number 3 ∷ token.Mark m.RightBracket ∷ token.Mark m.Semi ∷ token.Name (codes "out") ∷ token.Mark m.At ∷ token.Name (codes "loose") ∷ token.Mark m.Semi ∷ token.Mark m.Close ∷ token.Word k.Channel ∷ token.Name (codes "Wire") ∷ token.Word k.Extends ∷ token.Name (codes "DelayChannel") ∷ token.Word k.Like ∷ token.Name (codes "Line") ∷ token.Mark m.Open ∷ token.Word k.Parameters ∷ token.Mark m.Colon ∷ token.Name (codes "delay") ∷ token.Mark m.Equals ∷ token.Quantity dimension.Time 1000 ∷ token.Mark m.Semi ∷ token.Mark m.Close ∷ token.Word k.ModuleInterface ∷ token.Name (codes "Port") ∷ token.Word k.Extends ∷ token.Name (codes "First") ∷ token.Mark m.Comma ∷ token.Name (codes "Second") ∷ token.Mark m.Open ∷ token.Word k.Parameters ∷ token.Mark m.Colon ∷ token.Word k.Gates ∷ token.Mark m.Colon ∷ token.Word k.Inout ∷ token.Name (codes "port") ∷ token.Mark m.LeftBracket ∷ token.Mark m.RightBracket ∷ token.Mark m.Semi ∷ token.Mark m.Close ∷ token.Word k.ChannelInterface ∷ token.Name (codes "Line") ∷ token.Mark m.Open ∷ token.Word k.Parameters ∷ token.Mark m.Colon ∷ token.Mark m.Close ∷ token.Word k.Network ∷ token.Name (codes "Net") ∷ token.Mark m.Open ∷ token.Word k.Parameters ∷ token.Mark m.Colon ∷ token.Word k.Int ∷ token.Name (codes "size") ∷ token.Mark m.Equals ∷ token.Number 2 ∷ token.Mark m.Semi ∷ token.Word k.Submodules ∷ token.Mark m.Colon ∷ token.Name (codes "a") ∷ token.Mark m.Colon ∷ token.Name (codes "Source") ∷ token.Mark m.Semi ∷ token.Name (codes "b") ∷ token.Mark m.Colon ∷ token.Name (codes "Source") ∷ token.Mark m.Open ∷ token.Word k.Parameters ∷ token.Mark m.Colon ∷ token.Name (codes "offset") ∷ token.Mark m.Equals ∷ token.Number 3 ∷ token.Mark m.Semi ∷ token.Mark m.At ∷ token.Name (codes "ignored") ∷ token.Mark m.Semi ∷ token.Mark m.Close ∷ token.Mark m.Close ∷ []
+tokens = token.Word k.Simple ∷ token.Name (codes "Source") ∷ token.Mark m.Open ∷ token.Word k.Parameters ∷ token.Mark m.Colon ∷ token.Word k.Double ∷ token.Name (codes "interval") ∷ token.Mark m.At ∷ token.Name (codes "unit") ∷ token.Mark m.LeftParen ∷ token.Name (codes "ps") ∷ token.Mark m.RightParen ∷ token.Mark m.Equals ∷ token.Word k.Default ∷ token.Mark m.LeftParen ∷ token.Quantity dimension.Time 1000000000000 ∷ token.Mark m.RightParen ∷ token.Mark m.Semi ∷ token.Word k.Int ∷ token.Name (codes "offset") ∷ token.Mark m.Equals ∷ token.Mark m.Minus ∷ token.Number 5 ∷ token.Mark m.Semi ∷ token.Name (codes "label") ∷ token.Mark m.Equals ∷ token.Literal (codes "a\tb") ∷ token.Mark m.Semi ∷ token.Mark m.At ∷ token.Name (codes "class") ∷ token.Mark m.LeftParen ∷ token.Name (codes "Src") ∷ token.Mark m.RightParen ∷ token.Mark m.Semi ∷ token.Mark m.At ∷ token.Name (codes "ignored") ∷ token.Mark m.Semi ∷ token.Mark m.At ∷ token.Name (codes "statistic") ∷ token.Mark m.LeftBracket ∷ token.Name (codes "sent") ∷ token.Mark m.RightBracket ∷ token.Mark m.LeftParen ∷ token.Name (codes "source") ∷ token.Mark m.Equals ∷ token.Name (codes "packetSent") ∷ token.Mark m.Semi ∷ token.Name (codes "record") ∷ token.Mark m.Equals ∷ token.Name (codes "count") ∷ token.Mark m.Comma ∷ token.Name (codes "sum") ∷ token.Mark m.Question ∷ token.Mark m.RightParen ∷ token.Mark m.Semi ∷ token.Word k.Gates ∷ token.Mark m.Colon ∷ token.Word k.Input ∷ token.Name (codes "in") ∷ token.Mark m.At ∷ token.Name (codes "loose") ∷ token.Mark m.Semi ∷ token.Word k.Output ∷ token.Name (codes "out") ∷ token.Mark m.LeftBracket ∷ token.Mark m.RightBracket ∷ token.Mark m.Semi ∷ token.Word k.Inout ∷ token.Name (codes "port") ∷ token.Mark m.LeftBracket ∷ token.Number 2 ∷ token.Mark m.RightBracket ∷ token.Mark m.At ∷ token.Name (codes "loose") ∷ token.Mark m.Semi ∷ token.Mark m.Close ∷ token.Word k.Simple ∷ token.Name (codes "Slow") ∷ token.Word k.Extends ∷ token.Name (codes "Source") ∷ token.Word k.Like ∷ token.Name (codes "Port") ∷ token.Mark m.Comma ∷ token.Name (codes "Named") ∷ token.Mark m.Open ∷ token.Word k.Parameters ∷ token.Mark m.Colon ∷ token.Word k.Gates ∷ token.Mark m.Colon ∷ token.Name (codes "out") ∷ token.Mark m.LeftBracket ∷ token.Number 3 ∷ token.Mark m.RightBracket ∷ token.Mark m.Semi ∷ token.Name (codes "out") ∷ token.Mark m.At ∷ token.Name (codes "loose") ∷ token.Mark m.Semi ∷ token.Mark m.Close ∷ token.Word k.Channel ∷ token.Name (codes "Wire") ∷ token.Word k.Extends ∷ token.Name (codes "DelayChannel") ∷ token.Word k.Like ∷ token.Name (codes "Line") ∷ token.Mark m.Open ∷ token.Word k.Parameters ∷ token.Mark m.Colon ∷ token.Name (codes "delay") ∷ token.Mark m.Equals ∷ token.Quantity dimension.Time 1000 ∷ token.Mark m.Semi ∷ token.Mark m.Close ∷ token.Word k.ModuleInterface ∷ token.Name (codes "Port") ∷ token.Word k.Extends ∷ token.Name (codes "First") ∷ token.Mark m.Comma ∷ token.Name (codes "Second") ∷ token.Mark m.Open ∷ token.Word k.Parameters ∷ token.Mark m.Colon ∷ token.Word k.Gates ∷ token.Mark m.Colon ∷ token.Word k.Inout ∷ token.Name (codes "port") ∷ token.Mark m.LeftBracket ∷ token.Mark m.RightBracket ∷ token.Mark m.Semi ∷ token.Mark m.Close ∷ token.Word k.ChannelInterface ∷ token.Name (codes "Line") ∷ token.Mark m.Open ∷ token.Word k.Parameters ∷ token.Mark m.Colon ∷ token.Mark m.Close ∷ token.Word k.Network ∷ token.Name (codes "Net") ∷ token.Mark m.Open ∷ token.Word k.Parameters ∷ token.Mark m.Colon ∷ token.Word k.Int ∷ token.Name (codes "size") ∷ token.Mark m.Equals ∷ token.Number 2 ∷ token.Mark m.Semi ∷ token.Word k.Types ∷ token.Mark m.Colon ∷ token.Word k.Simple ∷ token.Name (codes "Part") ∷ token.Mark m.Open ∷ token.Word k.Parameters ∷ token.Mark m.Colon ∷ token.Mark m.Close ∷ token.Word k.Network ∷ token.Name (codes "Pair") ∷ token.Mark m.Open ∷ token.Word k.Parameters ∷ token.Mark m.Colon ∷ token.Word k.Types ∷ token.Mark m.Colon ∷ token.Word k.Simple ∷ token.Name (codes "Half") ∷ token.Mark m.Open ∷ token.Word k.Parameters ∷ token.Mark m.Colon ∷ token.Mark m.Close ∷ token.Word k.Submodules ∷ token.Mark m.Colon ∷ token.Name (codes "p") ∷ token.Mark m.Colon ∷ token.Name (codes "Half") ∷ token.Mark m.Semi ∷ token.Mark m.Close ∷ token.Word k.Submodules ∷ token.Mark m.Colon ∷ token.Name (codes "a") ∷ token.Mark m.Colon ∷ token.Name (codes "Source") ∷ token.Mark m.Semi ∷ token.Name (codes "b") ∷ token.Mark m.Colon ∷ token.Name (codes "Source") ∷ token.Mark m.Open ∷ token.Word k.Parameters ∷ token.Mark m.Colon ∷ token.Name (codes "offset") ∷ token.Mark m.Equals ∷ token.Number 3 ∷ token.Mark m.Semi ∷ token.Mark m.At ∷ token.Name (codes "ignored") ∷ token.Mark m.Semi ∷ token.Mark m.Close ∷ token.Mark m.Close ∷ []
 
 tokens_are : file_tokens example ≡ tokens
 unfolding unit_text
-tokens_are = simp (at_minus, at_literal)
+tokens_are = simp (at_type, at_minus, at_literal)
 
 pub returns : goal.returns
 unfolding spelled spell word_text mark_text unit_text digits
