@@ -4,8 +4,8 @@ use crate::escapes::unescaped;
 use crate::tree_rows::tell_tree;
 use crate::words::{tell_names, written};
 use ned_syntax::ast::{
-    Declaration, Expression, GateLine, GateSize, NedFile, ParameterValue, SectionLine, Statistic,
-    Submodule, TypeDeclaration,
+    Declaration, Expression, GateLine, GateSize, NedFile, NestedType, ParameterValue, SectionLine,
+    Statistic, Submodule, TypeDeclaration,
 };
 use ned_syntax::parse::parse_ned;
 use ned_syntax::texts::NedTexts;
@@ -186,24 +186,37 @@ fn tell_interfaces(told: &mut String, names: &[Text]) -> Result<(), AllocError> 
     tell_names(told, names)
 }
 
-/// Tells what a type declares.
-fn tell_type(told: &mut String, it: &TypeDeclaration) -> Result<(), AllocError> {
+/// Tells the word, the name and what else stands before a type's braces.
+fn tell_head(told: &mut String, it: &TypeDeclaration) -> Result<(), AllocError> {
     write!(told, "{:?} {} ", it.kind, written(&it.name))?;
     tell_base(told, &it.base)?;
-    tell_interfaces(told, it.interfaces.as_slice())?;
+    tell_interfaces(told, it.interfaces.as_slice())
+}
+
+/// Tells what a type declares, with the types within it behind its gates.
+#[cycle(types)]
+fn tell_type(told: &mut String, it: &NestedType) -> Result<(), AllocError> {
+    tell_head(told, &it.declared)?;
     told.push_str("{ ")?;
-    tell_lines(told, it.lines.as_slice())?;
-    tell_gates(told, it.gates.as_slice())?;
-    tell_submodules(told, it.submodules.as_slice())?;
+    tell_lines(told, it.declared.lines.as_slice())?;
+    tell_gates(told, it.declared.gates.as_slice())?;
+    tell_types(told, it.types.as_slice())?;
+    tell_submodules(told, it.declared.submodules.as_slice())?;
     told.push_str("} ")
+}
+
+/// Tells what types declare.
+#[cycle(types)]
+fn tell_types(told: &mut String, types: &[NestedType]) -> Result<(), AllocError> {
+    for it in types {
+        tell_type(told, it)?;
+    }
+    Ok(())
 }
 
 /// Tells what a text declares.
 fn tell_file(told: &mut String, file: &NedFile) -> Result<(), AllocError> {
-    for it in file.types.as_slice() {
-        tell_type(told, it)?;
-    }
-    Ok(())
+    tell_types(told, file.types.as_slice())
 }
 
 /// Tells what a text of a model declares, or that there is none of that number.
