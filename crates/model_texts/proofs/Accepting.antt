@@ -9,7 +9,7 @@ use Rattle.ned_syntax.specs.NedText.{IsNedFile}
 use Rattle.ned_syntax.proofs.GrammarLaws.{file-lawful}
 use Rattle.type_building.specs.declared.table.TypeFault.{TypeFault}
 use Rattle.type_building.specs.declared.table.TypeFault.TheVariants as types
-use Rattle.ned_types.specs.Types.{types_of}
+use Rattle.ned_scopes.specs.Scopes.{types_of}
 use Rattle.type_building.specs.Inheritance.{flat_types}
 use Rattle.type_building.specs.Building.{fault_of}
 use Rattle.ini_config.specs.declared.lines.IniLine.{IniLine}

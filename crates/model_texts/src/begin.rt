@@ -6,7 +6,7 @@ ghost use Rattle.sim_values.specs.Memory.{no_memory};
 ghost use Rattle.ini_config.specs.Meaning.{IsIniText};
 ghost use Rattle.ini_config.specs.Sections.{IsChain, is_section};
 ghost use Rattle.ned_syntax.specs.NedText.{IsNedFile};
-ghost use Rattle.ned_types.specs.Types.{types_of};
+ghost use Rattle.ned_scopes.specs.Scopes.{types_of};
 ghost use Rattle.type_building.specs.Inheritance.{flat_types};
 ghost use Rattle.type_building.specs.Building.{fault_of};
 ghost use Rattle.model_texts.specs.Models.{AreNedFiles, IsModelOf, IsOnlyModelOf, IsRuledOut, RefusesFile, RefusesFiles, RefusesIni, RefusesTypes, RefusesConfig, Refuses, is_large, is_too_large};

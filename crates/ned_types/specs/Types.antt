@@ -1,12 +1,11 @@
 -- The types that files declare, and what may be wrong with those that extend nothing.
-use Rattle.std.specs.Prelude.{ℕ, Bool, true, false, not, ◌||◌, ◌&&◌, List, [], ◌∷◌, ◌++◌, Option, Some, None, is_some, if◌then◌else◌, codes}
+use Rattle.std.specs.Prelude.{ℕ, Bool, true, false, not, ◌||◌, ◌&&◌, List, [], ◌∷◌, ◌++◌, Option, Some, None, is_some, if◌then◌else◌, codes, ◌==◌}
 use Rattle.std.specs.List.{list_any}
 use Rattle.std.specs.Str.{bytes_eq}
 use Rattle.ned_syntax.specs.declared.ast.GateSize.{GateSize}
 use Rattle.ned_syntax.specs.declared.ast.GateSize.TheVariants as size
 use Rattle.ned_syntax.specs.declared.ast.GateLine.{GateLine}
 use Rattle.ned_syntax.specs.declared.ast.GateLine.TheVariants as gate
-use Rattle.ned_syntax.specs.declared.ast.NedFile.{NedFile}
 use Rattle.ned_syntax.specs.declared.ast.ParameterValue.{ParameterValue}
 use Rattle.ned_syntax.specs.declared.ast.ParameterValue.TheVariants as parameter_value
 use Rattle.ned_syntax.specs.declared.ast.SectionLine.{SectionLine}
@@ -15,11 +14,6 @@ use Rattle.ned_syntax.specs.declared.ast.Submodule.{Submodule}
 use Rattle.ned_syntax.specs.declared.ast.TypeDeclaration.{TypeDeclaration}
 use Rattle.ned_syntax.specs.declared.ast.TypeKind.{TypeKind}
 use Rattle.ned_syntax.specs.declared.ast.TypeKind.TheVariants.{Simple, Network, Channel, ModuleInterface, ChannelInterface}
-
--- the types of all files, one file after the other
-abbrev pub types_of : List NedFile → List TypeDeclaration
-types_of [] = []
-types_of (file ∷ files) = file.types ++ types_of files
 
 -- the first type of that name
 abbrev pub type_named : List ℕ → List TypeDeclaration → Option TypeDeclaration
@@ -213,6 +207,19 @@ is_interface_kind Network = false
 is_interface_kind Channel = false
 is_interface_kind ModuleInterface = true
 is_interface_kind ChannelInterface = true
+
+-- ---- networks within networks
+
+-- whether it is the full name of a type within another: only there stands a dot (46)
+abbrev pub is_inner_name : List ℕ → Bool
+is_inner_name name = list_any (λ c. c == 46) name
+
+-- whether it is a network within another
+abbrev pub is_inner_network : TypeDeclaration → Bool
+is_inner_network t = is_network_kind t.kind && is_inner_name t.name
+
+abbrev pub has_inner_network : List TypeDeclaration → Bool
+has_inner_network types = list_any is_inner_network types
 
 -- ---- submodules
 

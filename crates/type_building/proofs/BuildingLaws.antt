@@ -1,5 +1,5 @@
 -- Types have no fault exactly where they can be built.
-use Rattle.std.proofs.Common.{◌≡◌, ◌≢◌, inl, inr, ℕ, Bool, true, false, not, ◌||◌, List, [], ◌∷◌, map, length, Option, Some, None, Result, Ok, Err, IfOk, refl, sym, ap, subst, ◌∙◌, if◌then◌else◌}
+use Rattle.std.proofs.Common.{◌≡◌, ◌≢◌, inl, inr, ℕ, Bool, true, false, not, ◌||◌, ◌&&◌, List, [], ◌∷◌, map, length, Option, Some, None, Result, Ok, Err, IfOk, refl, sym, ap, subst, ◌∙◌, if◌then◌else◌}
 use Rattle.std.specs.Str.{bytes_eq}
 use Rattle.ned_syntax.specs.declared.ast.Submodule.{Submodule}
 use Rattle.ned_syntax.specs.declared.ast.TypeDeclaration.{TypeDeclaration}
@@ -100,7 +100,7 @@ no_fault true unknown circle other clash broken h = absurd cc
 -- types without a fault have flat types that keep the rules
 pub flat_rules : (types : List TypeDeclaration) → fault_of types ≡ None → IsWellFormed (i.flat_types types)
 flat_rules types none =
-    let parts = no_fault (t.has_duplicate types) (t.has_unknown types || (i.has_unknown_base types || f.has_unknown_interface types)) (i.has_circle types) (i.has_other_base types || f.has_other_interface types) (t.has_clash (i.flat_types types)) (f.has_broken (i.flat_types types)) none in
+    let parts = no_fault (t.has_duplicate types) (t.has_unknown types || (i.has_unknown_base types || f.has_unknown_interface types)) (i.has_circle types) (t.has_inner_network types || (i.has_other_base types || f.has_other_interface types)) (t.has_clash (i.flat_types types)) (f.has_broken (i.flat_types types)) none in
     let duplicate = duplicate_flat types types ∙ parts.0 in
     well_formed (i.flat_types types) duplicate parts.1 (kept_told (i.flat_types types) (types_apart (i.flat_types types) duplicate) parts.2)
 
@@ -157,6 +157,16 @@ no_circle types none = by (i.has_circle types) refl
     by true e = absurd (none (circle_is_one types e))
     by false e = refl
 
+inner_network : (a : TypeDeclaration) → (a.kind ≡ Network → t.is_inner_name a.name ≡ false) → t.is_inner_network a ≡ false
+inner_network a outer = of_kind a.kind refl
+  where
+    of_kind : (k : TypeKind) → a.kind ≡ k → (t.is_network_kind k && t.is_inner_name a.name) ≡ false
+    of_kind Simple e = refl
+    of_kind Network e = outer e
+    of_kind Channel e = refl
+    of_kind ModuleInterface e = refl
+    of_kind ChannelInterface e = refl
+
 -- types that keep the rules have no fault
 pub faultless : (types : List TypeDeclaration) → CanBuild types → fault_of types ≡ None
 faultless types w =
@@ -164,12 +174,13 @@ faultless types w =
     let unknown : t.has_unknown types ≡ false = unknown_flat types (no_unknown (i.flat_types types) w.flat) in
     let bases : i.has_unknown_base types ≡ false = any_made (λ a. i.extends_unknown types a.base) types (λ a is. known_base types a.kind a.base (w.bases a is)) in
     let interfaces : f.has_unknown_interface types ≡ false = any_made (λ a. f.names_no_type types a.interfaces) types (λ a is. known_interfaces types a.kind a.interfaces (w.interfaces a is)) in
+    let outer : t.has_inner_network types ≡ false = any_made t.is_inner_network types (λ a is. inner_network a (w.networks a is)) in
     let circle : i.has_circle types ≡ false = no_circle types w.roots in
     let kept : f.has_other_interface types ≡ false = any_made (λ a. f.keeps_other types a.kind a.interfaces) types (λ a is. fitting_interfaces types a.kind a.interfaces (types_apart types duplicate) (w.interfaces a is)) in
     let whole : f.has_broken (i.flat_types types) ≡ false = kept_made (i.flat_types types) w.flat.interfaces in
     let others : i.has_other_base types ≡ false = any_made (λ a. i.extends_other types a.kind a.base) types (λ a is. fitting_base types a.kind a.base (types_apart types duplicate) (w.bases a is)) in
     let clash : t.has_clash (i.flat_types types) ≡ false = no_clash (i.flat_types types) w.flat in
-    rw (duplicate, unknown, bases, interfaces, circle, others, kept, clash, whole) refl
+    rw (duplicate, unknown, bases, interfaces, circle, outer, others, kept, clash, whole) refl
 
 -- ---- answers
 

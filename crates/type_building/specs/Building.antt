@@ -1,11 +1,11 @@
 -- Why declared types make no model, and the table of those that do.
-use Rattle.std.specs.Prelude.{◌≡◌, ◌⊎◌, ℕ, true, ◌||◌, List, Option, Some, None, Result, Ok, Err, if◌then◌else◌}
+use Rattle.std.specs.Prelude.{◌≡◌, ◌⊎◌, ℕ, true, false, ◌||◌, List, Option, Some, None, Result, Ok, Err, if◌then◌else◌}
 use Rattle.ned_syntax.specs.declared.ast.TypeDeclaration.{TypeDeclaration}
 use Rattle.ned_syntax.specs.declared.ast.TypeKind.{TypeKind}
 use Rattle.ned_syntax.specs.declared.ast.TypeKind.TheVariants.{Simple, Network, Channel, ModuleInterface, ChannelInterface}
 use Rattle.type_building.specs.declared.table.TypeFault.{TypeFault}
 use Rattle.type_building.specs.declared.table.TypeFault.TheVariants.{DuplicateType, UnknownType, InheritanceCircle, KindClash, Interface, NoMemory}
-use Rattle.ned_types.specs.Types.{has_duplicate, has_unknown, has_clash, is_built_in}
+use Rattle.ned_types.specs.Types.{has_duplicate, has_inner_network, has_unknown, has_clash, is_built_in, is_inner_name}
 use Rattle.ned_types.specs.Flat.{or_else}
 use Rattle.type_building.specs.Interfaces.{has_broken, has_other_interface, has_unknown_interface, can_keep}
 use Rattle.type_building.specs.Circles.{ExtendsItself}
@@ -18,7 +18,7 @@ base_fault types =
     if has_duplicate types then Some DuplicateType
     else (if has_unknown types || (has_unknown_base types || has_unknown_interface types) then Some UnknownType
     else (if has_circle types then Some InheritanceCircle
-    else (if has_other_base types || has_other_interface types then Some KindClash else None)))
+    else (if has_inner_network types || (has_other_base types || has_other_interface types) then Some KindClash else None)))
 
 -- the faults of flat types: a clash in one of them, and then a member of an interface that one lacks
 abbrev pub flat_fault : List TypeDeclaration → Option TypeFault
@@ -64,6 +64,8 @@ pub record CanBuild (types : List TypeDeclaration) : Type 0 where
   pub bases : (t : TypeDeclaration) → IsAmong t types → (name : List ℕ) → t.base ≡ Some name → MayExtend t.kind name types
   -- each interface is among these too, and one for types of that kind;
   pub interfaces : (t : TypeDeclaration) → IsAmong t types → (name : List ℕ) → IsAmong name t.interfaces → (i : TypeDeclaration) × IsAmong i types × (i.name ≡ name) × (can_keep t.kind i.kind ≡ true)
+  -- a network stands within no other;
+  pub networks : (t : TypeDeclaration) → IsAmong t types → t.kind ≡ Network → is_inner_name t.name ≡ false
   -- no type extends itself, perhaps by way of others;
   pub roots : ExtendsItself types → ⊥
   -- and the flat types keep the rules of types.

@@ -5,7 +5,7 @@ use Rattle.std.specs.Map.{lookup}
 use Rattle.std.specs.Str.{bytes_eq}
 use Rattle.std.specs.List.{list_any}
 use Rattle.ned_syntax.specs.declared.ast.TypeDeclaration.{TypeDeclaration}
-use Rattle.ned_types.specs.Types.{has_duplicate, is_type_named, is_interface_kind, names_unknown}
+use Rattle.ned_types.specs.Types.{has_duplicate, has_inner_network, is_type_named, is_interface_kind, names_unknown}
 use Rattle.type_building.specs.Interfaces.{keeps_other, names_no_type}
 use Rattle.type_building.specs.Inheritance.{extends_unknown, extends_other, line_named, joined_behind, gathered, bare, with_members, without_interfaces}
 
@@ -33,9 +33,9 @@ is_unknown_named types some =
     list_any (λ t. names_unknown types t.submodules) some
     || (list_any (λ t. extends_unknown types t.base) some || list_any (λ t. names_no_type types t.interfaces) some)
 
--- whether some of the types name what is of another kind than it should be
+-- whether some of the types are networks within networks, or name what is of another kind than it should be
 abbrev pub is_other_named : List TypeDeclaration → List TypeDeclaration → Bool
-is_other_named types some = list_any (λ t. extends_other types t.kind t.base) some || list_any (λ t. keeps_other types t.kind t.interfaces) some
+is_other_named types some = has_inner_network some || (list_any (λ t. extends_other types t.kind t.base) some || list_any (λ t. keeps_other types t.kind t.interfaces) some)
 
 -- these have the names that those have
 abbrev pub HaveNamesOf : List TypeDeclaration → List TypeDeclaration → Type 0

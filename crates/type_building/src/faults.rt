@@ -1,7 +1,7 @@
 //! Why declared types make no model.
 
 ghost use Rattle.std.specs.Prelude.{◌≡◌, ◌||◌, ◌↔◌, false, None, IfOk, map};
-ghost use Rattle.ned_types.specs.Types.{has_duplicate, is_built_in, is_type_named, names_unknown, is_submodule_known, has_clash, clashes, submodules_clash, is_submodule_simple, is_simple, repeats_submodule, has_other_kind};
+ghost use Rattle.ned_types.specs.Types.{has_duplicate, is_built_in, is_type_named, names_unknown, has_inner_network, is_inner_name, is_inner_network, is_submodule_known, has_clash, clashes, submodules_clash, is_submodule_simple, is_simple, repeats_submodule, has_other_kind};
 ghost use Rattle.type_building.specs.Inheritance.{flat_type, flat_types, heirs_first};
 ghost use Rattle.type_building.specs.Building.{Builds, AnswersTable, AreFaultless, CanBuild, flat_fault};
 ghost use Rattle.ned_types.specs.WellFormed.{IsWellFormed};
@@ -113,11 +113,31 @@ fn is_unknown_named(named: &NamedTypes<'_>, types: &[TypeDeclaration]) -> bool
         || (has_unknown_base(named, types) || has_unknown_interface(named, types))
 }
 
-/// Whether one of the types names what is of another kind than it should be.
+/// Whether one of the types is a network within another, or names what is of another kind than it should be.
 fn is_other_named(named: &NamedTypes<'_>, types: &[TypeDeclaration]) -> bool
     ensures { result ≡ is_other_named named.now types.now }
 {
-    has_other_base(named, types) || has_other_interface(named, types)
+    has_inner_network(types) || (has_other_base(named, types) || has_other_interface(named, types))
+}
+
+/// Whether one of the types is a network within another.
+fn has_inner_network(types: &[TypeDeclaration]) -> bool
+    ensures { result ≡ has_inner_network types.now }
+{
+    types.iter().any(is_inner_network)
+}
+
+fn is_inner_network(declared: &TypeDeclaration) -> bool
+    ensures { result ≡ is_inner_network declared.now }
+{
+    matches!(declared.kind, TypeKind::Network) && is_inner_name(declared.name.as_bytes())
+}
+
+/// Whether it is the full name of a type within another.
+fn is_inner_name(name: &[u8]) -> bool
+    ensures { result ≡ is_inner_name name.now }
+{
+    name.iter().any(|byte| *byte == b'.')
 }
 
 /// Whether a built-in channel or one of the types has that name.

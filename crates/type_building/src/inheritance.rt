@@ -8,11 +8,11 @@ ghost use Rattle.type_building.specs.Inheritance.{base_of, line_of, extends_unkn
 ghost use Rattle.type_building.specs.Named.{HaveLines, flat_by_lines, line_at};
 
 use crate::channels::add_root;
-use crate::copies::{add_gates, add_lines, add_names, add_submodules, copy_type};
 use crate::faults::{is_built_in, is_taken};
 use crate::lines::{Lines, add_lines_of};
 use crate::named::NamedTypes;
 use crate::order::is_interface_kind;
+use ned_scopes::copies::{add_gates, add_lines, add_names, add_submodules, copy_type};
 use ned_syntax::ast::{SectionLine, TypeDeclaration, TypeKind};
 use ned_types::flat::{class_in, class_of};
 use sim_values::text::Text;

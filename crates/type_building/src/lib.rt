@@ -3,7 +3,6 @@
 
 mod bodies;
 mod channels;
-mod copies;
 mod faults;
 mod gates;
 mod inheritance;

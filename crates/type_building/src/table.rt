@@ -1,16 +1,16 @@
 //! The table of the types that files declare, or why they make none.
 
 ghost use Rattle.std.specs.Prelude.{◌≡◌, IfOk};
-ghost use Rattle.ned_types.specs.Types.{types_of};
+ghost use Rattle.ned_scopes.specs.Scopes.{types_of};
 ghost use Rattle.ned_types.specs.WellFormed.{IsWellFormed};
 ghost use Rattle.type_building.specs.Inheritance.{flat_types};
 ghost use Rattle.type_building.specs.Building.{AnswersTable, Builds, CanBuild};
 
 use crate::faults;
-use ned_syntax::ast::{NedFile, TypeDeclaration};
+use ned_scopes::scopes::types_of;
+use ned_syntax::ast::NedFile;
 use ned_types::table::TypeTable;
 use sim_values::NoMemory;
-use sqlite_items::Items;
 use std::alloc::{AllocError, Global};
 use thiserror::Error;
 
@@ -28,7 +28,7 @@ pub enum TypeFault {
     InheritanceCircle,
     /// What a type extends or one of its interfaces is of another kind, a parameter, a gate or a submodule is declared twice, a value is given to an undeclared
     /// parameter or after a fixed one, by a section or by the body of a submodule, a body declares a parameter, or a submodule's type is
-    /// no simple type.
+    /// no simple type, or a network is declared within another.
     #[error("KindClash")]
     KindClash,
     /// A type lacks a parameter or a gate of one of its interfaces.
@@ -60,19 +60,8 @@ pub fn build(alloc: Global, files: Vec<NedFile>) -> Result<TypeTable, TypeFault>
     ensures complete { CanBuild (types_of files.items)
         → AnswersTable (flat_types (types_of files.items)) result }
 {
-    let declared = joined(alloc, files)?;
+    let declared = types_of(alloc, files)?;
     let types = faults::flattened(alloc, declared.as_slice())?;
     let table = TypeTable::of(alloc, types)?;
     Ok(table)
-}
-
-/// The types of all files, one file after the other.
-fn joined(alloc: Global, files: Vec<NedFile>) -> Result<Items<TypeDeclaration>, AllocError>
-    ensures { IfOk result (λ types. types ≡ types_of files.items) }
-{
-    let mut types = Items::new(alloc);
-    for file in files {
-        types.append(file.types)?;
-    }
-    Ok(types)
 }

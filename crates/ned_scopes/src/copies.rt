@@ -70,7 +70,7 @@ fn copy_line(alloc: Global, line: &SectionLine) -> Result<SectionLine, AllocErro
 }
 
 /// Adds copies of these lines at the end.
-pub(crate) fn add_lines(
+pub fn add_lines(
     alloc: Global,
     lines: &mut Items<SectionLine>,
     more: &[SectionLine],
@@ -84,7 +84,7 @@ pub(crate) fn add_lines(
 }
 
 /// Equal lines.
-fn copy_lines(alloc: Global, lines: &[SectionLine]) -> Result<Items<SectionLine>, AllocError>
+pub fn copy_lines(alloc: Global, lines: &[SectionLine]) -> Result<Items<SectionLine>, AllocError>
     ensures { IfOk result (λ copy. copy ≡ lines.now) }
 {
     let mut copy = Items::new(alloc);
@@ -104,7 +104,7 @@ fn copy_submodule(alloc: Global, submodule: &Submodule) -> Result<Submodule, All
 }
 
 /// Adds copies of these submodules at the end.
-pub(crate) fn add_submodules(
+pub fn add_submodules(
     alloc: Global,
     submodules: &mut Items<Submodule>,
     more: &[Submodule],
@@ -186,7 +186,7 @@ fn copy_gate_line(alloc: Global, line: &GateLine) -> Result<GateLine, AllocError
 }
 
 /// Adds copies of these lines of gate sections at the end.
-pub(crate) fn add_gates(
+pub fn add_gates(
     alloc: Global,
     gates: &mut Items<GateLine>,
     more: &[GateLine],
@@ -200,7 +200,7 @@ pub(crate) fn add_gates(
 }
 
 /// Equal lines of gate sections.
-fn copy_gates(alloc: Global, gates: &[GateLine]) -> Result<Items<GateLine>, AllocError>
+pub fn copy_gates(alloc: Global, gates: &[GateLine]) -> Result<Items<GateLine>, AllocError>
     ensures { IfOk result (λ copy. copy ≡ gates.now) }
 {
     let mut copy = Items::new(alloc);
@@ -209,11 +209,7 @@ fn copy_gates(alloc: Global, gates: &[GateLine]) -> Result<Items<GateLine>, Allo
 }
 
 /// Adds copies of these names at the end.
-pub(crate) fn add_names(
-    alloc: Global,
-    names: &mut Items<Text>,
-    more: &[Text],
-) -> Result<(), AllocError>
+pub fn add_names(alloc: Global, names: &mut Items<Text>, more: &[Text]) -> Result<(), AllocError>
     ensures { OnOk result (names.new ≡ names.old ++ more.now) }
 {
     for name in more {
@@ -232,7 +228,7 @@ fn copy_names(alloc: Global, names: &[Text]) -> Result<Items<Text>, AllocError>
 }
 
 /// An equal name, where there is one.
-fn copy_base(alloc: Global, base: &Option<Text>) -> Result<Option<Text>, AllocError>
+pub fn copy_base(alloc: Global, base: &Option<Text>) -> Result<Option<Text>, AllocError>
     ensures { IfOk result (λ copy. copy ≡ base.now) }
 {
     match base {
@@ -242,10 +238,7 @@ fn copy_base(alloc: Global, base: &Option<Text>) -> Result<Option<Text>, AllocEr
 }
 
 /// An equal type.
-pub(crate) fn copy_type(
-    alloc: Global,
-    declared: &TypeDeclaration,
-) -> Result<TypeDeclaration, AllocError>
+pub fn copy_type(alloc: Global, declared: &TypeDeclaration) -> Result<TypeDeclaration, AllocError>
     ensures { IfOk result (λ copy. copy ≡ declared.now) }
 {
     Ok(TypeDeclaration {

@@ -1,0 +1,18 @@
+use Rattle.std.proofs.Common.{◌++◌, List, map, ap}
+use Rattle.ned_syntax.specs.declared.ast.Submodule.{Submodule}
+use Rattle.ned_syntax.specs.declared.ast.TypeDeclaration.{TypeDeclaration}
+use Rattle.ned_scopes.specs.Scopes.{types_of}
+use Rattle.ned_scopes.specs.Example.{first_file, second_file, head_of}
+use Rattle.ned_scopes.proofs.ExampleLaws.{two_levels}
+use Rattle.ned_scopes.proofs.laws.examples.Goals as goal
+
+pub returns : goal.returns
+unfolding types_of
+returns c =
+    let all = two_levels (first_file ++ second_file) in
+    record {
+      heads = ap (λ (ts : List TypeDeclaration). map head_of ts) all;
+      interfaces = ap (λ (ts : List TypeDeclaration). map (λ (t : TypeDeclaration). t.interfaces) ts) all;
+      parts = ap (λ (ts : List TypeDeclaration). map (λ (t : TypeDeclaration). map (λ (s : Submodule). s.type_name) t.submodules) ts) all;
+      classes = ap (λ (ts : List TypeDeclaration). map (λ (t : TypeDeclaration). t.lines) ts) all;
+    }

@@ -1,0 +1,9 @@
+//! Types within others: all types of files by their full names, and which type a name means.
+#![tactic(auto)]
+
+pub mod copies;
+pub mod known;
+pub mod laws;
+mod names;
+mod plain;
+pub mod scopes;
