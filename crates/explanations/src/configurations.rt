@@ -153,7 +153,7 @@ pub fn tell_no_network(
     let text = lines_of(alloc, sources)?;
     let chain = chain_of(alloc, &text, sources.config.as_bytes())?;
     let files = read_files(alloc, sources)?;
-    let types = all_types(alloc, files.as_slice())?;
+    let types = all_types(alloc, &files)?;
     let networks = names_of(alloc, types.as_slice(), TypeKind::Network)?;
     match network_entry(text.lines(), chain.as_slice()) {
         None => {

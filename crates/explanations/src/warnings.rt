@@ -308,7 +308,7 @@ fn tell_lines(
     chain: &[Text],
 ) -> Result<(), NoMemory> {
     let files = read_files(alloc, sources)?;
-    let types = all_types(alloc, files.as_slice())?;
+    let types = all_types(alloc, &files)?;
     tell_selected(alloc, told, sources, lines, chain, types.as_slice())
 }
 

@@ -8,8 +8,8 @@ use crate::ned_files::{
 };
 use crate::sources::Sources;
 use ned_syntax::ast::{ParameterValue, SectionLine, Submodule};
-use ned_types::given::{name_in, value_in};
 use ned_types::flat::submodule_named;
+use ned_types::given::{name_in, value_in};
 use sim_values::NoMemory;
 use std::alloc::Global;
 use std::fmt::Write;
@@ -79,7 +79,7 @@ pub fn tell_place_of_value(
     name: &[u8],
 ) -> Result<(), NoMemory> {
     let files = read_files(alloc, sources)?;
-    let types = all_types(alloc, files.as_slice())?;
+    let types = all_types(alloc, &files)?;
     let Some(found) = type_named(types.as_slice(), of) else {
         return Ok(());
     };
@@ -113,7 +113,7 @@ pub fn tell_place_in_body(
     name: &[u8],
 ) -> Result<(), NoMemory> {
     let files = read_files(alloc, sources)?;
-    let types = all_types(alloc, files.as_slice())?;
+    let types = all_types(alloc, &files)?;
     let Some(network) = type_named(types.as_slice(), of) else {
         return Ok(());
     };

@@ -63,3 +63,14 @@ pub fn tell_list(told: &mut String, names: &[&[u8]]) -> Result<(), NoMemory> {
     }
     Ok(())
 }
+
+/// What stands behind the last dot of a name: what a type within another is called there.
+pub fn last_part(name: &[u8]) -> &[u8] {
+    let mut last = name;
+    for (at, byte) in name.iter().enumerate() {
+        if *byte == b'.' {
+            last = &name[at + 1..];
+        }
+    }
+    last
+}

@@ -1,6 +1,8 @@
 //! NED files that were read, with the lines of what they declare.
 
+use crate::names::last_part;
 use crate::sources::Sources;
+use ned_scopes::scopes::types_of;
 use ned_syntax::ast::{NedFile, TypeDeclaration, TypeKind};
 use ned_syntax::parse::parse_ned;
 use ned_tokens::lines::{TokenList, tokenize};
@@ -10,13 +12,20 @@ use sim_values::NoMemory;
 use sqlite_items::Items;
 use std::alloc::Global;
 
-/// A NED file that was read.
+/// The tokens of a NED file that was read.
 #[derive(Drop)]
 pub struct ReadFile {
     list: TokenList,
-    file: NedFile,
-    /// Which tokens begin its types, in order.
+    /// Which tokens begin its types, in order, those within others too; none where it is no NED.
     heads: Vec<usize>,
+}
+
+/// The NED files of a run, and what they declare.
+#[derive(Drop)]
+pub struct ReadFiles {
+    files: Vec<ReadFile>,
+    /// The types of all files, each before those within it, with names resolved.
+    types: Items<TypeDeclaration>,
 }
 
 /// What stands at a place.
@@ -97,12 +106,12 @@ fn may_stand(tokens: &[Token], at: usize, sign: Sign) -> bool {
     }
 }
 
-/// Whether the dotted name with which tokens begin has that last part.
+/// Whether the dotted name with which tokens begin has the last part of that name.
 fn is_last_part(tokens: &[Token], name: &[u8]) -> bool {
     let mut is_last = false;
     for token in tokens {
         match token {
-            Token::Name(part) => is_last = part.is(name),
+            Token::Name(part) => is_last = part.is(last_part(name)),
             Token::Mark(Mark::Dot) => is_last = false,
             _ => break,
         }
@@ -121,7 +130,8 @@ fn begins_with(tokens: &[Token], sign: Sign, name: &[u8]) -> bool {
             is_gate_word(*word) && found.is(name)
         }
         (Sign::Base, [Token::Word(Keyword::Extends), base @ ..]) => is_last_part(base, name),
-        (Sign::Name | Sign::Head, [Token::Name(found), ..]) => found.is(name),
+        (Sign::Name, [Token::Name(found), ..]) => found.is(name),
+        (Sign::Head, [Token::Name(found), ..]) => found.is(last_part(name)),
         _ => false,
     }
 }
@@ -131,8 +141,6 @@ fn begins_with(tokens: &[Token], sign: Sign, name: &[u8]) -> bool {
 struct Place {
     /// How many parentheses are open.
     parens: u64,
-    /// How many braces are open, outside of parentheses.
-    braces: u64,
     /// In an import, behind its word.
     import: bool,
     /// Directly behind a `@`.
@@ -140,9 +148,9 @@ struct Place {
 }
 
 impl Place {
-    /// Whether a type can begin there, or a package or an import.
+    /// Whether a word that begins a type, a package or an import can be such a word there, and none of an import or a property.
     fn is_outside(self) -> bool {
-        self.parens == 0 && self.braces == 0 && !self.import && !self.property
+        self.parens == 0 && !self.import && !self.property
     }
 
     /// The place behind a mark, outside of imports.
@@ -152,10 +160,6 @@ impl Place {
             next.parens = self.parens.saturating_add(1);
         } else if mark == Mark::RightParen {
             next.parens = self.parens.saturating_sub(1);
-        } else if mark == Mark::Open && self.parens == 0 {
-            next.braces = self.braces.saturating_add(1);
-        } else if mark == Mark::Close && self.parens == 0 {
-            next.braces = self.braces.saturating_sub(1);
         }
         next.property = mark == Mark::At;
         next
@@ -199,7 +203,6 @@ fn heads_of(alloc: Global, tokens: &[Token]) -> Result<Vec<usize>, NoMemory> {
     let mut heads = Vec::new(alloc);
     let mut place = Place {
         parens: 0,
-        braces: 0,
         import: false,
         property: false,
     };
@@ -212,31 +215,37 @@ fn heads_of(alloc: Global, tokens: &[Token]) -> Result<Vec<usize>, NoMemory> {
     Ok(heads)
 }
 
-/// What a text declares; nothing where it is no NED.
-fn declared_in(alloc: Global, text: &[u8]) -> Result<NedFile, NoMemory> {
+/// What a text declares, and which tokens begin its types; nothing where it is no NED.
+fn declared_in(
+    alloc: Global,
+    text: &[u8],
+    tokens: &[Token],
+) -> Result<(NedFile, Vec<usize>), NoMemory> {
     match parse_ned(alloc, text) {
-        Ok(file) => Ok(file),
+        Ok(file) => Ok((file, heads_of(alloc, tokens)?)),
         Err(NedError::NoMemory(error)) => Err(error),
-        Err(_) => Ok(NedFile {
-            types: Items::new(alloc),
-        }),
+        Err(_) => Ok((
+            NedFile {
+                types: Items::new(alloc),
+            },
+            Vec::new(alloc),
+        )),
+    }
+}
+
+impl ReadFiles {
+    /// The tokens of each file.
+    pub fn as_slice(&self) -> &[ReadFile] {
+        self.files.as_slice()
+    }
+
+    /// The types of all files, in order, each before those within it.
+    pub fn types(&self) -> &[TypeDeclaration] {
+        self.types.as_slice()
     }
 }
 
 impl ReadFile {
-    /// Reads a file. One that is no NED declares nothing.
-    fn read(alloc: Global, text: &[u8]) -> Result<ReadFile, NoMemory> {
-        let list = tokenize(alloc, text)?;
-        let heads = heads_of(alloc, list.tokens.as_slice())?;
-        let file = declared_in(alloc, text)?;
-        Ok(ReadFile { list, file, heads })
-    }
-
-    /// The types that it declares.
-    pub fn types(&self) -> &[TypeDeclaration] {
-        self.file.types.as_slice()
-    }
-
     /// The token that begins the type of that number.
     fn head(&self, number: usize) -> usize {
         match self.heads.get(number) {
@@ -303,29 +312,38 @@ impl ReadFile {
 }
 
 /// The NED files of a run that were all read before.
-pub fn read_files(alloc: Global, sources: &Sources<'_>) -> Result<Vec<ReadFile>, NoMemory> {
+pub fn read_files(alloc: Global, sources: &Sources<'_>) -> Result<ReadFiles, NoMemory> {
     let mut files = Vec::new(alloc);
+    let mut declared = Vec::new(alloc);
     for text in sources.texts.as_slice() {
-        files.push(ReadFile::read(alloc, text.as_bytes())?)?;
+        let list = tokenize(alloc, text.as_bytes())?;
+        let (file, heads) = declared_in(alloc, text.as_bytes(), list.tokens.as_slice())?;
+        declared.push(file)?;
+        files.push(ReadFile { list, heads })?;
     }
-    Ok(files)
+    let types = types_of(alloc, declared)?;
+    Ok(ReadFiles { files, types })
 }
 
 /// Where a type is declared, and what it declares.
 #[derive(Clone, Copy)]
 pub struct Declared<'a> {
     pub file: usize,
-    /// Its number among the types of its file.
+    /// Its number among the types of its file, in the order in which they begin.
     pub number: usize,
     pub of: &'a TypeDeclaration,
 }
 
 /// All types of the files, in order.
-pub fn all_types(alloc: Global, files: &[ReadFile]) -> Result<Vec<Declared<'_>>, NoMemory> {
+pub fn all_types(alloc: Global, files: &ReadFiles) -> Result<Vec<Declared<'_>>, NoMemory> {
     let mut types = Vec::new(alloc);
-    for (file, read) in files.iter().enumerate() {
-        for (number, of) in read.types().iter().enumerate() {
-            types.push(Declared { file, number, of })?;
+    let mut rest = files.types();
+    for (file, read) in files.as_slice().iter().enumerate() {
+        for number in 0..read.heads.len() {
+            if let [of, after @ ..] = rest {
+                types.push(Declared { file, number, of })?;
+                rest = after;
+            }
         }
     }
     Ok(types)

@@ -23,6 +23,7 @@ const GOES_ON: &[(&str, &str)] = &[
     (",", ""),
     ("parameters", ""),
     ("gates", ""),
+    ("types", ""),
     ("submodules", ""),
     ("simple", ""),
     ("network", ""),

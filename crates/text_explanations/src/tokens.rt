@@ -75,7 +75,6 @@ pub fn is_for_later(word: Keyword) -> bool {
     matches!(
         word,
         Keyword::Module
-            | Keyword::Types
             | Keyword::If
             | Keyword::Connections
             | Keyword::AllowUnconnected

@@ -8,7 +8,7 @@ use crate::interfaces::{
     interfaces_of, is_interface, tell_broken, tell_other_interface, tell_unknown_interface,
 };
 use crate::members::{tell_body, tell_section};
-use crate::names::{shown, tell_near};
+use crate::names::{last_part, shown, tell_near};
 use crate::ned_files::{
     Declared, ReadFile, Sign, all_types, line_of, line_of_type, names_of, read_files, type_named,
 };
@@ -146,6 +146,29 @@ fn tell_unknown(
     Ok(false)
 }
 
+/// Adds that a network is declared within a network. Answers whether one is.
+fn tell_inner_network(
+    told: &mut String,
+    sources: &Sources<'_>,
+    files: &[ReadFile],
+    types: &[Declared<'_>],
+) -> Result<bool, NoMemory> {
+    for it in types {
+        let name = it.of.name.as_bytes();
+        if it.of.kind == TypeKind::Network && last_part(name).len() < name.len() {
+            write!(
+                told,
+                "{}:{}: the network '{}' is declared within another: declare it in a file, outside of every type",
+                sources.path(it.file),
+                line_of_type(files, it),
+                shown(last_part(name))
+            )?;
+            return Ok(true);
+        }
+    }
+    Ok(false)
+}
+
 /// Adds what is wrong with the submodules of a type that extends these, the nearest first. Answers whether something is.
 fn tell_submodules(
     told: &mut String,
@@ -232,7 +255,7 @@ fn tell_clash(
 /// Adds why the types of the files don't go together: the first reason, in the order of the refusals.
 pub fn tell_types(alloc: Global, told: &mut String, sources: &Sources<'_>) -> Result<(), NoMemory> {
     let files = read_files(alloc, sources)?;
-    let types = all_types(alloc, files.as_slice())?;
+    let types = all_types(alloc, &files)?;
     if tell_duplicate(told, sources, files.as_slice(), types.as_slice())? {
         return Ok(());
     }
@@ -250,6 +273,9 @@ pub fn tell_types(alloc: Global, told: &mut String, sources: &Sources<'_>) -> Re
         }
     }
     if tell_other_base(told, sources, files.as_slice(), types.as_slice(), bases)? {
+        return Ok(());
+    }
+    if tell_inner_network(told, sources, files.as_slice(), types.as_slice())? {
         return Ok(());
     }
     if tell_clash(
