@@ -364,7 +364,7 @@ pub fn type_named<'a>(types: &[Declared<'a>], name: &[u8]) -> Option<Declared<'a
     None
 }
 
-/// The names of the types of that kind, or of all.
+/// The names of the types of that kind that a text may write anywhere: those of files, and none within another.
 pub fn names_of<'a>(
     alloc: Global,
     types: &[Declared<'a>],
@@ -372,8 +372,9 @@ pub fn names_of<'a>(
 ) -> Result<Vec<&'a [u8]>, NoMemory> {
     let mut names = Vec::new(alloc);
     for it in types {
-        if it.of.kind == kind {
-            names.push(it.of.name.as_bytes())?;
+        let name = it.of.name.as_bytes();
+        if it.of.kind == kind && last_part(name).len() == name.len() {
+            names.push(name)?;
         }
     }
     Ok(names)
