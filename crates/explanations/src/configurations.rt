@@ -6,14 +6,14 @@ use ini_config::lines::{IniLine, IniText, LineMeaning};
 use ini_config::scan::{entry_in, section_behind};
 use ini_config::speaks::last_name;
 use ini_entries::entry::EntryMeaning;
-use ned_syntax::ast::TypeKind;
+use ned_syntax::ast::{TypeDeclaration, TypeKind};
 use sim_values::NoMemory;
 use sim_values::text::Text;
 use sqlite_items::Items;
 use std::alloc::Global;
-use std::fmt::Write;
-use text_explanations::names::{shown, tell_list, tell_near};
-use text_explanations::ned_files::{all_types, names_of, read_files, type_named};
+use text_explanations::explanation::Explanation;
+use text_explanations::names::shown;
+use text_explanations::ned_files::{is_anywhere, read_types, type_named};
 use text_explanations::sources::Sources;
 
 /// The lines of an ini text that was read before; none where it was not.
@@ -47,21 +47,30 @@ fn configurations<'a>(alloc: Global, lines: &'a [IniLine]) -> Result<Vec<&'a [u8
     Ok(names)
 }
 
-/// Adds that there is no configuration of that name, and which there are.
-pub fn tell_no_config(
-    alloc: Global,
-    told: &mut String,
-    sources: &Sources<'_>,
-) -> Result<(), NoMemory> {
-    let text = lines_of(alloc, sources)?;
-    let names = configurations(alloc, text.lines())?;
-    write!(
-        told,
-        "{}: there is no configuration '{}'; there are: ",
-        sources.ini_path, sources.config
-    )?;
-    tell_list(told, names.as_slice())?;
-    tell_near(told, sources.config.as_bytes(), names.as_slice())
+/// Says that there is no configuration of that name, and which there are.
+fn tell_others(told: &mut Explanation, sources: &Sources<'_>, names: &[&[u8]]) {
+    told.say(sources.ini_path);
+    told.say(": there is no configuration ");
+    told.say_name(sources.config.as_bytes());
+    told.say("; there are: ");
+    told.say_list(names);
+    told.say_near(sources.config.as_bytes(), names);
+}
+
+/// Says that no line begins the section of the configuration, and which there are.
+fn tell_other_sections(told: &mut Explanation, sources: &Sources<'_>, lines: &[IniLine]) {
+    match configurations(told.alloc(), lines) {
+        Ok(names) => tell_others(told, sources, names.as_slice()),
+        Err(error) => told.refuse(error),
+    }
+}
+
+/// Says that there is no configuration of that name, and which there are.
+pub fn tell_no_config(told: &mut Explanation, sources: &Sources<'_>) {
+    match lines_of(told.alloc(), sources) {
+        Ok(text) => tell_other_sections(told, sources, text.lines()),
+        Err(error) => told.refuse(error),
+    }
 }
 
 /// The number of the line that says what the section of that name extends, and the names.
@@ -83,51 +92,69 @@ fn exists(names: &[&[u8]], name: &[u8]) -> bool {
     name == b"General".as_slice() || names.iter().any(|other| *other == name)
 }
 
-/// Adds why a configuration has no chain.
-pub fn tell_no_chain(
-    alloc: Global,
-    told: &mut String,
+/// Begins what is wrong with the configuration of that name, which extends something in that line.
+fn begin(told: &mut Explanation, sources: &Sources<'_>, line: usize, name: &[u8]) {
+    told.say_place(sources.ini_path, line);
+    told.say(": ");
+    told.say_name(name);
+    told.say(" extends ");
+}
+
+/// The one configuration that the one of that name extends, where that is all right; says what is wrong otherwise, if anything is.
+fn followed<'a>(
+    told: &mut Explanation,
     sources: &Sources<'_>,
-) -> Result<(), NoMemory> {
-    let text = lines_of(alloc, sources)?;
-    let names = configurations(alloc, text.lines())?;
+    lines: &'a [IniLine],
+    names: &[&[u8]],
+    walked: &[u8],
+) -> Option<&'a [u8]> {
+    let (line, bases) = bases_of(lines, walked)?;
+    let [base] = bases else {
+        begin(told, sources, line, walked);
+        told.say("several configurations; one is supported so far");
+        return None;
+    };
+    if !exists(names, base.as_bytes()) {
+        begin(told, sources, line, walked);
+        told.say_name(base.as_bytes());
+        told.say(", which isn't there; there are: ");
+        told.say_list(names);
+        return None;
+    }
+    Some(base.as_bytes())
+}
+
+/// Says what is wrong with the chain of the configuration, where these are all.
+fn tell_chain(told: &mut Explanation, sources: &Sources<'_>, lines: &[IniLine], names: &[&[u8]]) {
     let mut walked = sources.config.as_bytes();
     for _step in 0..=names.len() {
-        let Some((line, bases)) = bases_of(text.lines(), walked) else {
-            return Ok(());
-        };
-        let [base] = bases else {
-            write!(
-                told,
-                "{}:{line}: '{}' extends several configurations; one is supported so far",
-                sources.ini_path,
-                shown(walked)
-            )?;
-            return Ok(());
-        };
-        if !exists(names.as_slice(), base.as_bytes()) {
-            write!(
-                told,
-                "{}:{line}: '{}' extends '{}', which isn't there; there are: ",
-                sources.ini_path,
-                shown(walked),
-                shown(base.as_bytes())
-            )?;
-            return tell_list(told, names.as_slice());
+        match followed(told, sources, lines, names, walked) {
+            Some(base) => walked = base,
+            None => return,
         }
-        walked = base.as_bytes();
     }
-    let line = match bases_of(text.lines(), walked) {
+    let line = match bases_of(lines, walked) {
         Some((line, _)) => line,
         None => 1,
     };
-    write!(
-        told,
-        "{}:{line}: '{}' extends itself in the end: take one 'extends' out of the circle",
-        sources.ini_path,
-        shown(walked)
-    )?;
-    Ok(())
+    begin(told, sources, line, walked);
+    told.say("itself in the end: take one 'extends' out of the circle");
+}
+
+/// Says what is wrong with the chain of the configuration in these lines.
+fn tell_chain_in(told: &mut Explanation, sources: &Sources<'_>, lines: &[IniLine]) {
+    match configurations(told.alloc(), lines) {
+        Ok(names) => tell_chain(told, sources, lines, names.as_slice()),
+        Err(error) => told.refuse(error),
+    }
+}
+
+/// Says why a configuration has no chain.
+pub fn tell_no_chain(told: &mut Explanation, sources: &Sources<'_>) {
+    match lines_of(told.alloc(), sources) {
+        Ok(text) => tell_chain_in(told, sources, text.lines()),
+        Err(error) => told.refuse(error),
+    }
 }
 
 /// The number of the line whose option `network` has that value.
@@ -144,39 +171,67 @@ fn line_of_network(lines: &[IniLine], name: &[u8]) -> usize {
     1
 }
 
-/// Adds why there is no network to run.
-pub fn tell_no_network(
-    alloc: Global,
-    told: &mut String,
+/// Says which networks there are.
+fn tell_networks(told: &mut Explanation, types: &[TypeDeclaration]) {
+    told.say("; the networks are: ");
+    let mut before = "";
+    for it in types {
+        if is_anywhere(it, TypeKind::Network) {
+            told.say(before);
+            told.say(shown(it.name.as_bytes()));
+            before = ", ";
+        }
+    }
+    if before.is_empty() {
+        told.say("none");
+    }
+}
+
+/// Says why the chain in these lines selects no network among these types.
+fn tell_selection(
+    told: &mut Explanation,
     sources: &Sources<'_>,
-) -> Result<(), NoMemory> {
-    let text = lines_of(alloc, sources)?;
-    let chain = chain_of(alloc, &text, sources.config.as_bytes())?;
-    let files = read_files(alloc, sources)?;
-    let types = all_types(alloc, &files)?;
-    let networks = names_of(alloc, types.as_slice(), TypeKind::Network)?;
-    match network_entry(text.lines(), chain.as_slice()) {
-        None => {
-            write!(
-                told,
-                "{}: there is no entry 'network = NAME' in [{}] or what it extends; the networks are: ",
-                sources.ini_path, sources.config
-            )?;
-            tell_list(told, networks.as_slice())
-        }
-        Some(name) => {
-            let line = line_of_network(text.lines(), name);
-            let why = match type_named(types.as_slice(), last_name(name)) {
-                Some(_) => "is a simple module and no network",
-                None => "is declared in no NED file",
-            };
-            write!(
-                told,
-                "{}:{line}: '{}' {why}; the networks are: ",
-                sources.ini_path,
-                shown(name)
-            )?;
-            tell_list(told, networks.as_slice())
-        }
+    lines: &[IniLine],
+    chain: &[Text],
+    types: &[TypeDeclaration],
+) {
+    let Some(name) = network_entry(lines, chain) else {
+        told.say(sources.ini_path);
+        told.say(": there is no entry 'network = NAME' in [");
+        told.say(sources.config);
+        told.say("] or what it extends");
+        return tell_networks(told, types);
+    };
+    told.say_place(sources.ini_path, line_of_network(lines, name));
+    told.say(": ");
+    told.say_name(name);
+    told.say(match type_named(types, last_name(name)) {
+        Some(_) => " is a simple module and no network",
+        None => " is declared in no NED file",
+    });
+    tell_networks(told, types);
+}
+
+/// Says why the chain in these lines selects no network.
+fn tell_chosen(told: &mut Explanation, sources: &Sources<'_>, lines: &[IniLine], chain: &[Text]) {
+    match read_types(told.alloc(), sources) {
+        Ok(types) => tell_selection(told, sources, lines, chain, types.as_slice()),
+        Err(error) => told.refuse(error),
+    }
+}
+
+/// Says why the configuration in this text selects no network.
+fn tell_text(told: &mut Explanation, sources: &Sources<'_>, text: &IniText) {
+    match chain_of(told.alloc(), text, sources.config.as_bytes()) {
+        Ok(chain) => tell_chosen(told, sources, text.lines(), chain.as_slice()),
+        Err(error) => told.refuse(error),
+    }
+}
+
+/// Says why there is no network to run.
+pub fn tell_no_network(told: &mut Explanation, sources: &Sources<'_>) {
+    match lines_of(told.alloc(), sources) {
+        Ok(text) => tell_text(told, sources, &text),
+        Err(error) => told.refuse(error),
     }
 }

@@ -5,33 +5,61 @@ use model_texts::begin::{BeginFault, MAX_FILES};
 use sim_values::NoMemory;
 use sim_values::text::MAX_LENGTH;
 use std::alloc::Global;
-use std::fmt::Write;
+use text_explanations::explanation::Explanation;
 use text_explanations::ini_lines::{line_at, tell_ini_line};
 use text_explanations::sources::Sources;
 use text_explanations::syntax::tell_syntax;
 use text_explanations::types::tell_types;
 
-/// Adds which text is too long, or that there are too many.
-fn tell_large(told: &mut String, sources: &Sources<'_>) -> Result<(), NoMemory> {
-    if sources.texts.len() > MAX_FILES {
-        write!(
-            told,
-            "{} NED files are given, and {MAX_FILES} are read at most",
-            sources.texts.len()
-        )?;
-        return Ok(());
-    }
+/// Says which text is too long.
+fn tell_long(told: &mut Explanation, sources: &Sources<'_>) {
     let mut path = sources.ini_path;
     for (file, text) in sources.texts.as_slice().iter().enumerate() {
         if text.as_bytes().len() > MAX_LENGTH {
             path = sources.path(file);
         }
     }
-    write!(
-        told,
-        "{path}: the file is longer than 1 MiB ({MAX_LENGTH} bytes); part it into several, or leave out what isn't used"
-    )?;
-    Ok(())
+    told.say(path);
+    told.say(": the file is longer than 1 MiB (");
+    told.say_number(MAX_LENGTH);
+    told.say(" bytes); part it into several, or leave out what isn't used");
+}
+
+/// Says which text is too long, or that there are too many.
+fn tell_large(told: &mut Explanation, sources: &Sources<'_>) {
+    if sources.texts.len() <= MAX_FILES {
+        return tell_long(told, sources);
+    }
+    told.say_number(sources.texts.len());
+    told.say(" NED files are given, and ");
+    told.say_number(MAX_FILES);
+    told.say(" are read at most");
+}
+
+/// Says what is wrong with files that were refused.
+fn tell_refusal(told: &mut Explanation, fault: BeginFault, sources: &Sources<'_>) {
+    match fault {
+        BeginFault::TooLarge => tell_large(told, sources),
+        BeginFault::NedSyntax(file, line) => {
+            told.say_place(sources.path(file), line);
+            told.say(": ");
+            tell_syntax(told, sources.text(file));
+        }
+        BeginFault::IniSyntax(line) => {
+            told.say_place(sources.ini_path, line);
+            told.say(": ");
+            tell_ini_line(told, line_at(sources.ini, line));
+        }
+        BeginFault::DuplicateType
+        | BeginFault::UnknownType
+        | BeginFault::InheritanceCircle
+        | BeginFault::KindClash
+        | BeginFault::Interface => tell_types(told, sources),
+        BeginFault::NoSuchConfig => tell_no_config(told, sources),
+        BeginFault::ChainFault => tell_no_chain(told, sources),
+        BeginFault::NoSuchNetwork => tell_no_network(told, sources),
+        BeginFault::NoMemory(_) => told.say("memory ran out: give fewer or shorter texts"),
+    }
 }
 
 /// What is wrong with files that were refused, and what would be right: a line for a person.
@@ -40,26 +68,7 @@ pub fn refusal_line(
     fault: BeginFault,
     sources: &Sources<'_>,
 ) -> Result<String, NoMemory> {
-    let mut told = String::new(alloc);
-    match fault {
-        BeginFault::TooLarge => tell_large(&mut told, sources)?,
-        BeginFault::NedSyntax(file, line) => {
-            write!(told, "{}:{line}: ", sources.path(file))?;
-            tell_syntax(alloc, &mut told, sources.text(file))?;
-        }
-        BeginFault::IniSyntax(line) => {
-            write!(told, "{}:{line}: ", sources.ini_path)?;
-            tell_ini_line(alloc, &mut told, line_at(sources.ini, line))?;
-        }
-        BeginFault::DuplicateType
-        | BeginFault::UnknownType
-        | BeginFault::InheritanceCircle
-        | BeginFault::KindClash
-        | BeginFault::Interface => { tell_types(alloc, &mut told, sources)? }
-        BeginFault::NoSuchConfig => tell_no_config(alloc, &mut told, sources)?,
-        BeginFault::ChainFault => tell_no_chain(alloc, &mut told, sources)?,
-        BeginFault::NoSuchNetwork => tell_no_network(alloc, &mut told, sources)?,
-        BeginFault::NoMemory(_) => told.push_str("memory ran out: give fewer or shorter texts")?,
-    }
-    Ok(told)
+    let mut told = Explanation::new(alloc);
+    tell_refusal(&mut told, fault, sources);
+    told.said()
 }

@@ -7,7 +7,7 @@ use model_answers::answer::ModelFault;
 use model_answers::model::Model;
 use model_answers::parameters::lone_value;
 use model_answers::record::path_under;
-use model_answers::scene::{Placed, Told as ToldModule};
+use model_answers::scene::{Placed, Told};
 use model_texts::begin::model_of;
 use ned_syntax::ast::{
     Declaration, Expression, ParameterValue, ParameterWord, SectionLine, TypeDeclaration,
@@ -16,25 +16,25 @@ use ned_types::flat::{class_of, last_value, submodule_named};
 use sim_values::NoMemory;
 use sim_values::value::Dimension;
 use std::alloc::Global;
-use std::fmt::Write;
-use text_explanations::members::{tell_place_in_body, tell_place_of_value};
-use text_explanations::names::{shown, tell_list};
+use text_explanations::explanation::Explanation;
+use text_explanations::names::shown;
 use text_explanations::sources::Sources;
+use text_explanations::values::{Parameter, tell_place_of_value};
 
 /// A fault as the answer of a run tells it.
 #[derive(Clone, Copy)]
-struct Told<'a> {
+struct ToldFault<'a> {
     path: &'a str,
     name: &'a str,
 }
 
 /// The fault that an answer tells, as in `done fault 1 N.t TimeOverflow from start executed 1`.
-fn told_fault(answer: &str) -> Option<Told<'_>> {
+fn told_fault(answer: &str) -> Option<ToldFault<'_>> {
     let rest = answer.strip_prefix("done fault ")?;
     let (_event, rest) = rest.split_once(' ')?;
     let (path, rest) = rest.split_once(' ')?;
     let (name, _rest) = rest.split_once(' ')?;
-    Some(Told { path, name })
+    Some(ToldFault { path, name })
 }
 
 /// A module, with its type and the name of the network.
@@ -57,7 +57,7 @@ fn found_at<'a>(model: &'a Model, path: &'a str) -> Option<Found<'a>> {
     };
     let submodule = submodule_named(name.as_bytes(), network.submodules.as_slice())?;
     let of = model.types.find(submodule.type_name.as_bytes())?;
-    let around = ToldModule::of_type(root.as_bytes(), network);
+    let around = Told::of_type(root.as_bytes(), network);
     Some(Found {
         placed: Placed::of_submodule(model, around, path.as_bytes(), submodule, of),
         of,
@@ -85,6 +85,17 @@ fn kind_of(declaration: &Declaration) -> &'static str {
     }
 }
 
+/// Whether the value of the parameter of that name has that fault.
+fn has_fault(
+    alloc: Global,
+    placed: &Placed<'_>,
+    name: &[u8],
+    fault: ModelFault,
+) -> Result<bool, NoMemory> {
+    let value = lone_value(alloc, placed, name)?;
+    Ok(value.is_err_and(|found| found == fault))
+}
+
 /// The first parameter of a module whose value has that fault. One to which no NED text gives a value goes before those that may
 /// refer to it.
 fn blamed<'a>(
@@ -96,8 +107,7 @@ fn blamed<'a>(
     for line in placed.own.lines {
         if let SectionLine::Declaration(declaration) = line {
             let name = declaration.name.as_bytes();
-            let value = lone_value(alloc, placed, name)?;
-            if value.is_err_and(|found| found == fault) {
+            if has_fault(alloc, placed, name, fault)? {
                 if given(placed, name).is_none() {
                     return Ok(Some(declaration));
                 }
@@ -120,6 +130,14 @@ fn parameter_fault(name: &str) -> Option<ModelFault> {
     }
 }
 
+/// Whether an entry of the ini text gives a value to the parameter of that name of a module.
+fn is_given_in_ini(alloc: Global, placed: &Placed<'_>, name: &[u8]) -> Result<bool, NoMemory> {
+    let full = path_under(alloc, placed.own.path, name)?;
+    let model = placed.model;
+    let entry = value_for(model.ini.lines(), model.chain.as_slice(), full.as_bytes());
+    Ok(matches!(entry, Some(EntryValue::Given(_))))
+}
+
 /// The value that a NED file gives a parameter of that name of a module, where no entry of the ini text goes before it.
 fn given_in_ned<'a>(
     alloc: Global,
@@ -129,185 +147,268 @@ fn given_in_ned<'a>(
     match given(placed, name) {
         Some(ParameterValue::Fixed(expression)) => Ok(Some(expression)),
         Some(ParameterValue::Default(expression)) => {
-            let full = path_under(alloc, placed.own.path, name)?;
-            let model = placed.model;
-            let entry = value_for(model.ini.lines(), model.chain.as_slice(), full.as_bytes());
-            Ok(match entry {
-                Some(EntryValue::Given(_)) => None,
-                _ => Some(expression),
-            })
+            if is_given_in_ini(alloc, placed, name)? {
+                return Ok(None);
+            }
+            Ok(Some(expression))
         }
         None => Ok(None),
     }
 }
 
-/// Adds what is wrong with the value of a parameter of that name, which a NED file gives by that expression.
-fn tell_wrong_in_ned(
-    told: &mut String,
-    path: &str,
-    name: &str,
-    kind: &str,
+/// A parameter of a module that has a fault.
+#[derive(Clone, Copy)]
+struct Faulty<'a> {
+    /// The path of the module.
+    path: &'a str,
+    declaration: &'a Declaration,
     fault: ModelFault,
-    expression: &Expression,
-) -> Result<(), NoMemory> {
-    match fault {
-        ModelFault::Unassigned => write!(
+}
+
+/// Says the path of a parameter.
+fn say_path(told: &mut Explanation, it: Faulty<'_>) {
+    told.say(it.path);
+    told.say(".");
+    told.say(shown(it.declaration.name.as_bytes()));
+}
+
+/// Says that something is so of the value of a parameter.
+fn say_of_value(told: &mut Explanation, before: &str, it: Faulty<'_>, what: &str) {
+    told.say(before);
+    told.say("the value of '");
+    say_path(told, it);
+    told.say("' ");
+    told.say(what);
+}
+
+/// Says that a parameter takes other values.
+fn say_mismatch(told: &mut Explanation, it: Faulty<'_>) {
+    told.say("'");
+    say_path(told, it);
+    told.say("' takes ");
+    told.say(kind_of(it.declaration));
+    told.say(
+        ", and its value is of another kind, or an operator in it has operands of a wrong kind",
+    );
+}
+
+/// Says that a parameter has no value.
+fn say_unassigned(told: &mut Explanation, it: Faulty<'_>) {
+    told.say("'");
+    say_path(told, it);
+    told.say("' has no value: write '");
+    say_path(told, it);
+    told.say(" = VALUE' with ");
+    told.say(kind_of(it.declaration));
+    told.say(", or a default in the NED file");
+}
+
+/// Says what is wrong with the value of a parameter.
+fn tell_wrong(told: &mut Explanation, it: Faulty<'_>) {
+    match it.fault {
+        ModelFault::Overflow => say_of_value(
             told,
-            "the value of '{path}.{name}' refers to something that has no value: in a type 'x' and 'this.x' are its own parameter x, in a body 'x' is the network's, and 'parent.x' is so in both; all else has none yet"
-        )?,
-        ModelFault::Circle => write!(
+            "a number in ",
+            it,
+            "is outside -9223372036854775808 to 9223372036854775807, or something is shifted by less than 0 or more than 63",
+        ),
+        ModelFault::Inexact => say_of_value(
             told,
-            "the value of '{path}.{name}' rests on itself, by the parameters that it refers to: give one of them a value that refers to none of the others"
-        )?,
+            "in ",
+            it,
+            "a division leaves a remainder or is by zero, or an exponent is negative",
+        ),
+        ModelFault::Mismatch => say_mismatch(told, it),
+        _ => say_unassigned(told, it),
+    }
+}
+
+/// Says what is wrong with the value of a parameter that a NED file gives by that expression.
+fn tell_wrong_in_ned(told: &mut Explanation, it: Faulty<'_>, expression: &Expression) {
+    match it.fault {
+        ModelFault::Unassigned => say_of_value(
+            told,
+            "",
+            it,
+            "refers to something that has no value: in a type 'x' and 'this.x' are its own parameter x, in a body 'x' is the network's, and 'parent.x' is so in both; all else has none yet",
+        ),
+        ModelFault::Circle => say_of_value(
+            told,
+            "",
+            it,
+            "rests on itself, by the parameters that it refers to: give one of them a value that refers to none of the others",
+        ),
         _ => {
-            tell_wrong(told, path, name, kind, fault)?;
+            tell_wrong(told, it);
             if !is_constant(expression) {
-                write!(told, "; or this is so of a parameter that it refers to")?;
+                told.say("; or this is so of a parameter that it refers to");
             }
         }
     }
-    Ok(())
 }
 
-/// Adds what is wrong with the value of a parameter of that name, which takes values of that kind.
-fn tell_wrong(
-    told: &mut String,
-    path: &str,
-    name: &str,
-    kind: &str,
-    fault: ModelFault,
-) -> Result<(), NoMemory> {
-    match fault {
-        ModelFault::Overflow => write!(
-            told,
-            "a number in the value of '{path}.{name}' is outside -9223372036854775808 to 9223372036854775807, or something is shifted by less than 0 or more than 63"
-        )?,
-        ModelFault::Inexact => write!(
-            told,
-            "in the value of '{path}.{name}' a division leaves a remainder or is by zero, or an exponent is negative"
-        )?,
-        ModelFault::Mismatch => write!(
-            told,
-            "'{path}.{name}' takes {kind}, and its value is of another kind, or an operator in it has operands of a wrong kind"
-        )?,
-        _ => write!(
-            told,
-            "'{path}.{name}' has no value: write '{path}.{name} = VALUE' with {kind}, or a default in the NED file"
-        )?,
-    }
-    Ok(())
-}
-
-/// Adds where the NED files give a parameter of that name its value: `path:line: `.
+/// Says where the NED files give a parameter of that name its value: `path:line: `.
 fn tell_place(
-    alloc: Global,
-    told: &mut String,
+    told: &mut Explanation,
     sources: &Sources<'_>,
     found: &Found<'_>,
     path: &str,
     name: &[u8],
-) -> Result<(), NoMemory> {
+) {
     if last_value(name, found.placed.own.body).is_none() {
-        return tell_place_of_value(alloc, told, sources, found.of.name.as_bytes(), name);
-    }
-    match path.split_once('.') {
-        Some((_, own)) => tell_place_in_body(
-            alloc,
-            told,
-            sources,
-            found.network,
-            own.as_bytes(),
+        let of = Parameter {
+            submodule: None,
             name,
-        ),
-        None => Ok(()),
+        };
+        tell_place_of_value(told, sources, found.of.name.as_bytes(), of);
+    } else if let Some((_, own)) = path.split_once('.') {
+        let of = Parameter {
+            submodule: Some(own.as_bytes()),
+            name,
+        };
+        tell_place_of_value(told, sources, found.network, of);
     }
 }
 
-/// Adds which parameter has no value, or one with that fault.
-fn tell_parameter(
-    alloc: Global,
-    told: &mut String,
+/// Says what is wrong with a parameter, which a NED file gives its value by that expression where there is one.
+fn tell_faulty(
+    told: &mut Explanation,
     sources: &Sources<'_>,
-    fault: &Told<'_>,
     it: &Found<'_>,
-    found: ModelFault,
+    faulty: Faulty<'_>,
+    given: Option<&Expression>,
+) {
+    match given {
+        Some(expression) => {
+            tell_place(
+                told,
+                sources,
+                it,
+                faulty.path,
+                faulty.declaration.name.as_bytes(),
+            );
+            tell_wrong_in_ned(told, faulty, expression);
+        }
+        None => {
+            told.say(sources.ini_path);
+            told.say(": ");
+            tell_wrong(told, faulty);
+        }
+    }
+}
+
+/// Says which parameter has that fault, and what is wrong with it.
+fn tell_parameter(
+    told: &mut Explanation,
+    sources: &Sources<'_>,
+    path: &str,
+    it: &Found<'_>,
+    fault: ModelFault,
 ) -> Result<(), NoMemory> {
-    let Some(declaration) = blamed(alloc, &it.placed, found)? else {
+    let alloc = told.alloc();
+    let Some(declaration) = blamed(alloc, &it.placed, fault)? else {
         return Ok(());
     };
-    let name = declaration.name.as_bytes();
-    let kind = kind_of(declaration);
-    if let Some(expression) = given_in_ned(alloc, &it.placed, name)? {
-        tell_place(alloc, told, sources, it, fault.path, name)?;
-        return tell_wrong_in_ned(told, fault.path, shown(name), kind, found, expression);
-    }
-    write!(told, "{}: ", sources.ini_path)?;
-    tell_wrong(told, fault.path, shown(name), kind, found)
+    let given = given_in_ned(alloc, &it.placed, declaration.name.as_bytes())?;
+    let faulty = Faulty {
+        path,
+        declaration,
+        fault,
+    };
+    tell_faulty(told, sources, it, faulty, given);
+    Ok(())
 }
 
-/// Adds which parameters a type declares, of which the module reads another.
-fn tell_declared(
-    alloc: Global,
-    told: &mut String,
-    path: &str,
-    of: &TypeDeclaration,
-) -> Result<(), NoMemory> {
-    let mut names: Vec<&[u8]> = Vec::new(alloc);
+/// Says which parameters a type declares.
+fn tell_parameters(told: &mut Explanation, of: &TypeDeclaration) {
+    let mut before = "";
     for line in of.lines.as_slice() {
         if let SectionLine::Declaration(declaration) = line {
-            names.push(declaration.name.as_bytes())?;
+            told.say(before);
+            told.say(shown(declaration.name.as_bytes()));
+            before = ", ";
         }
     }
-    write!(
-        told,
-        "{path}: the class '{}' reads a parameter that the type '{}' doesn't declare; declared are: ",
-        shown(class_of(of)),
-        shown(of.name.as_bytes())
-    )?;
-    tell_list(told, names.as_slice())
+    if before.is_empty() {
+        told.say("none");
+    }
 }
 
-/// Adds what is behind a fault of that module.
-fn tell_fault(
-    alloc: Global,
-    told: &mut String,
-    sources: &Sources<'_>,
-    fault: &Told<'_>,
-    it: &Found<'_>,
+/// Says which parameters a type declares, of which the module reads another.
+fn tell_declared(told: &mut Explanation, of: &TypeDeclaration) {
+    told.say("the class ");
+    told.say_name(class_of(of));
+    told.say(" reads a parameter that the type ");
+    told.say_name(of.name.as_bytes());
+    told.say(" doesn't declare; declared are: ");
+    tell_parameters(told, of);
+}
+
+/// Says which classes there are, of which none has the name of a module's.
+fn tell_classes(told: &mut Explanation, of: &TypeDeclaration, classes: &[&[u8]]) {
+    told.say("this program has no module of the class ");
+    told.say_name(class_of(of));
+    told.say("; it has: ");
+    told.say_list(classes);
+}
+
+/// Says what is behind a fault of that name, of a module of that type and path, which is none of a parameter.
+fn tell_other(
+    told: &mut Explanation,
+    fault: ToldFault<'_>,
+    of: &TypeDeclaration,
     classes: &[&[u8]],
-) -> Result<(), NoMemory> {
-    if let Some(found) = parameter_fault(fault.name) {
-        return tell_parameter(alloc, told, sources, fault, it, found);
+) {
+    if !matches!(
+        fault.name,
+        "NoParameter" | "UnknownClass" | "TimeOverflow" | "ModuleFailed:"
+    ) {
+        return;
     }
-    let of = it.of;
+    told.say(fault.path);
+    told.say(": ");
     match fault.name {
-        "NoParameter" => tell_declared(alloc, told, fault.path, of),
-        "UnknownClass" => {
-            write!(
-                told,
-                "{}: this program has no module of the class '{}'; it has: ",
-                fault.path,
-                shown(class_of(of))
-            )?;
-            tell_list(told, classes)
+        "NoParameter" => tell_declared(told, of),
+        "UnknownClass" => tell_classes(told, of, classes),
+        "TimeOverflow" => told.say(
+            "a time is above 9223372.036854775807s: a shorter delay, or a sim-time-limit, ends the run before",
+        ),
+        _ => told.say("the module can't take the value of the parameter that its message names"),
+    }
+}
+
+/// Says what is behind a fault in a run of that model.
+fn tell_fault(
+    told: &mut Explanation,
+    sources: &Sources<'_>,
+    model: &Model,
+    fault: ToldFault<'_>,
+    classes: &[&[u8]],
+) {
+    let Some(it) = found_at(model, fault.path) else {
+        return;
+    };
+    match parameter_fault(fault.name) {
+        None => tell_other(told, fault, it.of, classes),
+        Some(found) => {
+            if let Err(error) = tell_parameter(told, sources, fault.path, &it, found) {
+                told.refuse(error);
+            }
         }
-        "TimeOverflow" => {
-            write!(
-                told,
-                "{}: a time is above 9223372.036854775807s: a shorter delay, or a sim-time-limit, ends the run before",
-                fault.path
-            )?;
-            Ok(())
-        }
-        "ModuleFailed:" => {
-            write!(
-                told,
-                "{}: the module can't take the value of the parameter that its message names",
-                fault.path
-            )?;
-            Ok(())
-        }
-        _ => Ok(()),
+    }
+}
+
+/// Says what is behind a fault in a run of the model that the files make, where they make one.
+fn tell_run(
+    told: &mut Explanation,
+    sources: &Sources<'_>,
+    fault: ToldFault<'_>,
+    classes: &[&[u8]],
+) {
+    let config = sources.config.as_bytes();
+    match model_of(told.alloc(), sources.texts, sources.ini, config) {
+        Ok(model) => tell_fault(told, sources, &model, fault, classes),
+        Err(_) => {}
     }
 }
 
@@ -319,15 +420,9 @@ pub fn fault_line(
     sources: &Sources<'_>,
     classes: &[&[u8]],
 ) -> Result<String, NoMemory> {
-    let mut told = String::new(alloc);
-    let Some(fault) = told_fault(shown(answer)) else {
-        return Ok(told);
-    };
-    let Ok(model) = model_of(alloc, sources.texts, sources.ini, sources.config.as_bytes()) else {
-        return Ok(told);
-    };
-    if let Some(it) = found_at(&model, fault.path) {
-        tell_fault(alloc, &mut told, sources, &fault, &it, classes)?;
+    let mut told = Explanation::new(alloc);
+    if let Some(fault) = told_fault(shown(answer)) {
+        tell_run(&mut told, sources, fault, classes);
     }
-    Ok(told)
+    told.said()
 }

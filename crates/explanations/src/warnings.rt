@@ -2,19 +2,20 @@
 
 use crate::configurations::{chain_of, lines_of};
 use ini_config::entries::network_entry;
-use ini_config::lines::{Entry, IniLine};
+use ini_config::lines::{Entry, IniLine, IniText};
 use ini_config::scan::{entry_in, section_behind};
 use ini_config::speaks::last_name;
-use ini_entries::entry::{EntryMeaning, ObjectOption};
+use ini_entries::entry::{EntryMeaning, ObjectEntry, ObjectOption};
 use ini_pattern::Pattern;
-use ned_syntax::ast::{SectionLine, TypeDeclaration};
+use ned_syntax::ast::{SectionLine, Submodule, TypeDeclaration};
 use sim_values::NoMemory;
 use sim_values::text::Text;
 use std::alloc::Global;
 use std::fmt::Write;
 use text_explanations::bases::with_bases;
-use text_explanations::names::{shown, tell_near};
-use text_explanations::ned_files::{Declared, all_types, read_files, type_named};
+use text_explanations::explanation::Explanation;
+use text_explanations::names::shown;
+use text_explanations::ned_files::{read_types, type_named};
 use text_explanations::sources::Sources;
 
 /// The options that have an effect, or whose only value has.
@@ -37,100 +38,138 @@ const OBJECT_OPTIONS: [&[u8]; 4] = [
 /// Keys are compared with the names of a network at most so often.
 const MOST_TRIES: usize = 4_000_000;
 
-/// A name in the network that a key can be for.
+/// The paths in a network that a key can be for, each on a line.
 #[derive(Drop)]
-struct Known {
-    /// Its path.
-    path: String,
-    /// Whether it is a parameter; a statistic otherwise.
-    is_parameter: bool,
+struct Paths {
+    parameters: String,
+    statistics: String,
+    count: usize,
 }
 
-/// What is known of a network.
-#[derive(Drop)]
-struct Network<'a> {
-    known: Vec<Known>,
-    /// The names of its parameters.
-    parameters: Vec<&'a [u8]>,
-}
-
-impl<'a> Network<'a> {
-    /// Adds a path.
-    fn push_path(&mut self, path: String, is_parameter: bool) -> Result<(), NoMemory> {
-        self.known.push(Known { path, is_parameter })?;
+impl Paths {
+    /// Adds what a line of a type declares, at that path.
+    fn push_line(&mut self, path: &str, line: &SectionLine) -> Result<(), NoMemory> {
+        match line {
+            SectionLine::Declaration(it) => {
+                writeln!(self.parameters, "{path}.{}", shown(it.name.as_bytes()))?
+            }
+            SectionLine::Statistic(it) => {
+                writeln!(self.statistics, "{path}.{}", shown(it.name.as_bytes()))?
+            }
+            _ => return Ok(()),
+        }
+        self.count = self.count.saturating_add(1);
         Ok(())
     }
 
-    /// Adds what a type has at a path.
-    fn push_type(
-        &mut self,
-        alloc: Global,
-        path: &str,
-        of: &'a TypeDeclaration,
-    ) -> Result<(), NoMemory> {
-        for line in of.lines.as_slice() {
-            match line {
-                SectionLine::Declaration(it) => {
-                    let name = it.name.as_bytes();
-                    self.parameters.push(name)?;
-                    self.push_path(format!(in alloc; "{path}.{}", shown(name))?, true)?;
-                }
-                SectionLine::Statistic(it) => {
-                    let name = shown(it.name.as_bytes());
-                    self.push_path(format!(in alloc; "{path}.{name}")?, false)?;
-                }
-                _ => {}
+    /// Adds what types have at a path.
+    fn push_lines(&mut self, path: &str, along: &[&TypeDeclaration]) -> Result<(), NoMemory> {
+        for it in along {
+            for line in it.lines.as_slice() {
+                self.push_line(path, line)?;
             }
         }
         Ok(())
     }
 
     /// Adds what a type and those that it extends have at a path.
-    fn push_flat(
+    fn push_type(
         &mut self,
         alloc: Global,
-        types: &[Declared<'a>],
+        types: &[TypeDeclaration],
         path: &str,
-        of: Declared<'a>,
+        of: &TypeDeclaration,
     ) -> Result<(), NoMemory> {
         let along = with_bases(alloc, types, of)?;
-        for it in along.as_slice() {
-            self.push_type(alloc, path, it.of)?;
+        self.push_lines(path, along.as_slice())
+    }
+
+    /// Adds what a submodule has in the network of that name.
+    fn push_submodule(
+        &mut self,
+        alloc: Global,
+        types: &[TypeDeclaration],
+        root: &str,
+        it: &Submodule,
+    ) -> Result<(), NoMemory> {
+        let Some(of) = type_named(types, it.type_name.as_bytes()) else {
+            return Ok(());
+        };
+        let path = format!(in alloc; "{root}.{}", shown(it.name.as_bytes()))?;
+        self.push_type(alloc, types, path.as_str(), of)
+    }
+
+    /// Adds what a network and its submodules have, of which these are the type and those that it extends.
+    fn push_network(
+        &mut self,
+        alloc: Global,
+        types: &[TypeDeclaration],
+        along: &[&TypeDeclaration],
+    ) -> Result<(), NoMemory> {
+        let Some(network) = along.first() else {
+            return Ok(());
+        };
+        let root = shown(network.name.as_bytes());
+        self.push_lines(root, along)?;
+        for declared in along {
+            for it in declared.submodules.as_slice() {
+                self.push_submodule(alloc, types, root, it)?;
+            }
         }
         Ok(())
     }
-}
 
-/// What is known of a network of these types.
-fn network_of<'a>(
-    alloc: Global,
-    types: &[Declared<'a>],
-    network: Declared<'a>,
-) -> Result<Network<'a>, NoMemory> {
-    let mut found = Network {
-        known: Vec::new(alloc),
-        parameters: Vec::new(alloc),
-    };
-    let root = shown(network.of.name.as_bytes());
-    found.push_flat(alloc, types, root, network)?;
-    let along = with_bases(alloc, types, network)?;
-    for declared in along.as_slice() {
-        for it in declared.of.submodules.as_slice() {
-            if let Some(of) = type_named(types, it.type_name.as_bytes()) {
-                let path = format!(in alloc; "{root}.{}", shown(it.name.as_bytes()))?;
-                found.push_flat(alloc, types, path.as_str(), of)?;
+    /// Adds what a network of these types and its submodules have.
+    fn push_all(
+        &mut self,
+        alloc: Global,
+        types: &[TypeDeclaration],
+        network: &TypeDeclaration,
+    ) -> Result<(), NoMemory> {
+        let along = with_bases(alloc, types, network)?;
+        self.push_network(alloc, types, along.as_slice())
+    }
+
+    /// Whether a pattern matches a parameter.
+    fn has_parameter(&self, pattern: &Pattern) -> bool {
+        self.parameters.lines().any(|path| pattern.matches(path))
+    }
+
+    /// Whether a pattern matches a statistic with that option.
+    fn has_statistic(
+        &self,
+        alloc: Global,
+        pattern: &Pattern,
+        option: &str,
+    ) -> Result<bool, NoMemory> {
+        for path in self.statistics.lines() {
+            if is_for_statistic(alloc, pattern, path, option)? {
+                return Ok(true);
+            }
+        }
+        Ok(false)
+    }
+
+    /// Says the first parameter whose name is near, as a question.
+    fn say_near(&self, told: &mut Explanation, name: &[u8]) {
+        for path in self.parameters.lines() {
+            if told.say_if_near(name, last_name(path.as_bytes())) {
+                return;
             }
         }
     }
-    Ok(found)
 }
 
-/// Whether a pattern matches a parameter.
-fn is_for_parameter(pattern: &Pattern, network: &Network<'_>) -> bool {
-    network
-        .known
-        .iter()
-        .any(|it| it.is_parameter && pattern.matches(it.path.as_str()))
+/// Whether a pattern is for that mode of a statistic, and the option.
+fn is_for_mode(
+    alloc: Global,
+    pattern: &Pattern,
+    path: &str,
+    mode: &str,
+    option: &str,
+) -> Result<bool, NoMemory> {
+    let name = format!(in alloc; "{path}{mode}.{option}")?;
+    Ok(pattern.matches(name.as_str()))
 }
 
 /// Whether a pattern is for what stands behind a statistic's path: it, or one of its modes, and the option.
@@ -141,183 +180,177 @@ fn is_for_statistic(
     option: &str,
 ) -> Result<bool, NoMemory> {
     for mode in ["", ":count", ":sum", ":min", ":max", ":last", ":vector"] {
-        let name = format!(in alloc; "{path}{mode}.{option}")?;
-        if pattern.matches(name.as_str()) {
+        if is_for_mode(alloc, pattern, path, mode, option)? {
             return Ok(true);
         }
     }
     Ok(false)
 }
 
-/// Whether a pattern matches a statistic with that option.
-fn is_for_object(
-    alloc: Global,
-    pattern: &Pattern,
-    option: &str,
-    network: &Network<'_>,
-) -> Result<bool, NoMemory> {
-    for it in network.known.as_slice() {
-        if !it.is_parameter && is_for_statistic(alloc, pattern, it.path.as_str(), option)? {
-            return Ok(true);
-        }
-    }
-    Ok(false)
+/// Says that the entry of that key has no effect, and why.
+fn tell_useless(told: &mut Explanation, sources: &Sources<'_>, line: usize, key: &[u8], why: &str) {
+    told.say_place(sources.ini_path, line);
+    told.say(": warning: ");
+    told.say_name(key);
+    told.say(" has no effect: ");
+    told.say(why);
 }
 
-/// Adds that an entry has no effect, and names that are near.
-fn tell_useless(
-    told: &mut String,
+/// Says that an entry for objects has no effect, where it has none.
+fn tell_object(
+    told: &mut Explanation,
     sources: &Sources<'_>,
+    paths: &Paths,
     line: usize,
     key: &[u8],
-    why: &str,
-    near: (&[u8], &[&[u8]]),
-) -> Result<(), NoMemory> {
-    write!(
-        told,
-        "{}:{line}: warning: '{}' has no effect: {why}",
-        sources.ini_path,
-        shown(key)
-    )?;
-    tell_near(told, near.0, near.1)?;
-    told.push_str("\n")?;
-    Ok(())
-}
-
-/// Adds that a per-object option has no effect, where it has none.
-fn tell_object(
-    alloc: Global,
-    told: &mut String,
-    sources: &Sources<'_>,
-    network: &Network<'_>,
-    line: usize,
-    entry: &Entry,
-) -> Result<(), NoMemory> {
-    let EntryMeaning::Object(object) = &entry.meaning else {
-        return Ok(());
-    };
-    let (key, option) = (entry.key.as_bytes(), object.option.as_bytes());
+    object: &ObjectEntry,
+) {
+    let option = object.option.as_bytes();
     if matches!(object.says, ObjectOption::Other) {
-        let why = "there is no such option here";
-        return tell_useless(
-            told,
-            sources,
-            line,
-            key,
-            why,
-            (option, OBJECT_OPTIONS.as_slice()),
-        );
+        tell_useless(told, sources, line, key, "there is no such option here");
+        told.say_near(option, OBJECT_OPTIONS.as_slice());
+        told.say("\n");
+        return;
     }
-    if is_for_object(alloc, &object.pattern, shown(option), network)? {
-        return Ok(());
+    match paths.has_statistic(told.alloc(), &object.pattern, shown(option)) {
+        Ok(true) => {}
+        Ok(false) => {
+            let why = "no statistic of the network has that path\n";
+            tell_useless(told, sources, line, key, why);
+        }
+        Err(error) => told.refuse(error),
     }
-    let why = "no statistic of the network has that path";
-    tell_useless(told, sources, line, key, why, (b"".as_slice(), &[]))
 }
 
-/// Adds that an entry has no effect, where it has none.
+/// Says that an entry has no effect, where it has none.
 fn tell_entry(
-    alloc: Global,
-    told: &mut String,
+    told: &mut Explanation,
     sources: &Sources<'_>,
-    network: &Network<'_>,
+    paths: &Paths,
     line: usize,
     entry: &Entry,
-) -> Result<(), NoMemory> {
+) {
     let key = entry.key.as_bytes();
     match &entry.meaning {
         EntryMeaning::Other if !OPTIONS.iter().any(|known| *known == key) => {
-            let why = "there is no such option here";
-            tell_useless(told, sources, line, key, why, (key, OPTIONS.as_slice()))
+            tell_useless(told, sources, line, key, "there is no such option here");
+            told.say_near(key, OPTIONS.as_slice());
+            told.say("\n");
         }
-        EntryMeaning::Parameter(it) if !is_for_parameter(&it.pattern, network) => {
+        EntryMeaning::Parameter(it) if !paths.has_parameter(&it.pattern) => {
             let why = "no parameter of the network has that path";
-            let near = (last_name(key), network.parameters.as_slice());
-            tell_useless(told, sources, line, key, why, near)
+            tell_useless(told, sources, line, key, why);
+            paths.say_near(told, last_name(key));
+            told.say("\n");
         }
         EntryMeaning::Type(_) => {
-            let why = "no submodule leaves its type open";
-            tell_useless(told, sources, line, key, why, (b"".as_slice(), &[]))
+            let why = "no submodule leaves its type open\n";
+            tell_useless(told, sources, line, key, why);
         }
-        _ => tell_object(alloc, told, sources, network, line, entry),
+        EntryMeaning::Object(object) => tell_object(told, sources, paths, line, key, object),
+        _ => {}
     }
 }
 
-/// Adds a line for each entry of a section that has no effect.
+/// Says a line for each entry of a section that has no effect.
 fn tell_section(
-    alloc: Global,
-    told: &mut String,
+    told: &mut Explanation,
     sources: &Sources<'_>,
-    network: &Network<'_>,
+    paths: &Paths,
     lines: &[IniLine],
     name: &[u8],
-) -> Result<(), NoMemory> {
+) {
     let mut section = None;
     for (at, line) in lines.iter().enumerate() {
         section = section_behind(section, line);
         if let Some(entry) = entry_in(name, section, line) {
-            tell_entry(alloc, told, sources, network, at.saturating_add(1), entry)?;
+            tell_entry(told, sources, paths, at.saturating_add(1), entry);
         }
     }
-    Ok(())
 }
 
-/// Adds a line for each entry of a chain that has no effect.
+/// Says a line for each entry of a chain that has no effect, where these are few enough.
 fn tell_chain(
-    alloc: Global,
-    told: &mut String,
+    told: &mut Explanation,
     sources: &Sources<'_>,
-    network: &Network<'_>,
+    paths: &Paths,
     lines: &[IniLine],
     chain: &[Text],
-) -> Result<(), NoMemory> {
+) {
+    if paths.count.saturating_mul(lines.len()) > MOST_TRIES {
+        return;
+    }
     for name in chain {
-        tell_section(alloc, told, sources, network, lines, name.as_bytes())?;
+        tell_section(told, sources, paths, lines, name.as_bytes());
     }
-    Ok(())
 }
 
-/// Adds a line for each entry without effect, of the network that the chain selects among these types.
-fn tell_selected(
-    alloc: Global,
-    told: &mut String,
+/// The network that the chain selects among these types.
+fn selected<'a>(
+    lines: &[IniLine],
+    chain: &[Text],
+    types: &'a [TypeDeclaration],
+) -> Option<&'a TypeDeclaration> {
+    type_named(types, last_name(network_entry(lines, chain)?))
+}
+
+/// Says a line for each entry without effect of a chain, which selects that network.
+fn tell_network(
+    told: &mut Explanation,
     sources: &Sources<'_>,
     lines: &[IniLine],
     chain: &[Text],
-    types: &[Declared<'_>],
-) -> Result<(), NoMemory> {
-    let Some(name) = network_entry(lines, chain) else {
-        return Ok(());
+    types: &[TypeDeclaration],
+    network: &TypeDeclaration,
+) {
+    let alloc = told.alloc();
+    let mut paths = Paths {
+        parameters: String::new(alloc),
+        statistics: String::new(alloc),
+        count: 0,
     };
-    let Some(found) = type_named(types, last_name(name)) else {
-        return Ok(());
-    };
-    let network = network_of(alloc, types, found)?;
-    if network.known.len().saturating_mul(lines.len()) <= MOST_TRIES {
-        tell_chain(alloc, told, sources, &network, lines, chain)?;
+    match paths.push_all(alloc, types, network) {
+        Ok(()) => tell_chain(told, sources, &paths, lines, chain),
+        Err(error) => told.refuse(error),
     }
-    Ok(())
 }
 
-/// Adds a line for each entry without effect of a chain of these lines.
+/// Says a line for each entry without effect of a chain of these lines.
 fn tell_lines(
-    alloc: Global,
-    told: &mut String,
+    told: &mut Explanation,
     sources: &Sources<'_>,
     lines: &[IniLine],
     chain: &[Text],
-) -> Result<(), NoMemory> {
-    let files = read_files(alloc, sources)?;
-    let types = all_types(alloc, &files)?;
-    tell_selected(alloc, told, sources, lines, chain, types.as_slice())
+    types: &[TypeDeclaration],
+) {
+    if let Some(network) = selected(lines, chain, types) {
+        tell_network(told, sources, lines, chain, types, network);
+    }
+}
+
+/// Says a line for each entry without effect of a chain of these lines.
+fn tell_of_chain(told: &mut Explanation, sources: &Sources<'_>, lines: &[IniLine], chain: &[Text]) {
+    match read_types(told.alloc(), sources) {
+        Ok(types) => tell_lines(told, sources, lines, chain, types.as_slice()),
+        Err(error) => told.refuse(error),
+    }
+}
+
+/// Says a line for each entry without effect of the configuration in this text.
+fn tell_text(told: &mut Explanation, sources: &Sources<'_>, text: &IniText) {
+    match chain_of(told.alloc(), text, sources.config.as_bytes()) {
+        Ok(chain) => tell_of_chain(told, sources, text.lines(), chain.as_slice()),
+        Err(error) => told.refuse(error),
+    }
 }
 
 /// Lines for a person on the entries of the configuration that have no effect at all: unknown options, and keys that no
 /// parameter or statistic of the network has. The files make a model. Of very large models nothing is said.
 pub fn warning_lines(alloc: Global, sources: &Sources<'_>) -> Result<String, NoMemory> {
-    let mut told = String::new(alloc);
-    let text = lines_of(alloc, sources)?;
-    let chain = chain_of(alloc, &text, sources.config.as_bytes())?;
-    tell_lines(alloc, &mut told, sources, text.lines(), chain.as_slice())?;
-    Ok(told)
+    let mut told = Explanation::new(alloc);
+    match lines_of(alloc, sources) {
+        Ok(text) => tell_text(&mut told, sources, &text),
+        Err(error) => told.refuse(error),
+    }
+    told.said()
 }

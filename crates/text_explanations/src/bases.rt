@@ -1,75 +1,59 @@
-//! What types extend, and what is wrong with that.
+//! What types extend.
 
-use crate::channels::is_built_in;
-use crate::names::{shown, tell_near};
-use crate::ned_files::{Declared, ReadFile, Sign, line_of, names_of, place_of, type_named};
-use crate::sources::Sources;
-use ned_syntax::ast::TypeKind;
+use crate::ned_files::{place_of, type_named};
+use ned_syntax::ast::{TypeDeclaration, TypeKind};
 use sim_values::NoMemory;
 use sim_values::text::Text;
 use std::alloc::Global;
-use std::fmt::Write;
 
 /// The place of a type that is extended, where there is one.
-fn place_of_base(types: &[Declared<'_>], base: &Option<Text>) -> Option<usize> {
-    match base {
-        Some(name) => place_of(types, name.as_bytes()),
-        None => None,
-    }
+fn place_of_base(types: &[TypeDeclaration], base: &Option<Text>) -> Option<usize> {
+    place_of(types, base.as_ref()?.as_bytes())
 }
 
 /// The place of what each type extends, where that is one of them.
-pub fn bases_of(alloc: Global, types: &[Declared<'_>]) -> Result<Vec<Option<usize>>, NoMemory> {
+pub fn places_of_bases(
+    alloc: Global,
+    types: &[TypeDeclaration],
+) -> Result<Vec<Option<usize>>, NoMemory> {
     let mut bases = Vec::new(alloc);
     for it in types {
-        bases.push(place_of_base(types, &it.of.base))?;
+        bases.push(place_of_base(types, &it.base))?;
     }
     Ok(bases)
 }
 
-/// The place of what the type at that place extends.
-fn base_at(bases: &[Option<usize>], at: usize) -> Option<usize> {
-    match bases.get(at) {
-        Some(base) => *base,
-        None => None,
-    }
-}
-
-/// The types that the one at that place extends, the nearest first, where none extends itself.
-pub fn bases_along<'a>(
+/// The type at that place and those that it extends, the nearest first, where none extends itself. These are the places of
+/// what each extends.
+fn chain_at<'a>(
     alloc: Global,
-    types: &[Declared<'a>],
+    types: &'a [TypeDeclaration],
     bases: &[Option<usize>],
     at: usize,
-) -> Result<Vec<Declared<'a>>, NoMemory> {
+) -> Result<Vec<&'a TypeDeclaration>, NoMemory> {
     let mut along = Vec::new(alloc);
-    let mut next = base_at(bases, at);
+    let mut next = Some(at);
     for _step in 0..types.len() {
         let Some(place) = next else {
             break;
         };
         if let Some(found) = types.get(place) {
-            along.push(*found)?;
+            along.push(found)?;
         }
-        next = base_at(bases, place);
+        next = match bases.get(place) {
+            Some(base) => *base,
+            None => None,
+        };
     }
     Ok(along)
-}
-
-/// What a type extends, where that is one of the types.
-fn base_of<'a>(types: &[Declared<'a>], it: &Declared<'a>) -> Option<Declared<'a>> {
-    match &it.of.base {
-        Some(name) => type_named(types, name.as_bytes()),
-        None => None,
-    }
 }
 
 /// A type and those that it extends, the nearest first, where none extends itself.
 pub fn with_bases<'a>(
     alloc: Global,
-    types: &[Declared<'a>],
-    it: Declared<'a>,
-) -> Result<Vec<Declared<'a>>, NoMemory> {
+    types: &'a [TypeDeclaration],
+    it: &'a TypeDeclaration,
+) -> Result<Vec<&'a TypeDeclaration>, NoMemory> {
     let mut along = Vec::new(alloc);
     let mut next = Some(it);
     for _step in 0..types.len() {
@@ -77,47 +61,66 @@ pub fn with_bases<'a>(
             break;
         };
         along.push(found)?;
-        next = base_of(types, &found);
+        next = match &found.base {
+            Some(name) => type_named(types, name.as_bytes()),
+            None => None,
+        };
     }
     Ok(along)
 }
 
-/// Adds that what a type extends isn't declared.
-pub fn tell_unknown_base(
-    alloc: Global,
-    told: &mut String,
-    sources: &Sources<'_>,
-    files: &[ReadFile],
-    types: &[Declared<'_>],
-    it: &Declared<'_>,
-    base: &[u8],
+/// Whether it is an interface.
+pub fn is_interface(kind: TypeKind) -> bool {
+    matches!(kind, TypeKind::ModuleInterface | TypeKind::ChannelInterface)
+}
+
+/// Adds the interfaces of a type to others, each once.
+fn push_interfaces<'a>(
+    line: &mut Vec<&'a TypeDeclaration>,
+    types: &'a [TypeDeclaration],
+    it: &TypeDeclaration,
 ) -> Result<(), NoMemory> {
-    let line = line_of(files, it, Sign::Base, base, 0);
-    write!(
-        told,
-        "{}:{line}: the type '{}' extends '{}', which no file declares",
-        sources.path(it.file),
-        shown(it.of.name.as_bytes()),
-        shown(base)
-    )?;
-    let near = names_of(alloc, types, it.of.kind)?;
-    tell_near(told, base, near.as_slice())
-}
-
-/// Whether it is the place of a type of that kind.
-fn is_of_kind(types: &[Declared<'_>], place: Option<usize>, kind: TypeKind) -> bool {
-    match place {
-        Some(place) => match types.get(place) {
-            Some(found) => found.of.kind == kind,
-            None => false,
-        },
-        None => false,
+    for name in it.interfaces.as_slice() {
+        if let Some(found) = type_named(types, name.as_bytes()) {
+            if !line.iter().any(|other| other.name.is(name.as_bytes())) {
+                line.push(found)?;
+            }
+        }
     }
+    Ok(())
 }
 
-/// Whether it is a channel that extends a built-in one.
-fn is_channel_of(it: &Declared<'_>, base: &[u8]) -> bool {
-    it.of.kind == TypeKind::Channel && is_built_in(base)
+/// A type, its interfaces and what they extend, each once.
+pub fn with_interfaces<'a>(
+    alloc: Global,
+    types: &'a [TypeDeclaration],
+    it: &'a TypeDeclaration,
+) -> Result<Vec<&'a TypeDeclaration>, NoMemory> {
+    let mut line = Vec::new(alloc);
+    line.push(it)?;
+    for at in 0..types.len() {
+        let next = match line.get(at) {
+            Some(found) => *found,
+            None => break,
+        };
+        push_interfaces(&mut line, types, next)?;
+    }
+    Ok(line)
+}
+
+/// The type at that place and all that it extends, each once, the nearest first.
+pub fn along_at<'a>(
+    alloc: Global,
+    types: &'a [TypeDeclaration],
+    bases: &[Option<usize>],
+    at: usize,
+    it: &'a TypeDeclaration,
+) -> Result<Vec<&'a TypeDeclaration>, NoMemory> {
+    if is_interface(it.kind) {
+        with_interfaces(alloc, types, it)
+    } else {
+        chain_at(alloc, types, bases, at)
+    }
 }
 
 /// What a type of that kind is called.
@@ -131,31 +134,10 @@ pub fn kind_name(kind: TypeKind) -> &'static str {
     }
 }
 
-/// Adds that what a type extends is of another kind. Answers whether one extends such.
-pub fn tell_other_base(
-    told: &mut String,
-    sources: &Sources<'_>,
-    files: &[ReadFile],
-    types: &[Declared<'_>],
-    bases: &[Option<usize>],
-) -> Result<bool, NoMemory> {
-    for (at, it) in types.iter().enumerate() {
-        if let Some(base) = &it.of.base {
-            let fits = is_channel_of(it, base.as_bytes())
-                || is_of_kind(types, base_at(bases, at), it.of.kind);
-            if !fits {
-                let line = line_of(files, it, Sign::Base, base.as_bytes(), 0);
-                write!(
-                    told,
-                    "{}:{line}: the type '{}' extends '{}', which is no {}",
-                    sources.path(it.file),
-                    shown(it.of.name.as_bytes()),
-                    shown(base.as_bytes()),
-                    kind_name(it.of.kind)
-                )?;
-                return Ok(true);
-            }
-        }
+/// The kind of the interfaces of a type of that kind.
+pub fn interface_kind(kind: TypeKind) -> TypeKind {
+    match kind {
+        TypeKind::Channel | TypeKind::ChannelInterface => TypeKind::ChannelInterface,
+        _ => TypeKind::ModuleInterface,
     }
-    Ok(false)
 }

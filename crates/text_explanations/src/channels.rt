@@ -1,6 +1,6 @@
 //! The channels that every file knows.
 
-use crate::ned_files::Declared;
+use ned_syntax::ast::{ParameterWord, TypeDeclaration};
 use sim_values::text::Text;
 
 /// Their names.
@@ -37,20 +37,25 @@ fn built_in_base(base: &Option<Text>) -> Option<&[u8]> {
     }
 }
 
-/// The built-in channel that declares the parameter for a type that extends these, the nearest first, where there is one.
-pub fn declaring_channel<'a>(
-    bases: &[Declared<'a>],
-    it: &Declared<'a>,
-    name: &[u8],
-) -> Option<&'a [u8]> {
-    let root = match bases.last() {
-        Some(base) => base.of,
-        None => it.of,
-    };
+/// The built-in channel that declares the parameter for the first of these types, which extends the others, the nearest first,
+/// where there is one.
+pub fn declaring_channel<'a>(along: &[&'a TypeDeclaration], name: &[u8]) -> Option<&'a [u8]> {
+    let root = along.last()?;
     let channel = built_in_base(&root.base)?;
     if has_parameter(channel, name) {
         Some(channel)
     } else {
         None
+    }
+}
+
+/// The word of a parameter of a built-in channel.
+pub fn built_in_word(name: &[u8]) -> ParameterWord {
+    if name == b"disabled".as_slice() {
+        ParameterWord::Bool
+    } else if name == b"delay".as_slice() || name == b"datarate".as_slice() {
+        ParameterWord::Double
+    } else {
+        ParameterWord::Int
     }
 }

@@ -1,16 +1,16 @@
 //! Types that extend themselves.
 
-use crate::interfaces::is_interface;
-use crate::names::shown;
-use crate::ned_files::{Declared, ReadFile, Sign, line_of, place_of};
-use crate::sources::Sources;
+use crate::bases::is_interface;
+use crate::explanation::Explanation;
+use crate::ned_files::{Files, place_of};
+use crate::places::Sign;
+use ned_syntax::ast::TypeDeclaration;
 use sim_values::NoMemory;
 use sim_values::text::Text;
 use std::alloc::Global;
-use std::fmt::Write;
 
-/// Whether the type of that name is one of those that are left.
-fn is_left(types: &[Declared<'_>], left: &[bool], name: &[u8]) -> Option<usize> {
+/// The place of the type of that name, where it is one of those that are left.
+fn left_named(types: &[TypeDeclaration], left: &[bool], name: &[u8]) -> Option<usize> {
     let place = place_of(types, name)?;
     match left.get(place) {
         Some(true) => Some(place),
@@ -19,9 +19,9 @@ fn is_left(types: &[Declared<'_>], left: &[bool], name: &[u8]) -> Option<usize> 
 }
 
 /// The first of the names whose type is left.
-fn first_left(types: &[Declared<'_>], left: &[bool], names: &[Text]) -> Option<usize> {
+fn first_left(types: &[TypeDeclaration], left: &[bool], names: &[Text]) -> Option<usize> {
     for name in names {
-        let place = is_left(types, left, name.as_bytes());
+        let place = left_named(types, left, name.as_bytes());
         if place.is_some() {
             return place;
         }
@@ -30,103 +30,82 @@ fn first_left(types: &[Declared<'_>], left: &[bool], names: &[Text]) -> Option<u
 }
 
 /// The first type that is left of those that one extends.
-fn extended_left(types: &[Declared<'_>], left: &[bool], it: &Declared<'_>) -> Option<usize> {
-    let base = match &it.of.base {
-        Some(name) => is_left(types, left, name.as_bytes()),
-        None => None,
-    };
-    if base.is_none() && is_interface(it.of.kind) {
-        return first_left(types, left, it.of.interfaces.as_slice());
+fn extended_left(types: &[TypeDeclaration], left: &[bool], it: &TypeDeclaration) -> Option<usize> {
+    if is_interface(it.kind) {
+        return first_left(types, left, it.interfaces.as_slice());
     }
-    base
+    left_named(types, left, it.base.as_ref()?.as_bytes())
 }
 
-/// Which of the types are left where those are taken away that extend none of those that are left.
-fn left_behind(
-    alloc: Global,
-    types: &[Declared<'_>],
-    left: &[bool],
-) -> Result<Vec<bool>, NoMemory> {
-    let mut behind = Vec::new(alloc);
+/// Takes types away that extend none of those that are left. Answers whether there were such.
+fn prune(types: &[TypeDeclaration], left: &mut [bool]) -> bool {
+    let mut is_pruned = false;
     for (at, it) in types.iter().enumerate() {
-        let stays = match left.get(at) {
-            Some(true) => extended_left(types, left, it).is_some(),
-            _ => false,
-        };
-        behind.push(stays)?;
+        let is_end = extended_left(types, left, it).is_none();
+        if let Some(stays) = left.get_mut(at) {
+            if *stays && is_end {
+                *stays = false;
+                is_pruned = true;
+            }
+        }
     }
-    Ok(behind)
+    is_pruned
 }
 
 /// Which of the types lead into a circle.
-fn leading(alloc: Global, types: &[Declared<'_>]) -> Result<Vec<bool>, NoMemory> {
-    let mut left = Vec::new(alloc);
-    for _it in types {
-        left.push(true)?;
-    }
+fn leading(alloc: Global, types: &[TypeDeclaration]) -> Result<Vec<bool>, NoMemory> {
+    let mut left = vec![in alloc; true; types.len()]?;
     for _round in 0..types.len() {
-        let behind = left_behind(alloc, types, left.as_slice())?;
-        if behind.as_slice() == left.as_slice() {
+        if !prune(types, left.as_mut_slice()) {
             break;
         }
-        left = behind;
     }
     Ok(left)
 }
 
-/// A type in a circle, and what it extends there.
+/// A type in a circle, and what it extends there, where these lead into one.
 fn in_a_circle<'a>(
-    alloc: Global,
-    types: &[Declared<'a>],
-) -> Result<Option<(Declared<'a>, Declared<'a>)>, NoMemory> {
-    let left = leading(alloc, types)?;
-    let mut at = left.as_slice().iter().position(|stays| *stays);
+    types: &'a [TypeDeclaration],
+    left: &[bool],
+) -> Option<(&'a TypeDeclaration, &'a TypeDeclaration)> {
+    let mut at = left.iter().position(|stays| *stays)?;
     let mut found = None;
-    for _step in 0..types.len().saturating_add(1) {
-        let Some(place) = at else {
-            break;
-        };
-        let Some(it) = types.get(place) else {
-            break;
-        };
-        at = extended_left(types, left.as_slice(), it);
-        if let Some(next) = at {
-            if let Some(base) = types.get(next) {
-                found = Some((*it, *base));
-            }
-        }
+    for _step in 0..=types.len() {
+        let it = types.get(at)?;
+        at = extended_left(types, left, it)?;
+        found = Some((it, types.get(at)?));
     }
-    Ok(found)
+    found
 }
 
-/// Adds that a type extends itself, perhaps by way of others. Answers whether one does.
-pub fn tell_circle(
-    alloc: Global,
-    told: &mut String,
-    sources: &Sources<'_>,
-    files: &[ReadFile],
-    types: &[Declared<'_>],
-) -> Result<bool, NoMemory> {
-    let Some((it, base)) = in_a_circle(alloc, types)? else {
-        return Ok(false);
+/// Says that a type extends itself, perhaps by way of others, where these lead into a circle. Answers whether one does.
+fn tell_circle_in(told: &mut Explanation, files: &Files<'_>, left: &[bool]) -> bool {
+    let Some((it, base)) = in_a_circle(files.types, left) else {
+        return false;
     };
-    let (name, of) = (it.of.name.as_bytes(), base.of.name.as_bytes());
-    write!(
-        told,
-        "{}:{}: the type '{}' extends ",
-        sources.path(it.file),
-        line_of(files, &it, Sign::Head, of, 0),
-        shown(name)
-    )?;
+    let (name, of) = (it.name.as_bytes(), base.name.as_bytes());
+    files.begin(told, it, Sign::Head, of);
+    told.say("the type ");
+    told.say_name(name);
+    told.say(" extends ");
     if name == of {
-        told.push_str("itself; it can extend another type, or none")?;
-        return Ok(true);
+        told.say("itself; it can extend another type, or none");
+        return true;
     }
-    write!(
-        told,
-        "'{}', and that in the end '{}' again; let one of them extend another type, or none",
-        shown(of),
-        shown(name)
-    )?;
-    Ok(true)
+    told.say_name(of);
+    told.say(", and that in the end ");
+    told.say_name(name);
+    told.say(" again; let one of them extend another type, or none");
+    true
+}
+
+/// Says that a type extends itself, perhaps by way of others. Answers whether one does.
+pub fn tell_circle(told: &mut Explanation, files: &Files<'_>) -> bool {
+    match leading(told.alloc(), files.types) {
+        Ok(left) => tell_circle_in(told, files, left.as_slice()),
+        Err(error) => {
+            told.refuse(error);
+            true
+        }
+    }
 }

@@ -1,20 +1,9 @@
-//! What is wrong with the gates and submodules of a type, and with those of the types that it extends.
+//! Gates, submodules and parameters of interfaces that are declared twice, in a type or in those that it extends.
 
-use crate::names::shown;
-use crate::ned_files::{Declared, ReadFile, Sign, line_of};
-use crate::sources::Sources;
-use ned_syntax::ast::{GateDeclaration, GateLine, SectionLine, Submodule};
-use ned_types::given::name_in;
-use sim_values::NoMemory;
-use std::fmt::Write;
-
-/// The gate that a line declares.
-fn gate_in(line: &GateLine) -> Option<&GateDeclaration> {
-    match line {
-        GateLine::Declaration(gate) => Some(gate),
-        GateLine::Refinement(_) => None,
-    }
-}
+use crate::explanation::Explanation;
+use crate::ned_files::Files;
+use crate::places::{Sign, Spot};
+use ned_syntax::ast::{GateLine, SectionLine, TypeDeclaration};
 
 /// Whether the line declares a gate of that name.
 fn declares_gate(line: &GateLine, name: &[u8]) -> bool {
@@ -24,181 +13,190 @@ fn declares_gate(line: &GateLine, name: &[u8]) -> bool {
     }
 }
 
-/// How many of the lines declare a gate of that name.
-fn gates_named(lines: &[GateLine], name: &[u8]) -> usize {
-    lines
-        .iter()
-        .filter(|line| declares_gate(*line, name))
-        .count()
+/// Whether the line declares a parameter of that name.
+fn declares_parameter(line: &SectionLine, name: &[u8]) -> bool {
+    match line {
+        SectionLine::Declaration(it) => it.name.is(name),
+        _ => false,
+    }
 }
 
-/// How many of the submodules have that name.
-fn submodules_named(submodules: &[Submodule], name: &[u8]) -> usize {
-    submodules
-        .iter()
-        .filter(|submodule| submodule.name.is(name))
-        .count()
-}
-
-/// A second member of a name: what it is, and where it stands behind how many of its name.
+/// A member of a type: how it is called, and what its place shows.
 #[derive(Clone, Copy)]
-struct Second<'a> {
-    what: &'a str,
+struct Member<'a> {
+    what: &'static str,
     sign: Sign,
     name: &'a [u8],
-    behind: usize,
 }
 
-/// Adds that a member is declared a second time in a type, the first time in that one.
+/// The gate of that name.
+fn gate(name: &[u8]) -> Member<'_> {
+    Member {
+        what: "gate ",
+        sign: Sign::Gate,
+        name,
+    }
+}
+
+/// The submodule of that name.
+fn submodule(name: &[u8]) -> Member<'_> {
+    Member {
+        what: "submodule ",
+        sign: Sign::Submodule,
+        name,
+    }
+}
+
+/// The parameter of that name.
+fn parameter(name: &[u8]) -> Member<'_> {
+    Member {
+        what: "parameter ",
+        sign: Sign::Parameter,
+        name,
+    }
+}
+
+/// How many of the first so many lines of a type declare the member.
+fn count(member: Member<'_>, it: &TypeDeclaration, lines: usize) -> usize {
+    let name = member.name;
+    match member.sign {
+        Sign::Gate => {
+            let first = it.gates.as_slice().iter().take(lines);
+            first.filter(|line| declares_gate(*line, name)).count()
+        }
+        Sign::Submodule => {
+            let first = it.submodules.as_slice().iter().take(lines);
+            first.filter(|line| line.name.is(name)).count()
+        }
+        _ => {
+            let first = it.lines.as_slice().iter().take(lines);
+            first.filter(|line| declares_parameter(*line, name)).count()
+        }
+    }
+}
+
+/// The first of the types that declares the member.
+fn declaring<'a>(types: &[&'a TypeDeclaration], member: Member<'_>) -> Option<&'a TypeDeclaration> {
+    for it in types {
+        if count(member, *it, usize::MAX) > 0 {
+            return Some(*it);
+        }
+    }
+    None
+}
+
+/// Says where a type has the member for the first time, or behind so many others of its name, and which member of which type that is.
+fn begin(
+    told: &mut Explanation,
+    files: &Files<'_>,
+    it: &TypeDeclaration,
+    spot: Spot<'_>,
+    member: Member<'_>,
+) {
+    files.tell_place(told, it, spot);
+    told.say(": the ");
+    told.say(member.what);
+    told.say_name(member.name);
+    told.say(" of ");
+    told.say_name(it.name.as_bytes());
+    told.say(" is declared ");
+}
+
+/// Says that a type declares the member a second time, behind so many of its name, and that one the first time.
 fn tell_second(
-    told: &mut String,
-    sources: &Sources<'_>,
-    files: &[ReadFile],
-    it: &Declared<'_>,
-    first: &Declared<'_>,
-    second: Second<'_>,
-) -> Result<(), NoMemory> {
-    let line = line_of(files, it, second.sign, second.name, second.behind);
-    write!(
-        told,
-        "{}:{line}: the {} '{}' of '{}' is declared already, at {}:{}",
-        sources.path(it.file),
-        second.what,
-        shown(second.name),
-        shown(it.of.name.as_bytes()),
-        sources.path(first.file),
-        line_of(files, first, second.sign, second.name, 0)
-    )?;
-    if !first.of.name.is(it.of.name.as_bytes()) {
-        write!(
-            told,
-            " in '{}', which it extends",
-            shown(first.of.name.as_bytes())
-        )?;
+    told: &mut Explanation,
+    files: &Files<'_>,
+    it: &TypeDeclaration,
+    first: &TypeDeclaration,
+    member: Member<'_>,
+    behind: usize,
+) {
+    let spot = Spot::first(member.sign, member.name);
+    begin(told, files, it, Spot { behind, ..spot }, member);
+    told.say("already, at ");
+    files.tell_place(told, first, spot);
+    if !first.name.is(it.name.as_bytes()) {
+        told.say(" in ");
+        told.say_name(first.name.as_bytes());
+        told.say(", which it extends");
     }
-    told.push_str("; choose another name")?;
-    Ok(())
+    told.say("; choose another name");
 }
 
-/// The first of the types that declares the gate.
-fn gate_before<'a>(bases: &[Declared<'a>], name: &[u8]) -> Option<Declared<'a>> {
-    for it in bases {
-        if gates_named(it.of.gates.as_slice(), name) > 0 {
-            return Some(*it);
-        }
+/// Says that the first of the types, which extends the others, declares the member of a line of that number a second time, where it does.
+/// Answers whether it does.
+fn tell_if_second(
+    told: &mut Explanation,
+    files: &Files<'_>,
+    along: &[&TypeDeclaration],
+    member: Member<'_>,
+    at: usize,
+) -> bool {
+    let [it, bases @ ..] = along else {
+        return false;
+    };
+    let behind = count(member, *it, at);
+    let first = if behind > 0 {
+        Some(*it)
+    } else {
+        declaring(bases, member)
+    };
+    if let Some(first) = first {
+        tell_second(told, files, *it, first, member, behind);
     }
-    None
+    first.is_some()
 }
 
-/// The first of the types that declares the submodule.
-fn submodule_before<'a>(bases: &[Declared<'a>], name: &[u8]) -> Option<Declared<'a>> {
-    for it in bases {
-        if submodules_named(it.of.submodules.as_slice(), name) > 0 {
-            return Some(*it);
-        }
-    }
-    None
-}
-
-/// Adds that a gate of a type that extends these, the nearest first, is declared twice. Answers whether one is.
-pub fn tell_gates(
-    told: &mut String,
-    sources: &Sources<'_>,
-    files: &[ReadFile],
-    bases: &[Declared<'_>],
-    it: &Declared<'_>,
-) -> Result<bool, NoMemory> {
-    let lines = it.of.gates.as_slice();
-    for (at, line) in lines.iter().enumerate() {
-        let before = lines.get(..at).unwrap_or(lines);
-        if let Some(gate) = gate_in(line) {
-            let name = gate.name.as_bytes();
-            let behind = gates_named(before, name);
-            let first = if behind > 0 {
-                Some(*it)
-            } else {
-                gate_before(bases, name)
-            };
-            if let Some(first) = first {
-                let second = Second {
-                    what: "gate",
-                    sign: Sign::Gate,
-                    name,
-                    behind,
-                };
-                tell_second(told, sources, files, it, &first, second)?;
-                return Ok(true);
+/// Says that the first of the types, which extends the others, declares a gate twice. Answers whether it does.
+pub fn tell_gates(told: &mut Explanation, files: &Files<'_>, along: &[&TypeDeclaration]) -> bool {
+    let Some(it) = along.first() else {
+        return false;
+    };
+    for (at, line) in it.gates.as_slice().iter().enumerate() {
+        if let GateLine::Declaration(declared) = line {
+            if tell_if_second(told, files, along, gate(declared.name.as_bytes()), at) {
+                return true;
             }
         }
     }
-    Ok(false)
+    false
 }
 
-/// Adds that a submodule of a type that extends these, the nearest first, is declared twice. Answers whether it is.
+/// Says that the first of the types, which extends the others, has a submodule of the name of that one a second time, where it has.
+/// Answers whether it has.
 pub fn tell_second_submodule(
-    told: &mut String,
-    sources: &Sources<'_>,
-    files: &[ReadFile],
-    bases: &[Declared<'_>],
-    it: &Declared<'_>,
+    told: &mut Explanation,
+    files: &Files<'_>,
+    along: &[&TypeDeclaration],
     at: usize,
     name: &[u8],
-) -> Result<bool, NoMemory> {
-    let submodules = it.of.submodules.as_slice();
-    let behind = submodules_named(submodules.get(..at).unwrap_or(submodules), name);
-    if behind > 0 {
-        let line = line_of(files, it, Sign::Submodule, name, behind);
-        write!(
-            told,
-            "{}:{line}: a second submodule '{}'; choose another name",
-            sources.path(it.file),
-            shown(name)
-        )?;
-        return Ok(true);
-    }
-    let Some(first) = submodule_before(bases, name) else {
-        return Ok(false);
+) -> bool {
+    let Some(it) = along.first() else {
+        return false;
     };
-    let second = Second {
-        what: "submodule",
-        sign: Sign::Submodule,
-        name,
-        behind,
-    };
-    tell_second(told, sources, files, it, &first, second)?;
-    Ok(true)
-}
-
-/// The name that a line of parameters declares.
-fn declared_name(line: &SectionLine) -> Option<&[u8]> {
-    match line {
-        SectionLine::Declaration(it) => Some(it.name.as_bytes()),
-        _ => None,
+    let member = submodule(name);
+    let behind = count(member, *it, at);
+    if behind == 0 {
+        return tell_if_second(told, files, along, member, at);
     }
-}
-
-/// The first of the types that declares the parameter.
-fn parameter_before<'a>(bases: &[Declared<'a>], name: &[u8]) -> Option<Declared<'a>> {
-    for it in bases {
-        let lines = it.of.lines.as_slice();
-        if lines.iter().any(|line| {
-            matches!(line, SectionLine::Declaration(_)) && name_in(line) == name
-        }) {
-            return Some(*it);
-        }
-    }
-    None
+    let spot = Spot::first(Sign::Submodule, name);
+    files.tell_place(told, *it, Spot { behind, ..spot });
+    told.say(": a second submodule ");
+    told.say_name(name);
+    told.say("; choose another name");
+    true
 }
 
 /// A parameter of a type that one of the others declares too, and that one.
 fn shared_parameter<'a>(
-    others: &[Declared<'a>],
-    it: &Declared<'a>,
-) -> Option<(&'a [u8], Declared<'a>)> {
-    for line in it.of.lines.as_slice() {
-        if let Some(name) = declared_name(line) {
-            if let Some(other) = parameter_before(others, name) {
-                return Some((name, other));
+    others: &[&'a TypeDeclaration],
+    it: &'a TypeDeclaration,
+) -> Option<(Member<'a>, &'a TypeDeclaration)> {
+    for line in it.lines.as_slice() {
+        if let SectionLine::Declaration(declared) = line {
+            let member = parameter(declared.name.as_bytes());
+            if let Some(other) = declaring(others, member) {
+                return Some((member, other));
             }
         }
     }
@@ -206,75 +204,73 @@ fn shared_parameter<'a>(
 }
 
 /// A gate of a type that one of the others declares too, and that one.
-fn shared_gate<'a>(others: &[Declared<'a>], it: &Declared<'a>) -> Option<(&'a [u8], Declared<'a>)> {
-    for line in it.of.gates.as_slice() {
-        if let Some(gate) = gate_in(line) {
-            if let Some(other) = gate_before(others, gate.name.as_bytes()) {
-                return Some((gate.name.as_bytes(), other));
+fn shared_gate<'a>(
+    others: &[&'a TypeDeclaration],
+    it: &'a TypeDeclaration,
+) -> Option<(Member<'a>, &'a TypeDeclaration)> {
+    for line in it.gates.as_slice() {
+        if let GateLine::Declaration(declared) = line {
+            let member = gate(declared.name.as_bytes());
+            if let Some(other) = declaring(others, member) {
+                return Some((member, other));
             }
         }
     }
     None
 }
 
-/// Adds that two of the types that one extends, none of which extends the other, declare one member.
-fn tell_shared(
-    told: &mut String,
-    sources: &Sources<'_>,
-    files: &[ReadFile],
-    it: &Declared<'_>,
-    first: &Declared<'_>,
-    other: &Declared<'_>,
-    second: Second<'_>,
-) -> Result<(), NoMemory> {
-    write!(
-        told,
-        "{}:{}: the {} '{}' of '{}' is declared in '{}', at {}:{}, and in '{}', at {}:{}; it can't extend both",
-        sources.path(it.file),
-        line_of(files, it, Sign::Head, first.of.name.as_bytes(), 0),
-        second.what,
-        shown(second.name),
-        shown(it.of.name.as_bytes()),
-        shown(first.of.name.as_bytes()),
-        sources.path(first.file),
-        line_of(files, first, second.sign, second.name, 0),
-        shown(other.of.name.as_bytes()),
-        sources.path(other.file),
-        line_of(files, other, second.sign, second.name, 0)
-    )?;
-    Ok(())
+/// Says that a type declares the member, and where.
+fn tell_declaring(
+    told: &mut Explanation,
+    files: &Files<'_>,
+    it: &TypeDeclaration,
+    member: Member<'_>,
+) {
+    told.say("in ");
+    told.say_name(it.name.as_bytes());
+    told.say(", at ");
+    files.tell_place(told, it, Spot::first(member.sign, member.name));
 }
 
-/// Adds that two of the types that one extends declare one member. Answers whether two do.
-pub fn tell_two_bases<'a>(
-    told: &mut String,
-    sources: &Sources<'_>,
-    files: &[ReadFile],
-    bases: &[Declared<'a>],
-    it: &Declared<'a>,
-) -> Result<bool, NoMemory> {
-    for (at, first) in bases.iter().enumerate() {
-        let others = bases.get(at.saturating_add(1)..).unwrap_or(&[]);
-        if let Some((name, other)) = shared_parameter(others, first) {
-            let second = Second {
-                what: "parameter",
-                sign: Sign::Parameter,
-                name,
-                behind: 0,
-            };
-            tell_shared(told, sources, files, it, first, &other, second)?;
-            return Ok(true);
-        }
-        if let Some((name, other)) = shared_gate(others, first) {
-            let second = Second {
-                what: "gate",
-                sign: Sign::Gate,
-                name,
-                behind: 0,
-            };
-            tell_shared(told, sources, files, it, first, &other, second)?;
-            return Ok(true);
+/// Says that two of the types that one extends declare one member, where the first of these and another one do. Answers whether they do.
+fn tell_shared(
+    told: &mut Explanation,
+    files: &Files<'_>,
+    it: &TypeDeclaration,
+    bases: &[&TypeDeclaration],
+) -> bool {
+    let [first, others @ ..] = bases else {
+        return false;
+    };
+    let shared = match shared_parameter(others, *first) {
+        Some(shared) => Some(shared),
+        None => shared_gate(others, *first),
+    };
+    let Some((member, other)) = shared else {
+        return false;
+    };
+    let spot = Spot::first(Sign::Head, first.name.as_bytes());
+    begin(told, files, it, spot, member);
+    tell_declaring(told, files, *first, member);
+    told.say(", and ");
+    tell_declaring(told, files, other, member);
+    told.say("; it can't extend both");
+    true
+}
+
+/// Says that two of the types that the first of these extends declare one member. Answers whether two do.
+pub fn tell_two_bases(
+    told: &mut Explanation,
+    files: &Files<'_>,
+    along: &[&TypeDeclaration],
+) -> bool {
+    let [it, bases @ ..] = along else {
+        return false;
+    };
+    for (at, _base) in bases.iter().enumerate() {
+        if tell_shared(told, files, *it, &bases[at..]) {
+            return true;
         }
     }
-    Ok(false)
+    false
 }

@@ -1,10 +1,8 @@
 //! Why a line of an ini text means nothing.
 
+use crate::explanation::Explanation;
 use crate::names::shown;
 use ini_pattern::Pattern;
-use sim_values::NoMemory;
-use std::alloc::Global;
-use std::fmt::Write;
 
 /// The line of that number, counted from 1, without its end.
 pub fn line_at(bytes: &[u8], number: usize) -> &[u8] {
@@ -47,51 +45,53 @@ fn wrong_object(name: &str) -> &'static str {
     }
 }
 
-/// Adds what is wrong with an entry whose key has a dot.
-fn tell_dotted(alloc: Global, told: &mut String, key: &str, value: &str) -> Result<(), NoMemory> {
-    if Pattern::parse(alloc, key).is_err() {
-        write!(
-            told,
-            "the key '{key}' is no pattern: a '{{' or '[' is not closed, or nothing stands in it"
-        )?;
-        return Ok(());
+/// Says what is wrong with the value of a parameter.
+fn tell_value(told: &mut Explanation, value: &str) {
+    if value.is_empty() {
+        told.say("there is no value behind '='");
+        return;
+    }
+    told.say("the value ");
+    told.say_name(value.as_bytes());
+    told.say(
+        " is neither the word default nor an expression of literals (a whole number, a quantity as 5s, true, false, a text in quotes), operators, min and max; names, other functions and random numbers are not supported",
+    );
+}
+
+/// Says what is wrong with an entry whose key has a dot.
+fn tell_dotted(told: &mut Explanation, key: &str, value: &str) {
+    if Pattern::parse(told.alloc(), key).is_err() {
+        told.say("the key ");
+        told.say_name(key.as_bytes());
+        told.say(" is no pattern: a '{' or '[' is not closed, or nothing stands in it");
+        return;
     }
     let name = match key.rsplit_once('.') {
         Some((_, name)) => name,
         None => key,
     };
     if name.contains('-') {
-        told.push_str(wrong_object(name))?;
-    } else if value.is_empty() {
-        told.push_str("there is no value behind '='")?;
+        told.say(wrong_object(name));
     } else {
-        write!(
-            told,
-            "the value '{value}' is neither the word default nor an expression of literals (a whole number, a quantity as 5s, true, false, a text in quotes), "
-        )?;
-        told.push_str(
-            "operators, min and max; names, other functions and random numbers are not supported",
-        )?;
+        tell_value(told, value);
     }
-    Ok(())
 }
 
-/// Adds what is wrong with an entry.
-fn tell_entry(alloc: Global, told: &mut String, key: &str, value: &str) -> Result<(), NoMemory> {
+/// Says what is wrong with an entry.
+fn tell_entry(told: &mut Explanation, key: &str, value: &str) {
     if key.is_empty() {
-        told.push_str("there is no key before '='")?;
+        told.say("there is no key before '='");
     } else if !key.bytes().all(|b| b.is_ascii_graphic()) {
-        told.push_str("a key is of ASCII characters, without blanks")?;
+        told.say("a key is of ASCII characters, without blanks");
     } else if value.ends_with('\\') {
-        told.push_str("continuation lines are not supported: write the whole entry on one line")?;
+        told.say("continuation lines are not supported: write the whole entry on one line");
     } else if value.contains("${") {
-        told.push_str("parameter studies (${..}) are not supported: write one value")?;
+        told.say("parameter studies (${..}) are not supported: write one value");
     } else if key.contains('.') {
-        tell_dotted(alloc, told, key, value)?;
+        tell_dotted(told, key, value);
     } else {
-        told.push_str(wrong_option(key))?;
+        told.say(wrong_option(key));
     }
-    Ok(())
 }
 
 /// The value of an entry, without the blanks around it and what stands behind a `#`.
@@ -103,24 +103,23 @@ fn plain_value(behind: &str) -> &str {
     value.trim_ascii()
 }
 
-/// Adds what is wrong with a line of an ini text that means nothing.
-pub fn tell_ini_line(alloc: Global, told: &mut String, line: &[u8]) -> Result<(), NoMemory> {
+/// Says what is wrong with a line of an ini text that means nothing.
+pub fn tell_ini_line(told: &mut Explanation, line: &[u8]) {
     let text = shown(line);
     if text.starts_with('[') {
-        told.push_str(
+        told.say(
             "a section is written [General], [Config NAME] or [NAME], alone on its line, without blanks around it",
-        )?;
+        );
     } else if text.starts_with(' ') || text.starts_with('\t') {
-        told.push_str("an entry can't begin with a blank: continuation lines are not supported")?;
+        told.say("an entry can't begin with a blank: continuation lines are not supported");
     } else if text.starts_with("include ") {
-        told.push_str(wrong_option("include"))?;
+        told.say(wrong_option("include"));
     } else {
         match text.split_once('=') {
-            Some((key, behind)) => tell_entry(alloc, told, key.trim_ascii(), plain_value(behind))?,
-            None => told.push_str(
+            Some((key, behind)) => tell_entry(told, key.trim_ascii(), plain_value(behind)),
+            None => told.say(
                 "this is no entry: it is written KEY = VALUE, a comment begins with #",
-            )?,
+            ),
         }
     }
-    Ok(())
 }

@@ -1,193 +1,38 @@
-//! What is wrong with the interfaces of types.
+//! What types lack of their interfaces.
 
-use crate::bases::{kind_name, with_bases};
-use crate::channels::{declaring_channel, is_built_in};
-use crate::names::{shown, tell_near};
-use crate::ned_files::{Declared, ReadFile, Sign, line_of, names_of, type_named};
-use crate::sources::Sources;
+use crate::bases::{is_interface, with_bases, with_interfaces};
+use crate::channels::{built_in_word, declaring_channel};
+use crate::explanation::Explanation;
+use crate::names::shown;
+use crate::ned_files::{Files, type_named};
+use crate::places::{Sign, Spot};
 use ned_syntax::ast::{
     Declaration, GateDeclaration, GateDirection, GateLine, GateSize, ParameterWord, SectionLine,
-    TypeKind,
+    TypeDeclaration,
 };
-use sim_values::NoMemory;
-use std::alloc::Global;
-use std::fmt::Write;
+use ned_types::flat::declaration_named;
 
-/// Whether it is an interface.
-pub fn is_interface(kind: TypeKind) -> bool {
-    matches!(kind, TypeKind::ModuleInterface | TypeKind::ChannelInterface)
-}
-
-/// The kind of the interfaces of a type of that kind.
-fn interface_kind(kind: TypeKind) -> TypeKind {
-    match kind {
-        TypeKind::Channel | TypeKind::ChannelInterface => TypeKind::ChannelInterface,
-        _ => TypeKind::ModuleInterface,
+/// Whether the first of these types, which extends the others, has that parameter.
+fn has_parameter(along: &[&TypeDeclaration], wanted: &Declaration) -> bool {
+    let name = wanted.name.as_bytes();
+    if declaring_channel(along, name).is_some() {
+        return built_in_word(name) == wanted.word;
     }
-}
-
-/// How a type of that kind says what its interfaces are.
-fn says(kind: TypeKind) -> &'static str {
-    if is_interface(kind) {
-        "extends"
-    } else {
-        "is like"
-    }
-}
-
-/// Adds that one of the interfaces of a type isn't declared. Answers whether there is such.
-pub fn tell_unknown_interface(
-    alloc: Global,
-    told: &mut String,
-    sources: &Sources<'_>,
-    files: &[ReadFile],
-    types: &[Declared<'_>],
-    it: &Declared<'_>,
-) -> Result<bool, NoMemory> {
-    for name in it.of.interfaces.as_slice() {
-        let name = name.as_bytes();
-        if is_built_in(name) || type_named(types, name).is_some() {
-            continue;
-        }
-        write!(
-            told,
-            "{}:{}: the type '{}' {} '{}', which no file declares",
-            sources.path(it.file),
-            line_of(files, it, Sign::Head, name, 0),
-            shown(it.of.name.as_bytes()),
-            says(it.of.kind),
-            shown(name)
-        )?;
-        let near = names_of(alloc, types, interface_kind(it.of.kind))?;
-        tell_near(told, name, near.as_slice())?;
-        return Ok(true);
-    }
-    Ok(false)
-}
-
-/// Adds that one of the interfaces of a type is none for its kind. Answers whether there is such.
-pub fn tell_other_interface(
-    told: &mut String,
-    sources: &Sources<'_>,
-    files: &[ReadFile],
-    types: &[Declared<'_>],
-    it: &Declared<'_>,
-) -> Result<bool, NoMemory> {
-    let kind = interface_kind(it.of.kind);
-    for name in it.of.interfaces.as_slice() {
-        let name = name.as_bytes();
-        let fits = match type_named(types, name) {
-            Some(found) => found.of.kind == kind,
-            None => false,
-        };
-        if !fits {
-            write!(
-                told,
-                "{}:{}: the type '{}' {} '{}', which is no {}",
-                sources.path(it.file),
-                line_of(files, it, Sign::Head, name, 0),
-                shown(it.of.name.as_bytes()),
-                says(it.of.kind),
-                shown(name),
-                kind_name(kind)
-            )?;
-            return Ok(true);
+    for it in along {
+        if let Some(found) = declaration_named(name, it.lines.as_slice()) {
+            return found.word == wanted.word;
         }
     }
-    Ok(false)
-}
-
-/// Whether it is one of these.
-fn is_among(line: &[Declared<'_>], it: &Declared<'_>) -> bool {
-    line.iter()
-        .any(|other| other.of.name.is(it.of.name.as_bytes()))
-}
-
-/// Adds the interfaces of a type to others, each once.
-fn push_interfaces<'a>(
-    line: &mut Vec<Declared<'a>>,
-    types: &[Declared<'a>],
-    it: &Declared<'a>,
-) -> Result<(), NoMemory> {
-    for name in it.of.interfaces.as_slice() {
-        if let Some(found) = type_named(types, name.as_bytes()) {
-            if !is_among(line.as_slice(), &found) {
-                line.push(found)?;
-            }
-        }
-    }
-    Ok(())
-}
-
-/// The interfaces of a type, and what they extend, each once.
-pub fn interfaces_of<'a>(
-    alloc: Global,
-    types: &[Declared<'a>],
-    it: &Declared<'a>,
-) -> Result<Vec<Declared<'a>>, NoMemory> {
-    let mut line = Vec::new(alloc);
-    push_interfaces(&mut line, types, it)?;
-    for at in 0..types.len() {
-        let next = match line.get(at) {
-            Some(found) => *found,
-            None => break,
-        };
-        push_interfaces(&mut line, types, &next)?;
-    }
-    Ok(line)
-}
-
-/// The parameter that a line declares.
-fn parameter_in(line: &SectionLine) -> Option<&Declaration> {
-    match line {
-        SectionLine::Declaration(it) => Some(it),
-        _ => None,
-    }
-}
-
-/// Whether a line declares a parameter of that name and word.
-fn declares(line: &SectionLine, name: &[u8], word: ParameterWord) -> bool {
-    match line {
-        SectionLine::Declaration(it) => it.name.is(name) && it.word == word,
-        _ => false,
-    }
-}
-
-/// The word of a parameter of a built-in channel.
-fn built_in_word(name: &[u8]) -> ParameterWord {
-    if name == b"disabled".as_slice() {
-        ParameterWord::Bool
-    } else if name == b"delay".as_slice() || name == b"datarate".as_slice() {
-        ParameterWord::Double
-    } else {
-        ParameterWord::Int
-    }
-}
-
-/// Whether a type, with all that it extends, has that parameter.
-fn has_parameter<'a>(along: &[Declared<'a>], it: &Declared<'a>, wanted: &Declaration) -> bool {
-    let (name, word) = (wanted.name.as_bytes(), wanted.word);
-    if declaring_channel(along, it, name).is_some() {
-        return built_in_word(name) == word;
-    }
-    along.iter().any(|one| one
-        .of
-        .lines
-        .as_slice()
-        .iter()
-        .any(|line| declares(line, name, word)))
+    false
 }
 
 /// Whether it is the size of a vector.
 fn is_vector(size: &GateSize) -> bool {
-    match size {
-        GateSize::Single => false,
-        _ => true,
-    }
+    !matches!(size, GateSize::Single)
 }
 
-/// Whether a line declares a gate like that one.
-fn declares_gate(line: &GateLine, wanted: &GateDeclaration) -> bool {
+/// Whether the line declares a gate like that one.
+fn declares_like(line: &GateLine, wanted: &GateDeclaration) -> bool {
     match line {
         GateLine::Declaration(it) => {
             it.name.is(wanted.name.as_bytes())
@@ -198,61 +43,63 @@ fn declares_gate(line: &GateLine, wanted: &GateDeclaration) -> bool {
     }
 }
 
-/// Whether a type, with all that it extends, has that gate.
-fn has_gate(along: &[Declared<'_>], wanted: &GateDeclaration) -> bool {
-    along.iter().any(|one| one
-        .of
-        .gates
-        .as_slice()
-        .iter()
-        .any(|line| declares_gate(line, wanted)))
+/// Whether one of these types has that gate.
+fn has_gate(along: &[&TypeDeclaration], wanted: &GateDeclaration) -> bool {
+    for it in along {
+        if it
+            .gates
+            .as_slice()
+            .iter()
+            .any(|line| declares_like(line, wanted))
+        {
+            return true;
+        }
+    }
+    false
 }
 
 /// The word of a parameter as it is written.
 fn word_name(word: ParameterWord) -> &'static str {
     match word {
-        ParameterWord::Bool => "bool",
-        ParameterWord::Int => "int",
-        ParameterWord::Text => "string",
-        ParameterWord::Double => "double",
+        ParameterWord::Bool => "bool ",
+        ParameterWord::Int => "int ",
+        ParameterWord::Text => "string ",
+        ParameterWord::Double => "double ",
     }
 }
 
 /// The direction of a gate as it is written.
 fn direction_name(direction: GateDirection) -> &'static str {
     match direction {
-        GateDirection::Input => "input",
-        GateDirection::Output => "output",
-        GateDirection::Inout => "inout",
+        GateDirection::Input => "input ",
+        GateDirection::Output => "output ",
+        GateDirection::Inout => "inout ",
     }
 }
 
-/// What an interface has that a type lacks.
+/// What an interface has that a type lacks, as it is declared.
 #[derive(Clone, Copy)]
 struct Lacking<'a> {
-    interface: Declared<'a>,
-    what: &'a str,
+    what: &'static str,
     sign: Sign,
+    word: &'static str,
     name: &'a [u8],
-    word: &'a str,
-    brackets: &'a str,
+    brackets: &'static str,
 }
 
-/// The first parameter of an interface that a type lacks.
+/// The first parameter of an interface that a type lacks, which extends the others of these.
 fn lacking_parameter<'a>(
-    along: &[Declared<'a>],
-    it: &Declared<'a>,
-    interface: Declared<'a>,
+    along: &[&TypeDeclaration],
+    interface: &'a TypeDeclaration,
 ) -> Option<Lacking<'a>> {
-    for line in interface.of.lines.as_slice() {
-        if let Some(wanted) = parameter_in(line) {
-            if !has_parameter(along, it, wanted) {
+    for line in interface.lines.as_slice() {
+        if let SectionLine::Declaration(wanted) = line {
+            if !has_parameter(along, wanted) {
                 return Some(Lacking {
-                    interface,
-                    what: "parameter",
+                    what: "parameter '",
                     sign: Sign::Parameter,
-                    name: wanted.name.as_bytes(),
                     word: word_name(wanted.word),
+                    name: wanted.name.as_bytes(),
                     brackets: "",
                 });
             }
@@ -261,17 +108,19 @@ fn lacking_parameter<'a>(
     None
 }
 
-/// The first gate of an interface that a type lacks.
-fn lacking_gate<'a>(along: &[Declared<'a>], interface: Declared<'a>) -> Option<Lacking<'a>> {
-    for line in interface.of.gates.as_slice() {
+/// The first gate of an interface that a type lacks, which extends the others of these.
+fn lacking_gate<'a>(
+    along: &[&TypeDeclaration],
+    interface: &'a TypeDeclaration,
+) -> Option<Lacking<'a>> {
+    for line in interface.gates.as_slice() {
         if let GateLine::Declaration(wanted) = line {
             if !has_gate(along, wanted) {
                 return Some(Lacking {
-                    interface,
-                    what: "gate",
+                    what: "gate '",
                     sign: Sign::Gate,
-                    name: wanted.name.as_bytes(),
                     word: direction_name(wanted.direction),
+                    name: wanted.name.as_bytes(),
                     brackets: if is_vector(&wanted.size) { "[]" } else { "" },
                 });
             }
@@ -280,101 +129,129 @@ fn lacking_gate<'a>(along: &[Declared<'a>], interface: Declared<'a>) -> Option<L
     None
 }
 
-/// Adds what a type lacks.
+/// Says what a type lacks, and which interface has it.
 fn tell_lacking(
-    told: &mut String,
-    sources: &Sources<'_>,
-    files: &[ReadFile],
-    it: &Declared<'_>,
-    kept: &[u8],
+    told: &mut Explanation,
+    files: &Files<'_>,
+    interface: &TypeDeclaration,
     lacking: Lacking<'_>,
-) -> Result<(), NoMemory> {
-    let of = lacking.interface;
-    write!(
-        told,
-        "{}:{}: the type '{}' is like '{}', and lacks the {} '{} {}{}' of '{}', declared at {}:{}",
-        sources.path(it.file),
-        line_of(files, it, Sign::Head, kept, 0),
-        shown(it.of.name.as_bytes()),
-        shown(kept),
-        lacking.what,
-        lacking.word,
-        shown(lacking.name),
-        lacking.brackets,
-        shown(of.of.name.as_bytes()),
-        sources.path(of.file),
-        line_of(files, &of, lacking.sign, lacking.name, 0)
-    )?;
-    Ok(())
+) {
+    told.say(", and lacks the ");
+    told.say(lacking.what);
+    told.say(lacking.word);
+    told.say(shown(lacking.name));
+    told.say(lacking.brackets);
+    told.say("' of ");
+    told.say_name(interface.name.as_bytes());
+    told.say(", declared at ");
+    files.tell_place(told, interface, Spot::first(lacking.sign, lacking.name));
 }
 
-/// Adds what a type lacks of an interface and of what that extends. Answers whether it lacks something.
-fn tell_interface<'a>(
-    alloc: Global,
-    told: &mut String,
-    sources: &Sources<'_>,
-    files: &[ReadFile],
-    types: &[Declared<'a>],
-    along: &[Declared<'a>],
-    it: &Declared<'a>,
-    kept: Declared<'a>,
-) -> Result<bool, NoMemory> {
-    let mut line = interfaces_of(alloc, types, &kept)?;
-    line.push(kept)?;
-    for interface in line.as_slice() {
-        let lacking = match lacking_parameter(along, it, *interface) {
-            Some(lacking) => Some(lacking),
-            None => lacking_gate(along, *interface),
-        };
-        if let Some(lacking) = lacking {
-            tell_lacking(told, sources, files, it, kept.of.name.as_bytes(), lacking)?;
-            return Ok(true);
-        }
+/// What the first of these types, which extends the others, lacks of an interface.
+fn lacking_of<'a>(
+    along: &[&TypeDeclaration],
+    interface: &'a TypeDeclaration,
+) -> Option<Lacking<'a>> {
+    let parameter = lacking_parameter(along, interface);
+    if parameter.is_some() {
+        return parameter;
     }
-    Ok(false)
+    lacking_gate(along, interface)
 }
 
-/// Adds what a type lacks of its interfaces. Answers whether it lacks something.
-fn tell_interfaces<'a>(
-    alloc: Global,
-    told: &mut String,
-    sources: &Sources<'_>,
-    files: &[ReadFile],
-    types: &[Declared<'a>],
-    it: &Declared<'a>,
-) -> Result<bool, NoMemory> {
-    let along = with_bases(alloc, types, *it)?;
-    for name in it.of.interfaces.as_slice() {
-        if let Some(kept) = type_named(types, name.as_bytes()) {
-            if tell_interface(
-                alloc,
-                told,
-                sources,
-                files,
-                types,
-                along.as_slice(),
-                it,
-                kept,
-            )? {
-                return Ok(true);
-            }
-        }
-    }
-    Ok(false)
+/// Says what the first of these types, which extends the others, lacks of an interface, where it lacks something. It says that it
+/// is like `kept`. Answers whether it lacks something.
+fn tell_interface(
+    told: &mut Explanation,
+    files: &Files<'_>,
+    along: &[&TypeDeclaration],
+    kept: &[u8],
+    interface: &TypeDeclaration,
+) -> bool {
+    let Some(it) = along.first() else {
+        return false;
+    };
+    let Some(lacking) = lacking_of(along, interface) else {
+        return false;
+    };
+    files.begin(told, it, Sign::Head, kept);
+    told.say("the type ");
+    told.say_name(it.name.as_bytes());
+    told.say(" is like ");
+    told.say_name(kept);
+    tell_lacking(told, files, interface, lacking);
+    true
 }
 
-/// Adds what one of the types lacks of its interfaces. Answers whether one lacks something.
-pub fn tell_broken<'a>(
-    alloc: Global,
-    told: &mut String,
-    sources: &Sources<'_>,
-    files: &[ReadFile],
-    types: &[Declared<'a>],
-) -> Result<bool, NoMemory> {
-    for it in types {
-        if !is_interface(it.of.kind) && tell_interfaces(alloc, told, sources, files, types, it)? {
-            return Ok(true);
+/// Says what the first of these types, which extends the others, lacks of the first of these interfaces and of those which that extends.
+/// Answers whether it lacks something.
+fn tell_interfaces(
+    told: &mut Explanation,
+    files: &Files<'_>,
+    along: &[&TypeDeclaration],
+    line: &[&TypeDeclaration],
+) -> bool {
+    let [kept, behind @ ..] = line else {
+        return false;
+    };
+    let name = kept.name.as_bytes();
+    for interface in behind {
+        if tell_interface(told, files, along, name, interface) {
+            return true;
         }
     }
-    Ok(false)
+    tell_interface(told, files, along, name, kept)
+}
+
+/// Says what the first of these types, which extends the others, lacks of the interface of that name. Answers whether it lacks something.
+fn tell_named(
+    told: &mut Explanation,
+    files: &Files<'_>,
+    along: &[&TypeDeclaration],
+    name: &[u8],
+) -> bool {
+    let Some(kept) = type_named(files.types, name) else {
+        return false;
+    };
+    match with_interfaces(told.alloc(), files.types, kept) {
+        Ok(line) => tell_interfaces(told, files, along, line.as_slice()),
+        Err(error) => {
+            told.refuse(error);
+            true
+        }
+    }
+}
+
+/// Says what the first of these types, which extends the others, lacks of its interfaces. Answers whether it lacks something.
+fn tell_type(told: &mut Explanation, files: &Files<'_>, along: &[&TypeDeclaration]) -> bool {
+    let Some(it) = along.first() else {
+        return false;
+    };
+    for name in it.interfaces.as_slice() {
+        if tell_named(told, files, along, name.as_bytes()) {
+            return true;
+        }
+    }
+    false
+}
+
+/// Says what a type lacks of its interfaces. Answers whether it lacks something.
+fn tell_broken_type(told: &mut Explanation, files: &Files<'_>, it: &TypeDeclaration) -> bool {
+    match with_bases(told.alloc(), files.types, it) {
+        Ok(along) => tell_type(told, files, along.as_slice()),
+        Err(error) => {
+            told.refuse(error);
+            true
+        }
+    }
+}
+
+/// Says what one of the types lacks of its interfaces. Answers whether one lacks something.
+pub fn tell_broken(told: &mut Explanation, files: &Files<'_>) -> bool {
+    for it in files.types {
+        if !is_interface(it.kind) && tell_broken_type(told, files, it) {
+            return true;
+        }
+    }
+    false
 }

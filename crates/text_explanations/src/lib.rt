@@ -6,13 +6,17 @@
 pub mod bases;
 mod channels;
 mod circles;
+pub mod explanation;
 mod gates;
+mod heads;
 pub mod ini_lines;
 mod interfaces;
-pub mod members;
+mod members;
 pub mod names;
 pub mod ned_files;
+pub mod places;
 pub mod sources;
 pub mod syntax;
 mod tokens;
 pub mod types;
+pub mod values;

@@ -1,37 +1,35 @@
 //! What is wrong with the parameters of a type, with those of the types that it extends, and with the bodies of its submodules.
 
-use crate::bases::with_bases;
 use crate::channels::declaring_channel;
-use crate::names::{shown, tell_near};
-use crate::ned_files::{
-    Declared, ReadFile, Sign, all_types, line_in_body, line_of, read_files, type_named,
-};
-use crate::sources::Sources;
-use ned_syntax::ast::{ParameterValue, SectionLine, Submodule};
-use ned_types::flat::submodule_named;
-use ned_types::given::{name_in, value_in};
-use sim_values::NoMemory;
-use std::alloc::Global;
-use std::fmt::Write;
+use crate::explanation::Explanation;
+use crate::ned_files::Files;
+use crate::places::{Sign, Spot};
+use ned_syntax::ast::{SectionLine, Submodule, TypeDeclaration};
+use ned_types::flat::declaration_named;
+use ned_types::given::{fixes, name_in, value_in};
 
-/// What is wrong with a line, and in which type that is extended the other line stands; in none where it stands in the same type.
+/// What is wrong with a line.
 #[derive(Clone, Copy)]
 enum Clash<'a> {
-    /// The parameter is declared already.
-    Declared(Option<Declared<'a>>),
+    /// The parameter is declared a second time.
+    Again,
+    /// The type of that name, which is extended, declares it already.
+    Declared(&'a [u8]),
     /// A built-in channel declares it.
     BuiltIn(&'a [u8]),
     /// It is declared nowhere.
     Undeclared,
     /// It has a fixed value already.
-    Fixed(Option<Declared<'a>>),
+    Fixed,
+    /// It has one in the type of that name.
+    FixedIn(&'a [u8]),
 }
 
 fn is_declaration(line: &SectionLine) -> bool {
     matches!(line, SectionLine::Declaration(_))
 }
 
-/// How often one of the lines declares the parameter.
+/// How many of the lines declare the parameter.
 fn declarations_of(lines: &[SectionLine], name: &[u8]) -> usize {
     lines
         .iter()
@@ -45,154 +43,65 @@ fn mentions_of(lines: &[SectionLine], name: &[u8]) -> usize {
 }
 
 /// Whether one of the lines gives the parameter a fixed value.
-fn fixes(lines: &[SectionLine], name: &[u8]) -> bool {
-    lines.iter().any(|line| {
-        name_in(line) == name && matches!(value_in(line), Some(ParameterValue::Fixed(_)))
-    })
-}
-
-/// The last of the lines that gives the parameter a value.
-fn giving(lines: &[SectionLine], name: &[u8]) -> Option<usize> {
-    let mut last = None;
-    for (at, line) in lines.iter().enumerate() {
-        if name_in(line) == name && value_in(line).is_some() {
-            last = Some(at);
-        }
-    }
-    last
-}
-
-/// The line of the text where a type gives the parameter a value.
-fn line_of_value(files: &[ReadFile], it: &Declared<'_>, name: &[u8]) -> Option<usize> {
-    let lines = it.of.lines.as_slice();
-    let at = giving(lines, name)?;
-    let before = lines.get(..at)?;
-    Some(line_of(files, it, Sign::Name, name, mentions_of(before, name)))
-}
-
-/// Adds where a type, or what it extends, gives the parameter its value: `path:line: `.
-pub fn tell_place_of_value(
-    alloc: Global,
-    told: &mut String,
-    sources: &Sources<'_>,
-    of: &[u8],
-    name: &[u8],
-) -> Result<(), NoMemory> {
-    let files = read_files(alloc, sources)?;
-    let types = all_types(alloc, &files)?;
-    let Some(found) = type_named(types.as_slice(), of) else {
-        return Ok(());
-    };
-    let along = with_bases(alloc, types.as_slice(), found)?;
-    for it in along.as_slice() {
-        if let Some(line) = line_of_value(files.as_slice(), it, name) {
-            write!(told, "{}:{line}: ", sources.path(it.file))?;
-            break;
-        }
-    }
-    Ok(())
-}
-
-/// The submodule of that name, and the first of the types that declares it.
-fn declaring<'a>(along: &[Declared<'a>], name: &[u8]) -> Option<(Declared<'a>, &'a Submodule)> {
-    for it in along {
-        if let Some(found) = submodule_named(name, it.of.submodules.as_slice()) {
-            return Some((*it, found));
-        }
-    }
-    None
-}
-
-/// Adds where the body of a submodule of a type, or of what that extends, gives a parameter its value: `path:line: `.
-pub fn tell_place_in_body(
-    alloc: Global,
-    told: &mut String,
-    sources: &Sources<'_>,
-    of: &[u8],
-    submodule: &[u8],
-    name: &[u8],
-) -> Result<(), NoMemory> {
-    let files = read_files(alloc, sources)?;
-    let types = all_types(alloc, &files)?;
-    let Some(network) = type_named(types.as_slice(), of) else {
-        return Ok(());
-    };
-    let along = with_bases(alloc, types.as_slice(), network)?;
-    let Some((it, inside)) = declaring(along.as_slice(), submodule) else {
-        return Ok(());
-    };
-    let lines = inside.body.as_slice();
-    let before = match giving(lines, name) {
-        Some(at) => lines.get(..at),
-        None => None,
-    };
-    if let Some(before) = before {
-        let behind = mentions_of(before, name);
-        let line = line_in_body(files.as_slice(), &it, submodule, Sign::Name, name, behind);
-        write!(told, "{}:{line}: ", sources.path(it.file))?;
-    }
-    Ok(())
+fn is_fixed(lines: &[SectionLine], name: &[u8]) -> bool {
+    lines
+        .iter()
+        .any(|line| name_in(line) == name && fixes(line))
 }
 
 /// The first of the types that declares the parameter.
-fn declared_in<'a>(bases: &[Declared<'a>], name: &[u8]) -> Option<Declared<'a>> {
-    for it in bases {
-        if declarations_of(it.of.lines.as_slice(), name) > 0 {
+fn declared_in<'a>(types: &[&'a TypeDeclaration], name: &[u8]) -> Option<&'a TypeDeclaration> {
+    for it in types {
+        if declaration_named(name, it.lines.as_slice()).is_some() {
             return Some(*it);
         }
     }
     None
 }
 
-/// The first of the types that gives the parameter a fixed value.
-fn fixed_in<'a>(bases: &[Declared<'a>], name: &[u8]) -> Option<Declared<'a>> {
-    for it in bases {
-        if fixes(it.of.lines.as_slice(), name) {
-            return Some(*it);
+/// The fixed value that a parameter has already, in lines before or in one of the types.
+fn fixed_before<'a>(
+    types: &[&'a TypeDeclaration],
+    before: &[SectionLine],
+    name: &[u8],
+) -> Option<Clash<'a>> {
+    if is_fixed(before, name) {
+        return Some(Clash::Fixed);
+    }
+    for it in types {
+        if is_fixed(it.lines.as_slice(), name) {
+            return Some(Clash::FixedIn(it.name.as_bytes()));
         }
     }
     None
 }
 
-/// What is wrong with a declaration behind these lines.
+/// What is wrong with a declaration behind these lines, in a type that extends those.
 fn declared_before<'a>(
-    bases: &[Declared<'a>],
+    bases: &[&'a TypeDeclaration],
     before: &[SectionLine],
     name: &[u8],
 ) -> Option<Clash<'a>> {
     if declarations_of(before, name) > 0 {
-        return Some(Clash::Declared(None));
+        return Some(Clash::Again);
     }
     match declared_in(bases, name) {
-        Some(base) => Some(Clash::Declared(Some(base))),
+        Some(base) => Some(Clash::Declared(base.name.as_bytes())),
         None => None,
     }
 }
 
-/// What is wrong with a value behind these lines.
-fn fixed_before<'a>(
-    bases: &[Declared<'a>],
-    before: &[SectionLine],
-    name: &[u8],
-) -> Option<Clash<'a>> {
-    if fixes(before, name) {
-        return Some(Clash::Fixed(None));
-    }
-    match fixed_in(bases, name) {
-        Some(base) => Some(Clash::Fixed(Some(base))),
-        None => None,
-    }
-}
-
-/// What is wrong with a line of a type that extends these, the nearest first.
-fn clash_of<'a>(
-    bases: &[Declared<'a>],
-    it: &Declared<'a>,
+/// What is wrong with a line behind these in the first of the types, which extends the others.
+fn clash_in_type<'a>(
+    along: &[&'a TypeDeclaration],
     before: &[SectionLine],
     line: &SectionLine,
 ) -> Option<Clash<'a>> {
+    let [_, bases @ ..] = along else {
+        return None;
+    };
     let name = name_in(line);
-    let channel = declaring_channel(bases, it, name);
+    let channel = declaring_channel(along, name);
     if is_declaration(line) {
         if let Some(channel) = channel {
             return Some(Clash::BuiltIn(channel));
@@ -205,101 +114,25 @@ fn clash_of<'a>(
     if value_in(line).is_none() {
         return None;
     }
-    let is_declared = declarations_of(it.of.lines.as_slice(), name) > 0
-        || declared_in(bases, name).is_some()
-        || channel.is_some();
-    if !is_declared {
+    if channel.is_none() && declared_in(along, name).is_none() {
         return Some(Clash::Undeclared);
     }
     fixed_before(bases, before, name)
 }
 
-/// Adds in words what is wrong with a parameter of that type.
-fn tell_words(
-    told: &mut String,
-    clash: Clash<'_>,
-    extends: bool,
-    of: &[u8],
-) -> Result<(), NoMemory> {
-    match clash {
-        Clash::Declared(None) => told.push_str("is declared a second time")?,
-        Clash::Declared(Some(base)) => write!(
-            told,
-            "is declared in '{}' already, which '{}' extends; leave out the word before it, or choose another name",
-            shown(base.of.name.as_bytes()),
-            shown(of)
-        )?,
-        Clash::BuiltIn(channel) => write!(
-            told,
-            "is declared by '{}' already; leave out the word before it, or choose another name",
-            shown(channel)
-        )?,
-        Clash::Undeclared if extends => {
-            told.push_str("is given a value, and neither the type nor what it extends declares it")?
-        }
-        Clash::Undeclared => told.push_str("is given a value, and the type doesn't declare it")?,
-        Clash::Fixed(None) => {
-            told.push_str("has a fixed value already, and can't be given another")?
-        }
-        Clash::Fixed(Some(base)) => write!(
-            told,
-            "has a fixed value in '{}' already, and can't be given another; with default(..) there it could",
-            shown(base.of.name.as_bytes())
-        )?,
-    }
-    Ok(())
-}
-
-/// Which place in the text of a type shows the clash of a line, and behind how many such.
-fn sign_of(clash: Clash<'_>, before: &[SectionLine], name: &[u8]) -> (Sign, usize) {
-    match clash {
-        Clash::Declared(_) | Clash::BuiltIn(_) => (Sign::Parameter, declarations_of(before, name)),
-        _ => (Sign::Name, mentions_of(before, name)),
-    }
-}
-
-/// Adds what is wrong with the parameters of a type that extends these, the nearest first. Answers whether something is.
-pub fn tell_section<'a>(
-    told: &mut String,
-    sources: &Sources<'_>,
-    files: &[ReadFile],
-    bases: &[Declared<'a>],
-    it: &Declared<'a>,
-) -> Result<bool, NoMemory> {
-    let lines = it.of.lines.as_slice();
-    for (at, line) in lines.iter().enumerate() {
-        let before = match lines.get(..at) {
-            Some(before) => before,
-            None => lines,
-        };
-        if let Some(clash) = clash_of(bases, it, before, line) {
-            let name = name_in(line);
-            let (sign, behind) = sign_of(clash, before, name);
-            write!(
-                told,
-                "{}:{}: the parameter '{}' of '{}' ",
-                sources.path(it.file),
-                line_of(files, it, sign, name, behind),
-                shown(name),
-                shown(it.of.name.as_bytes())
-            )?;
-            tell_words(told, clash, it.of.base.is_some(), it.of.name.as_bytes())?;
-            return Ok(true);
-        }
-    }
-    Ok(false)
-}
-
-/// What is wrong with a line of a body behind these, where the submodule's type and what it extends are those, the nearest first.
+/// What is wrong with a line behind these in the body of a submodule, whose type is the first of these, which extends the others.
 fn clash_in_body<'a>(
-    along: &[Declared<'a>],
+    along: &[&'a TypeDeclaration],
     before: &[SectionLine],
     line: &SectionLine,
 ) -> Option<Clash<'a>> {
     let name = name_in(line);
     let declared = declared_in(along, name);
     if is_declaration(line) {
-        return Some(Clash::Declared(declared));
+        return match declared {
+            Some(found) => Some(Clash::Declared(found.name.as_bytes())),
+            None => Some(Clash::Again),
+        };
     }
     if value_in(line).is_none() {
         return None;
@@ -310,92 +143,191 @@ fn clash_in_body<'a>(
     fixed_before(along, before, name)
 }
 
-/// The names of the parameters that types declare.
-fn declared_names<'a>(alloc: Global, along: &[Declared<'a>]) -> Result<Vec<&'a [u8]>, NoMemory> {
-    let mut names = Vec::new(alloc);
+/// The place of the clash of a line behind these.
+fn spot_of<'a>(clash: Clash<'_>, before: &[SectionLine], name: &'a [u8]) -> Spot<'a> {
+    let (sign, behind) = match clash {
+        Clash::Again | Clash::Declared(_) | Clash::BuiltIn(_) => {
+            (Sign::Parameter, declarations_of(before, name))
+        }
+        _ => (Sign::Name, mentions_of(before, name)),
+    };
+    Spot {
+        body: None,
+        sign,
+        name,
+        behind,
+    }
+}
+
+/// Says that the parameter has a fixed value, in the type of that name where one is named.
+fn tell_fixed(told: &mut Explanation, of: Option<&[u8]>) {
+    told.say("has a fixed value ");
+    if let Some(name) = of {
+        told.say("in ");
+        told.say_name(name);
+        told.say(" ");
+    }
+    told.say("already, and can't be given another");
+    if of.is_some() {
+        told.say("; with default(..) there it could");
+    }
+}
+
+/// Says what is wrong with a parameter of that type.
+fn tell_words(told: &mut Explanation, clash: Clash<'_>, it: &TypeDeclaration) {
+    match clash {
+        Clash::Again => told.say("is declared a second time"),
+        Clash::Declared(base) => {
+            told.say("is declared in ");
+            told.say_name(base);
+            told.say(" already, which ");
+            told.say_name(it.name.as_bytes());
+            told.say(" extends; leave out the word before it, or choose another name");
+        }
+        Clash::BuiltIn(channel) => {
+            told.say("is declared by ");
+            told.say_name(channel);
+            told.say(" already; leave out the word before it, or choose another name");
+        }
+        Clash::Undeclared if it.base.is_some() => {
+            told.say("is given a value, and neither the type nor what it extends declares it")
+        }
+        Clash::Undeclared => told.say("is given a value, and the type doesn't declare it"),
+        Clash::Fixed => tell_fixed(told, None),
+        Clash::FixedIn(base) => tell_fixed(told, Some(base)),
+    }
+}
+
+/// Says what is wrong with a line behind these in the first of the types, which extends the others, where something is. Answers whether
+/// something is.
+fn tell_line(
+    told: &mut Explanation,
+    files: &Files<'_>,
+    along: &[&TypeDeclaration],
+    before: &[SectionLine],
+    line: &SectionLine,
+) -> bool {
+    let Some(it) = along.first() else {
+        return false;
+    };
+    let Some(clash) = clash_in_type(along, before, line) else {
+        return false;
+    };
+    let name = name_in(line);
+    files.tell_place(told, *it, spot_of(clash, before, name));
+    told.say(": the parameter ");
+    told.say_name(name);
+    told.say(" of ");
+    told.say_name(it.name.as_bytes());
+    told.say(" ");
+    tell_words(told, clash, *it);
+    true
+}
+
+/// Says what is wrong with the parameters of the first of the types, which extends the others. Answers whether something is.
+pub fn tell_section(told: &mut Explanation, files: &Files<'_>, along: &[&TypeDeclaration]) -> bool {
+    let Some(it) = along.first() else {
+        return false;
+    };
+    let lines = it.lines.as_slice();
+    for (at, line) in lines.iter().enumerate() {
+        let before = lines.get(..at).unwrap_or(lines);
+        if tell_line(told, files, along, before, line) {
+            return true;
+        }
+    }
+    false
+}
+
+/// Says the first parameter of the types whose name is near, as a question.
+fn tell_near(told: &mut Explanation, along: &[&TypeDeclaration], name: &[u8]) {
     for it in along {
-        for line in it.of.lines.as_slice() {
-            if is_declaration(line) {
-                names.push(name_in(line))?;
+        for line in it.lines.as_slice() {
+            if is_declaration(line) && told.say_if_near(name, name_in(line)) {
+                return;
             }
         }
     }
-    Ok(names)
 }
 
-/// Adds in words what is wrong with a parameter in the body of a submodule of that type.
+/// Says what is wrong with a parameter in the body of a submodule, whose type is the first of these, which extends the others.
 fn tell_body_words(
-    alloc: Global,
-    told: &mut String,
+    told: &mut Explanation,
     clash: Clash<'_>,
-    along: &[Declared<'_>],
-    type_name: &[u8],
+    along: &[&TypeDeclaration],
+    of: &[u8],
     name: &[u8],
-) -> Result<(), NoMemory> {
+) {
     match clash {
-        Clash::Declared(Some(base)) => write!(
-            told,
-            "can't be declared in its body, and '{}' declares it: leave out the word before it",
-            shown(base.of.name.as_bytes())
-        )?,
-        Clash::Declared(None) => write!(
-            told,
-            "can't be declared in its body: declare it in the type '{}'",
-            shown(type_name)
-        )?,
-        Clash::Undeclared => {
-            write!(
-                told,
-                "is given a value, and its type '{}' doesn't declare it",
-                shown(type_name)
-            )?;
-            let names = declared_names(alloc, along)?;
-            tell_near(told, name, names.as_slice())?;
+        Clash::Declared(base) | Clash::BuiltIn(base) => {
+            told.say("can't be declared in its body, and ");
+            told.say_name(base);
+            told.say(" declares it: leave out the word before it");
         }
-        Clash::BuiltIn(_) | Clash::Fixed(_) => tell_words(told, clash, false, type_name)?,
+        Clash::Again => {
+            told.say("can't be declared in its body: declare it in the type ");
+            told.say_name(of);
+        }
+        Clash::Undeclared => {
+            told.say("is given a value, and its type ");
+            told.say_name(of);
+            told.say(" doesn't declare it");
+            tell_near(told, along, name);
+        }
+        Clash::Fixed => tell_fixed(told, None),
+        Clash::FixedIn(base) => tell_fixed(told, Some(base)),
     }
-    Ok(())
 }
 
-/// Adds what is wrong with the body of a submodule, where its type and what that extends are these, the nearest first. Answers whether
+/// Says what is wrong with a line behind these in the body of a submodule, whose type is the first of those, which extends the others,
+/// where something is. Answers whether something is.
+fn tell_body_line(
+    told: &mut Explanation,
+    files: &Files<'_>,
+    along: &[&TypeDeclaration],
+    it: &TypeDeclaration,
+    submodule: &Submodule,
+    at: usize,
+) -> bool {
+    let lines = submodule.body.as_slice();
+    let (Some(line), Some(before)) = (lines.get(at), lines.get(..at)) else {
+        return false;
+    };
+    let Some(clash) = clash_in_body(along, before, line) else {
+        return false;
+    };
+    let (name, own) = (name_in(line), submodule.name.as_bytes());
+    let body = Some(own);
+    files.tell_place(
+        told,
+        it,
+        Spot {
+            body,
+            ..spot_of(clash, before, name)
+        },
+    );
+    told.say(": the parameter ");
+    told.say_name(name);
+    told.say(" of the submodule ");
+    told.say_name(own);
+    told.say(" ");
+    tell_body_words(told, clash, along, submodule.type_name.as_bytes(), name);
+    true
+}
+
+/// Says what is wrong with the body of a submodule, whose type is the first of these, which extends the others. Answers whether
 /// something is.
 pub fn tell_body(
-    alloc: Global,
-    told: &mut String,
-    sources: &Sources<'_>,
-    files: &[ReadFile],
-    along: &[Declared<'_>],
-    it: &Declared<'_>,
+    told: &mut Explanation,
+    files: &Files<'_>,
+    along: &[&TypeDeclaration],
+    it: &TypeDeclaration,
     submodule: &Submodule,
-) -> Result<bool, NoMemory> {
-    let lines = submodule.body.as_slice();
-    let own = submodule.name.as_bytes();
-    for (at, line) in lines.iter().enumerate() {
-        let before = match lines.get(..at) {
-            Some(before) => before,
-            None => lines,
-        };
-        if let Some(clash) = clash_in_body(along, before, line) {
-            let name = name_in(line);
-            let (sign, behind) = sign_of(clash, before, name);
-            write!(
-                told,
-                "{}:{}: the parameter '{}' of the submodule '{}' ",
-                sources.path(it.file),
-                line_in_body(files, it, own, sign, name, behind),
-                shown(name),
-                shown(own)
-            )?;
-            tell_body_words(
-                alloc,
-                told,
-                clash,
-                along,
-                submodule.type_name.as_bytes(),
-                name,
-            )?;
-            return Ok(true);
+) -> bool {
+    for at in 0..submodule.body.len() {
+        if tell_body_line(told, files, along, it, submodule, at) {
+            return true;
         }
     }
-    Ok(false)
+    false
 }

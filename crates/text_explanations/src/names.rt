@@ -3,9 +3,6 @@
 ghost use Rattle.std.specs.Prelude.{◌≡◌};
 ghost use Rattle.text_explanations.specs.Names.{shown};
 
-use sim_values::NoMemory;
-use std::fmt::Write;
-
 /// The characters of a name.
 pub fn shown(bytes: &[u8]) -> &str
     ensures { result.now ≡ shown bytes.now }
@@ -41,29 +38,6 @@ pub fn is_near(one: &[u8], other: &[u8]) -> bool {
     one != other && one.len().max(other.len()) <= same && same >= 4
 }
 
-/// Adds the first of the names that is near, as a question.
-pub fn tell_near(told: &mut String, name: &[u8], known: &[&[u8]]) -> Result<(), NoMemory> {
-    for it in known {
-        if is_near(name, it) {
-            write!(told, "; did you mean '{}'?", shown(it))?;
-            return Ok(());
-        }
-    }
-    Ok(())
-}
-
-/// Adds names, with commas between them; `none` where there are none.
-pub fn tell_list(told: &mut String, names: &[&[u8]]) -> Result<(), NoMemory> {
-    if names.is_empty() {
-        told.push_str("none")?;
-    }
-    for (at, name) in names.iter().enumerate() {
-        let before = if at == 0 { "" } else { ", " };
-        write!(told, "{before}{}", shown(name))?;
-    }
-    Ok(())
-}
-
 /// What stands behind the last dot of a name: what a type within another is called there.
 pub fn last_part(name: &[u8]) -> &[u8] {
     let mut last = name;
@@ -73,4 +47,9 @@ pub fn last_part(name: &[u8]) -> &[u8] {
         }
     }
     last
+}
+
+/// Whether it is the name of a type within another.
+pub fn is_inner(name: &[u8]) -> bool {
+    name.contains(&b'.')
 }

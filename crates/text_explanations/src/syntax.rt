@@ -1,5 +1,6 @@
 //! Why a text is no NED.
 
+use crate::explanation::Explanation;
 use crate::tokens::{is_for_later, tell_token, token_of};
 use ned_syntax::parse::tokens_left;
 use ned_tokens::lines::tokenize;
@@ -7,168 +8,138 @@ use ned_tokens::token::Token;
 use sim_values::NoMemory;
 use sqlite_items::Items;
 use std::alloc::Global;
-use std::fmt::Write;
 
-/// What a text can go on with: how it is written, and how it is called where it isn't a word or a mark.
-const GOES_ON: &[(&str, &str)] = &[
-    (";", ""),
-    ("}", ""),
-    ("{", ""),
-    ("=", ""),
-    ("(", ""),
-    (")", ""),
-    ("[", ""),
-    ("]", ""),
-    (":", ""),
-    (",", ""),
-    ("parameters", ""),
-    ("gates", ""),
-    ("types", ""),
-    ("submodules", ""),
-    ("simple", ""),
-    ("network", ""),
-    ("channel", ""),
-    ("moduleinterface", ""),
-    ("channelinterface", ""),
-    ("package", ""),
-    ("import", ""),
-    ("extends", ""),
-    ("like", ""),
-    ("input", ""),
-    ("output", ""),
-    ("inout", ""),
-    ("bool", ""),
-    ("int", ""),
-    ("string", ""),
-    ("double", ""),
-    ("volatile", ""),
-    ("default", ""),
-    ("@", ""),
-    (".", ""),
-    ("1", "an expression"),
-    ("+", "an operator"),
-    ("x", "a name"),
-];
+/// What a text can go on with, as it is written: words and marks, `1` for an expression, `+` for an operator and `x` for a name.
+const GOES_ON: &str =
+    "; } { = ( ) [ ] : , parameters gates types submodules simple network channel moduleinterface channelinterface package import extends like input output inout bool int string double volatile default @ . 1 + x";
 
-/// Whether a text that begins with these tokens can be a NED file.
-fn can_go_on(alloc: Global, tokens: &[Token]) -> Result<bool, NoMemory> {
-    Ok(match tokens_left(alloc, tokens)? {
-        None | Some(0) => true,
-        Some(_) => false,
-    })
+/// How many tokens are left at the first with which no file goes on, where this stands behind the tokens; none where they
+/// are a file with it.
+fn left_behind(
+    alloc: Global,
+    tokens: &mut Items<Token>,
+    written: &str,
+) -> Result<Option<usize>, NoMemory> {
+    tokens.push(token_of(alloc, written)?)?;
+    let left = tokens_left(alloc, tokens.as_slice());
+    let _added = tokens.pop();
+    Ok(left?)
 }
 
 /// What ends a text that goes on with anything: an import ends with `;`, a property's body with `)`.
-fn end_of_any(
-    alloc: Global,
-    tokens: &mut Items<Token>,
-) -> Result<(&'static str, &'static str), NoMemory> {
-    tokens.push(token_of(alloc, ";")?)?;
-    let left = tokens_left(alloc, tokens.as_slice())?;
-    let _added = tokens.pop();
-    match left {
-        None => Ok((";", "")),
-        Some(_) => Ok((")", "")),
+fn end_of_any(alloc: Global, tokens: &mut Items<Token>) -> Result<&'static str, NoMemory> {
+    match left_behind(alloc, tokens, ";")? {
+        None => Ok(";"),
+        Some(_) => Ok(")"),
     }
+}
+
+/// What the tokens can go on with.
+fn found_behind(alloc: Global, tokens: &mut Items<Token>) -> Result<Vec<&'static str>, NoMemory> {
+    let mut found = Vec::new(alloc);
+    for written in GOES_ON.split(' ') {
+        if left_behind(alloc, tokens, written)?.unwrap_or(0) == 0 {
+            found.push(written)?;
+        }
+    }
+    Ok(found)
 }
 
 /// Whether an expression can begin so, and other things too.
-fn is_front(it: (&str, &str)) -> bool {
-    it.0 == "(" || it.0 == "x"
+fn is_front(written: &str) -> bool {
+    written == "(" || written == "x"
 }
 
-/// These, without what an expression can begin with where one is wanted.
-fn said_once(wanted: Vec<(&'static str, &'static str)>) -> Vec<(&'static str, &'static str)> {
-    let mut wanted = wanted;
-    if wanted.iter().any(|it| it.0 == "1") {
-        wanted.retain(|it| !is_front(*it));
-    }
-    wanted
-}
-
-/// What the tokens can go on with, as it is written and called.
-fn wanted(
-    alloc: Global,
-    tokens: &mut Items<Token>,
-) -> Result<Vec<(&'static str, &'static str)>, NoMemory> {
-    let mut found = Vec::new(alloc);
-    for it in GOES_ON {
-        tokens.push(token_of(alloc, it.0)?)?;
-        if can_go_on(alloc, tokens.as_slice())? {
-            found.push(*it)?;
-        }
-        let _added = tokens.pop();
-    }
-    if found.len() == GOES_ON.len() {
+/// What is wanted behind the tokens: what they can go on with, but where an expression is wanted not what it begins with, and
+/// where anything may stand only what ends that.
+fn wanted(alloc: Global, tokens: &mut Items<Token>) -> Result<Vec<&'static str>, NoMemory> {
+    let mut found = found_behind(alloc, tokens)?;
+    if found.len() == GOES_ON.split(' ').count() {
         found.clear();
         found.push(end_of_any(alloc, tokens)?)?;
     }
-    Ok(said_once(found))
-}
-
-/// Adds a word or mark in quotes, or what else it is called.
-fn tell_one(told: &mut String, it: (&str, &str)) -> Result<(), NoMemory> {
-    if it.1.is_empty() {
-        write!(told, "'{}'", it.0)?;
-    } else {
-        told.push_str(it.1)?;
+    if found.iter().any(|it| *it == "1") {
+        found.retain(|it| !is_front(*it));
     }
-    Ok(())
+    Ok(found)
 }
 
-/// Adds what is wanted: the one that is missing, or those of which one can stand there.
-fn tell_wanted(told: &mut String, wanted: &[(&str, &str)]) -> Result<(), NoMemory> {
+/// Says a word or mark in quotes, or how else it is called.
+fn tell_one(told: &mut Explanation, written: &str) {
+    match written {
+        "1" => told.say("an expression"),
+        "+" => told.say("an operator"),
+        "x" => told.say("a name"),
+        _ => told.say_name(written.as_bytes()),
+    }
+}
+
+/// Says what is wanted: the one that is missing, or those of which one can stand there.
+fn tell_wanted(told: &mut Explanation, wanted: &[&str]) {
     if let [one] = wanted {
-        tell_one(told, *one)?;
-        told.push_str(" is missing")?;
-        return Ok(());
+        tell_one(told, *one);
+        told.say(" is missing");
+        return;
     }
-    told.push_str("wanted is one of")?;
+    told.say("wanted is one of");
     let mut part = " ";
     for it in wanted {
-        told.push_str(part)?;
-        tell_one(told, *it)?;
+        told.say(part);
+        tell_one(told, *it);
         part = ", ";
     }
-    Ok(())
 }
 
-/// Adds why a text can't go on at a token.
-fn tell_blamed(alloc: Global, told: &mut String, token: &Token) -> Result<(), NoMemory> {
-    tell_token(alloc, told, token)?;
-    match token {
-        Token::Word(word) if is_for_later(*word) => told.push_str(" is not supported yet")?,
-        _ => told.push_str(" can't stand here; ")?,
-    }
-    Ok(())
-}
-
-/// The tokens of a text before the first that can't go on, and that one, none where the text ends too early.
-fn parted(alloc: Global, text: &[u8]) -> Result<(Items<Token>, Option<Token>), NoMemory> {
-    let mut tokens = tokenize(alloc, text)?.tokens;
-    let left = match tokens_left(alloc, tokens.as_slice())? {
-        Some(left) => left,
-        None => 0,
+/// Says why a text can't go on at a token, or behind its last. Answers whether that says all.
+fn tell_blamed(told: &mut Explanation, blamed: Option<&Token>) -> bool {
+    let Some(token) = blamed else {
+        told.say("the text ends here; ");
+        return false;
     };
-    let mut blamed = None;
-    for _token in 0..left {
-        blamed = tokens.pop();
+    tell_token(told, token);
+    if is_for_later(token) {
+        told.say(" is not supported yet");
+        return true;
     }
-    Ok((tokens, blamed))
+    told.say(" can't stand here; ");
+    false
 }
 
-/// Adds what is wrong with a text that is no NED, and what could stand there.
-pub fn tell_syntax(alloc: Global, told: &mut String, text: &[u8]) -> Result<(), NoMemory> {
-    let (mut before, blamed) = parted(alloc, text)?;
-    match &blamed {
-        None => told.push_str("the text ends here; ")?,
-        Some(token) => tell_blamed(alloc, told, token)?,
+/// Takes tokens away, until so many are left.
+fn cut(tokens: &mut Items<Token>, left: usize) {
+    for _token in left..tokens.len() {
+        let _taken = tokens.pop();
     }
-    if let Some(Token::Word(word)) = &blamed {
-        if is_for_later(*word) {
-            return Ok(());
+}
+
+/// Says what is wrong with tokens that are no NED, of which so many are left at the first that can't go on.
+fn tell_tokens(told: &mut Explanation, tokens: &mut Items<Token>, left: usize) {
+    let before = tokens.len().saturating_sub(left);
+    if tell_blamed(told, tokens.get(before)) {
+        return;
+    }
+    cut(tokens, before);
+    match wanted(told.alloc(), tokens) {
+        Ok(wanted) => tell_wanted(told, wanted.as_slice()),
+        Err(error) => told.refuse(error),
+    }
+}
+
+/// Says what is wrong with tokens that are no NED.
+fn tell_list(told: &mut Explanation, tokens: &mut Items<Token>) {
+    match tokens_left(told.alloc(), tokens.as_slice()) {
+        Ok(left) => tell_tokens(told, tokens, left.unwrap_or(0)),
+        Err(error) => told.refuse(NoMemory::from(error)),
+    }
+}
+
+/// Says what is wrong with a text that is no NED, and what could stand there.
+pub fn tell_syntax(told: &mut Explanation, text: &[u8]) {
+    match tokenize(told.alloc(), text) {
+        Ok(list) => {
+            let mut list = list;
+            tell_list(told, &mut list.tokens);
         }
+        Err(error) => told.refuse(NoMemory::from(error)),
     }
-    let wanted = wanted(alloc, &mut before)?;
-    tell_wanted(told, wanted.as_slice())
 }

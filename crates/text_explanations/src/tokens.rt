@@ -1,11 +1,11 @@
 //! Tokens as they are written.
 
+use crate::explanation::Explanation;
 use crate::names::shown;
 use ned_tokens::lines::tokenize;
 use ned_tokens::token::{Keyword, Token};
 use sim_values::NoMemory;
 use std::alloc::Global;
-use std::fmt::Write;
 
 /// The words and marks of the language.
 const WRITTEN: &str =
@@ -29,55 +29,77 @@ fn is_same(one: &Token, other: &Token) -> bool {
     }
 }
 
+/// Whether the token is written so.
+fn is_written(alloc: Global, token: &Token, written: &str) -> Result<bool, NoMemory> {
+    let list = tokenize(alloc, written.as_bytes())?;
+    Ok(list.tokens.as_slice().iter().any(|it| is_same(it, token)))
+}
+
 /// How a word or a mark is written.
 fn written_as(alloc: Global, token: &Token) -> Result<&'static str, NoMemory> {
     for written in WRITTEN.split(' ') {
-        if is_same(&token_of(alloc, written)?, token) {
+        if is_written(alloc, token, written)? {
             return Ok(written);
         }
     }
     Ok("this")
 }
 
-/// Adds a token as it is shown.
-pub fn tell_token(alloc: Global, told: &mut String, token: &Token) -> Result<(), NoMemory> {
-    match token {
-        Token::Word(_) | Token::Mark(_) => write!(told, "'{}'", written_as(alloc, token)?)?,
-        Token::Name(name) => write!(told, "'{}'", shown(name.as_bytes()))?,
-        Token::Number(number) => write!(told, "'{number}'")?,
-        Token::Quantity(_, _) => told.push_str("a quantity")?,
-        Token::Literal(text) => write!(told, "\"{}\"", shown(text.as_bytes()))?,
-        Token::OddLiteral => told.push_str(
-            "a text in quotes with an escape other than \\\", \\\\, \\n, \\t",
-        )?,
-        Token::OpenLiteral | Token::Broken => {
-            told.push_str(
-                "a text in quotes without its end on this line, or a line that is no UTF-8,",
-            )?
-        }
-        Token::Stray(byte) => tell_stray(told, *byte)?,
+/// Says a word or a mark, in quotes.
+fn tell_word(told: &mut Explanation, token: &Token) {
+    match written_as(told.alloc(), token) {
+        Ok(written) => told.say_name(written.as_bytes()),
+        Err(error) => told.refuse(error),
     }
-    Ok(())
 }
 
-/// Adds a byte that begins no token.
-fn tell_stray(told: &mut String, byte: u8) -> Result<(), NoMemory> {
+/// Says a byte that begins no token.
+fn tell_stray(told: &mut Explanation, byte: u8) {
     if byte.is_ascii_graphic() {
-        write!(told, "what begins with '{}'", byte as char)?;
+        told.say("what begins with ");
+        told.say_name(&[byte]);
     } else {
-        write!(told, "the byte {byte}")?;
+        told.say("the byte ");
+        told.say_number(usize::from(byte));
     }
-    Ok(())
 }
 
-/// Whether the word begins a part of the language that is not read yet.
-pub fn is_for_later(word: Keyword) -> bool {
+/// Says a token as it is shown.
+pub fn tell_token(told: &mut Explanation, token: &Token) {
+    match token {
+        Token::Word(_) | Token::Mark(_) => tell_word(told, token),
+        Token::Name(name) => told.say_name(name.as_bytes()),
+        Token::Number(number) => {
+            told.say("'");
+            told.say_number(*number as usize);
+            told.say("'");
+        }
+        Token::Quantity(_, _) => told.say("a quantity"),
+        Token::Literal(text) => {
+            told.say("\"");
+            told.say(shown(text.as_bytes()));
+            told.say("\"");
+        }
+        Token::OddLiteral => told.say(
+            "a text in quotes with an escape other than \\\", \\\\, \\n, \\t",
+        ),
+        Token::OpenLiteral | Token::Broken => told.say(
+            "a text in quotes without its end on this line, or a line that is no UTF-8,",
+        ),
+        Token::Stray(byte) => tell_stray(told, *byte),
+    }
+}
+
+/// Whether it is a word that begins a part of the language that is not read yet.
+pub fn is_for_later(token: &Token) -> bool {
     matches!(
-        word,
-        Keyword::Module
-            | Keyword::If
-            | Keyword::Connections
-            | Keyword::AllowUnconnected
-            | Keyword::For
+        token,
+        Token::Word(
+            Keyword::Module
+                | Keyword::If
+                | Keyword::Connections
+                | Keyword::AllowUnconnected
+                | Keyword::For
+        )
     )
 }

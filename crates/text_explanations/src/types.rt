@@ -1,293 +1,201 @@
 //! Why the types of the files don't go together.
 
-use crate::bases::{bases_along, bases_of, tell_other_base, tell_unknown_base, with_bases};
+use crate::bases::{along_at, is_interface, places_of_bases, with_bases};
 use crate::channels::is_built_in;
 use crate::circles::tell_circle;
+use crate::explanation::Explanation;
 use crate::gates::{tell_gates, tell_second_submodule, tell_two_bases};
-use crate::interfaces::{
-    interfaces_of, is_interface, tell_broken, tell_other_interface, tell_unknown_interface,
-};
+use crate::heads::{tell_other_base, tell_other_interface, tell_submodule, tell_unknown};
+use crate::interfaces::tell_broken;
 use crate::members::{tell_body, tell_section};
-use crate::names::{last_part, shown, tell_near};
-use crate::ned_files::{
-    Declared, ReadFile, Sign, all_types, line_of, line_of_type, names_of, read_files, type_named,
-};
+use crate::names::{is_inner, last_part};
+use crate::ned_files::{Files, is_of_kind, place_of, read_types, type_named};
+use crate::places::{Sign, Spot};
 use crate::sources::Sources;
-use ned_syntax::ast::{Submodule, TypeKind};
-use sim_values::NoMemory;
-use std::alloc::Global;
-use std::fmt::Write;
+use ned_syntax::ast::{Submodule, TypeDeclaration, TypeKind};
 
-/// The type of that name before the one of that place.
-fn earlier<'a>(types: &[Declared<'a>], at: usize, name: &[u8]) -> Option<Declared<'a>> {
-    type_named(types.get(..at)?, name)
-}
-
-/// Adds that a type has the name of another, or of a built-in channel. Answers whether it has.
-fn tell_taken(
-    told: &mut String,
-    sources: &Sources<'_>,
-    files: &[ReadFile],
-    it: &Declared<'_>,
-    earlier: Option<Declared<'_>>,
-) -> Result<bool, NoMemory> {
-    let name = it.of.name.as_bytes();
-    let (path, line) = (sources.path(it.file), line_of_type(files, it));
+/// Says that the type at that place has the name of another before it, or of a built-in channel. Answers whether it has.
+fn tell_taken(told: &mut Explanation, files: &Files<'_>, at: usize, name: &[u8]) -> bool {
     if is_built_in(name) {
-        write!(
-            told,
-            "{path}:{line}: '{}' is the name of a built-in channel; choose another",
-            shown(name)
-        )?;
-        return Ok(true);
+        files.tell_place_at(told, at, Spot::of_type());
+        told.say(": ");
+        told.say_name(name);
+        told.say(" is the name of a built-in channel; choose another");
+        return true;
     }
-    let Some(first) = earlier else {
-        return Ok(false);
+    let first = match place_of(files.types, name) {
+        Some(first) if first < at => first,
+        _ => return false,
     };
-    write!(
-        told,
-        "{path}:{line}: the type '{}' is declared a second time; it is declared at ",
-        shown(name)
-    )?;
-    write!(
-        told,
-        "{}:{} already: rename one, or leave one file out",
-        sources.path(first.file),
-        line_of_type(files, &first)
-    )?;
-    Ok(true)
+    files.tell_place_at(told, at, Spot::of_type());
+    told.say(": the type ");
+    told.say_name(name);
+    told.say(" is declared a second time; it is declared at ");
+    files.tell_place_at(told, first, Spot::of_type());
+    told.say(" already: rename one, or leave one file out");
+    true
 }
 
-/// Adds that two types have one name. Answers whether there are such.
-fn tell_duplicate(
-    told: &mut String,
-    sources: &Sources<'_>,
-    files: &[ReadFile],
-    types: &[Declared<'_>],
-) -> Result<bool, NoMemory> {
-    for (at, it) in types.iter().enumerate() {
-        let earlier = earlier(types, at, it.of.name.as_bytes());
-        if tell_taken(told, sources, files, it, earlier)? {
-            return Ok(true);
+/// Says that two types have one name. Answers whether there are such.
+fn tell_duplicate(told: &mut Explanation, files: &Files<'_>) -> bool {
+    for (at, it) in files.types.iter().enumerate() {
+        if tell_taken(told, files, at, it.name.as_bytes()) {
+            return true;
         }
     }
-    Ok(false)
+    false
 }
 
-/// Whether a submodule or a type may name that type.
-fn is_known(types: &[Declared<'_>], name: &[u8]) -> bool {
-    is_built_in(name) || type_named(types, name).is_some()
+/// Says that a network is declared within a network. Answers whether one is.
+fn tell_inner_network(told: &mut Explanation, files: &Files<'_>) -> bool {
+    for it in files.types {
+        let name = it.name.as_bytes();
+        if it.kind == TypeKind::Network && is_inner(name) {
+            files.begin(told, it, Sign::Type, name);
+            told.say("the network ");
+            told.say_name(last_part(name));
+            told.say(" is declared within another: declare it in a file, outside of every type");
+            return true;
+        }
+    }
+    false
 }
 
-/// Adds that a submodule's type isn't declared.
-fn tell_unknown_submodule(
-    alloc: Global,
-    told: &mut String,
-    sources: &Sources<'_>,
-    files: &[ReadFile],
-    types: &[Declared<'_>],
-    it: &Declared<'_>,
+/// Says that a submodule is of no simple module, where it is. Answers whether that is said.
+fn tell_no_module(
+    told: &mut Explanation,
+    files: &Files<'_>,
+    it: &TypeDeclaration,
     submodule: &Submodule,
-) -> Result<(), NoMemory> {
-    let (name, of) = (submodule.name.as_bytes(), submodule.type_name.as_bytes());
-    let line = line_of(files, it, Sign::Submodule, name, 0);
-    write!(
-        told,
-        "{}:{line}: the submodule '{}' is of the type '{}', which no file declares",
-        sources.path(it.file),
-        shown(name),
-        shown(of)
-    )?;
-    let simple = names_of(alloc, types, TypeKind::Simple)?;
-    tell_near(told, of, simple.as_slice())
+) -> bool {
+    if is_of_kind(
+        files.types,
+        submodule.type_name.as_bytes(),
+        TypeKind::Simple,
+    ) {
+        return false;
+    }
+    tell_submodule(told, files, it, submodule);
+    told.say(", which is no simple module");
+    true
 }
 
-/// Adds that what a type extends, one of its interfaces, or the type of one of its submodules, isn't declared. Answers whether there is
-/// such.
-fn tell_unknown_in(
-    alloc: Global,
-    told: &mut String,
-    sources: &Sources<'_>,
-    files: &[ReadFile],
-    types: &[Declared<'_>],
-    it: &Declared<'_>,
-) -> Result<bool, NoMemory> {
-    if let Some(base) = &it.of.base {
-        if !is_known(types, base.as_bytes()) {
-            tell_unknown_base(alloc, told, sources, files, types, it, base.as_bytes())?;
-            return Ok(true);
-        }
-    }
-    if tell_unknown_interface(alloc, told, sources, files, types, it)? {
-        return Ok(true);
-    }
-    for submodule in it.of.submodules.as_slice() {
-        if !is_known(types, submodule.type_name.as_bytes()) {
-            tell_unknown_submodule(alloc, told, sources, files, types, it, submodule)?;
-            return Ok(true);
-        }
-    }
-    Ok(false)
-}
-
-/// Adds that a type isn't declared. Answers whether there is such.
-fn tell_unknown(
-    alloc: Global,
-    told: &mut String,
-    sources: &Sources<'_>,
-    files: &[ReadFile],
-    types: &[Declared<'_>],
-) -> Result<bool, NoMemory> {
-    for it in types {
-        if tell_unknown_in(alloc, told, sources, files, types, it)? {
-            return Ok(true);
-        }
-    }
-    Ok(false)
-}
-
-/// Adds that a network is declared within a network. Answers whether one is.
-fn tell_inner_network(
-    told: &mut String,
-    sources: &Sources<'_>,
-    files: &[ReadFile],
-    types: &[Declared<'_>],
-) -> Result<bool, NoMemory> {
-    for it in types {
-        let name = it.of.name.as_bytes();
-        if it.of.kind == TypeKind::Network && last_part(name).len() < name.len() {
-            write!(
-                told,
-                "{}:{}: the network '{}' is declared within another: declare it in a file, outside of every type",
-                sources.path(it.file),
-                line_of_type(files, it),
-                shown(last_part(name))
-            )?;
-            return Ok(true);
-        }
-    }
-    Ok(false)
-}
-
-/// Adds what is wrong with the submodules of a type that extends these, the nearest first. Answers whether something is.
-fn tell_submodules(
-    told: &mut String,
-    sources: &Sources<'_>,
-    files: &[ReadFile],
-    types: &[Declared<'_>],
-    bases: &[Declared<'_>],
-    it: &Declared<'_>,
-) -> Result<bool, NoMemory> {
-    let submodules = it.of.submodules.as_slice();
-    for (at, submodule) in submodules.iter().enumerate() {
-        let name = submodule.name.as_bytes();
-        let of = submodule.type_name.as_bytes();
-        let path = sources.path(it.file);
-        if tell_second_submodule(told, sources, files, bases, it, at, name)? {
-            return Ok(true);
-        }
-        let is_simple = match type_named(types, of) {
-            Some(found) => found.of.kind == TypeKind::Simple,
-            None => false,
-        };
-        if !is_simple {
-            let line = line_of(files, it, Sign::Submodule, name, 0);
-            write!(
-                told,
-                "{path}:{line}: the submodule '{}' is of the type '{}', which is no simple module",
-                shown(name),
-                shown(of)
-            )?;
-            return Ok(true);
-        }
-    }
-    Ok(false)
-}
-
-/// Adds what is wrong with the bodies of the submodules of a type. Answers whether something is.
-fn tell_bodies(
-    alloc: Global,
-    told: &mut String,
-    sources: &Sources<'_>,
-    files: &[ReadFile],
-    types: &[Declared<'_>],
-    it: &Declared<'_>,
-) -> Result<bool, NoMemory> {
-    for submodule in it.of.submodules.as_slice() {
-        if let Some(of) = type_named(types, submodule.type_name.as_bytes()) {
-            let along = with_bases(alloc, types, of)?;
-            if tell_body(alloc, told, sources, files, along.as_slice(), it, submodule)? {
-                return Ok(true);
-            }
-        }
-    }
-    Ok(false)
-}
-
-/// Adds why members clash. Answers whether they do.
-fn tell_clash(
-    alloc: Global,
-    told: &mut String,
-    sources: &Sources<'_>,
-    files: &[ReadFile],
-    types: &[Declared<'_>],
-    bases: &[Option<usize>],
-) -> Result<bool, NoMemory> {
-    for (at, it) in types.iter().enumerate() {
-        let along = if is_interface(it.of.kind) {
-            interfaces_of(alloc, types, it)?
-        } else {
-            bases_along(alloc, types, bases, at)?
-        };
-        if tell_section(told, sources, files, along.as_slice(), it)?
-            || tell_gates(told, sources, files, along.as_slice(), it)?
-            || (is_interface(it.of.kind)
-                && tell_two_bases(told, sources, files, along.as_slice(), it)?)
-            || tell_submodules(told, sources, files, types, along.as_slice(), it)?
-            || tell_bodies(alloc, told, sources, files, types, it)?
+/// Says what is wrong with the submodules of the first of the types, which extends the others. Answers whether something is.
+fn tell_submodules(told: &mut Explanation, files: &Files<'_>, along: &[&TypeDeclaration]) -> bool {
+    let Some(it) = along.first() else {
+        return false;
+    };
+    for (at, submodule) in it.submodules.as_slice().iter().enumerate() {
+        if tell_second_submodule(told, files, along, at, submodule.name.as_bytes())
+            || tell_no_module(told, files, *it, submodule)
         {
-            return Ok(true);
+            return true;
         }
     }
-    Ok(false)
+    false
 }
 
-/// Adds why the types of the files don't go together: the first reason, in the order of the refusals.
-pub fn tell_types(alloc: Global, told: &mut String, sources: &Sources<'_>) -> Result<(), NoMemory> {
-    let files = read_files(alloc, sources)?;
-    let types = all_types(alloc, &files)?;
-    if tell_duplicate(told, sources, files.as_slice(), types.as_slice())? {
-        return Ok(());
-    }
-    if tell_unknown(alloc, told, sources, files.as_slice(), types.as_slice())? {
-        return Ok(());
-    }
-    let bases = bases_of(alloc, types.as_slice())?;
-    let bases = bases.as_slice();
-    if tell_circle(alloc, told, sources, files.as_slice(), types.as_slice())? {
-        return Ok(());
-    }
-    for it in types.as_slice() {
-        if tell_other_interface(told, sources, files.as_slice(), types.as_slice(), it)? {
-            return Ok(());
+/// Says what is wrong with the body of a submodule of a type. Answers whether something is.
+fn tell_body_of(
+    told: &mut Explanation,
+    files: &Files<'_>,
+    it: &TypeDeclaration,
+    submodule: &Submodule,
+) -> bool {
+    let Some(of) = type_named(files.types, submodule.type_name.as_bytes()) else {
+        return false;
+    };
+    match with_bases(told.alloc(), files.types, of) {
+        Ok(along) => tell_body(told, files, along.as_slice(), it, submodule),
+        Err(error) => {
+            told.refuse(error);
+            true
         }
     }
-    if tell_other_base(told, sources, files.as_slice(), types.as_slice(), bases)? {
-        return Ok(());
+}
+
+/// Says what is wrong with the bodies of the submodules of a type. Answers whether something is.
+fn tell_bodies(told: &mut Explanation, files: &Files<'_>, it: &TypeDeclaration) -> bool {
+    for submodule in it.submodules.as_slice() {
+        if tell_body_of(told, files, it, submodule) {
+            return true;
+        }
     }
-    if tell_inner_network(told, sources, files.as_slice(), types.as_slice())? {
-        return Ok(());
+    false
+}
+
+/// Says why members of the first of the types clash, which extends the others. Answers whether they do.
+fn tell_members(told: &mut Explanation, files: &Files<'_>, along: &[&TypeDeclaration]) -> bool {
+    let Some(it) = along.first() else {
+        return false;
+    };
+    tell_section(told, files, along)
+        || tell_gates(told, files, along)
+        || (is_interface(it.kind) && tell_two_bases(told, files, along))
+        || tell_submodules(told, files, along)
+        || tell_bodies(told, files, *it)
+}
+
+/// Says why members of the type at that place clash. These are the places of what each type extends. Answers whether they do.
+fn tell_clash_at(
+    told: &mut Explanation,
+    files: &Files<'_>,
+    bases: &[Option<usize>],
+    at: usize,
+    it: &TypeDeclaration,
+) -> bool {
+    match along_at(told.alloc(), files.types, bases, at, it) {
+        Ok(along) => tell_members(told, files, along.as_slice()),
+        Err(error) => {
+            told.refuse(error);
+            true
+        }
     }
-    if tell_clash(
-        alloc,
-        told,
-        sources,
-        files.as_slice(),
-        types.as_slice(),
-        bases,
-    )? {
-        return Ok(());
+}
+
+/// Says why members clash, where these are the places of what each type extends. Answers whether they do.
+fn tell_clashes(told: &mut Explanation, files: &Files<'_>, bases: &[Option<usize>]) -> bool {
+    for (at, it) in files.types.iter().enumerate() {
+        if tell_clash_at(told, files, bases, at, it) {
+            return true;
+        }
     }
-    tell_broken(alloc, told, sources, files.as_slice(), types.as_slice())?;
-    Ok(())
+    false
+}
+
+/// Says why members clash. Answers whether they do.
+fn tell_clash(told: &mut Explanation, files: &Files<'_>) -> bool {
+    match places_of_bases(told.alloc(), files.types) {
+        Ok(bases) => tell_clashes(told, files, bases.as_slice()),
+        Err(error) => {
+            told.refuse(error);
+            true
+        }
+    }
+}
+
+/// Says the first reason why types don't go together, in the order of the refusals. Answers whether there is one.
+fn tell_reason(told: &mut Explanation, files: &Files<'_>) -> bool {
+    tell_duplicate(told, files)
+        || tell_unknown(told, files)
+        || tell_circle(told, files)
+        || tell_other_interface(told, files)
+        || tell_other_base(told, files)
+        || tell_inner_network(told, files)
+        || tell_clash(told, files)
+        || tell_broken(told, files)
+}
+
+/// Says why the types of the files don't go together.
+pub fn tell_types(told: &mut Explanation, sources: &Sources<'_>) {
+    match read_types(told.alloc(), sources) {
+        Ok(types) => {
+            let files = Files {
+                sources,
+                types: types.as_slice(),
+            };
+            let _is_told = tell_reason(told, &files);
+        }
+        Err(error) => told.refuse(error),
+    }
 }

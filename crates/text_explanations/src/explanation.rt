@@ -1,0 +1,106 @@
+//! What is said to a person, as it grows.
+
+use crate::names::{is_near, shown};
+use sim_values::NoMemory;
+use std::alloc::Global;
+use std::fmt::Write;
+
+/// What is said to a person so far. A call that says more never fails: where memory runs out, `said` answers that, and
+/// nothing of the text.
+#[derive(Drop)]
+pub struct Explanation {
+    text: String,
+    alloc: Global,
+    refused: Option<NoMemory>,
+}
+
+impl Explanation {
+    /// Nothing yet.
+    pub fn new(alloc: Global) -> Explanation {
+        Explanation {
+            text: String::new(alloc),
+            alloc,
+            refused: None,
+        }
+    }
+
+    /// What the text grows by.
+    pub fn alloc(&self) -> Global {
+        self.alloc
+    }
+
+    /// Notes that memory ran out.
+    pub fn refuse(&mut self, error: NoMemory) {
+        self.refused = Some(error);
+    }
+
+    /// Says a text.
+    pub fn say(&mut self, text: &str) {
+        if let Err(error) = self.text.push_str(text) {
+            self.refuse(NoMemory::from(error));
+        }
+    }
+
+    /// Says a number.
+    pub fn say_number(&mut self, number: usize) {
+        if let Err(error) = write!(self.text, "{number}") {
+            self.refuse(NoMemory::from(error));
+        }
+    }
+
+    /// Says a name, in quotes.
+    pub fn say_name(&mut self, name: &[u8]) {
+        self.say("'");
+        self.say(shown(name));
+        self.say("'");
+    }
+
+    /// Says a line of a file: `path:line`.
+    pub fn say_place(&mut self, path: &str, line: usize) {
+        self.say(path);
+        self.say(":");
+        self.say_number(line);
+    }
+
+    /// Says names, with commas between them; `none` where there are none.
+    pub fn say_list(&mut self, names: &[&[u8]]) {
+        if names.is_empty() {
+            self.say("none");
+        }
+        let mut before = "";
+        for name in names {
+            self.say(before);
+            self.say(shown(name));
+            before = ", ";
+        }
+    }
+
+    /// Says the known name as a question, where it is near. Answers whether it is.
+    pub fn say_if_near(&mut self, name: &[u8], known: &[u8]) -> bool {
+        let near = is_near(name, known);
+        if near {
+            self.say("; did you mean ");
+            self.say_name(known);
+            self.say("?");
+        }
+        near
+    }
+
+    /// Says the first of the names that is near, as a question.
+    pub fn say_near(&mut self, name: &[u8], known: &[&[u8]]) {
+        for it in known {
+            if self.say_if_near(name, it) {
+                return;
+            }
+        }
+    }
+
+    /// All that was said.
+    pub fn said(self) -> Result<String, NoMemory> {
+        let Explanation { text, refused, .. } = self;
+        match refused {
+            None => Ok(text),
+            Some(error) => Err(error),
+        }
+    }
+}
