@@ -1,7 +1,7 @@
 //! A scene of parameters that stand in a table.
 
 ghost use Rattle.std.specs.Prelude.{◌≡◌};
-ghost use Rattle.parameter_tests.specs.Rows.{setting_of, told};
+ghost use Rattle.part_tests.specs.Scenes.{setting_of, told};
 ghost use Rattle.parameter_values.specs.Scenes.{given_by};
 
 use indexmap::IndexMap;
@@ -72,5 +72,30 @@ impl Scene for Rows {
             return Ok(None);
         };
         Ok(row.entry.as_ref())
+    }
+}
+
+/// Both, where there is the second.
+pub fn both<T: Drop, S, E>(first: T, second: Result<S, E>) -> Result<(T, S), E> {
+    Ok((first, second?))
+}
+
+/// Puts a value at a key, in the place of the one that is there.
+fn put<T: Drop>(values: &mut IndexMap<Key, T>, key: Key, value: T) -> Result<(), NoMemory> {
+    values.insert(key, value)?;
+    Ok(())
+}
+
+impl Rows {
+    /// No parameters.
+    pub fn new(alloc: Global) -> Rows {
+        Rows {
+            rows: IndexMap::new(alloc),
+        }
+    }
+
+    /// Adds a parameter, or puts it in the place of the one with its key.
+    pub fn put(&mut self, key: Key, row: Row) -> Result<(), NoMemory> {
+        put(&mut self.rows, key, row)
     }
 }

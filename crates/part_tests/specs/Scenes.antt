@@ -4,10 +4,10 @@ use Rattle.std.specs.Map.{lookup}
 use Rattle.ini_entries.specs.declared.entry.EntryValue.{EntryValue}
 use Rattle.parameter_values.specs.Settings.{Given, Fixed, Default, Declared, Setting}
 use Rattle.parameter_values.specs.Values.{same_key}
-use Rattle.parameter_tests.specs.declared.rows.Row.{Row}
-use Rattle.parameter_tests.specs.declared.rows.Rows.{Rows}
-use Rattle.parameter_tests.specs.declared.rows.Said.{Said}
-use Rattle.parameter_tests.specs.declared.rows.Said.TheVariants as said
+use Rattle.part_tests.specs.declared.scene.Row.{Row}
+use Rattle.part_tests.specs.declared.scene.Rows.{Rows}
+use Rattle.part_tests.specs.declared.scene.Said.{Said}
+use Rattle.part_tests.specs.declared.scene.Said.TheVariants as said
 
 abbrev pub told : Said → Option Given
 told said.Nothing = None

@@ -1,8 +1,8 @@
 //! Numbers that rest on other numbers.
 
 ghost use Rattle.std.specs.Prelude.{◌≡◌};
-ghost use Rattle.engine_tests.specs.declared.numbers.Fault.TheVariants as fault;
-ghost use Rattle.engine_tests.specs.Numbers.{sum, asked_of, goes_on, weight, same_is};
+ghost use Rattle.part_tests.specs.declared.numbers.Fault.TheVariants as fault;
+ghost use Rattle.part_tests.specs.Numbers.{sum, asked_of, goes_on, weight, same_is};
 
 use answer_engine::asker::Asker;
 use answer_engine::turn::Turn;
@@ -10,7 +10,7 @@ use sim_values::NoMemory;
 use std::alloc::Global;
 
 /// What the number of a key is.
-#[derive(Clone, Copy, Debug, PartialEq, Eq)]
+#[derive(Clone, Copy)]
 pub enum Rule {
     Number(u64),
     /// One more than that of this key.
@@ -21,7 +21,7 @@ pub enum Rule {
 }
 
 /// Why a key has no number.
-#[derive(Clone, Copy, Debug, PartialEq, Eq)]
+#[derive(Clone, Copy, Debug)]
 pub enum Fault {
     Broken,
     /// No rule is for it.
@@ -33,13 +33,13 @@ pub enum Fault {
 }
 
 /// A rule for each key.
-#[derive(Clone, Copy, Debug)]
+#[derive(Clone, Copy)]
 pub struct Numbers<'m> {
     pub rules: &'m [Rule],
 }
 
 /// A key that waits for a number.
-#[derive(Clone, Copy, Debug)]
+#[derive(Clone, Copy)]
 pub enum Evaluation<'m> {
     /// One more than that.
     Next,
