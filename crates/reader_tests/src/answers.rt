@@ -4,17 +4,12 @@ use crate::chain_rows::tell_configuration;
 use crate::edit_rows::tell_edit;
 use crate::meaning_rows::{tell_entry_pattern, tell_meaning};
 use crate::pattern_rows::tell_pattern;
+use crate::telling::Telling;
 use crate::{ini_rows, ned_rows, rows, time_rows, tree_rows, value_rows};
 use std::alloc::{AllocError, Global};
 
 /// Tells what becomes of a row of several parts, by its first part and those behind it.
-fn tell_parts(
-    alloc: Global,
-    told: &mut String,
-    file: &str,
-    first: &str,
-    rest: &str,
-) -> Result<(), AllocError> {
+fn tell_parts(alloc: Global, told: &mut Telling, file: &str, first: &str, rest: &str) {
     match file {
         "patterns" => tell_pattern(alloc, told, first, rest),
         "entry_patterns" => tell_entry_pattern(alloc, told, first, rest),
@@ -27,15 +22,14 @@ fn tell_parts(
 }
 
 /// Tells what becomes of a row of several parts, each before a `|`. A row of one part is a comment, of which nothing is told.
-fn tell_parted(alloc: Global, told: &mut String, file: &str, row: &str) -> Result<(), AllocError> {
-    match row.split_once('|') {
-        Some((first, rest)) => tell_parts(alloc, told, file, first, rest),
-        None => Ok(()),
+fn tell_parted(alloc: Global, told: &mut Telling, file: &str, row: &str) {
+    if let Some((first, rest)) = row.split_once('|') {
+        tell_parts(alloc, told, file, first, rest);
     }
 }
 
 /// Tells what becomes of a row of a file.
-fn tell_row(alloc: Global, told: &mut String, file: &str, row: &str) -> Result<(), AllocError> {
+fn tell_row(alloc: Global, told: &mut Telling, file: &str, row: &str) {
     match file {
         "ned_texts" => ned_rows::tell_text(alloc, told, row),
         "ned_models" => ned_rows::tell_model(alloc, told, row),
@@ -60,7 +54,7 @@ fn tell_row(alloc: Global, told: &mut String, file: &str, row: &str) -> Result<(
 
 /// What becomes of a row of a file.
 pub fn answer(alloc: Global, file: &str, row: &str) -> Result<String, AllocError> {
-    let mut told = String::new(alloc);
-    tell_row(alloc, &mut told, file, row)?;
-    Ok(told)
+    let mut told = Telling::new(alloc);
+    tell_row(alloc, &mut told, file, row);
+    told.end()
 }

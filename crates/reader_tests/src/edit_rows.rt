@@ -2,10 +2,10 @@
 
 use crate::escapes::{number, parted, unescaped};
 use crate::ini_rows::{ini_text, tell_lines};
+use crate::telling::Telling;
 use ini_config::error::EditError;
 use ini_config::lines::IniText;
-use std::alloc::{AllocError, Global};
-use std::fmt::Write;
+use std::alloc::Global;
 
 /// The text that an edit gives. The edit is a word and the number of a line.
 fn edited(alloc: Global, text: &IniText, edit: &str, given: &[u8]) -> Result<IniText, EditError> {
@@ -17,54 +17,34 @@ fn edited(alloc: Global, text: &IniText, edit: &str, given: &[u8]) -> Result<Ini
 }
 
 /// Tells the lines of the text that an edit gives, or why it gives none.
-fn tell_edited(
-    alloc: Global,
-    told: &mut String,
-    text: &IniText,
-    edit: &str,
-    given: &[u8],
-) -> Result<(), AllocError> {
+fn tell_edited(alloc: Global, told: &mut Telling, text: &IniText, edit: &str, given: &[u8]) {
     match edited(alloc, text, edit, given) {
         Ok(edited) => tell_lines(told, &edited),
-        Err(refusal) => write!(told, "{refusal:?} "),
+        Err(refusal) => {
+            told.raw(&refusal);
+            told.text(" ");
+        }
     }
 }
 
 /// Tells what an edit gives, and the lines that the old text has then.
-fn tell_both(
-    alloc: Global,
-    told: &mut String,
-    text: &IniText,
-    edit: &str,
-    given: &[u8],
-) -> Result<(), AllocError> {
-    tell_edited(alloc, told, text, edit, given)?;
-    told.push_str("of ")?;
+fn tell_both(alloc: Global, told: &mut Telling, text: &IniText, edit: &str, given: &[u8]) {
+    tell_edited(alloc, told, text, edit, given);
+    told.text("of ");
     tell_lines(told, text)
 }
 
 /// Tells what becomes of an edit of the ini text that a row writes.
-fn tell_of_text(
-    alloc: Global,
-    told: &mut String,
-    edit: &str,
-    given: &[u8],
-    row: &str,
-) -> Result<(), AllocError> {
-    match ini_text(alloc, b"", row) {
+fn tell_of_text(alloc: Global, told: &mut Telling, edit: &str, given: &[u8], row: &str) {
+    match ini_text(alloc, told, b"", row) {
         Ok(text) => tell_both(alloc, told, &text, edit, given),
-        Err(refusal) => write!(told, "{refusal:?}"),
+        Err(refusal) => told.raw(&refusal),
     }
 }
 
 /// Tells what becomes of an edit. Behind the edit come the line that it gives and the ini text.
-pub fn tell_edit(
-    alloc: Global,
-    told: &mut String,
-    edit: &str,
-    rest: &str,
-) -> Result<(), AllocError> {
+pub fn tell_edit(alloc: Global, told: &mut Telling, edit: &str, rest: &str) {
     let (given, text) = parted(rest, '|');
-    let given = unescaped(alloc, given)?;
+    let given = unescaped(alloc, told, given);
     tell_of_text(alloc, told, edit, given.as_slice(), text)
 }

@@ -1,6 +1,7 @@
 //! Texts as rows write them: `\n`, `\r` and `\t` are LF, CR and tab, `\\` is a backslash, and `\xNN` is the byte of two
 //! hexadecimal digits. Behind `\*COUNT*TIMES*` the last COUNT bytes stand so many times in all.
 
+use crate::telling::Telling;
 use std::alloc::{AllocError, Global};
 
 /// The value of a hexadecimal digit; 0 of another byte.
@@ -10,43 +11,6 @@ fn digit(byte: u8) -> u8 {
         b'a'..=b'f' => byte - b'a' + 10,
         _ => 0,
     }
-}
-
-/// Adds a byte and more bytes.
-fn push_byte(bytes: &mut Vec<u8>, byte: u8, rest: &[u8]) -> Result<(), AllocError> {
-    bytes.push(byte)?;
-    bytes.extend_from_slice(rest)
-}
-
-/// Adds what stands behind a backslash, without the escape that it begins with.
-fn push_escape(bytes: &mut Vec<u8>, part: &[u8]) -> Result<(), AllocError> {
-    match part {
-        [b'n', rest @ ..] => push_byte(bytes, b'\n', rest),
-        [b'r', rest @ ..] => push_byte(bytes, b'\r', rest),
-        [b't', rest @ ..] => push_byte(bytes, b'\t', rest),
-        [b'x', high, low, rest @ ..] => push_byte(bytes, digit(*high) << 4 | digit(*low), rest),
-        _ => push_byte(bytes, b'\\', part),
-    }
-}
-
-/// Adds a text so many times.
-fn push_times(bytes: &mut Vec<u8>, text: &[u8], times: usize) -> Result<(), AllocError> {
-    for _ in 0..times {
-        bytes.extend_from_slice(text)?;
-    }
-    Ok(())
-}
-
-/// The last bytes, so many, in all `times` times; one of them stands there.
-fn repeat_last(
-    alloc: Global,
-    bytes: &mut Vec<u8>,
-    count: usize,
-    times: usize,
-) -> Result<(), AllocError> {
-    let from = bytes.len().saturating_sub(count);
-    let last = Vec::from_slice(alloc, &bytes.as_slice()[from..])?;
-    push_times(bytes, last.as_slice(), times.saturating_sub(1))
 }
 
 /// The number that a text is, 0 of another text.
@@ -65,46 +29,98 @@ pub fn parted(text: &str, mark: char) -> (&str, &str) {
     }
 }
 
-/// Adds what `COUNT*TIMES*` and a text say.
-fn push_repeated(alloc: Global, bytes: &mut Vec<u8>, said: &str) -> Result<(), AllocError> {
-    let (count, behind) = parted(said, '*');
-    let (times, rest) = parted(behind, '*');
-    repeat_last(alloc, bytes, number(count), number(times))?;
-    bytes.extend_from_slice(rest.as_bytes())
+/// The bytes that a row writes, as long as memory suffices.
+struct RowBytes {
+    bytes: Vec<u8>,
+    error: Option<AllocError>,
 }
 
-/// Adds a part of a text that stands behind a backslash.
-fn push_part(alloc: Global, bytes: &mut Vec<u8>, part: &str) -> Result<(), AllocError> {
-    match part.strip_prefix('*') {
-        Some(said) => push_repeated(alloc, bytes, said),
-        None => push_escape(bytes, part.as_bytes()),
-    }
-}
-
-/// Adds the text that a row writes.
-fn push_unescaped(alloc: Global, bytes: &mut Vec<u8>, text: &str) -> Result<(), AllocError> {
-    let mut is_plain = true;
-    for part in text.split('\\') {
-        if is_plain {
-            bytes.extend_from_slice(part.as_bytes())?;
-            is_plain = false;
-        } else {
-            push_part(alloc, bytes, part)?;
-            // Of two backslashes the second begins no escape.
-            is_plain = part.is_empty();
+impl RowBytes {
+    /// Adds bytes.
+    fn push(&mut self, bytes: &[u8]) {
+        if let Err(error) = self.bytes.extend_from_slice(bytes) {
+            self.error = Some(error);
         }
     }
-    Ok(())
+
+    /// Adds a byte and more bytes.
+    fn push_byte(&mut self, byte: u8, rest: &[u8]) {
+        self.push([byte].as_slice());
+        self.push(rest);
+    }
+
+    /// Adds what stands behind a backslash, without the escape that it begins with.
+    fn push_escape(&mut self, part: &[u8]) {
+        match part {
+            [b'n', rest @ ..] => self.push_byte(b'\n', rest),
+            [b'r', rest @ ..] => self.push_byte(b'\r', rest),
+            [b't', rest @ ..] => self.push_byte(b'\t', rest),
+            [b'x', high, low, rest @ ..] => {
+                self.push_byte(digit(*high) << 4 | digit(*low), rest);
+            }
+            _ => self.push_byte(b'\\', part),
+        }
+    }
+
+    /// Adds the last bytes, so many of those that are there, once more.
+    fn push_last(&mut self, count: usize) {
+        let from = self.bytes.len().saturating_sub(count);
+        if let Err(error) = self.bytes.extend_from_within(from..) {
+            self.error = Some(error);
+        }
+    }
+
+    /// Adds what `COUNT*TIMES*` and a text say: the last bytes stand there once.
+    fn push_repeated(&mut self, said: &str) {
+        let (count, behind) = parted(said, '*');
+        let (times, rest) = parted(behind, '*');
+        let count = number(count).min(self.bytes.len());
+        for _ in 1..number(times) {
+            self.push_last(count);
+        }
+        self.push(rest.as_bytes());
+    }
+
+    /// Adds a part of a text that stands behind a backslash.
+    fn push_part(&mut self, part: &str) {
+        match part.strip_prefix('*') {
+            Some(said) => self.push_repeated(said),
+            None => self.push_escape(part.as_bytes()),
+        }
+    }
+
+    /// Adds the text that a row writes.
+    fn push_text(&mut self, text: &str) {
+        let mut is_plain = true;
+        for part in text.split('\\') {
+            if is_plain {
+                self.push(part.as_bytes());
+                is_plain = false;
+            } else {
+                self.push_part(part);
+                // Of two backslashes the second begins no escape.
+                is_plain = part.is_empty();
+            }
+        }
+    }
 }
 
-/// The text that a row writes, behind a head.
-pub fn unescaped_behind(alloc: Global, head: &[u8], text: &str) -> Result<Vec<u8>, AllocError> {
-    let mut bytes = Vec::from_slice(alloc, head)?;
-    push_unescaped(alloc, &mut bytes, text)?;
-    Ok(bytes)
+/// The text that a row writes, behind a head. It is cut off where memory runs out, which is then noted.
+pub fn unescaped_behind(alloc: Global, told: &mut Telling, head: &[u8], text: &str) -> Vec<u8> {
+    let mut written = RowBytes {
+        bytes: Vec::new(alloc),
+        error: None,
+    };
+    written.push(head);
+    written.push_text(text);
+    let RowBytes { bytes, error } = written;
+    if let Some(error) = error {
+        told.fail(error);
+    }
+    bytes
 }
 
 /// The text that a row writes.
-pub fn unescaped(alloc: Global, text: &str) -> Result<Vec<u8>, AllocError> {
-    unescaped_behind(alloc, b"", text)
+pub fn unescaped(alloc: Global, told: &mut Telling, text: &str) -> Vec<u8> {
+    unescaped_behind(alloc, told, b"", text)
 }

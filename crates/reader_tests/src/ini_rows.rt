@@ -1,60 +1,68 @@
 //! What becomes of ini texts, and what their lines are.
 
 use crate::escapes::unescaped_behind;
+use crate::telling::Telling;
 use crate::words::text_of;
 use ini_config::error::IniError;
 use ini_config::lines::IniText;
-use std::alloc::{AllocError, Global};
-use std::fmt::Write;
+use std::alloc::Global;
 
 /// The ini text that a row writes, behind a head.
-pub fn ini_text(alloc: Global, head: &[u8], row: &str) -> Result<IniText, IniError> {
-    let text = unescaped_behind(alloc, head, row)?;
+pub fn ini_text(
+    alloc: Global,
+    told: &mut Telling,
+    head: &[u8],
+    row: &str,
+) -> Result<IniText, IniError> {
+    let text = unescaped_behind(alloc, told, head, row);
     IniText::parse(alloc, text.as_slice())
 }
 
 /// Tells whether a text is an ini text, or why it is none.
-pub fn tell_text(alloc: Global, told: &mut String, row: &str) -> Result<(), AllocError> {
-    match ini_text(alloc, b"", row) {
-        Ok(_) => told.push_str("read"),
-        Err(refusal) => write!(told, "{refusal:?}"),
+pub fn tell_text(alloc: Global, told: &mut Telling, row: &str) {
+    match ini_text(alloc, told, b"", row) {
+        Ok(_) => told.text("read"),
+        Err(refusal) => told.raw(&refusal),
     }
 }
 
 /// Tells a line, or how long it is.
-fn tell_line(told: &mut String, line: &[u8]) -> Result<(), AllocError> {
+fn tell_line(told: &mut Telling, line: &[u8]) {
     if line.len() < 100 {
-        write!(told, "{:?} ", text_of(line))
+        told.raw(&text_of(line));
+        told.text(" ");
     } else {
-        write!(told, "{} bytes ", line.len())
+        told.shown(&line.len());
+        told.text(" bytes ");
     }
 }
 
 /// Tells the lines of a text, each in quotes and with a blank behind it.
-pub fn tell_lines(told: &mut String, text: &IniText) -> Result<(), AllocError> {
+pub fn tell_lines(told: &mut Telling, text: &IniText) {
     for line in text.lines() {
-        tell_line(told, line.text.as_bytes())?;
+        tell_line(told, line.text.as_bytes());
     }
-    Ok(())
 }
 
 /// Tells the lines of a text's copy.
-fn tell_copy(alloc: Global, told: &mut String, text: &IniText) -> Result<(), AllocError> {
-    let copy = text.copy(alloc)?;
-    tell_lines(told, &copy)
+fn tell_copy(alloc: Global, told: &mut Telling, text: &IniText) {
+    match text.copy(alloc) {
+        Ok(copy) => tell_lines(told, &copy),
+        Err(error) => told.fail(error),
+    }
 }
 
 /// Tells the lines of a text, and those of its copy.
-fn tell_both(alloc: Global, told: &mut String, text: &IniText) -> Result<(), AllocError> {
-    tell_lines(told, text)?;
-    told.push_str("and ")?;
+fn tell_both(alloc: Global, told: &mut Telling, text: &IniText) {
+    tell_lines(told, text);
+    told.text("and ");
     tell_copy(alloc, told, text)
 }
 
 /// Tells the lines of the text that a row writes, and those of its copy.
-pub fn tell_copied(alloc: Global, told: &mut String, row: &str) -> Result<(), AllocError> {
-    match ini_text(alloc, b"", row) {
+pub fn tell_copied(alloc: Global, told: &mut Telling, row: &str) {
+    match ini_text(alloc, told, b"", row) {
         Ok(text) => tell_both(alloc, told, &text),
-        Err(refusal) => write!(told, "{refusal:?}"),
+        Err(refusal) => told.raw(&refusal),
     }
 }

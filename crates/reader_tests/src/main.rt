@@ -10,6 +10,7 @@ mod meaning_rows;
 mod ned_rows;
 mod pattern_rows;
 mod rows;
+mod telling;
 mod time_rows;
 mod tree_rows;
 mod value_rows;

@@ -2,6 +2,7 @@
 
 use crate::ini_rows::ini_text;
 use crate::pattern_rows::tell_matching;
+use crate::telling::Telling;
 use crate::tree_rows::tell_tree;
 use crate::words::{tell_names, written};
 use ini_config::lines::{Entry, IniLine, LineMeaning};
@@ -9,77 +10,93 @@ use ini_entries::entry::{EntryMeaning, EntryValue};
 use ini_pattern::Pattern;
 use ned_expressions::ast::Expression;
 use sim_values::text::Text;
-use std::alloc::{AllocError, Global};
-use std::fmt::Write;
+use std::alloc::Global;
 
 /// Tells the configurations that an entry extends.
-fn tell_extends(told: &mut String, names: &[Text]) -> Result<(), AllocError> {
-    told.push_str("extends ")?;
+fn tell_extends(told: &mut Telling, names: &[Text]) {
+    told.text("extends ");
     tell_names(told, names)
 }
 
 /// Tells the value of an entry.
-pub fn tell_given(told: &mut String, value: &EntryValue) -> Result<(), AllocError> {
+pub fn tell_given(told: &mut Telling, value: &EntryValue) {
     match value {
-        EntryValue::Default => told.push_str("Default"),
-        EntryValue::Given(Expression::Literal(value)) => write!(told, "Given(Literal({value:?}))"),
+        EntryValue::Default => told.text("Default"),
+        EntryValue::Given(Expression::Literal(value)) => {
+            told.text("Given(Literal(");
+            told.raw(value);
+            told.text("))");
+        }
         EntryValue::Given(expression) => tell_tree(told, expression),
     }
 }
 
 /// Tells the value of an entry, and what it is for.
-fn tell_entry_value(told: &mut String, word: &str, value: &EntryValue) -> Result<(), AllocError> {
-    write!(told, "{word} ")?;
+fn tell_entry_value(told: &mut Telling, word: &str, value: &EntryValue) {
+    told.text(word);
+    told.text(" ");
     tell_given(told, value)
 }
 
+/// Tells a name, and what it names.
+fn tell_named(told: &mut Telling, word: &str, name: &Text) {
+    told.text(word);
+    told.text(written(name));
+}
+
 /// Tells what an entry says.
-fn tell_said(told: &mut String, meaning: &EntryMeaning) -> Result<(), AllocError> {
+fn tell_said(told: &mut Telling, meaning: &EntryMeaning) {
     match meaning {
-        EntryMeaning::Network(name) => write!(told, "network {}", written(name)),
+        EntryMeaning::Network(name) => tell_named(told, "network ", name),
         EntryMeaning::Extends(names) => tell_extends(told, names.as_slice()),
-        EntryMeaning::Object(it) => write!(told, "{} {:?}", written(&it.option), it.says),
+        EntryMeaning::Object(it) => {
+            told.text(written(&it.option));
+            told.text(" ");
+            told.raw(&it.says);
+        }
         EntryMeaning::Type(it) => tell_entry_value(told, "type", &it.value),
         EntryMeaning::Parameter(it) => tell_entry_value(told, "parameter", &it.value),
-        EntryMeaning::TimeLimit(ps) => write!(told, "TimeLimit({ps})"),
-        EntryMeaning::Other => told.push_str("Other"),
+        EntryMeaning::TimeLimit(ps) => {
+            told.text("TimeLimit(");
+            told.shown(ps);
+            told.text(")");
+        }
+        EntryMeaning::Other => told.text("Other"),
     }
 }
 
 /// Tells the key and the value of an entry, and what it says.
-fn tell_entry(told: &mut String, entry: &Entry) -> Result<(), AllocError> {
-    write!(
-        told,
-        "{} = {}: ",
-        written(&entry.key),
-        written(&entry.value)
-    )?;
+fn tell_entry(told: &mut Telling, entry: &Entry) {
+    told.text(written(&entry.key));
+    told.text(" = ");
+    told.text(written(&entry.value));
+    told.text(": ");
     tell_said(told, &entry.meaning)
 }
 
 /// Tells what a line is.
-fn tell_line(told: &mut String, line: &IniLine) -> Result<(), AllocError> {
+fn tell_line(told: &mut Telling, line: &IniLine) {
     match &line.meaning {
-        LineMeaning::Blank => told.push_str("blank"),
-        LineMeaning::Comment => told.push_str("comment"),
-        LineMeaning::Section(name) => write!(told, "section {}", written(name)),
+        LineMeaning::Blank => told.text("blank"),
+        LineMeaning::Comment => told.text("comment"),
+        LineMeaning::Section(name) => tell_named(told, "section ", name),
         LineMeaning::Entry(entry) => tell_entry(told, entry),
     }
 }
 
 /// Tells what the second line is of a text of two.
-fn tell_second(told: &mut String, lines: &[IniLine]) -> Result<(), AllocError> {
+fn tell_second(told: &mut Telling, lines: &[IniLine]) {
     match lines {
         [_, line] => tell_line(told, line),
-        _ => told.push_str("not one line"),
+        _ => told.text("not one line"),
     }
 }
 
 /// Tells what a line means.
-pub fn tell_meaning(alloc: Global, told: &mut String, row: &str) -> Result<(), AllocError> {
-    match ini_text(alloc, b"[A]\n", row) {
+pub fn tell_meaning(alloc: Global, told: &mut Telling, row: &str) {
+    match ini_text(alloc, told, b"[A]\n", row) {
         Ok(text) => tell_second(told, text.lines()),
-        Err(refusal) => write!(told, "{refusal:?}"),
+        Err(refusal) => told.raw(&refusal),
     }
 }
 
@@ -104,27 +121,17 @@ fn second_pattern(lines: &[IniLine]) -> Option<&Pattern> {
 }
 
 /// Tells whether the pattern of the second line matches a path.
-fn tell_second_pattern(
-    alloc: Global,
-    told: &mut String,
-    lines: &[IniLine],
-    path: &str,
-) -> Result<(), AllocError> {
+fn tell_second_pattern(alloc: Global, told: &mut Telling, lines: &[IniLine], path: &str) {
     match second_pattern(lines) {
         Some(pattern) => tell_matching(alloc, told, pattern, path),
-        None => told.push_str("no pattern"),
+        None => told.text("no pattern"),
     }
 }
 
 /// Tells whether the pattern of a line that is an entry matches a path.
-pub fn tell_entry_pattern(
-    alloc: Global,
-    told: &mut String,
-    path: &str,
-    row: &str,
-) -> Result<(), AllocError> {
-    match ini_text(alloc, b"[A]\n", row) {
+pub fn tell_entry_pattern(alloc: Global, told: &mut Telling, path: &str, row: &str) {
+    match ini_text(alloc, told, b"[A]\n", row) {
         Ok(text) => tell_second_pattern(alloc, told, text.lines(), path),
-        Err(refusal) => write!(told, "{refusal:?}"),
+        Err(refusal) => told.raw(&refusal),
     }
 }

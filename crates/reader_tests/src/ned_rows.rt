@@ -1,6 +1,7 @@
 //! What becomes of NED texts.
 
 use crate::escapes::unescaped;
+use crate::telling::Telling;
 use crate::tree_rows::tell_tree;
 use crate::words::{tell_names, written};
 use ned_syntax::ast::{
@@ -10,254 +11,257 @@ use ned_syntax::ast::{
 use ned_syntax::parse::parse_ned;
 use ned_syntax::texts::NedTexts;
 use ned_values::parse::parse_expression;
-use sim_values::NoMemory;
 use sim_values::text::Text;
-use std::alloc::{AllocError, Global};
-use std::fmt::Write;
+use std::alloc::Global;
 
 /// Tells whether a NED text is read, or why it is not.
-pub fn tell_text(alloc: Global, told: &mut String, row: &str) -> Result<(), AllocError> {
-    let text = unescaped(alloc, row)?;
+pub fn tell_text(alloc: Global, told: &mut Telling, row: &str) {
+    let text = unescaped(alloc, told, row);
     match parse_ned(alloc, text.as_slice()) {
-        Ok(_) => told.push_str("read"),
-        Err(refusal) => write!(told, "{refusal:?}"),
+        Ok(_) => told.text("read"),
+        Err(refusal) => told.raw(&refusal),
     }
 }
 
 /// Tells what an expression without operators is, or why it is none.
-pub fn tell_expression(alloc: Global, told: &mut String, row: &str) -> Result<(), AllocError> {
-    let text = unescaped(alloc, row)?;
+pub fn tell_expression(alloc: Global, told: &mut Telling, row: &str) {
+    let text = unescaped(alloc, told, row);
     match parse_expression(alloc, text.as_slice()) {
-        Ok(read) => write!(told, "{read:?}"),
-        Err(refusal) => write!(told, "{refusal:?}"),
+        Ok(read) => told.raw(&read),
+        Err(refusal) => told.raw(&refusal),
     }
 }
 
 /// Tells what a parameter is given.
-fn tell_given(told: &mut String, value: &ParameterValue) -> Result<(), AllocError> {
+fn tell_given(told: &mut Telling, value: &ParameterValue) {
     match value {
         ParameterValue::Fixed(expression) => {
-            told.push_str(" = ")?;
+            told.text(" = ");
             tell_tree(told, expression)
         }
         ParameterValue::Default(expression) => {
-            told.push_str(" = default(")?;
-            tell_tree(told, expression)?;
-            told.push(')')
+            told.text(" = default(");
+            tell_tree(told, expression);
+            told.text(")")
         }
     }
 }
 
 /// Tells the name of a parameter, and its value.
-fn tell_value(
-    told: &mut String,
-    name: &Text,
-    value: &Option<ParameterValue>,
-) -> Result<(), AllocError> {
-    told.push_str(written(name))?;
+fn tell_value(told: &mut Telling, name: &Text, value: &Option<ParameterValue>) {
+    told.text(written(name));
     if let Some(value) = value {
-        tell_given(told, value)?;
+        tell_given(told, value);
     }
-    told.push_str("; ")
+    told.text("; ")
 }
 
 /// Tells what a line declares that declares a parameter.
-fn tell_declaration(told: &mut String, it: &Declaration) -> Result<(), AllocError> {
-    write!(told, "{:?} {:?} ", it.word, it.unit)?;
+fn tell_declaration(told: &mut Telling, it: &Declaration) {
+    told.raw(&it.word);
+    told.text(" ");
+    told.raw(&it.unit);
+    told.text(" ");
     tell_value(told, &it.name, &it.value)
 }
 
 /// Tells what a line declares that declares a statistic.
-fn tell_statistic(told: &mut String, it: &Statistic) -> Result<(), AllocError> {
-    write!(told, "{} of {} ", written(&it.name), written(&it.source))?;
-    write!(told, "{:?}; ", it.modes.as_slice())
+fn tell_statistic(told: &mut Telling, it: &Statistic) {
+    told.text(written(&it.name));
+    told.text(" of ");
+    told.text(written(&it.source));
+    told.text(" ");
+    told.raw(&it.modes.as_slice());
+    told.text("; ");
 }
 
 /// Tells what a line of a parameter section declares.
-fn tell_line(told: &mut String, line: &SectionLine) -> Result<(), AllocError> {
+fn tell_line(told: &mut Telling, line: &SectionLine) {
     match line {
         SectionLine::Declaration(it) => tell_declaration(told, it),
         SectionLine::Assignment(it) => tell_value(told, &it.name, &it.value),
         SectionLine::Statistic(it) => tell_statistic(told, it),
-        SectionLine::Class(name) => write!(told, "class {}; ", written(name)),
-        SectionLine::Ignored => told.push_str("ignored; "),
+        SectionLine::Class(name) => {
+            told.text("class ");
+            told.text(written(name));
+            told.text("; ");
+        }
+        SectionLine::Ignored => told.text("ignored; "),
     }
 }
 
 /// Tells the lines of a parameter section, or of a submodule's body.
-fn tell_lines(told: &mut String, lines: &[SectionLine]) -> Result<(), AllocError> {
+fn tell_lines(told: &mut Telling, lines: &[SectionLine]) {
     for line in lines {
-        tell_line(told, line)?;
+        tell_line(told, line);
     }
-    Ok(())
 }
 
 /// Tells the lines of a submodule's body, where there are some.
-fn tell_body(told: &mut String, lines: &[SectionLine]) -> Result<(), AllocError> {
+fn tell_body(told: &mut Telling, lines: &[SectionLine]) {
     if lines.is_empty() {
-        return told.push_str("; ");
+        told.text("; ");
+    } else {
+        told.text(" { ");
+        tell_lines(told, lines);
+        told.text("} ");
     }
-    told.push_str(" { ")?;
-    tell_lines(told, lines)?;
-    told.push_str("} ")
 }
 
 /// Tells a submodule.
-fn tell_submodule(told: &mut String, it: &Submodule) -> Result<(), AllocError> {
-    write!(told, "{}: {}", written(&it.name), written(&it.type_name))?;
+fn tell_submodule(told: &mut Telling, it: &Submodule) {
+    told.text(written(&it.name));
+    told.text(": ");
+    told.text(written(&it.type_name));
     tell_body(told, it.body.as_slice())
 }
 
 /// Tells the submodules of a type.
-fn tell_submodules(told: &mut String, submodules: &[Submodule]) -> Result<(), AllocError> {
+fn tell_submodules(told: &mut Telling, submodules: &[Submodule]) {
     for it in submodules {
-        tell_submodule(told, it)?;
+        tell_submodule(told, it);
     }
-    Ok(())
 }
 
 /// Tells a size in brackets.
-fn tell_brackets(told: &mut String, size: &Expression) -> Result<(), AllocError> {
-    told.push('[')?;
-    tell_tree(told, size)?;
-    told.push(']')
+fn tell_brackets(told: &mut Telling, size: &Expression) {
+    told.text("[");
+    tell_tree(told, size);
+    told.text("]")
 }
 
 /// Tells the size of a gate.
-fn tell_size(told: &mut String, size: &GateSize) -> Result<(), AllocError> {
+fn tell_size(told: &mut Telling, size: &GateSize) {
     match size {
-        GateSize::Single => Ok(()),
-        GateSize::Open => told.push_str("[]"),
+        GateSize::Single => {}
+        GateSize::Open => told.text("[]"),
         GateSize::Sized(size) => tell_brackets(told, size),
     }
 }
 
 /// Tells the size that a refinement gives a vector of gates.
-fn tell_refined_size(told: &mut String, size: &Option<Expression>) -> Result<(), AllocError> {
-    match size {
-        Some(size) => tell_brackets(told, size),
-        None => Ok(()),
+fn tell_refined_size(told: &mut Telling, size: &Option<Expression>) {
+    if let Some(size) = size {
+        tell_brackets(told, size);
     }
 }
 
 /// Tells whether a gate may stay unconnected.
-fn tell_loose(told: &mut String, loose: bool) -> Result<(), AllocError> {
-    told.push_str(if loose { " loose; " } else { "; " })
+fn tell_loose(told: &mut Telling, loose: bool) {
+    told.text(if loose { " loose; " } else { "; " })
 }
 
 /// Tells what a line of a gate section declares.
-fn tell_gate(told: &mut String, line: &GateLine) -> Result<(), AllocError> {
+fn tell_gate(told: &mut Telling, line: &GateLine) {
     match line {
         GateLine::Declaration(it) => {
-            write!(told, "{:?} {}", it.direction, written(&it.name))?;
-            tell_size(told, &it.size)?;
+            told.raw(&it.direction);
+            told.text(" ");
+            told.text(written(&it.name));
+            tell_size(told, &it.size);
             tell_loose(told, it.loose)
         }
         GateLine::Refinement(it) => {
-            told.push_str(written(&it.name))?;
-            tell_refined_size(told, &it.size)?;
+            told.text(written(&it.name));
+            tell_refined_size(told, &it.size);
             tell_loose(told, it.loose)
         }
     }
 }
 
 /// Tells the gates of a type.
-fn tell_gates(told: &mut String, lines: &[GateLine]) -> Result<(), AllocError> {
+fn tell_gates(told: &mut Telling, lines: &[GateLine]) {
     for line in lines {
-        tell_gate(told, line)?;
+        tell_gate(told, line);
     }
-    Ok(())
 }
 
 /// Tells what a type extends.
-fn tell_base(told: &mut String, base: &Option<Text>) -> Result<(), AllocError> {
-    match base {
-        Some(base) => write!(told, "extends {} ", written(base)),
-        None => Ok(()),
+fn tell_base(told: &mut Telling, base: &Option<Text>) {
+    if let Some(base) = base {
+        told.text("extends ");
+        told.text(written(base));
+        told.text(" ");
     }
 }
 
 /// Tells which interfaces a type keeps.
-fn tell_interfaces(told: &mut String, names: &[Text]) -> Result<(), AllocError> {
-    if names.is_empty() {
-        return Ok(());
+fn tell_interfaces(told: &mut Telling, names: &[Text]) {
+    if !names.is_empty() {
+        told.text("keeps ");
+        tell_names(told, names);
     }
-    told.push_str("keeps ")?;
-    tell_names(told, names)
 }
 
 /// Tells the word, the name and what else stands before a type's braces.
-fn tell_head(told: &mut String, it: &TypeDeclaration) -> Result<(), AllocError> {
-    write!(told, "{:?} {} ", it.kind, written(&it.name))?;
-    tell_base(told, &it.base)?;
+fn tell_head(told: &mut Telling, it: &TypeDeclaration) {
+    told.raw(&it.kind);
+    told.text(" ");
+    told.text(written(&it.name));
+    told.text(" ");
+    tell_base(told, &it.base);
     tell_interfaces(told, it.interfaces.as_slice())
 }
 
 /// Tells what a type declares, with the types within it behind its gates.
 #[cycle(types)]
-fn tell_type(told: &mut String, it: &NestedType) -> Result<(), AllocError> {
-    tell_head(told, &it.declared)?;
-    told.push_str("{ ")?;
-    tell_lines(told, it.declared.lines.as_slice())?;
-    tell_gates(told, it.declared.gates.as_slice())?;
-    tell_types(told, it.types.as_slice())?;
-    tell_submodules(told, it.declared.submodules.as_slice())?;
-    told.push_str("} ")
+fn tell_type(told: &mut Telling, it: &NestedType) {
+    tell_head(told, &it.declared);
+    told.text("{ ");
+    tell_lines(told, it.declared.lines.as_slice());
+    tell_gates(told, it.declared.gates.as_slice());
+    tell_types(told, it.types.as_slice());
+    tell_submodules(told, it.declared.submodules.as_slice());
+    told.text("} ")
 }
 
 /// Tells what types declare.
 #[cycle(types)]
-fn tell_types(told: &mut String, types: &[NestedType]) -> Result<(), AllocError> {
+fn tell_types(told: &mut Telling, types: &[NestedType]) {
     for it in types {
-        tell_type(told, it)?;
+        tell_type(told, it);
     }
-    Ok(())
 }
 
 /// Tells what a text declares.
-fn tell_file(told: &mut String, file: &NedFile) -> Result<(), AllocError> {
+fn tell_file(told: &mut Telling, file: &NedFile) {
     tell_types(told, file.types.as_slice())
 }
 
-/// Tells what a text of a model declares, or that there is none of that number.
-fn tell_declared(alloc: Global, told: &mut String, text: Option<&[u8]>) -> Result<(), AllocError> {
-    let Some(text) = text else {
-        return told.push_str(", none");
-    };
-    told.push_str(", ")?;
+/// Tells what a text declares, or why it is refused.
+fn tell_parsed(alloc: Global, told: &mut Telling, text: &[u8]) {
     match parse_ned(alloc, text) {
         Ok(file) => tell_file(told, &file),
-        Err(refusal) => write!(told, "{refusal:?}"),
+        Err(refusal) => told.raw(&refusal),
     }
 }
 
-/// Adds a text that a row writes.
-fn push_text(alloc: Global, texts: &mut NedTexts, row: &str) -> Result<(), NoMemory> {
-    let text = unescaped(alloc, row)?;
-    texts.push(text.as_slice())
+/// Tells what a text of a model declares, or that there is none of that number.
+fn tell_declared(alloc: Global, told: &mut Telling, text: Option<&[u8]>) {
+    told.text(", ");
+    match text {
+        Some(text) => tell_parsed(alloc, told, text),
+        None => told.text("none"),
+    }
 }
 
 /// The texts of a model, each before a `|`.
-fn model(alloc: Global, row: &str) -> Result<NedTexts, NoMemory> {
+fn model(alloc: Global, told: &mut Telling, row: &str) -> NedTexts {
     let mut texts = NedTexts::new(alloc);
     for text in row.split('|') {
-        push_text(alloc, &mut texts, text)?;
+        let text = unescaped(alloc, told, text);
+        if let Err(error) = texts.push(text.as_slice()) {
+            told.fail(error.error());
+        }
     }
-    Ok(texts)
+    texts
 }
 
 /// Tells how many texts a model has, and what the first three declare.
-fn tell_texts(alloc: Global, told: &mut String, texts: &NedTexts) -> Result<(), AllocError> {
-    write!(told, "{}", texts.len())?;
-    tell_declared(alloc, told, texts.get(0))?;
-    tell_declared(alloc, told, texts.get(1))?;
-    tell_declared(alloc, told, texts.get(2))
-}
-
-/// Tells what the texts of a model declare.
-pub fn tell_model(alloc: Global, told: &mut String, row: &str) -> Result<(), AllocError> {
-    match model(alloc, row) {
-        Ok(texts) => tell_texts(alloc, told, &texts),
-        Err(fault) => write!(told, "{fault:?}"),
-    }
+pub fn tell_model(alloc: Global, told: &mut Telling, row: &str) {
+    let texts = model(alloc, told, row);
+    told.shown(&texts.len());
+    tell_declared(alloc, told, texts.get(0));
+    tell_declared(alloc, told, texts.get(1));
+    tell_declared(alloc, told, texts.get(2));
 }

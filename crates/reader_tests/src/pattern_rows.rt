@@ -1,8 +1,8 @@
 //! Which names a pattern matches.
 
+use crate::telling::Telling;
 use ini_pattern::Pattern;
-use std::alloc::{AllocError, Global};
-use std::fmt::Write;
+use std::alloc::Global;
 
 /// What a pattern and its copy say of a name.
 fn word(matches: bool, copy_matches: bool) -> &'static str {
@@ -16,25 +16,17 @@ fn word(matches: bool, copy_matches: bool) -> &'static str {
 }
 
 /// Tells whether a pattern matches a name, and its copy as well.
-pub fn tell_matching(
-    alloc: Global,
-    told: &mut String,
-    pattern: &Pattern,
-    name: &str,
-) -> Result<(), AllocError> {
-    let copy = pattern.copy(alloc)?;
-    told.push_str(word(pattern.matches(name), copy.matches(name)))
+pub fn tell_matching(alloc: Global, told: &mut Telling, pattern: &Pattern, name: &str) {
+    match pattern.copy(alloc) {
+        Ok(copy) => told.text(word(pattern.matches(name), copy.matches(name))),
+        Err(error) => told.fail(error),
+    }
 }
 
 /// Tells whether a text is a pattern that matches a name.
-pub fn tell_pattern(
-    alloc: Global,
-    told: &mut String,
-    text: &str,
-    name: &str,
-) -> Result<(), AllocError> {
+pub fn tell_pattern(alloc: Global, told: &mut Telling, text: &str, name: &str) {
     match Pattern::parse(alloc, text) {
         Ok(pattern) => tell_matching(alloc, told, &pattern, name),
-        Err(fault) => write!(told, "{fault:?}"),
+        Err(fault) => told.raw(&fault),
     }
 }

@@ -4,10 +4,10 @@ ghost use Rattle.std.specs.Prelude.{◌≡◌, ◌++◌, true, false, codes, IfO
 ghost use Rattle.ini_config.specs.Meaning.{IsIniText};
 ghost use Rattle.ini_config.specs.declared.lines.IniLine.{IniLine};
 
+use crate::telling::Telling;
 use ini_config::error::IniError;
 use ini_config::lines::IniText;
-use std::alloc::{AllocError, Global};
-use std::fmt::Write;
+use std::alloc::Global;
 
 /// Whether a text is an ini text. An error where it is too long, or memory ran out.
 fn is_read(alloc: Global, text: &[u8]) -> Result<bool, IniError>
@@ -21,19 +21,19 @@ fn is_read(alloc: Global, text: &[u8]) -> Result<bool, IniError>
     }
 }
 
-/// A line behind the line `[General]`.
-fn in_general(alloc: Global, line: &str) -> Result<Vec<u8>, AllocError> {
-    let mut text = Vec::from_slice(alloc, b"[General]\n")?;
-    text.extend_from_slice(line.as_bytes())?;
-    Ok(text)
+/// Tells whether a text is an ini text.
+fn tell_whether(alloc: Global, told: &mut Telling, text: &[u8]) {
+    match is_read(alloc, text) {
+        Ok(true) => told.text("read"),
+        Ok(false) => told.text("refused"),
+        Err(fault) => told.raw(&fault),
+    }
 }
 
 /// Tells whether a line means something that stands behind the line `[General]`.
-pub fn tell_line(alloc: Global, told: &mut String, line: &str) -> Result<(), AllocError> {
-    let text = in_general(alloc, line)?;
-    match is_read(alloc, text.as_slice()) {
-        Ok(true) => told.push_str("read"),
-        Ok(false) => told.push_str("refused"),
-        Err(fault) => write!(told, "{fault:?}"),
+pub fn tell_line(alloc: Global, told: &mut Telling, line: &str) {
+    match format!(in alloc; "[General]\n{line}") {
+        Ok(text) => tell_whether(alloc, told, text.as_bytes()),
+        Err(error) => told.fail(error),
     }
 }

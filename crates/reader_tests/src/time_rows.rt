@@ -1,15 +1,14 @@
 //! What decimals say as times, and the texts and sums of times.
 
 use crate::escapes::number;
+use crate::telling::Telling;
 use sim_time::{Overflow, SimTime, TimeText};
-use std::alloc::AllocError;
-use std::fmt::Write;
 
 /// Tells the picoseconds that a decimal number and a unit say, or why they say no time.
-pub fn tell_decimal(told: &mut String, decimal: &str, unit: &str) -> Result<(), AllocError> {
+pub fn tell_decimal(told: &mut Telling, decimal: &str, unit: &str) {
     match SimTime::from_decimal(decimal.as_bytes(), unit.as_bytes()) {
-        Ok(time) => write!(told, "{}", time.ps()),
-        Err(fault) => write!(told, "{fault:?}"),
+        Ok(time) => told.shown(&time.ps()),
+        Err(fault) => told.raw(&fault),
     }
 }
 
@@ -38,32 +37,34 @@ fn shown(text: &TimeText) -> &str {
 }
 
 /// Tells the text of a time, where the text of another stood.
-fn tell_text(told: &mut String, text: &mut TimeText, time: SimTime) -> Result<(), AllocError> {
+fn tell_text(told: &mut Telling, text: &mut TimeText, time: SimTime) {
     time.write_text(text);
-    write!(told, "{} ", shown(text))
+    told.text(shown(text));
+    told.text(" ");
 }
 
 /// Tells the texts of two times, the second one written where the first one stood.
-fn tell_both(told: &mut String, first: SimTime, second: SimTime) -> Result<(), AllocError> {
+fn tell_both(told: &mut Telling, first: SimTime, second: SimTime) {
     let mut text = TimeText::new();
-    tell_text(told, &mut text, first)?;
+    tell_text(told, &mut text, first);
     tell_text(told, &mut text, second)
 }
 
 /// Tells the texts of two times, or that one of them is no time.
-pub fn tell_texts(told: &mut String, first: &str, second: &str) -> Result<(), AllocError> {
+pub fn tell_texts(told: &mut Telling, first: &str, second: &str) {
     match times_of(first, second) {
         Some((first, second)) => tell_both(told, first, second),
-        None => told.push_str("no time"),
+        None => told.text("no time"),
     }
 }
 
 /// Tells the picoseconds of a sum or difference, where it is a time.
-fn tell_time(told: &mut String, found: Result<SimTime, Overflow>) -> Result<(), AllocError> {
+fn tell_time(told: &mut Telling, found: Result<SimTime, Overflow>) {
     match found {
-        Ok(time) => write!(told, "{} ", time.ps()),
-        Err(fault) => write!(told, "{fault:?} "),
+        Ok(time) => told.shown(&time.ps()),
+        Err(fault) => told.raw(&fault),
     }
+    told.text(" ");
 }
 
 /// How a time stands to another.
@@ -78,16 +79,16 @@ fn order(first: SimTime, second: SimTime) -> &'static str {
 }
 
 /// Tells the sum and the difference of two times, and how the first stands to the second.
-fn tell_pair(told: &mut String, first: SimTime, second: SimTime) -> Result<(), AllocError> {
-    tell_time(told, first.checked_add(second))?;
-    tell_time(told, first.checked_sub(second))?;
-    told.push_str(order(first, second))
+fn tell_pair(told: &mut Telling, first: SimTime, second: SimTime) {
+    tell_time(told, first.checked_add(second));
+    tell_time(told, first.checked_sub(second));
+    told.text(order(first, second))
 }
 
 /// Tells the sum, the difference and the order of two times, or that one of them is no time.
-pub fn tell_sums(told: &mut String, first: &str, second: &str) -> Result<(), AllocError> {
+pub fn tell_sums(told: &mut Telling, first: &str, second: &str) {
     match times_of(first, second) {
         Some((first, second)) => tell_pair(told, first, second),
-        None => told.push_str("no time"),
+        None => told.text("no time"),
     }
 }

@@ -1,6 +1,7 @@
 //! What becomes of expressions.
 
 use crate::escapes::unescaped;
+use crate::telling::Telling;
 use crate::words::written;
 use ned_expressions::ast::{Choice, Expression, Operator, Scope, Sign};
 use ned_expressions::chains::angled;
@@ -9,8 +10,7 @@ use ned_tokens::lines::tokenize;
 use ned_tokens::refusal::Refusal;
 use ned_tokens::token::Token;
 use sim_values::value::{Dimension, Value};
-use std::alloc::{AllocError, Global};
-use std::fmt::Write;
+use std::alloc::Global;
 
 /// The unit that amounts of a dimension are told in.
 fn unit_of(dimension: Dimension) -> &'static str {
@@ -22,12 +22,19 @@ fn unit_of(dimension: Dimension) -> &'static str {
 }
 
 /// Tells a value.
-pub fn tell_literal(told: &mut String, value: &Value) -> Result<(), AllocError> {
+pub fn tell_literal(told: &mut Telling, value: &Value) {
     match value {
-        Value::Whole(number) => write!(told, "{number}"),
-        Value::Truth(truth) => write!(told, "{truth}"),
-        Value::Text(text) => write!(told, "\"{}\"", written(text)),
-        Value::Quantity(dimension, amount) => write!(told, "{amount}{}", unit_of(*dimension)),
+        Value::Whole(number) => told.shown(number),
+        Value::Truth(truth) => told.shown(truth),
+        Value::Text(text) => {
+            told.text("\"");
+            told.text(written(text));
+            told.text("\"");
+        }
+        Value::Quantity(dimension, amount) => {
+            told.shown(amount);
+            told.text(unit_of(*dimension));
+        }
     }
 }
 
@@ -78,101 +85,124 @@ fn operator_mark(operator: Operator) -> &'static str {
     }
 }
 
+/// Tells two names with a point between them.
+fn tell_pair(told: &mut Telling, first: &str, second: &str) {
+    told.text(first);
+    told.text(".");
+    told.text(second);
+}
+
+/// Tells a text between two others.
+fn tell_within(told: &mut Telling, before: &str, text: &str, behind: &str) {
+    told.text(before);
+    told.text(text);
+    told.text(behind);
+}
+
 /// Tells the tree of an expression: each operator with its operands in parentheses, the text's own parentheses as braces.
-pub fn tell_tree(told: &mut String, expression: &Expression) -> Result<(), AllocError> {
+pub fn tell_tree(told: &mut Telling, expression: &Expression) {
     match expression {
         Expression::Literal(value) => tell_literal(told, value),
-        Expression::Name(x) => told.push_str(written(x)),
-        Expression::Scoped(scope, x) => write!(told, "{}.{}", scope_word(*scope), written(x)),
-        Expression::Member(x, y) => write!(told, "{}.{}", written(x), written(y)),
+        Expression::Name(x) => told.text(written(x)),
+        Expression::Scoped(scope, x) => tell_pair(told, scope_word(*scope), written(x)),
+        Expression::Member(x, y) => tell_pair(told, written(x), written(y)),
         Expression::Element(x, at, y) => {
-            write!(told, "{}[", written(x))?;
-            tell_tree(told, at.get())?;
-            write!(told, "].{}", written(y))
+            tell_within(told, "", written(x), "[");
+            tell_tree(told, at.get());
+            tell_within(told, "]", ".", written(y));
         }
-        Expression::Index => told.push_str("index"),
-        Expression::IndexCall => told.push_str("index()"),
-        Expression::ParentIndex => told.push_str("parentIndex()"),
-        Expression::Sizeof(x) => write!(told, "sizeof({})", written(x)),
-        Expression::Exists(x) => write!(told, "exists({})", written(x)),
+        Expression::Index => told.text("index"),
+        Expression::IndexCall => told.text("index()"),
+        Expression::ParentIndex => told.text("parentIndex()"),
+        Expression::Sizeof(x) => tell_within(told, "sizeof(", written(x), ")"),
+        Expression::Exists(x) => tell_within(told, "exists(", written(x), ")"),
         Expression::ExistsAt(x, at) => {
-            write!(told, "exists({}[", written(x))?;
-            tell_tree(told, at.get())?;
-            told.push_str("])")
+            tell_within(told, "exists(", written(x), "[");
+            tell_tree(told, at.get());
+            told.text("])");
         }
         Expression::Chosen(choice, a, b) => {
-            write!(told, "{}(", choice_word(*choice))?;
-            tell_tree(told, a.get())?;
-            told.push_str(", ")?;
-            tell_tree(told, b.get())?;
-            told.push(')')
+            tell_within(told, "", choice_word(*choice), "(");
+            tell_tree(told, a.get());
+            told.text(", ");
+            tell_tree(told, b.get());
+            told.text(")");
         }
         Expression::Group(part) => {
-            told.push('{')?;
-            tell_tree(told, part.get())?;
-            told.push('}')
+            told.text("{");
+            tell_tree(told, part.get());
+            told.text("}");
         }
         Expression::Signed(sign, part) => {
-            write!(told, "({}", sign_mark(*sign))?;
-            tell_tree(told, part.get())?;
-            told.push(')')
+            tell_within(told, "(", sign_mark(*sign), "");
+            tell_tree(told, part.get());
+            told.text(")");
         }
         Expression::Binary(operator, a, b) => {
-            told.push('(')?;
-            tell_tree(told, a.get())?;
-            write!(told, " {} ", operator_mark(*operator))?;
-            tell_tree(told, b.get())?;
-            told.push(')')
+            told.text("(");
+            tell_tree(told, a.get());
+            tell_within(told, " ", operator_mark(*operator), " ");
+            tell_tree(told, b.get());
+            told.text(")");
         }
         Expression::Conditional(condition, a, b) => {
-            told.push('(')?;
-            tell_tree(told, condition.get())?;
-            told.push_str(" ? ")?;
-            tell_tree(told, a.get())?;
-            told.push_str(" : ")?;
-            tell_tree(told, b.get())?;
-            told.push(')')
+            told.text("(");
+            tell_tree(told, condition.get());
+            told.text(" ? ");
+            tell_tree(told, a.get());
+            told.text(" : ");
+            tell_tree(told, b.get());
+            told.text(")");
         }
     }
 }
 
 /// Tells the tree of a text that is an expression, or why it is none.
-pub fn tell_expression(alloc: Global, told: &mut String, row: &str) -> Result<(), AllocError> {
-    let text = unescaped(alloc, row)?;
+pub fn tell_expression(alloc: Global, told: &mut Telling, row: &str) {
+    let text = unescaped(alloc, told, row);
     match parse_expression(alloc, text.as_slice()) {
         Ok(read) => tell_tree(told, &read),
-        Err(refusal) => write!(told, "{refusal:?}"),
+        Err(refusal) => told.raw(&refusal),
     }
 }
 
 /// Tells whether a text is an expression, or why it is none.
-pub fn tell_whether(alloc: Global, told: &mut String, row: &str) -> Result<(), AllocError> {
-    let text = unescaped(alloc, row)?;
+pub fn tell_whether(alloc: Global, told: &mut Telling, row: &str) {
+    let text = unescaped(alloc, told, row);
     match parse_expression(alloc, text.as_slice()) {
-        Ok(_) => told.push_str("read"),
-        Err(refusal) => write!(told, "{refusal:?}"),
+        Ok(_) => told.text("read"),
+        Err(refusal) => told.raw(&refusal),
     }
 }
 
-/// Tells a tree, and how many tokens are left behind it.
-fn tell_front(told: &mut String, read: &Expression, left: usize) -> Result<(), AllocError> {
-    tell_tree(told, read)?;
-    write!(told, ", {left} left")
+/// Tells how many tokens are left behind something.
+fn tell_left(told: &mut Telling, left: usize) {
+    told.text(", ");
+    told.shown(&left);
+    told.text(" left");
 }
 
 /// Tells what `angled` makes of tokens.
-fn tell_tokens(alloc: Global, told: &mut String, tokens: &[Token]) -> Result<(), AllocError> {
+fn tell_tokens(alloc: Global, told: &mut Telling, tokens: &[Token]) {
     match angled(alloc, tokens) {
-        Ok((read, rest)) => tell_front(told, &read, rest.len()),
-        Err(Refusal::At(left)) => write!(told, "no, {left} left"),
-        Err(Refusal::Memory(_)) => told.push_str("no memory"),
+        Ok((read, rest)) => {
+            tell_tree(told, &read);
+            tell_left(told, rest.len());
+        }
+        Err(Refusal::At(left)) => {
+            told.text("no");
+            tell_left(told, left);
+        }
+        Err(Refusal::Memory(_)) => told.text("no memory"),
     }
 }
 
 /// Tells the tree of an expression between `<` and `>` and how many tokens are left behind it, or how many are left at the first
 /// that can't go on.
-pub fn tell_angled(alloc: Global, told: &mut String, row: &str) -> Result<(), AllocError> {
-    let text = unescaped(alloc, row)?;
-    let list = tokenize(alloc, text.as_slice())?;
-    tell_tokens(alloc, told, list.tokens.as_slice())
+pub fn tell_angled(alloc: Global, told: &mut Telling, row: &str) {
+    let text = unescaped(alloc, told, row);
+    match tokenize(alloc, text.as_slice()) {
+        Ok(list) => tell_tokens(alloc, told, list.tokens.as_slice()),
+        Err(error) => told.fail(error),
+    }
 }

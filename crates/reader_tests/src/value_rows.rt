@@ -4,6 +4,7 @@ ghost use Rattle.std.specs.Prelude.{◌≡◌, ◌++◌, IfOk};
 ghost use Rattle.reader_tests.specs.Example as example;
 
 use crate::escapes::unescaped;
+use crate::telling::Telling;
 use crate::tree_rows::tell_literal;
 use ned_expressions::ast::{Expression, Scope};
 use ned_expressions::parse::parse_expression;
@@ -13,8 +14,7 @@ use param_eval::names::{Name, Names};
 use sim_values::NoMemory;
 use sim_values::text::Text;
 use sim_values::value::{Dimension, Value};
-use std::alloc::{AllocError, Global};
-use std::fmt::Write;
+use std::alloc::Global;
 
 /// What references mean in these rows.
 struct Example;
@@ -71,19 +71,19 @@ impl Names for Example {
 }
 
 /// Tells the value of an expression, or why it has none.
-fn tell_value(alloc: Global, told: &mut String, expression: &Expression) -> Result<(), AllocError> {
+fn tell_value(alloc: Global, told: &mut Telling, expression: &Expression) {
     match evaluate(alloc, expression, &Example) {
         Ok(Ok(value)) => tell_literal(told, &value),
-        Ok(Err(fault)) => write!(told, "{fault}"),
-        Err(error) => Err(error.error()),
+        Ok(Err(fault)) => told.shown(&fault),
+        Err(error) => told.fail(error.error()),
     }
 }
 
 /// Tells the value of a text that is an expression, or why it has none.
-pub fn tell_expression(alloc: Global, told: &mut String, row: &str) -> Result<(), AllocError> {
-    let text = unescaped(alloc, row)?;
+pub fn tell_expression(alloc: Global, told: &mut Telling, row: &str) {
+    let text = unescaped(alloc, told, row);
     match parse_expression(alloc, text.as_slice()) {
         Ok(read) => tell_value(alloc, told, &read),
-        Err(refusal) => write!(told, "{refusal:?}"),
+        Err(refusal) => told.raw(&refusal),
     }
 }

@@ -1,8 +1,7 @@
 //! Texts as they are printed.
 
+use crate::telling::Telling;
 use sim_values::text::Text;
-use std::alloc::AllocError;
-use std::fmt::Write;
 
 /// The text that bytes are.
 pub fn text_of(bytes: &[u8]) -> &str {
@@ -18,9 +17,9 @@ pub fn written(text: &Text) -> &str {
 }
 
 /// Tells names, each with a blank behind it.
-pub fn tell_names(told: &mut String, names: &[Text]) -> Result<(), AllocError> {
+pub fn tell_names(told: &mut Telling, names: &[Text]) {
     for name in names {
-        write!(told, "{} ", written(name))?;
+        told.text(written(name));
+        told.text(" ");
     }
-    Ok(())
 }
