@@ -1,7 +1,7 @@
 //! Where an evaluation has come to.
 
 /// Where an evaluation has come to.
-#[derive(Debug, Drop)]
+#[derive(Drop)]
 pub enum Turn<K, V, F> {
     /// It needs the value of a key.
     Ask(K),
@@ -10,7 +10,7 @@ pub enum Turn<K, V, F> {
 }
 
 /// What a step of a question leads to.
-#[derive(Debug, Drop)]
+#[derive(Drop)]
 pub(crate) enum Step<K, V, F> {
     /// The key that is being evaluated has come to this.
     Goes(Turn<K, V, F>),

@@ -16,7 +16,7 @@ use std::alloc::{AllocError, Global};
 pub const MAX_LINE: usize = 65_536;
 
 /// What a line asks for.
-#[derive(Debug, Drop)]
+#[derive(Drop)]
 pub enum Command {
     /// `run N`: run for at most N events.
     Run(u64),

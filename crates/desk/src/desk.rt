@@ -27,7 +27,7 @@ use std::alloc::Global;
 use std::marker::PhantomData;
 
 /// What the desk answers.
-#[derive(Debug, Drop)]
+#[derive(Drop)]
 pub enum DeskTurn {
     Text(Text),
     /// A run waits for a box. Supply it or decline it, and then go on.

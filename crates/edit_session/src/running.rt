@@ -24,7 +24,7 @@ use std::alloc::Global;
 use std::marker::PhantomData;
 
 /// Where a run stands between two calls.
-#[derive(Clone, Copy, Debug, PartialEq, Eq)]
+#[derive(Clone, Copy, PartialEq, Eq)]
 pub enum Phase {
     /// No run waits.
     Idle,
@@ -35,7 +35,7 @@ pub enum Phase {
 }
 
 /// Where a run stands before its first event.
-#[derive(Debug, Drop)]
+#[derive(Drop)]
 pub enum Standing {
     /// It can't begin.
     Over(Outcome),
@@ -46,7 +46,7 @@ pub enum Standing {
 }
 
 /// Where a run is after it was asked for.
-#[derive(Debug, Drop)]
+#[derive(Drop)]
 pub enum Advance {
     /// It waits for the box of a module.
     Waits(Request),

@@ -48,7 +48,7 @@ pub struct Done {
 }
 
 /// What a run that is done tells.
-#[derive(Debug, Drop)]
+#[derive(Drop)]
 pub struct Report {
     pub outcome: Outcome,
     /// The event after which it began, none where it began with setup.
@@ -58,7 +58,7 @@ pub struct Report {
 }
 
 /// What a run came to.
-#[derive(Debug, Drop)]
+#[derive(Drop)]
 pub enum Progress {
     /// It waits for a box.
     Want(Request),
@@ -66,7 +66,7 @@ pub enum Progress {
 }
 
 /// What an accepted edit tells.
-#[derive(Clone, Copy, Debug, PartialEq, Eq)]
+#[derive(Clone, Copy, PartialEq, Eq)]
 pub struct Edited {
     /// The greatest event up to which the last run stays that of the model as edited. None: the next run begins with setup.
     pub valid_to: Option<u64>,

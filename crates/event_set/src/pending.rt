@@ -7,7 +7,7 @@ use sim_values::text::Text;
 use std::alloc::{AllocError, Global};
 
 /// What is to happen.
-#[derive(Debug, Drop)]
+#[derive(Drop)]
 pub enum Happening {
     /// A self-message: the module's number of the timer, and the message's kind.
     Timer(u32, i16),
@@ -30,7 +30,7 @@ impl Happening {
 }
 
 /// An event to come.
-#[derive(Debug, Drop)]
+#[derive(Drop)]
 pub struct Pending {
     pub time: SimTime,
     pub priority: i16,

@@ -20,7 +20,7 @@ use std::collections::BTreeMap;
 use std::marker::Model;
 
 /// The place of an event in the order (OMNeT++ Simulation Manual, "Message Scheduling and Priority").
-#[derive(Clone, Copy, Debug, PartialEq, Eq, PartialOrd, Ord, Drop)]
+#[derive(Clone, Copy, PartialEq, Eq, PartialOrd, Ord, Drop)]
 struct Key {
     time: SimTime,
     priority: i16,
@@ -28,21 +28,21 @@ struct Key {
 }
 
 /// An event but for its place.
-#[derive(Debug, Drop)]
+#[derive(Drop)]
 struct Entry {
     id: u32,
     what: Happening,
 }
 
 /// A timer of a module.
-#[derive(Clone, Copy, Debug, PartialEq, Eq, PartialOrd, Ord, Drop)]
+#[derive(Clone, Copy, PartialEq, Eq, PartialOrd, Ord, Drop)]
 struct TimerKey {
     id: u32,
     timer: u32,
 }
 
 /// When an event comes, its priority and its module, told before it is taken out.
-#[derive(Clone, Copy, Debug, Drop)]
+#[derive(Clone, Copy, Drop)]
 pub struct Coming {
     pub time: SimTime,
     pub priority: i16,

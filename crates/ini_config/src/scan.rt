@@ -48,7 +48,7 @@ pub fn entry_in<'a>(name: &[u8], section: Option<&[u8]>, line: &'a IniLine) -> O
 // ---- the first that is wanted
 
 /// Which entries are looked for.
-#[derive(Clone, Copy, Debug)]
+#[derive(Clone, Copy)]
 pub(crate) enum Wanted<'a> {
     /// Those of the option `extends`.
     Bases,

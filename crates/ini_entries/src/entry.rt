@@ -50,7 +50,7 @@ pub enum ObjectOption {
 }
 
 /// A per-object option for the objects whose path the pattern matches.
-#[derive(Debug, Drop)]
+#[derive(Drop)]
 pub struct ObjectEntry {
     /// The whole key.
     pub pattern: Pattern,

@@ -9,7 +9,7 @@ ghost use Rattle.ini_entries.specs.Meaning.{is_key, is_key_byte};
 use crate::blanks::is_blank;
 
 /// Where a byte of a key stands.
-#[derive(Clone, Copy, Debug)]
+#[derive(Clone, Copy)]
 pub(crate) enum KeyPlace {
     /// In no braces or brackets.
     Open,

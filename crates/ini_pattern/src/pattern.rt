@@ -40,7 +40,7 @@ impl From<AllocError> for PatternFault {
 }
 
 /// A wildcard pattern. Contracts see it as the list of its pieces.
-#[derive(Debug, Drop)]
+#[derive(Drop)]
 pub struct Pattern {
     pieces: Items<Piece>,
 }

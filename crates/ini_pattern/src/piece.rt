@@ -6,7 +6,7 @@ use sqlite_items::Items;
 use std::alloc::{AllocError, Global};
 
 /// The characters from the first to the last.
-#[derive(Clone, Copy, Debug, PartialEq, Eq)]
+#[derive(Clone, Copy, PartialEq, Eq)]
 pub struct CharRange {
     pub first: char,
     pub last: char,
@@ -15,7 +15,7 @@ pub struct CharRange {
 /// A piece of a pattern: what stands for characters of a name.
 ///
 /// OMNeT++ Simulation Manual, "Using Wildcard Patterns".
-#[derive(Debug, Drop)]
+#[derive(Drop)]
 pub enum Piece {
     /// `**`: any characters, or none.
     AnyPath,

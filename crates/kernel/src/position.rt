@@ -9,7 +9,7 @@ use sim_time::SimTime;
 use sqlite_items::Items;
 
 /// How long the lists of a world were that only grow while a run goes on.
-#[derive(Clone, Copy, Debug, Drop)]
+#[derive(Clone, Copy, Drop)]
 pub struct Lengths {
     pub records: usize,
     pub live: usize,

@@ -3,7 +3,7 @@
 use sim_values::text::Text;
 
 /// A simple module that needs a box.
-#[derive(Debug, Drop)]
+#[derive(Drop)]
 pub struct Request {
     /// The class that the box is to be of.
     pub kind: Text,

@@ -9,7 +9,7 @@ pub const LONGEST: usize = 65_536;
 pub const MOST_LINES: u64 = 1_000_000;
 
 /// What is read next.
-#[derive(Debug, Drop)]
+#[derive(Drop)]
 pub enum NextLine {
     /// A line, without the line feed at its end.
     Line(Text),

@@ -9,7 +9,7 @@ use sqlite_items::Items;
 use std::alloc::{AllocError, Global};
 
 /// What a run asks of its model. All that it takes from the model is an answer to one of these.
-#[derive(Debug, PartialEq, Eq, Hash, Drop)]
+#[derive(PartialEq, Eq, Hash, Drop)]
 pub enum Question {
     /// Which network is run.
     Root,
@@ -43,14 +43,14 @@ impl Question {
 }
 
 /// A question, with the number of the event in which it was asked.
-#[derive(Debug, Drop)]
+#[derive(Drop)]
 pub struct Asked {
     pub event: u64,
     pub question: Question,
 }
 
 /// Why a model can't answer with a value.
-#[derive(Clone, Copy, Debug, PartialEq, Eq)]
+#[derive(Clone, Copy, PartialEq, Eq)]
 pub enum ModelFault {
     /// A submodule's type isn't declared.
     UnknownType,
@@ -68,7 +68,7 @@ pub enum ModelFault {
 }
 
 /// A submodule that a compound module is built with.
-#[derive(Debug, Drop)]
+#[derive(Drop)]
 pub struct Built {
     pub name: Text,
     /// Its place in its vector, none where it is no vector's element.
@@ -78,7 +78,7 @@ pub struct Built {
 }
 
 /// What a model answers.
-#[derive(Debug, Drop)]
+#[derive(Drop)]
 pub enum Answer {
     /// The name of the network.
     Root(Text),

@@ -11,21 +11,21 @@ use std::alloc::Global;
 
 /// When an event or an injection is due: of two the one with the smaller time comes first, and of
 /// those of one time the one with the smaller priority.
-#[derive(Clone, Copy, Debug, PartialEq, Eq, Hash)]
+#[derive(Clone, Copy, PartialEq, Eq, Hash)]
 pub struct Due {
     pub time: SimTime,
     pub priority: i16,
 }
 
 /// Where an injection stands in the order in which injections go: by when they are due, then by number.
-#[derive(Clone, Copy, Debug, PartialEq, Eq, Hash)]
+#[derive(Clone, Copy, PartialEq, Eq, Hash)]
 pub struct Turn {
     pub due: Due,
     pub number: u32,
 }
 
 /// A message that no module sends, which arrives at a module when it is due.
-#[derive(Debug, Drop)]
+#[derive(Drop)]
 pub struct Injection {
     /// Its number, from 1. No other injection of the session has it, nor had one that was withdrawn.
     pub number: u32,

@@ -22,7 +22,7 @@ use sqlite_items::Items;
 use std::alloc::{AllocError, Global};
 
 /// A fault of a part of the model, with the path that it is told with.
-#[derive(Debug, Drop)]
+#[derive(Drop)]
 pub struct PlacedFault {
     pub path: Text,
     pub fault: ModelFault,

@@ -9,7 +9,7 @@ use sim_values::text::Text;
 use std::alloc::{AllocError, Global};
 
 /// A module that was created. Its id is its place among the records, counted from 1.
-#[derive(Debug, Drop)]
+#[derive(Drop)]
 pub struct Record {
     /// The id of the enclosing module, 0 for the network.
     pub parent: u32,

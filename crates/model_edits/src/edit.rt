@@ -27,7 +27,7 @@ pub const MAX_PAYLOAD: usize = 4096;
 pub const MAX_INJECTIONS: usize = 10_000;
 
 /// An edit of a model.
-#[derive(Debug, Drop)]
+#[derive(Drop)]
 pub enum Edit {
     /// A line of this text is put before the line of this number of the ini text, counted from 1. The number behind
     /// that of the last line adds one at the end.
@@ -46,7 +46,7 @@ pub enum Edit {
 }
 
 /// Why an edit is refused. Of several reasons the first in this order is told, and want of memory in any place.
-#[derive(Clone, Copy, Debug, PartialEq, Eq)]
+#[derive(Clone, Copy, PartialEq, Eq)]
 pub enum Refusal {
     /// The changed ini text is longer than 1 MiB; or a payload is longer than 4,096 bytes, 10,000 injections are held, or all
     /// their numbers are used.

@@ -11,7 +11,7 @@ use sim_values::value::Value;
 use sqlite_items::Items;
 
 /// What a module is called for.
-#[derive(Debug, Drop)]
+#[derive(Drop)]
 pub enum Prompt {
     /// Initialization, at this stage.
     Initialize(u8),
@@ -22,14 +22,14 @@ pub enum Prompt {
 }
 
 /// A parameter of the module and its value.
-#[derive(Debug, Drop)]
+#[derive(Drop)]
 pub struct Parameter {
     pub name: Text,
     pub value: Value,
 }
 
 /// Which way messages go through a gate.
-#[derive(Clone, Copy, Debug, PartialEq, Eq)]
+#[derive(Clone, Copy, PartialEq, Eq)]
 pub enum Direction {
     Input,
     Output,
@@ -37,7 +37,7 @@ pub enum Direction {
 }
 
 /// A gate of the module.
-#[derive(Debug, Drop)]
+#[derive(Drop)]
 pub struct Gate {
     pub name: Text,
     pub direction: Direction,
@@ -46,7 +46,7 @@ pub struct Gate {
 }
 
 /// One call of a module.
-#[derive(Debug, Drop)]
+#[derive(Drop)]
 pub struct Call {
     /// The present time.
     pub time: SimTime,

@@ -3,7 +3,7 @@
 use sim_values::text::Text;
 
 /// Where a message came from.
-#[derive(Debug, Drop)]
+#[derive(Drop)]
 pub enum Origin {
     /// A gate of the module, by its name and index.
     Gate(Text, u32),
@@ -14,7 +14,7 @@ pub enum Origin {
 }
 
 /// A message, as it is handed to a module. Its payload has at most 4,096 bytes.
-#[derive(Debug, Drop)]
+#[derive(Drop)]
 pub struct Message {
     pub kind: i16,
     /// Of messages due at one time, those with the smallest priority come first.

@@ -5,7 +5,7 @@ use sim_values::text::Text;
 use sqlite_items::Items;
 
 /// A value of the call that a reply, or the state after it, rests on.
-#[derive(Debug, Drop)]
+#[derive(Drop)]
 pub enum Read {
     /// The parameter of that name, or that there is none.
     Parameter(Text),
@@ -14,7 +14,7 @@ pub enum Read {
 }
 
 /// A timer to set.
-#[derive(Debug, Drop)]
+#[derive(Drop)]
 pub struct Schedule {
     /// The module's own number of the timer, of which one may be pending at a time.
     pub timer: u32,
@@ -25,7 +25,7 @@ pub struct Schedule {
 }
 
 /// What a module does.
-#[derive(Debug, Drop)]
+#[derive(Drop)]
 pub enum Action {
     /// Emits a value of the signal of that name.
     Emit(Text, i64),
@@ -38,7 +38,7 @@ pub enum Action {
 }
 
 /// What a module answers: what it read, and what is to be done, in order.
-#[derive(Debug, Drop)]
+#[derive(Drop)]
 pub struct Reply {
     pub reads: Items<Read>,
     pub actions: Items<Action>,

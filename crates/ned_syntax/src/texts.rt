@@ -9,7 +9,7 @@ use std::alloc::Global;
 use std::marker::Model;
 
 /// The texts of a model's NED files, in order.
-#[derive(Debug, Drop)]
+#[derive(Drop)]
 pub struct NedTexts {
     alloc: Global,
     texts: Items<Text>,

@@ -9,7 +9,7 @@ use sqlite_items::Items;
 use std::alloc::{AllocError, Global};
 
 /// The tokens of a text, and the number of each one's line.
-#[derive(Debug, Drop)]
+#[derive(Drop)]
 pub struct TokenList {
     pub tokens: Items<Token>,
     pub lines: Items<usize>,

@@ -8,7 +8,7 @@ use sim_values::NoMemory;
 use std::alloc::{AllocError, AllocFailed};
 
 /// Why nothing was read.
-#[derive(Debug, Drop)]
+#[derive(Drop)]
 pub enum Refusal {
     /// Memory ran out.
     Memory(NoMemory),

@@ -4,7 +4,7 @@ use sim_values::text::Text;
 use sim_values::value::Dimension;
 
 /// A word of the language, which is no name but may name a property.
-#[derive(Clone, Copy, Debug, PartialEq, Eq)]
+#[derive(Clone, Copy, PartialEq, Eq)]
 pub enum Keyword {
     Package,
     Import,
@@ -44,7 +44,7 @@ pub enum Keyword {
 }
 
 /// A mark: the longest that the bytes begin with.
-#[derive(Clone, Copy, Debug, PartialEq, Eq)]
+#[derive(Clone, Copy, PartialEq, Eq)]
 pub enum Mark {
     Open,
     Close,
@@ -89,7 +89,7 @@ pub enum Mark {
 }
 
 /// A token of a line. Whatever begins none of the others is a stray byte.
-#[derive(Debug, Drop)]
+#[derive(Drop)]
 pub enum Token {
     Word(Keyword),
     Mark(Mark),

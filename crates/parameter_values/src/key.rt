@@ -3,7 +3,7 @@
 use sim_values::text::Text;
 
 /// A parameter of a module.
-#[derive(Debug, PartialEq, Eq, Hash, Drop)]
+#[derive(PartialEq, Eq, Hash, Drop)]
 pub struct Key {
     /// The module's id.
     pub id: u32,

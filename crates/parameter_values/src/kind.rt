@@ -7,7 +7,7 @@ use param_eval::fault::Fault;
 use sim_values::value::{Dimension, Value};
 
 /// Of what kind the values of a parameter are, as it is declared; of a number with the dimension of its unit.
-#[derive(Clone, Copy, Debug, PartialEq, Eq)]
+#[derive(Clone, Copy, PartialEq, Eq)]
 pub enum Kind {
     /// `bool`.
     Truth,

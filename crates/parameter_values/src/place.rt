@@ -12,7 +12,7 @@ use sim_values::NoMemory;
 use std::alloc::Global;
 
 /// Where an expression stands.
-#[derive(Clone, Copy, Debug, PartialEq, Eq)]
+#[derive(Clone, Copy, PartialEq, Eq)]
 pub struct Place {
     /// The id of the module whose parameter it gives a value.
     pub id: u32,

@@ -13,7 +13,7 @@ use sim_values::NoMemory;
 use std::alloc::Global;
 
 /// The section in which an expression stands.
-#[derive(Clone, Copy, Debug, PartialEq, Eq)]
+#[derive(Clone, Copy, PartialEq, Eq)]
 pub enum Section {
     /// One of the module's type.
     OfType,

@@ -11,7 +11,7 @@ use run_semantics::traces::{Emission, Scalar};
 use std::alloc::{AllocError, Global};
 
 /// For each id of a module, where the elements of a run's lists stand that concern it.
-#[derive(Debug, Drop)]
+#[derive(Drop)]
 pub struct RunPlaces {
     /// Whether it is wanted.
     pub wanted: Vec<bool>,

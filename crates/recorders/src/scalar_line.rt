@@ -4,7 +4,7 @@ use sim_values::text::Text;
 
 /// A line of the scalar file: a value that a module recorded, or what a statistic of it makes of
 /// the values that it hears.
-#[derive(Debug, Drop)]
+#[derive(Drop)]
 pub struct ScalarLine {
     /// The full path of the module.
     pub path: Text,

@@ -3,7 +3,7 @@
 use sim_values::text::Text;
 
 /// A vector: the values that a statistic of a module hears, in the order of their emission.
-#[derive(Debug, Drop)]
+#[derive(Drop)]
 pub struct VectorLine {
     /// The id of the module.
     pub id: u32,

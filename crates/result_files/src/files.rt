@@ -23,7 +23,7 @@ use sqlite_items::Items;
 use std::alloc::Global;
 
 /// What is known of a run's result files before they are written.
-#[derive(Debug, Drop)]
+#[derive(Drop)]
 pub struct ResultFiles {
     /// All lines of both files up to the first empty one, which ends it.
     pub header: Text,

@@ -11,7 +11,7 @@ use itoa::Buffer;
 use sim_time::{SimTime, TimeText};
 
 /// How far the writing of a text has come.
-#[derive(Clone, Copy, Debug, PartialEq, Eq)]
+#[derive(Clone, Copy, PartialEq, Eq)]
 pub enum Progress {
     /// So many bytes were written, all that there were so far.
     Whole(u128),

@@ -9,7 +9,7 @@ use std::io;
 
 /// A write that failed. Its field is private, so that it is made from what refused the bytes alone: a file or a stream
 /// that failed, or the allocator.
-#[derive(Clone, Copy, Debug, PartialEq, Eq)]
+#[derive(Clone, Copy, PartialEq, Eq)]
 pub struct WriteFault {
     seal: (),
 }
@@ -43,7 +43,7 @@ pub trait Out {
 }
 
 /// The device failed or took nothing, after so many bytes of the text.
-#[derive(Clone, Copy, Debug, PartialEq, Eq)]
+#[derive(Clone, Copy, PartialEq, Eq)]
 pub struct Device {
     pub written: u128,
 }

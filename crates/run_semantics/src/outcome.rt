@@ -9,7 +9,7 @@ use sim_values::text::Text;
 use std::alloc::{AllocError, Global};
 
 /// Why a run can't go on.
-#[derive(Debug, Drop)]
+#[derive(Drop)]
 pub enum Fault {
     /// A submodule's type isn't declared.
     UnknownType,
@@ -47,7 +47,7 @@ pub enum Fault {
 }
 
 /// How a run ends.
-#[derive(Debug, Drop)]
+#[derive(Drop)]
 pub enum Outcome {
     /// A module ended it.
     Ended,
@@ -62,7 +62,7 @@ pub enum Outcome {
 }
 
 /// Whether an event goes on.
-#[derive(Debug, Drop)]
+#[derive(Drop)]
 pub enum Turn {
     GoOn,
     /// The rest of the event is discarded.

@@ -13,7 +13,7 @@ use std::rc::Rc;
 const MAX_NAMES: usize = 64;
 
 /// The name of a signal. All that share it have its bytes in one place, which counts them. Contracts see the list of its bytes.
-#[derive(Debug, Drop)]
+#[derive(Drop)]
 pub struct SignalName {
     text: Rc<Text>,
 }

@@ -5,7 +5,7 @@ use sim_time::SimTime;
 use sim_values::text::Text;
 
 /// A value that a module emitted.
-#[derive(Debug, Drop)]
+#[derive(Drop)]
 pub struct Emission {
     /// The module that emitted it.
     pub id: u32,
@@ -17,7 +17,7 @@ pub struct Emission {
 }
 
 /// A scalar that a module recorded.
-#[derive(Debug, Drop)]
+#[derive(Drop)]
 pub struct Scalar {
     /// The module that recorded it.
     pub id: u32,
@@ -26,7 +26,7 @@ pub struct Scalar {
 }
 
 /// A simple module that was started: its kind, and its state as bytes.
-#[derive(Debug, Drop)]
+#[derive(Drop)]
 pub struct Instance {
     pub id: u32,
     pub kind: Text,

@@ -157,7 +157,7 @@ fn try_devices<R: Abort>(
         (usize::MAX, 1, [Ok(()), Ok(())]),
     ] {
         let (answers, has_taken) = try_device(alloc, files, emissions, room, step);
-        assert_eq!(rt; answers, want, "{room} {step}");
+        assert!(rt; answers == want, "{room} {step}");
         assert!(rt; has_taken, "{room} {step}");
     }
     Ok(())

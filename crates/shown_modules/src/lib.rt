@@ -19,7 +19,7 @@ use sqlite_items::Items;
 use std::alloc::Global;
 
 /// What calls show of a module that does not change from one call to the next.
-#[derive(Debug, Drop)]
+#[derive(Drop)]
 pub struct Shown {
     /// The module's full path.
     pub path: Text,

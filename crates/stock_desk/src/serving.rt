@@ -34,7 +34,7 @@ use text_files::noted::Noted;
 use transcripts::asked::Asked;
 
 /// A client can't ask or hear any more. It knows why.
-#[derive(Clone, Copy, Debug, PartialEq, Eq)]
+#[derive(Clone, Copy, PartialEq, Eq)]
 pub struct Gone;
 
 /// The devices of the files of a run, with the name of the configuration that they were opened for.
@@ -46,7 +46,7 @@ pub struct Pages<O> {
 }
 
 /// A file of a run.
-#[derive(Clone, Copy, Debug, PartialEq, Eq)]
+#[derive(Clone, Copy, PartialEq, Eq)]
 pub enum Page {
     Scalars,
     Vectors,
@@ -136,7 +136,7 @@ pub trait Client<O: Out + Drop> {
 }
 
 /// Why a client is served no more.
-#[derive(Clone, Copy, Debug, PartialEq, Eq)]
+#[derive(Clone, Copy, PartialEq, Eq)]
 pub enum Stop {
     /// It asks nothing more.
     End,

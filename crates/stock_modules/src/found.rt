@@ -9,7 +9,7 @@ use sim_time::SimTime;
 use sim_values::value::{Dimension, Value};
 
 /// What a look at parameters finds.
-#[derive(Clone, Copy, Debug)]
+#[derive(Clone, Copy)]
 pub enum Found<T> {
     /// One of them is none of the module's.
     Missing,

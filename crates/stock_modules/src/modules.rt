@@ -14,7 +14,7 @@ use sim_values::text::Text;
 use std::alloc::Global;
 
 /// A module that comes with the program.
-#[derive(Debug, Drop)]
+#[derive(Drop)]
 pub enum StockModule {
     Tick(Tick),
 }

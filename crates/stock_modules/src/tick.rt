@@ -20,7 +20,7 @@ use std::alloc::Global;
 use std::marker::Model;
 
 /// What a Tick needs in every call.
-#[derive(Clone, Copy, Debug)]
+#[derive(Clone, Copy)]
 pub struct Pace {
     /// How often it fires.
     pub count: i64,
@@ -31,7 +31,7 @@ pub struct Pace {
 }
 
 /// What a Tick needs to fire.
-#[derive(Clone, Copy, Debug)]
+#[derive(Clone, Copy)]
 pub struct Firing {
     pub pace: Pace,
     /// What it emits besides, at the late firing alone.
@@ -207,7 +207,7 @@ fn bytes_of(alloc: Global, n: u64) -> Result<Text, NoMemory>
 
 /// A module that fires `count` times, `gap` apart, and emits at each firing how often it has fired. Contracts see it as
 /// that number.
-#[derive(Debug, Drop)]
+#[derive(Drop)]
 pub struct Tick {
     n: u64,
 }

@@ -6,7 +6,7 @@ use module_api::call::{Call, Prompt};
 use module_api::message::Origin;
 
 /// What such a module is told.
-#[derive(Clone, Copy, Debug, PartialEq, Eq)]
+#[derive(Clone, Copy, PartialEq, Eq)]
 pub enum Told {
     /// To begin: it is initialized, at any stage.
     Start,

@@ -21,7 +21,7 @@ pub trait Folder {
 }
 
 /// Why the texts of some files aren't read.
-#[derive(Debug, Drop)]
+#[derive(Drop)]
 pub enum FolderFault {
     /// The file of that path, counted from 0, can't be read.
     Failed(usize, io::Error),

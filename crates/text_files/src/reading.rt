@@ -18,7 +18,7 @@ pub const MOST: usize = MAX_LENGTH + 1;
 const CHUNK: usize = 4096;
 
 /// Why a text isn't read.
-#[derive(Debug, Drop)]
+#[derive(Drop)]
 pub enum ReadFault {
     /// The source failed.
     Failed(io::Error),

@@ -3,7 +3,7 @@
 use sim_values::text::Text;
 
 /// What is asked.
-#[derive(Debug, Drop)]
+#[derive(Drop)]
 pub enum Asked {
     /// A command line, without its end.
     Line(Text),

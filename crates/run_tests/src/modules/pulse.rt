@@ -12,7 +12,7 @@ use stock_modules::replies::{emit, nothing, set_timer};
 use stock_modules::timed::Told;
 
 /// Emits `pulse` at its first timer. It knows whether it has.
-#[derive(Debug, Drop)]
+#[derive(Drop)]
 pub struct Pulse(pub bool);
 
 impl Pulse {

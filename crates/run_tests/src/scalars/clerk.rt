@@ -18,7 +18,7 @@ use stock_modules::replies::{emit, nothing, set_timer};
 
 /// A Clerk records a scalar as it begins, emits the greatest value twice and sets a timer; it records a second scalar for a
 /// message, and a third at the end. A Scribe records a name that is none.
-#[derive(Debug, Drop)]
+#[derive(Drop)]
 pub struct Clerk {
     is_clerk: bool,
 }
