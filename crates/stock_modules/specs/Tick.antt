@@ -25,13 +25,17 @@ number_of state = from_be_bytes w64 state
 unfoldable pub state_of : ℕ → State
 state_of n = to_be_bytes w64 n
 
--- 8 bytes, whose number is below 2 ^ 63
-abbrev pub is_tick_state : State → Bool
-is_tick_state state = (length state == 8) && nat_lt (number_of state) (2 ^ 63)
+-- n stays below this, as it is emitted with a sign
+abbrev pub limit : ℕ
+limit = 2 ^ 63
 
--- n after one more timer, which never rises above 2 ^ 63 - 1
+-- 8 bytes, whose number is below the limit
+abbrev pub is_tick_state : State → Bool
+is_tick_state state = (length state == 8) && nat_lt (number_of state) limit
+
+-- n after one more timer, which never reaches the limit
 abbrev pub next_number : ℕ → ℕ
-next_number n = min (n + 1) (2 ^ 63 - 1)
+next_number n = min (n + 1) (limit - 1)
 
 -- THE PARAMETERS
 

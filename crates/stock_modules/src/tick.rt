@@ -1,9 +1,9 @@
 //! A module that fires at equal gaps.
 
-ghost use Rattle.std.specs.Prelude.{◌≡◌, ◌∷◌, ◌++◌, ◌<◌, ◌^◌, length, IfOk, OnOk};
+ghost use Rattle.std.specs.Prelude.{◌≡◌, ◌∷◌, ◌++◌, ◌<◌, length, IfOk, OnOk};
 ghost use Rattle.stock_modules.specs.Found.{given, whole_found, found_map};
 ghost use Rattle.stock_modules.specs.Replies.{actions_of, state_after};
-ghost use Rattle.stock_modules.specs.Tick.{next_number, pace_in, is_late, extra_found, firing_found, pace_reads, timer_reads, scheduled, fired, number_of, state_of};
+ghost use Rattle.stock_modules.specs.Tick.{limit, next_number, pace_in, is_late, extra_found, firing_found, pace_reads, timer_reads, scheduled, fired, number_of, state_of};
 
 use crate::found::{Found, priority, time, whole};
 use crate::names::ParameterName;
@@ -58,7 +58,7 @@ fn pace_in(call: &Call) -> Found<Pace>
 
 /// Whether firing n reads `extra`.
 fn is_late(n: u64, late: Found<i64>) -> bool
-    requires { n < 2 ^ 63 }
+    requires { n < limit }
     ensures { result ≡ is_late n late }
 {
     match late {
@@ -117,7 +117,7 @@ fn timer_reads(alloc: Global, is_late: bool) -> Result<Items<Read>, NoMemory>
 
 /// Sets the next timer, while n is below the count.
 fn schedule(actions: &mut Items<Action>, n: u64, pace: Pace) -> Result<(), NoMemory>
-    requires { n < 2 ^ 63 }
+    requires { n < limit }
     ensures { OnOk result (actions.new ≡ actions.old ++ scheduled n pace) }
 {
     if (n as i64) < pace.count {
@@ -128,7 +128,7 @@ fn schedule(actions: &mut Items<Action>, n: u64, pace: Pace) -> Result<(), NoMem
 
 /// The actions of firing n.
 fn fired(alloc: Global, n: u64, firing: Firing) -> Result<Items<Action>, NoMemory>
-    requires { n < 2 ^ 63 }
+    requires { n < limit }
     ensures { IfOk result (λ actions. actions ≡ fired n firing) }
 {
     let mut actions = Items::new(alloc);
@@ -155,7 +155,7 @@ fn start_actions(alloc: Global, pace: Found<Pace>) -> Result<Items<Action>, NoMe
 
 /// The actions of firing n, from what was found.
 fn firing_actions(alloc: Global, n: u64, firing: Found<Firing>) -> Result<Items<Action>, NoMemory>
-    requires { n < 2 ^ 63 }
+    requires { n < limit }
     ensures { IfOk result (λ actions. actions ≡ actions_of (found_map (fired n) firing)) }
 {
     match firing {
@@ -167,10 +167,10 @@ fn firing_actions(alloc: Global, n: u64, firing: Found<Firing>) -> Result<Items<
 
 /// How often it has fired after firing n was due, from what was found.
 fn number_after(before: u64, n: u64, found: &Found<Firing>) -> u64
-    requires before { before < 2 ^ 63 }
-    requires next { n < 2 ^ 63 }
+    requires before { before < limit }
+    requires next { n < limit }
     ensures state { state_of result ≡ state_after (state_of before) (state_of n) (found_map (fired n) found.now) }
-    ensures bounded { result < 2 ^ 63 }
+    ensures bounded { result < limit }
 {
     match found {
         Found::Missing => before,
@@ -181,11 +181,11 @@ fn number_after(before: u64, n: u64, found: &Found<Firing>) -> u64
 
 /// The number after one more firing.
 fn next_number(n: u64) -> u64
-    requires { n < 2 ^ 63 }
+    requires { n < limit }
     ensures next { result ≡ next_number n }
-    ensures bounded { result < 2 ^ 63 }
+    ensures bounded { result < limit }
 {
-    (n + 1).min(0x7fff_ffff_ffff_ffff)
+    (n + 1).min(i64::MAX as u64)
 }
 
 /// The number that 8 bytes spell, the highest first.
@@ -213,13 +213,14 @@ pub struct Tick {
 }
 
 impl Model for Tick {
-    ghost use Rattle.std.specs.Prelude.{ℕ, ◌<◌, ◌^◌};
+    ghost use Rattle.std.specs.Prelude.{ℕ, ◌<◌};
+    ghost use Rattle.stock_modules.specs.Tick.{limit};
 
     ghost Value = { ℕ };
 
     ghost view = { λ t. t.n };
 
-    ghost invariant = { λ t. t.n < 2 ^ 63 };
+    ghost invariant = { λ t. t.n < limit };
 
     ghost inverse = { λ n. record { n = n } };
 }
