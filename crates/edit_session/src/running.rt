@@ -55,7 +55,6 @@ pub enum Advance {
 }
 
 /// The kernel of a session, and the positions to which it can go back.
-#[derive(Drop)]
 pub struct Runner<C: Catalogue> {
     pub kernel: Kernel<C>,
     pub positions: Positions,
@@ -63,6 +62,18 @@ pub struct Runner<C: Catalogue> {
     pub interval: u64,
     /// What the kernel holds, so that contracts can name what boxes say of themselves.
     holds: PhantomData<Box<dyn SimpleModule>>,
+}
+
+// Written out, so that a crate which drops one need not prove what that does.
+impl<C: Catalogue> Drop for Runner<C> {
+    fn drop(self) {
+        let Runner {
+            kernel: _,
+            positions: _,
+            interval: _,
+            holds: _,
+        } = self;
+    }
 }
 
 impl<C: Catalogue> Runner<C> {

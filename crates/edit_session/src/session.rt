@@ -116,7 +116,6 @@ pub struct SupplyFault {
 }
 
 /// One model, its edits and its runs.
-#[derive(Drop)]
 pub struct Session<C: Catalogue> {
     alloc: Global,
     runner: Runner<C>,
@@ -125,6 +124,20 @@ pub struct Session<C: Catalogue> {
     done: Option<Done>,
     /// The last event of a run of the model whose questions the kernel has, where there is one.
     known: Option<u64>,
+}
+
+// Written out, so that a crate which drops one need not prove what that does.
+impl<C: Catalogue> Drop for Session<C> {
+    fn drop(self) {
+        let Session {
+            alloc: _,
+            runner: _,
+            model: _,
+            phase: _,
+            done: _,
+            known: _,
+        } = self;
+    }
 }
 
 impl<C: Catalogue> Session<C> {

@@ -51,13 +51,23 @@ pub struct Coming {
 
 /// The events to come, ordered by time, priority and number of insertion, which contracts see as their
 /// list and the number of the next one.
-#[derive(Drop)]
 pub struct EventSet {
     events: BTreeMap<Key, Entry>,
     /// Where the timers stand that are pending.
     timers: BTreeMap<TimerKey, Key>,
     /// The number of the next insertion.
     next: u128,
+}
+
+// Written out, so that a crate which drops one need not prove what that does.
+impl Drop for EventSet {
+    fn drop(self) {
+        let EventSet {
+            events: _,
+            timers: _,
+            next: _,
+        } = self;
+    }
 }
 
 impl Model for EventSet {

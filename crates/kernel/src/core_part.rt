@@ -83,7 +83,6 @@ impl Look {
 }
 
 /// A world but for the modules, which contracts see as a world with none.
-#[derive(Drop)]
 pub struct Core {
     clock: SimTime,
     count: u64,
@@ -99,6 +98,27 @@ pub struct Core {
     names: SignalNames,
     scalars: Items<Scalar>,
     questions: QuestionLog,
+}
+
+// Written out, so that a crate which drops one need not prove what that does.
+impl Drop for Core {
+    fn drop(self) {
+        let Core {
+            clock: _,
+            count: _,
+            records: _,
+            live: _,
+            started: _,
+            finished: _,
+            pending: _,
+            ended: _,
+            delivered: _,
+            emissions: _,
+            names: _,
+            scalars: _,
+            questions: _,
+        } = self;
+    }
 }
 
 impl Model for Core {

@@ -46,11 +46,21 @@ use std::marker::PhantomData;
 const MOST_LOOKS: usize = 10_001;
 
 /// A world in code.
-#[derive(Drop)]
 pub struct Kernel<C: Catalogue> {
     core: Core,
     boxes: Tree<Box<dyn SimpleModule>>,
     of: PhantomData<C>,
+}
+
+// Written out, so that a crate which drops one need not prove what that does.
+impl<C: Catalogue> Drop for Kernel<C> {
+    fn drop(self) {
+        let Kernel {
+            core: _,
+            boxes: _,
+            of: _,
+        } = self;
+    }
 }
 
 impl<C: Catalogue> Kernel<C> {

@@ -23,7 +23,6 @@ use std::alloc::Global;
 const FIRST_SUBMODULE: usize = 2;
 
 /// What a run is made of: the declared types, the ini text, the selected configuration, and the injections.
-#[derive(Drop)]
 pub struct Model {
     pub types: TypeTable,
     pub ini: IniText,
@@ -34,6 +33,20 @@ pub struct Model {
     pub injections: Items<Injection>,
     /// The number of the last injection that was made, 0 where none was. Numbers are not used again.
     pub last_injection: u32,
+}
+
+// Written out, so that a crate which drops one need not prove what that does.
+impl Drop for Model {
+    fn drop(self) {
+        let Model {
+            types: _,
+            ini: _,
+            config: _,
+            chain: _,
+            injections: _,
+            last_injection: _,
+        } = self;
+    }
 }
 
 impl Model {

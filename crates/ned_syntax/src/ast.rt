@@ -138,7 +138,6 @@ pub enum TypeKind {
 }
 
 /// A type, as declared.
-#[derive(Drop)]
 pub struct TypeDeclaration {
     pub kind: TypeKind,
     pub name: Text,
@@ -149,6 +148,21 @@ pub struct TypeDeclaration {
     pub lines: Items<SectionLine>,
     pub gates: Items<GateLine>,
     pub submodules: Items<Submodule>,
+}
+
+// Written out, so that a crate which drops one need not prove what that does.
+impl Drop for TypeDeclaration {
+    fn drop(self) {
+        let TypeDeclaration {
+            kind: _,
+            name: _,
+            base: _,
+            interfaces: _,
+            lines: _,
+            gates: _,
+            submodules: _,
+        } = self;
+    }
 }
 
 /// A type, with those that its `types:` section declares.

@@ -16,11 +16,20 @@ use std::rc::Rc;
 
 /// The flat types of all that are declared, in the order of the files and within them, which contracts see as their list. They
 /// keep the rules of types. A flat type has what its bases have, and extends nothing. A copy shares them.
-#[derive(Drop)]
 pub struct TypeTable {
     types: Rc<Items<TypeDeclaration>>,
     /// The place of each name: where a type is looked for first.
     places: Rc<IndexMap<Vec<u8>, usize>>,
+}
+
+// Written out, so that a crate which drops one need not prove what that does.
+impl Drop for TypeTable {
+    fn drop(self) {
+        let TypeTable {
+            types: _,
+            places: _,
+        } = self;
+    }
 }
 
 impl Model for TypeTable {

@@ -15,11 +15,20 @@ use std::marker::Model;
 
 /// The questions that were asked, each with its event. A question about modules stands in it once, with the first event that
 /// asked it; it is looked for in time that doesn't grow with their number. Contracts see the list.
-#[derive(Drop)]
 pub struct QuestionLog {
     asked: AskedList,
     /// The questions about modules among them.
     about_modules: IndexSet<Question>,
+}
+
+// Written out, so that a crate which drops one need not prove what that does.
+impl Drop for QuestionLog {
+    fn drop(self) {
+        let QuestionLog {
+            asked: _,
+            about_modules: _,
+        } = self;
+    }
 }
 
 impl Model for QuestionLog {

@@ -23,7 +23,6 @@ use sqlite_items::Items;
 use std::alloc::Global;
 
 /// What is known of a run's result files before they are written.
-#[derive(Drop)]
 pub struct ResultFiles {
     /// All lines of both files up to the first empty one, which ends it.
     pub header: Text,
@@ -31,6 +30,17 @@ pub struct ResultFiles {
     pub scalars: Items<ScalarLine>,
     /// The vectors; their numbers count up from 0.
     pub vectors: Items<VectorLine>,
+}
+
+// Written out, so that a crate which drops one need not prove what that does.
+impl Drop for ResultFiles {
+    fn drop(self) {
+        let ResultFiles {
+            header: _,
+            scalars: _,
+            vectors: _,
+        } = self;
+    }
 }
 
 /// Gathers what the result files need, so that they are written without memory: of a run with the modules of these records, of
