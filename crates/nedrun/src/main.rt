@@ -3,7 +3,7 @@
 
 ghost use Rattle.std.specs.Prelude.{◌≡◌, ◌≢◌, ◌≤◌, [], Some, Ok, Err, IsErrAnd, IsSome, IfErr, IfOk, string_bytes};
 ghost use Rattle.model_answers.specs.declared.model.Model.{Model};
-ghost use Rattle.model_texts.specs.Models.{IsModelOf};
+ghost use Rattle.model_texts.specs.Models.{IsModelOf, IsRuledOut, Refuses};
 ghost use Rattle.stock_modules.specs.Stock.{stock};
 ghost use Rattle.stock_desk.specs.Served.{fresh_machine};
 ghost use Rattle.stock_desk.specs.Serving.{Ends};
@@ -48,6 +48,12 @@ fn serve_user<'a, R: Files + Input + Print + Eprint + AllocGlobal>(
     // and nothing that it gave is left unasked, unless the user can't go on, or a device fails.
     ensures stopped { IfOk result (λ r. at_stop ((r.0.ask ≡ ask.Line) × (r.0.lines.buffer.bytes ≡ []))
         (IsSome r.0.stop) (λ _ _. IsSome r.0.stop) r.1) }
+    // It is refused only where the texts are, and for that reason.
+    ensures refused { IfErr result (λ fault.
+        Refuses sources.now.texts.now sources.now.ini.now (string_bytes words.now.config) fault) }
+    // Where the texts make a model the user is served, unless memory runs out.
+    ensures complete { IfErr result (λ fault. IsRuledOut sources.now.texts.now
+        sources.now.ini.now (string_bytes words.now.config) fault) }
 {
     let user = User::new(rt, words, sources);
     serve(
