@@ -5,7 +5,7 @@ ghost use Rattle.std.specs.Io.Buffered.{writer_inner};
 ghost use Rattle.std.specs.declared.io.Error.{Error as SystemError};
 ghost use Rattle.sim_values.specs.Counts.{next_count};
 ghost use Rattle.nedrun.specs.Devices.{taken_by, unwritten};
-ghost use Rattle.nedrun.specs.Stops.{IsFailed, IsUnwritable};
+ghost use Rattle.nedrun.specs.Stops.{IsFailed, IsShortOf, IsUnwritable};
 ghost use Rattle.stock_desk.specs.Devices.{untouched};
 
 use crate::stops::Stop;
@@ -60,6 +60,8 @@ impl<'a, R: Files + AllocGlobal> FileOut<'a, R> {
         ensures file { IfOk result (λ out.
             string_bytes (writer_inner out.writer).path ≡ string_bytes path) }
         ensures unmade { IfOk result (λ out. (writer_inner out.writer).file ≡ None) }
+        // Only memory can be wanting: nothing is asked of the system yet.
+        ensures failed { IfErr result (IsShortOf (string_bytes path)) }
     {
         let file = LateFile {
             rt,

@@ -1,7 +1,7 @@
 //! Texts of files.
 
-ghost use Rattle.std.specs.Prelude.{codes};
-ghost use Rattle.nedrun.specs.Stops.{IsFailed};
+ghost use Rattle.std.specs.Prelude.{◌<◌, IfErr, codes, length};
+ghost use Rattle.nedrun.specs.Stops.{IsFailed, IsOneUnreadable, IsUnreadable};
 
 use crate::stops::Stop;
 use ned_syntax::texts::NedTexts;
@@ -20,7 +20,9 @@ fn unread<R: AllocGlobal>(rt: &R, path: &str, error: io::Error) -> Stop
 }
 
 /// The text of a file: all its bytes, or one more than a text may have.
-pub fn read_text<R: Files + AllocGlobal>(rt: &R, path: &str) -> Result<Vec<u8>, Stop> {
+pub fn read_text<R: Files + AllocGlobal>(rt: &R, path: &str) -> Result<Vec<u8>, Stop>
+    ensures { IfErr result (IsUnreadable path.now) }
+{
     match SystemFiles::new(rt).text_of(rt.alloc(), path) {
         Ok(text) => Ok(text),
         Err(ReadFault::Failed(error)) => Err(unread(rt, path, error)),
@@ -28,11 +30,23 @@ pub fn read_text<R: Files + AllocGlobal>(rt: &R, path: &str) -> Result<Vec<u8>, 
     }
 }
 
+/// What ends the program where the file of the path in that place can't be read.
+#[tactic(auto, using(crate::proofs::Reasons::one_unreadable))]
+fn unread_at<R: AllocGlobal>(rt: &R, paths: &[String], number: usize, error: io::Error) -> Stop
+    requires { number < length paths.now }
+    ensures { IsOneUnreadable paths.now result }
+{
+    let path = &paths[number];
+    unread(rt, path.as_str(), error)
+}
+
 /// The texts of the files, in order.
-pub fn read_texts<R: Files + AllocGlobal>(rt: &R, paths: &[String]) -> Result<NedTexts, Stop> {
+pub fn read_texts<R: Files + AllocGlobal>(rt: &R, paths: &[String]) -> Result<NedTexts, Stop>
+    ensures { IfErr result (IsOneUnreadable paths.now) }
+{
     match folder::read_texts(rt.alloc(), &SystemFiles::new(rt), paths) {
         Ok(texts) => Ok(texts),
-        Err(FolderFault::Failed(number, error)) => Err(unread(rt, paths[number].as_str(), error)),
+        Err(FolderFault::Failed(number, error)) => Err(unread_at(rt, paths, number, error)),
         Err(FolderFault::NoMemory(error)) => Err(Stop::NoMemory(error)),
     }
 }

@@ -2,7 +2,7 @@
 
 ghost use Rattle.std.specs.Prelude.{◌≡◌, IfErr, IfOk, codes, string_bytes};
 ghost use Rattle.nedrun.specs.Paths.{file_path};
-ghost use Rattle.nedrun.specs.Stops.{Fails, IsFailed};
+ghost use Rattle.nedrun.specs.Stops.{Fails, IsFailed, IsUnadvised, IsUnsaid};
 
 use crate::stops::Stop;
 use explanations::runs::fault_line;
@@ -39,7 +39,7 @@ fn unsaid<R: AllocGlobal>(rt: &R, error: io::Error) -> Stop
 
 /// What ends the program where an answer wasn't printed, and no more is known.
 pub fn unprinted<R: AllocGlobal>(rt: &R) -> Stop
-    ensures { Fails (codes "the answer can't be printed") (codes "standard output") result }
+    ensures { IsUnsaid result }
 {
     unsaid(rt, io::Error::from(ErrorKind::WriteZero))
 }
@@ -59,8 +59,7 @@ pub fn unread_line<R: AllocGlobal>(rt: &R, error: io::Error) -> Stop
 
 /// Prints a line on standard output, or says that it failed.
 pub fn say<R: Print + AllocGlobal>(rt: &R, line: &[u8]) -> Result<(), Stop>
-    ensures { IfErr result (λ stop.
-        Fails (codes "the answer can't be printed") (codes "standard output") stop) }
+    ensures { IfErr result IsUnsaid }
 {
     match print(rt, line) {
         Ok(()) => Ok(()),
@@ -70,8 +69,7 @@ pub fn say<R: Print + AllocGlobal>(rt: &R, line: &[u8]) -> Result<(), Stop>
 
 /// Prints lines for a person on standard error, where there are any.
 fn advise<R: Eprint + AllocGlobal>(rt: &R, lines: &str) -> Result<(), Stop>
-    ensures { IfErr result (λ stop.
-        Fails (codes "a warning can't be printed") (codes "standard error") stop) }
+    ensures { IfErr result IsUnadvised }
 {
     if lines.is_empty() {
         return Ok(());
@@ -112,7 +110,9 @@ pub fn file_path(
 }
 
 /// Warns of lines of the ini text that have no effect.
-pub fn warn<R: Eprint + AllocGlobal>(rt: &R, sources: &Sources<'_>) -> Result<(), Stop> {
+pub fn warn<R: Eprint + AllocGlobal>(rt: &R, sources: &Sources<'_>) -> Result<(), Stop>
+    ensures { IfErr result IsUnadvised }
+{
     let lines = warning_lines(rt.alloc(), sources)?;
     advise(rt, lines.as_str())
 }
@@ -122,7 +122,9 @@ pub fn explain<R: Eprint + AllocGlobal>(
     rt: &R,
     sources: &Sources<'_>,
     answer: &[u8],
-) -> Result<(), Stop> {
+) -> Result<(), Stop>
+    ensures { IfErr result IsUnadvised }
+{
     let line = fault_line(rt.alloc(), answer, sources, CLASSES.as_slice())?;
     advise(rt, line.as_str())
 }

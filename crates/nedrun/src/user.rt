@@ -1,11 +1,11 @@
 //! Who asks by lines of standard input, and hears by lines of standard output.
 
-ghost use Rattle.std.specs.Prelude.{◌≡◌, [], ◌∷◌, ◌++◌, Some, None, IsSome, IsSomeAnd, IfOk, OnOk, OnErr, codes, string_bytes};
+ghost use Rattle.std.specs.Prelude.{◌≡◌, ◌⊎◌, [], ◌∷◌, ◌++◌, Some, None, IsSome, IsSomeAnd, IfOk, IfErr, OnOk, OnErr, codes, string_bytes};
 ghost use Rattle.std.specs.Fmt.{decimal};
 ghost use Rattle.nedrun.specs.Asking.{left_of};
 ghost use Rattle.nedrun.specs.Devices.{path_of, taken_by, unwritten};
 ghost use Rattle.nedrun.specs.Paths.{file_path};
-ghost use Rattle.nedrun.specs.Stops.{IsOutOfMemory, IsUnread, IsUnwritable};
+ghost use Rattle.nedrun.specs.Stops.{IsOutOfMemory, IsShortOf, IsShortOfRun, IsUnread, IsUnsaid, IsUntold, IsUnwritable};
 ghost use Rattle.nedrun.specs.Typing.{AsksInOrder, AsksNext};
 ghost use Rattle.nedrun.specs.declared.stops.Stop.{Stop as StopValue};
 ghost use Rattle.nedrun.specs.declared.user.Ask.TheVariants as ask;
@@ -96,7 +96,8 @@ impl<'a, R: Files + Input + Print + Eprint + AllocGlobal> User<'a, R> {
 
     /// Why the user couldn't go on.
     pub fn into_stop(self) -> Stop
-        ensures { (stop : StopValue) → self.entry.stop ≡ Some stop → result ≡ stop }
+        ensures known { (stop : StopValue) → self.entry.stop ≡ Some stop → result ≡ stop }
+        ensures unknown { self.entry.stop ≡ None → IsUnsaid result }
     {
         let User {
             rt,
@@ -237,6 +238,7 @@ impl<'a, R: Files + Input + Print + Eprint + AllocGlobal> User<'a, R> {
 
     /// Prints an answer: warnings before the first one, and an explanation behind a fault.
     fn tell(&mut self, answer: &[u8]) -> Result<(), Stop>
+        ensures failed { IfErr result IsUntold }
         ensures words { self.new.words ≡ self.old.words }
         ensures ask { self.new.ask ≡ self.old.ask }
         ensures lines { self.new.lines ≡ self.old.lines }
@@ -256,6 +258,19 @@ impl<'a, R: Files + Input + Print + Eprint + AllocGlobal> User<'a, R> {
         Ok(())
     }
 
+    /// The device of a file of a configuration's run, by the last part of its name.
+    fn device(&self, config: &[u8], ending: &str) -> Result<FileOut<'a, R>, Stop>
+        ensures taken { IfOk result (λ out. taken_by out ≡ untouched) }
+        ensures path { IfOk result (λ out. string_bytes out.path
+            ≡ file_path (string_bytes self.now.words.now.directory) config.now ending.now) }
+        ensures failed { IfErr result (IsShortOf
+            (file_path (string_bytes self.now.words.now.directory) config.now ending.now)) }
+    {
+        let directory = self.words.directory.as_str();
+        let path = output::file_path(self.rt.alloc(), directory, config, ending)?;
+        FileOut::new(self.rt, path)
+    }
+
     /// The devices of the files of a configuration's run.
     fn pages(&self, config: &[u8]) -> Result<Pages<FileOut<'a, R>>, Stop>
         ensures config { IfOk result (λ pages. pages.config.bytes ≡ config.now) }
@@ -265,20 +280,15 @@ impl<'a, R: Files + Input + Print + Eprint + AllocGlobal> User<'a, R> {
             ≡ file_path (string_bytes self.now.words.now.directory) config.now (codes "sca")) }
         ensures vectors_path { IfOk result (λ pages. string_bytes pages.vectors.path
             ≡ file_path (string_bytes self.now.words.now.directory) config.now (codes "vec")) }
+        ensures failed { IfErr result (IsShortOfRun
+            (string_bytes self.now.words.now.directory) config.now) }
     {
-        let directory = self.words.directory.as_str();
         let mut name = Noted::new();
         name.note(config);
         Ok(Pages {
             config: name,
-            scalars: FileOut::new(
-                self.rt,
-                output::file_path(self.rt.alloc(), directory, config, "sca")?,
-            )?,
-            vectors: FileOut::new(
-                self.rt,
-                output::file_path(self.rt.alloc(), directory, config, "vec")?,
-            )?,
+            scalars: self.device(config, "sca")?,
+            vectors: self.device(config, "vec")?,
         })
     }
 }
@@ -290,6 +300,9 @@ fn finish<R: Files + AllocGlobal>(pages: &mut Pages<FileOut<'_, R>>) -> Result<(
     ensures scalars_taken { pages.new.scalars.content.bytes ≡ pages.old.scalars.content.bytes }
     ensures vectors_taken { pages.new.vectors.content.bytes ≡ pages.old.vectors.content.bytes }
     ensures config { pages.new.config ≡ pages.old.config }
+    // The scalar file comes first: where the other one can't be written, nothing is left of it to write.
+    ensures failed { IfErr result (λ stop. IsUnwritable (string_bytes pages.old.scalars.path) stop
+        ⊎ ((unwritten pages.new.scalars ≡ []) × IsUnwritable (string_bytes pages.old.vectors.path) stop)) }
 {
     pages.scalars.finish()?;
     pages.vectors.finish()

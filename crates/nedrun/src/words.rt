@@ -1,7 +1,8 @@
 //! What the program is asked for.
 
-ghost use Rattle.std.specs.Prelude.{◌≡◌, ◌≤◌, [], IfOk, codes, map, option_map, unwrap_or, string_bytes};
+ghost use Rattle.std.specs.Prelude.{◌≡◌, ◌≤◌, [], IfErr, IfOk, codes, map, option_map, unwrap_or, string_bytes};
 ghost use Rattle.clap.specs.Matches.{found_of, matched_of, one_text, raw_values};
+ghost use Rattle.nedrun.specs.Stops.{AreUnreadWords, Fails};
 ghost use Rattle.nedrun.specs.Words.{folder_of, IsGiven, IsIntervalOf, IsLimitOf};
 
 use crate::stops::Stop;
@@ -174,7 +175,10 @@ fn given_paths(alloc: Global, matches: &ArgMatches<'_>) -> Result<Vec<String>, A
 }
 
 /// The words that the program was started with.
-fn given_words<R: Env + AllocGlobal>(rt: &R) -> Result<Vec<String>, Stop> {
+fn given_words<R: Env + AllocGlobal>(rt: &R) -> Result<Vec<String>, Stop>
+    ensures { IfErr result (λ stop.
+        Fails (codes "the words can't be read") (codes "command line") stop) }
+{
     match env::args(rt) {
         Ok(words) => Ok(words.collect(rt.alloc())?),
         Err(error) => Err(Stop::failed(
@@ -208,6 +212,7 @@ impl Words {
     /// The program's own words.
     pub fn read<R: Env + AllocGlobal>(rt: &R) -> Result<Words, Stop>
         ensures interval { IfOk result (λ words. 1 ≤ words.interval) }
+        ensures failed { IfErr result AreUnreadWords }
     {
         let alloc = rt.alloc();
         let given = given_words(rt)?;
