@@ -1,9 +1,86 @@
--- Why the program ends early.
-use Rattle.std.proofs.Common.{◌≡◌, ◌<◌, ℕ, List, String, string_bytes, get_or, length, sym, codes}
+-- Why a user can't go on, and why a session ends early.
+use Rattle.std.proofs.Common.{◌≡◌, ◌⊎◌, ◌<◌, ℕ, List, ◌++◌, String, string_bytes, get_or, length, inl, inr, refl, sym, subst, Option, Some, None, Result, Ok, Err, IfOk, IfErr, OnOk, IsErrAnd, IsSomeAnd, codes}
 use Rattle.std.specs.declared.io.Error.{Error as SystemError}
-use Rattle.nedrun.specs.Stops.{IsFailed, IsOneUnreadable}
+use Rattle.line_reading.specs.Waits.{Waiting}
+use Rattle.model_answers.specs.declared.model.Model.{Model}
+use Rattle.model_texts.specs.declared.begin.BeginFault.{BeginFault}
+use Rattle.stock_desk.specs.Stops.{at_stop}
+use Rattle.stock_desk.specs.declared.serving.Stop.{Stop as Why}
+use Rattle.stock_desk.specs.declared.serving.Stop.TheVariants as why
+use Rattle.nedrun.specs.Stops.{IsFailed, IsLost, IsOneUnreadable, IsOneUnwritable, IsReason, IsShortOf, IsShortOfRun, IsStopOf, IsUnadvised, IsUnsaid, IsUntold, IsUnwritable}
 use Rattle.nedrun.specs.declared.stops.Stop.{Stop}
 use Rattle.nedrun.specs.declared.stops.Stop.TheVariants as stop
+
+-- ---- reasons
+
+reason_unsaid : (waiting : Waiting) (s : Stop) → IsUnsaid s → IsReason waiting s
+reason_unsaid waiting stop.Spent h = absurd h
+reason_unsaid waiting (stop.Failed line error) h = inr (inl h)
+reason_unsaid waiting (stop.NoMemory _) h = tt
+reason_unsaid waiting (stop.Words _) h = h
+reason_unsaid waiting (stop.Refused _ _) h = h
+
+reason_unadvised : (waiting : Waiting) (s : Stop) → IsUnadvised s → IsReason waiting s
+reason_unadvised waiting stop.Spent h = absurd h
+reason_unadvised waiting (stop.Failed line error) h = inr (inr (inl h))
+reason_unadvised waiting (stop.NoMemory _) h = tt
+reason_unadvised waiting (stop.Words _) h = h
+reason_unadvised waiting (stop.Refused _ _) h = h
+
+pub reason_untold : (waiting : Waiting) (s : Stop) → IsUntold s → IsReason waiting s
+reason_untold waiting s (inl h) = reason_unsaid waiting s h
+reason_untold waiting s (inr h) = reason_unadvised waiting s h
+
+pub reason_unwritable : (path : List ℕ) (waiting : Waiting) (s : Stop) → IsUnwritable path s → IsReason waiting s
+reason_unwritable path waiting stop.Spent h = absurd h
+reason_unwritable path waiting (stop.Failed line error) h = inr (inr (inr (path, h)))
+reason_unwritable path waiting (stop.NoMemory _) h = tt
+reason_unwritable path waiting (stop.Words _) h = h
+reason_unwritable path waiting (stop.Refused _ _) h = h
+
+-- one of both files of a run
+pub reason_of_files : (scalars vectors : List ℕ) (W : Type 0) (waiting : Waiting) (s : Stop)
+    → IsUnwritable scalars s ⊎ (W × IsUnwritable vectors s) → IsReason waiting s
+reason_of_files scalars vectors W waiting s (inl h) = reason_unwritable scalars waiting s h
+reason_of_files scalars vectors W waiting s (inr h) = reason_unwritable vectors waiting s h.1
+
+reason_lost : (waiting : Waiting) (s : Stop) → IsLost s → IsReason waiting s
+reason_lost waiting s h = reason_unwritable h.0 waiting s h.1
+
+unwritable_short : (path : List ℕ) (s : Stop) → IsShortOf path s → IsUnwritable path s
+unwritable_short path stop.Spent h = h
+unwritable_short path (stop.Failed line error) h = h.0
+unwritable_short path (stop.NoMemory _) h = tt
+unwritable_short path (stop.Words _) h = h
+unwritable_short path (stop.Refused _ _) h = h
+
+pub reason_short : (directory config : List ℕ) (waiting : Waiting) (s : Stop) → IsShortOfRun directory config s → IsReason waiting s
+reason_short directory config waiting s (inl h) = reason_unwritable _ waiting s (unwritable_short _ s h)
+reason_short directory config waiting s (inr h) = reason_unwritable _ waiting s (unwritable_short _ s h)
+
+-- standard input failed
+pub reason_input : (error : SystemError) (waiting : Waiting) (s : Stop)
+    → IsFailed (codes "the next command can't be read") (codes "standard input") error s → IsReason waiting s
+reason_input error waiting stop.Spent h = absurd h
+reason_input error waiting (stop.Failed line told) h = inl h.0
+reason_input error waiting (stop.NoMemory _) h = tt
+reason_input error waiting (stop.Words _) h = h
+reason_input error waiting (stop.Refused _ _) h = h
+
+-- a user who can't go on, for that reason
+pub stuck_for : (noted : Option Stop) (waiting : Waiting) (s : Stop) → noted ≡ Some s → IsReason waiting s → IsSomeAnd noted (IsReason waiting)
+stuck_for noted waiting s e h = subst (λ (o : Option Stop). IsSomeAnd o (IsReason waiting)) (sym e) h
+
+-- one of both files of a run can't be written
+pub kept_for : (noted : Option Stop) (scalars vectors : List ℕ) (W : Type 0) (s : Stop) → noted ≡ Some s
+    → IsUnwritable scalars s ⊎ (W × IsUnwritable vectors s) → IsSomeAnd noted (IsOneUnwritable scalars vectors)
+kept_for noted scalars vectors W s e (inl h) = subst (λ (o : Option Stop). IsSomeAnd o (IsOneUnwritable scalars vectors)) (sym e) (inl h)
+kept_for noted scalars vectors W s e (inr h) = subst (λ (o : Option Stop). IsSomeAnd o (IsOneUnwritable scalars vectors)) (sym e) (inr h.1)
+
+-- what is there, for another reason
+pub for_reason : (P Q : Stop → Type 0) (o : Option Stop) → ((s : Stop) → P s → Q s) → IsSomeAnd o P → IsSomeAnd o Q
+for_reason P Q None f h = h
+for_reason P Q (Some s) f h = f s h
 
 -- ---- files that are read
 
@@ -14,3 +91,42 @@ one_unreadable paths number path error (stop.Failed line told) e l h = (path, (n
 one_unreadable paths number path error (stop.NoMemory _) e l h = tt
 one_unreadable paths number path error (stop.Words _) e l h = h
 one_unreadable paths number path error (stop.Refused _ _) e l h = h
+
+-- ---- sessions
+
+stuck_at : (o : Option Stop) (waiting : Waiting) (Q : Stop → Type 0) (result : Result Unit Stop) → IsSomeAnd o (IsReason waiting)
+    → ((s : Stop) → o ≡ Some s → result ≡ Err s) → ((s : Stop) → IsReason waiting s → Q s) → IfErr result Q
+stuck_at None waiting Q result h is to = absurd h
+stuck_at (Some s) waiting Q result h is to = subst (λ (r : Result Unit Stop). IfErr r Q) (sym (is s refl)) (to s h)
+
+-- a session ends early for a refusal, or because the user can't go on
+pub session_ends : {K : Type 0} (served : Result (K × Why) BeginFault) (result : Result Unit Stop)
+    (stop_of : K → Option Stop) (waiting_of : K → Waiting) (Over : K → Type 0) (R : BeginFault → Type 0)
+    → IfOk served (λ r. at_stop (Over r.0) (IsSomeAnd (stop_of r.0) (IsReason (waiting_of r.0))) (λ _ _. IsSomeAnd (stop_of r.0) IsLost) r.1)
+    → IfErr served R
+    → IfOk served (λ r. r.1 ≡ why.End → result ≡ Ok tt)
+    → IfOk served (λ r. (r.1 ≡ why.End → ⊥) → (s : Stop) → stop_of r.0 ≡ Some s → result ≡ Err s)
+    → IfErr served (λ fault. IsErrAnd result (IsStopOf fault))
+    → IfErr result (λ s. ((fault : BeginFault) × R fault × IsStopOf fault s) ⊎ ((waiting : Waiting) × IsReason waiting s))
+session_ends (Err fault) (Ok _) stop_of waiting_of Over R stopped refused over stuck told = tt
+session_ends (Err fault) (Err s) stop_of waiting_of Over R stopped refused over stuck told = inl (fault, refused, told)
+session_ends (Ok (k, why.End)) result stop_of waiting_of Over R stopped refused over stuck told =
+    subst (λ (r : Result Unit Stop). IfErr r (λ s. ((fault : BeginFault) × R fault × IsStopOf fault s) ⊎ ((waiting : Waiting) × IsReason waiting s)))
+    (sym (over refl)) tt
+session_ends (Ok (k, why.Gone)) result stop_of waiting_of Over R stopped refused over stuck told =
+    stuck_at (stop_of k) (waiting_of k) (λ s. ((fault : BeginFault) × R fault × IsStopOf fault s) ⊎ ((waiting : Waiting) × IsReason waiting s)) result stopped
+    (stuck (λ e. cc)) (λ s h. inr (waiting_of k, h))
+session_ends (Ok (k, why.Device page written)) result stop_of waiting_of Over R stopped refused over stuck told =
+    stuck_at (stop_of k) (waiting_of k) (λ s. ((fault : BeginFault) × R fault × IsStopOf fault s) ⊎ ((waiting : Waiting) × IsReason waiting s)) result
+    (for_reason IsLost (IsReason (waiting_of k)) (stop_of k) (reason_lost (waiting_of k)) stopped)
+    (stuck (λ e. cc)) (λ s h. inr (waiting_of k, h))
+
+-- a session that does not end early was served
+pub session_served : {K : Type 0} (served : Result (K × Why) BeginFault) (result : Result Unit Stop) (M : Model → Type 0) (Q : Model → K × Why → Type 0)
+    → IfOk served (λ r. (model : Model) × M model × Q model r)
+    → IfErr served (λ fault. IsErrAnd result (IsStopOf fault))
+    → OnOk result ((model : Model) × M model)
+session_served (Ok r) (Ok _) M Q of told = (of.0, of.1)
+session_served (Ok r) (Err _) M Q of told = tt
+session_served (Err fault) (Ok _) M Q of told = absurd told
+session_served (Err fault) (Err _) M Q of told = tt

@@ -9,6 +9,7 @@ use Rattle.clap.specs.declared.error.kind.ErrorKind.{ErrorKind}
 use Rattle.clap.specs.declared.error.kind.ErrorKind.TheVariants as kind
 use Rattle.desk.specs.Answers.{refusal_text}
 use Rattle.line_reading.specs.Waits.{Waiting, IsSpent}
+use Rattle.model_texts.specs.Models.{Refuses}
 use Rattle.model_texts.specs.declared.begin.BeginFault.{BeginFault}
 use Rattle.model_texts.specs.declared.begin.BeginFault.TheVariants as fault
 use Rattle.sim_values.specs.Counts.{next_count}
@@ -42,6 +43,10 @@ Fails what name _ = ⊥
 -- the file of that path can't be written
 abbrev pub IsUnwritable : List ℕ → Stop → Type 0
 IsUnwritable path s = Fails (codes "this file can't be written") path s
+
+-- one of two files can't be written
+abbrev pub IsOneUnwritable : List ℕ → List ℕ → Stop → Type 0
+IsOneUnwritable scalars vectors s = IsUnwritable scalars s ⊎ IsUnwritable vectors s
 
 -- memory ran out for the file of that path, or for what tells so
 abbrev pub IsShortOf : List ℕ → Stop → Type 0
@@ -78,6 +83,29 @@ IsUnread failures failures' waiting (stop.Failed line error) =
     (string_bytes line ≡ codes "standard input: the next command can't be read") × (failures' ≡ next_count failures)
 IsUnread failures failures' waiting (stop.NoMemory _) = Unit {0}
 IsUnread failures failures' waiting _ = ⊥
+
+-- the file of some path can't be written
+abbrev pub IsLost : Stop → Type 0
+IsLost s = (path : List ℕ) × IsUnwritable path s
+
+-- what is told of a stream of the user, or of a file of a run
+abbrev pub IsOfUser : List ℕ → Type 0
+IsOfUser line = (line ≡ codes "standard input: the next command can't be read")
+    ⊎ ((line ≡ codes "standard output: the answer can't be printed")
+    ⊎ ((line ≡ codes "standard error: a warning can't be printed")
+    ⊎ ((path : List ℕ) × (line ≡ path ++ codes ": this file can't be written"))))
+
+-- WHY A USER CAN'T GO ON: as many lines as are read are counted; a stream of the user or a file of a run failed; or memory ran out
+abbrev pub IsReason : Waiting → Stop → Type 0
+IsReason waiting stop.Spent = IsSpent waiting
+IsReason waiting (stop.Failed line error) = IsOfUser (string_bytes line)
+IsReason waiting (stop.NoMemory _) = Unit {0}
+IsReason waiting _ = ⊥
+
+-- WHY A SESSION ENDS EARLY: the texts are refused, for that reason and with the text that says so; or the user can't go on
+abbrev pub EndsEarly : List (List ℕ) → List ℕ → List ℕ → Stop → Type 0
+EndsEarly texts ini config s =
+    ((fault : BeginFault) × Refuses texts ini config fault × IsStopOf fault s) ⊎ ((waiting : Waiting) × IsReason waiting s)
 
 -- why the words aren't there: they can't be had; they are not as they should be, or ask for help; or memory ran out
 abbrev pub AreUnreadWords : Stop → Type 0

@@ -1,7 +1,7 @@
 //! Runs a network of modules from its files, and writes the result files of the run.
 #![tactic(auto)]
 
-ghost use Rattle.std.specs.Prelude.{◌≡◌, ◌≢◌, ◌≤◌, [], Some, Ok, Err, IsErrAnd, IsSome, IfErr, IfOk, string_bytes};
+ghost use Rattle.std.specs.Prelude.{◌≡◌, ◌≢◌, ◌≤◌, [], Some, Ok, Err, IsErrAnd, IsSomeAnd, IfErr, IfOk, OnOk, string_bytes};
 ghost use Rattle.model_answers.specs.declared.model.Model.{Model};
 ghost use Rattle.model_texts.specs.Models.{IsModelOf, IsRuledOut, Refuses};
 ghost use Rattle.stock_modules.specs.Stock.{stock};
@@ -9,7 +9,7 @@ ghost use Rattle.stock_desk.specs.Served.{fresh_machine};
 ghost use Rattle.stock_desk.specs.Serving.{Ends};
 ghost use Rattle.stock_desk.specs.Stops.{at_stop};
 ghost use Rattle.stock_desk.specs.declared.serving.Stop.TheVariants as why;
-ghost use Rattle.nedrun.specs.Stops.{IsStopOf};
+ghost use Rattle.nedrun.specs.Stops.{EndsEarly, IsLost, IsReason, IsStopOf};
 ghost use Rattle.nedrun.specs.declared.stops.Stop.{Stop as StopValue};
 ghost use Rattle.nedrun.specs.declared.user.Ask.TheVariants as ask;
 ghost use Rattle.nedrun.specs.Typing.{AsksInOrder};
@@ -45,9 +45,9 @@ fn serve_user<'a, R: Files + Input + Print + Eprint + AllocGlobal>(
     // What is asked: the run of the words, then to write its files, then the lines of standard input;
     ensures asked { IfOk result (λ r. AsksInOrder words.now.limit r.0.ask r.0.transcript.asked
         r.0.lines.source.given.bytes r.0.lines.buffer) }
-    // and nothing that it gave is left unasked, unless the user can't go on, or a device fails.
+    // and nothing that it gave is left unasked, unless the user can't go on, or a device fails, and knows why.
     ensures stopped { IfOk result (λ r. at_stop ((r.0.ask ≡ ask.Line) × (r.0.lines.buffer.bytes ≡ []))
-        (IsSome r.0.stop) (λ _ _. IsSome r.0.stop) r.1) }
+        (IsSomeAnd r.0.stop (IsReason r.0.lines.buffer)) (λ _ _. IsSomeAnd r.0.stop IsLost) r.1) }
     // It is refused only where the texts are, and for that reason.
     ensures refused { IfErr result (λ fault.
         Refuses sources.now.texts.now sources.now.ini.now (string_bytes words.now.config) fault) }
@@ -91,6 +91,10 @@ fn session<R: Files + Input + Print + Eprint + AllocGlobal>(
     sources: &Sources<'_>,
 ) -> Result<(), Stop>
     requires interval { 1 ≤ words.now.interval }
+    ensures served { OnOk result ((model : Model)
+        × IsModelOf sources.now.texts.now sources.now.ini.now (string_bytes words.now.config) model) }
+    ensures early { IfErr result (EndsEarly
+        sources.now.texts.now sources.now.ini.now (string_bytes words.now.config)) }
 {
     ended(rt, sources, serve_user(rt, words, sources))
 }

@@ -5,7 +5,7 @@ ghost use Rattle.std.specs.Fmt.{decimal};
 ghost use Rattle.nedrun.specs.Asking.{left_of};
 ghost use Rattle.nedrun.specs.Devices.{path_of, taken_by, unwritten};
 ghost use Rattle.nedrun.specs.Paths.{file_path};
-ghost use Rattle.nedrun.specs.Stops.{IsOutOfMemory, IsShortOf, IsShortOfRun, IsUnread, IsUnsaid, IsUntold, IsUnwritable};
+ghost use Rattle.nedrun.specs.Stops.{IsLost, IsOneUnwritable, IsOutOfMemory, IsReason, IsShortOf, IsShortOfRun, IsUnread, IsUnsaid, IsUntold, IsUnwritable};
 ghost use Rattle.nedrun.specs.Typing.{AsksInOrder, AsksNext};
 ghost use Rattle.nedrun.specs.declared.stops.Stop.{Stop as StopValue};
 ghost use Rattle.nedrun.specs.declared.user.Ask.TheVariants as ask;
@@ -122,7 +122,6 @@ impl<'a, R: Files + Input + Print + Eprint + AllocGlobal> User<'a, R> {
         ensures ask { self.new.ask ≡ self.old.ask }
         ensures lines { self.new.lines ≡ self.old.lines }
         ensures transcript { self.new.transcript ≡ self.old.transcript }
-        ensures stuck { IsSome self.new.stop }
         ensures reason { self.new.stop ≡ Some stop }
     {
         self.stop = Some(stop);
@@ -140,7 +139,7 @@ impl<'a, R: Files + Input + Print + Eprint + AllocGlobal> User<'a, R> {
             self.new.transcript.asked (left_of self.new.ask self.new.lines.buffer) }
         ensures over { IfOk result (λ next. next ≡ None
             → (self.new.ask ≡ ask.Line) × (self.new.lines.buffer.bytes ≡ [])) }
-        ensures stuck { OnErr result (IsSome self.new.stop) }
+        ensures stuck { OnErr result (IsSomeAnd self.new.stop (IsReason self.new.lines.buffer)) }
         ensures reason { OnErr result (IsSomeAnd self.new.stop IsOutOfMemory) }
         ensures words { self.new.words ≡ self.old.words }
         ensures heard { self.new.transcript.heard ≡ self.old.transcript.heard }
@@ -166,7 +165,7 @@ impl<'a, R: Files + Input + Print + Eprint + AllocGlobal> User<'a, R> {
             self.new.transcript.asked (left_of self.new.ask self.new.lines.buffer) }
         ensures over { IfOk result (λ next. next ≡ None
             → (self.new.ask ≡ ask.Line) × (self.new.lines.buffer.bytes ≡ [])) }
-        ensures stuck { OnErr result (IsSome self.new.stop) }
+        ensures stuck { OnErr result (IsSomeAnd self.new.stop (IsReason self.new.lines.buffer)) }
         ensures reason { OnErr result (IsSomeAnd self.new.stop IsOutOfMemory) }
         ensures words { self.new.words ≡ self.old.words }
         ensures heard { self.new.transcript.heard ≡ self.old.transcript.heard }
@@ -182,6 +181,7 @@ impl<'a, R: Files + Input + Print + Eprint + AllocGlobal> User<'a, R> {
     }
 
     /// Asks what the next line of standard input asks for.
+    #[tactic(auto, using(crate::proofs::Reasons::reason_input))]
     fn ask_line(&mut self) -> Result<Option<Asked>, Gone>
         requires typed { self.old.ask ≡ ask.Line }
         requires kept { AsksInOrder self.old.words.now.limit self.old.ask self.old.transcript.asked
@@ -192,7 +192,7 @@ impl<'a, R: Files + Input + Print + Eprint + AllocGlobal> User<'a, R> {
             self.new.transcript.asked (left_of self.new.ask self.new.lines.buffer) }
         ensures over { IfOk result (λ next. next ≡ None
             → (self.new.ask ≡ ask.Line) × (self.new.lines.buffer.bytes ≡ [])) }
-        ensures stuck { OnErr result (IsSome self.new.stop) }
+        ensures stuck { OnErr result (IsSomeAnd self.new.stop (IsReason self.new.lines.buffer)) }
         ensures reason { let before = self.old.lines.source.failures in
             let after = self.new.lines.source.failures in
             OnErr result (IsSomeAnd self.new.stop (IsUnread before after self.new.lines.buffer)) }
@@ -308,6 +308,16 @@ fn finish<R: Files + AllocGlobal>(pages: &mut Pages<FileOut<'_, R>>) -> Result<(
     pages.vectors.finish()
 }
 
+/// What ends the program where the device of this file failed.
+fn lost<R: Files + AllocGlobal>(pages: &Pages<FileOut<'_, R>>, page: Page) -> Stop
+    ensures { IsUnwritable (path_of page pages.now) result }
+{
+    match page {
+        Page::Scalars => pages.scalars.stop(),
+        Page::Vectors => pages.vectors.stop(),
+    }
+}
+
 impl<'a, R: Files + Input + Print + Eprint + AllocGlobal> Client<FileOut<'a, R>> for User<'a, R> {
     ghost asked = { λ user. user.transcript.asked };
 
@@ -320,7 +330,8 @@ impl<'a, R: Files + Input + Print + Eprint + AllocGlobal> Client<FileOut<'a, R>>
 
     ghost label = { λ user. user.words.now.limit };
 
-    ghost stops = { λ user why. at_stop ((user.ask ≡ ask.Line) × (user.lines.buffer.bytes ≡ [])) (IsSome user.stop) (λ _ _. IsSome user.stop) why };
+    ghost stops = { λ user why. at_stop ((user.ask ≡ ask.Line) × (user.lines.buffer.bytes ≡ []))
+        (IsSomeAnd user.stop (IsReason user.lines.buffer)) (λ _ _. IsSomeAnd user.stop IsLost) why };
 
     fn next(&mut self) -> Result<Option<Asked>, Gone> {
         match self.ask {
@@ -330,7 +341,21 @@ impl<'a, R: Files + Input + Print + Eprint + AllocGlobal> Client<FileOut<'a, R>>
         }
     }
 
-    fn hear(&mut self, answer: &[u8]) -> Result<(), Gone> {
+    #[tactic(auto, using(crate::proofs::Reasons::reason_untold))]
+    fn hear(&mut self, answer: &[u8]) -> Result<(), Gone>
+        requires kept { AsksInOrder self.old.words.now.limit self.old.ask self.old.transcript.asked
+            self.old.lines.source.given.bytes self.old.lines.buffer }
+        ensures kept { AsksInOrder self.new.words.now.limit self.new.ask self.new.transcript.asked
+            self.new.lines.source.given.bytes self.new.lines.buffer }
+        ensures heard { OnOk result (self.new.transcript.heard ≡ self.old.transcript.heard
+            ++ heards.Answer answer.now ∷ []) }
+        ensures gone { OnErr result (self.new.transcript.heard ≡ self.old.transcript.heard) }
+        ensures stuck { OnErr result (IsSomeAnd self.new.stop (IsReason self.new.lines.buffer)) }
+        ensures reason { OnErr result (IsSomeAnd self.new.stop IsUntold) }
+        ensures label { self.new.words.now.limit ≡ self.old.words.now.limit }
+        ensures asked { self.new.transcript.asked ≡ self.old.transcript.asked }
+        ensures left { left_of self.new.ask self.new.lines.buffer ≡ left_of self.old.ask self.old.lines.buffer }
+    {
         match self.tell(answer) {
             Ok(()) => {
                 self.transcript.hears(answer);
@@ -340,6 +365,7 @@ impl<'a, R: Files + Input + Print + Eprint + AllocGlobal> Client<FileOut<'a, R>>
         }
     }
 
+    #[tactic(auto, using(crate::proofs::Reasons::reason_short))]
     fn open(&mut self, config: &[u8]) -> Result<Pages<FileOut<'a, R>>, Gone>
         requires kept { AsksInOrder self.old.words.now.limit self.old.ask self.old.transcript.asked
             self.old.lines.source.given.bytes self.old.lines.buffer }
@@ -353,7 +379,9 @@ impl<'a, R: Files + Input + Print + Eprint + AllocGlobal> Client<FileOut<'a, R>>
         ensures vectors_path { IfOk result (λ pages. string_bytes pages.vectors.path
             ≡ file_path (string_bytes self.old.words.now.directory) config.now (codes "vec")) }
         ensures heard { self.new.transcript.heard ≡ self.old.transcript.heard }
-        ensures stuck { OnErr result (IsSome self.new.stop) }
+        ensures stuck { OnErr result (IsSomeAnd self.new.stop (IsReason self.new.lines.buffer)) }
+        ensures reason { OnErr result (IsSomeAnd self.new.stop
+            (IsShortOfRun (string_bytes self.old.words.now.directory) config.now)) }
         ensures label { self.new.words.now.limit ≡ self.old.words.now.limit }
         ensures asked { self.new.transcript.asked ≡ self.old.transcript.asked }
         ensures left { left_of self.new.ask self.new.lines.buffer ≡ left_of self.old.ask self.old.lines.buffer }
@@ -372,7 +400,9 @@ impl<'a, R: Files + Input + Print + Eprint + AllocGlobal> Client<FileOut<'a, R>>
         ensures heard { OnOk result (self.new.transcript.heard ≡ self.old.transcript.heard
             ++ heards.Files pages.entry.config.bytes pages.entry.scalars.content.bytes pages.entry.vectors.content.bytes ∷ []) }
         ensures gone { OnErr result (self.new.transcript.heard ≡ self.old.transcript.heard) }
-        ensures stuck { OnErr result (IsSome self.new.stop) }
+        ensures stuck { OnErr result (IsSomeAnd self.new.stop (IsReason self.new.lines.buffer)) }
+        ensures reason { OnErr result (IsSomeAnd self.new.stop (IsOneUnwritable
+            (string_bytes pages.entry.scalars.path) (string_bytes pages.entry.vectors.path))) }
         ensures label { self.new.words.now.limit ≡ self.old.words.now.limit }
         ensures asked { self.new.transcript.asked ≡ self.old.transcript.asked }
         ensures left { left_of self.new.ask self.new.lines.buffer ≡ left_of self.old.ask self.old.lines.buffer }
@@ -395,15 +425,12 @@ impl<'a, R: Files + Input + Print + Eprint + AllocGlobal> Client<FileOut<'a, R>>
         ensures named { IsSomeAnd self.new.stop (IsUnwritable (path_of page pages.entry)) }
         ensures kept { AsksInOrder self.new.words.now.limit self.new.ask self.new.transcript.asked
             self.new.lines.source.given.bytes self.new.lines.buffer }
-        ensures stuck { IsSome self.new.stop }
+        ensures stuck { IsSomeAnd self.new.stop IsLost }
         ensures heard { self.new.transcript.heard ≡ self.old.transcript.heard }
         ensures label { self.new.words.now.limit ≡ self.old.words.now.limit }
         ensures asked { self.new.transcript.asked ≡ self.old.transcript.asked }
         ensures left { left_of self.new.ask self.new.lines.buffer ≡ left_of self.old.ask self.old.lines.buffer }
     {
-        self.stop = Some(match page {
-            Page::Scalars => pages.scalars.stop(),
-            Page::Vectors => pages.vectors.stop(),
-        });
+        self.stop = Some(lost(&pages, page));
     }
 }
