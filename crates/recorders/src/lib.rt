@@ -2,6 +2,7 @@
 #![tactic(auto)]
 
 pub mod hearing;
+mod member;
 pub mod modes;
 pub mod places;
 pub mod scalar_line;

@@ -8,6 +8,7 @@ ghost use Rattle.recorders.specs.Scalars.{line_of, recorded_line, line_of_value,
 ghost use Rattle.recorders.specs.Wanted.{is_wanted, wants};
 ghost use Rattle.recorders.specs.declared.wanted.Output.TheVariants.{Scalars};
 
+use crate::member::Member;
 use crate::places::{RunPlaces, places_at, run_places};
 use crate::scalar_line::ScalarLine;
 use crate::selection::{records_scalar_named, result_name, selected_modes};
@@ -17,7 +18,6 @@ use crate::wanted::{Output, is_wanted, wanted};
 use model_answers::model::Model;
 use model_answers::record::{Record, path_of};
 use ned_syntax::ast::{Mode, Statistic};
-use ned_types::flat::statistics_of;
 use run_semantics::traces::{Emission, Scalar};
 use sim_values::NoMemory;
 use sim_values::text::Text;
@@ -46,63 +46,57 @@ fn push_line(
     Ok(())
 }
 
-/// Adds the line of a scalar that a module recorded, where it is the module of that id.
+/// Adds the line of a scalar that was recorded, where this module did.
 fn push_recorded(
     found: &mut Items<ScalarLine>,
     alloc: Global,
-    model: &Model,
-    records: &[Record],
-    id: u32,
+    member: &Member<'_>,
     scalar: &Scalar,
 ) -> Result<(), NoMemory>
-    ensures { OnOk result (found.new ≡ found.old ++ recorded_line model.now records.now id scalar.now) }
+    ensures { OnOk result (found.new ≡ found.old ++ recorded_line member.now.model.now member.now.records.now member.now.id scalar.now) }
 {
-    if scalar.id != id {
+    if scalar.id != member.id {
         return Ok(());
     }
-    let path = path_of(alloc, records, id)?;
+    let path = path_of(alloc, member.records, member.id)?;
     push_line(
         found,
         alloc,
-        model,
+        member.model,
         path.as_bytes(),
         scalar.name.as_bytes(),
         i128::from(scalar.value),
     )
 }
 
-/// Adds the line of the scalar at that place, where the module of that id recorded it.
+/// Adds the line of the scalar at that place, where this module recorded it.
 fn push_recorded_at(
     found: &mut Items<ScalarLine>,
     alloc: Global,
-    model: &Model,
-    records: &[Record],
-    id: u32,
+    member: &Member<'_>,
     recorded: &[Scalar],
     place: usize,
 ) -> Result<(), NoMemory>
-    ensures { OnOk result (found.new ≡ found.old ++ of_place (recorded_line model.now records.now id) recorded.now place) }
+    ensures { OnOk result (found.new ≡ found.old ++ of_place (recorded_line member.now.model.now member.now.records.now member.now.id) recorded.now place) }
 {
     match at(recorded, place) {
-        Some(scalar) => push_recorded(found, alloc, model, records, id, scalar),
+        Some(scalar) => push_recorded(found, alloc, member, scalar),
         None => Ok(()),
     }
 }
 
-/// Adds the lines of the scalars at these places that the module of that id recorded.
+/// Adds the lines of the scalars at these places that this module recorded.
 fn push_all_recorded(
     found: &mut Items<ScalarLine>,
     alloc: Global,
-    model: &Model,
-    records: &[Record],
-    id: u32,
+    member: &Member<'_>,
     recorded: &[Scalar],
     places: &[usize],
 ) -> Result<(), NoMemory>
-    ensures { OnOk result (found.new ≡ found.old ++ lines_at_places model.now records.now id recorded.now places.now) }
+    ensures { OnOk result (found.new ≡ found.old ++ lines_at_places member.now.model.now member.now.records.now member.now.id recorded.now places.now) }
 {
     for place in places {
-        push_recorded_at(found, alloc, model, records, id, recorded, *place)?;
+        push_recorded_at(found, alloc, member, recorded, *place)?;
     }
     Ok(())
 }
@@ -159,29 +153,25 @@ fn push_modes(
     Ok(())
 }
 
-/// Adds the lines of a statistic of the module of that id, one for each mode in which the options
-/// let it be recorded.
+/// Adds the lines of a statistic of the module, one for each mode in which the options let it be
+/// recorded.
 fn push_statistic(
     found: &mut Items<ScalarLine>,
     alloc: Global,
-    model: &Model,
-    records: &[Record],
-    emissions: &[Emission],
-    heard: &[usize],
-    id: u32,
+    member: &Member<'_>,
     statistic: &Statistic,
 ) -> Result<(), NoMemory>
-    requires { heard.now ≡ heard_places records.now id emissions.now }
-    ensures { OnOk result (found.new ≡ found.old ++ statistic_lines model.now records.now emissions.now id statistic.now) }
+    requires { member.now.heard.now ≡ heard_places member.now.records.now member.now.id member.now.emissions.now }
+    ensures { OnOk result (found.new ≡ found.old ++ statistic_lines member.now.model.now member.now.records.now member.now.emissions.now member.now.id statistic.now) }
 {
-    let vector = vector_of(alloc, records, id, statistic)?;
+    let vector = vector_of(alloc, member.records, member.id, statistic)?;
     let path = vector.path.as_bytes();
-    let modes = selected_modes(alloc, model, path, statistic)?;
-    let values = values_at(alloc, emissions, heard, &vector)?;
+    let modes = selected_modes(alloc, member.model, path, statistic)?;
+    let values = values_at(alloc, member.emissions, member.heard, &vector)?;
     push_modes(
         found,
         alloc,
-        model,
+        member.model,
         path,
         statistic.name.as_bytes(),
         values.as_slice(),
@@ -189,102 +179,73 @@ fn push_statistic(
     )
 }
 
-/// Adds the lines of these statistics of the module of that id.
+/// Adds the lines of these statistics of the module.
 fn push_statistics(
     found: &mut Items<ScalarLine>,
     alloc: Global,
-    model: &Model,
-    records: &[Record],
-    emissions: &[Emission],
-    heard: &[usize],
-    id: u32,
+    member: &Member<'_>,
     statistics: &[Statistic],
 ) -> Result<(), NoMemory>
-    requires { heard.now ≡ heard_places records.now id emissions.now }
-    ensures { OnOk result (found.new ≡ found.old ++ lines_among model.now records.now emissions.now id statistics.now) }
+    requires { member.now.heard.now ≡ heard_places member.now.records.now member.now.id member.now.emissions.now }
+    ensures { OnOk result (found.new ≡ found.old ++ lines_among member.now.model.now member.now.records.now member.now.emissions.now member.now.id statistics.now) }
 {
     for statistic in statistics {
-        push_statistic(
-            found, alloc, model, records, emissions, heard, id, statistic,
-        )?;
+        push_statistic(found, alloc, member, statistic)?;
     }
     Ok(())
 }
 
-/// Adds the lines of the statistics of the module of that id.
+/// Adds the lines of the statistics of the module.
 fn push_type_lines(
     found: &mut Items<ScalarLine>,
     alloc: Global,
-    model: &Model,
-    records: &[Record],
-    emissions: &[Emission],
-    heard: &[usize],
-    id: u32,
+    member: &Member<'_>,
 ) -> Result<(), NoMemory>
-    requires { heard.now ≡ heard_places records.now id emissions.now }
-    ensures { OnOk result (found.new ≡ found.old ++ lines_of_type model.now records.now emissions.now id) }
+    requires { member.now.heard.now ≡ heard_places member.now.records.now member.now.id member.now.emissions.now }
+    ensures { OnOk result (found.new ≡ found.old ++ lines_of_type member.now.model.now member.now.records.now member.now.emissions.now member.now.id) }
 {
-    let Some(declared) = model.type_at(records, id) else {
-        return Ok(());
-    };
-    let statistics = statistics_of(alloc, declared.lines.as_slice())?;
-    push_statistics(
-        found,
-        alloc,
-        model,
-        records,
-        emissions,
-        heard,
-        id,
-        statistics.as_slice(),
-    )
+    let statistics = member.statistics(alloc)?;
+    push_statistics(found, alloc, member, statistics.as_slice())
 }
 
-/// Adds the lines of the statistics of the module of that id, where it was finished, which is where there is a place at which it
+/// Adds the lines of the statistics of the module, where it was finished, which is where there is a place at which it
 /// was, and is wanted: it has none else.
 fn push_statistics_at(
     found: &mut Items<ScalarLine>,
     alloc: Global,
-    model: &Model,
-    records: &[Record],
-    emissions: &[Emission],
+    member: &Member<'_>,
     places: &RunPlaces,
-    id: u32,
 ) -> Result<(), NoMemory>
-    requires wanted { is_wanted places.now.wanted.items id ≡ wants Scalars model.now records.now id }
-    requires heard { places_at places.now.heard.items id ≡ wanted_places places.now.wanted.items records.now id emissions.now }
-    ensures { OnOk result (found.new ≡ found.old ++ lines_if_finished model.now records.now emissions.now id (places_at places.now.finished.items id)) }
+    requires wanted { is_wanted places.now.wanted.items member.now.id ≡ wants Scalars member.now.model.now member.now.records.now member.now.id }
+    requires heard { member.now.heard.now ≡ wanted_places places.now.wanted.items member.now.records.now member.now.id member.now.emissions.now }
+    ensures { OnOk result (found.new ≡ found.old ++ lines_if_finished member.now.model.now member.now.records.now member.now.emissions.now member.now.id (places_at places.now.finished.items member.now.id)) }
 {
-    let finished = places_at(&places.finished, id);
+    let finished = places_at(&places.finished, member.id);
     if finished.is_empty() {
         return Ok(());
     }
-    if !is_wanted(&places.wanted, id) {
+    if !is_wanted(&places.wanted, member.id) {
         return Ok(());
     }
-    let heard = places_at(&places.heard, id);
-    push_type_lines(found, alloc, model, records, emissions, heard, id)
+    push_type_lines(found, alloc, member)
 }
 
-/// Adds the lines of the module of that id: those of the scalars that it recorded, and behind them
-/// those of its statistics.
+/// Adds the lines of the module: those of the scalars that it recorded, and behind them those of its
+/// statistics.
 fn push_scalars_at(
     found: &mut Items<ScalarLine>,
     alloc: Global,
-    model: &Model,
-    records: &[Record],
+    member: &Member<'_>,
     recorded: &[Scalar],
-    emissions: &[Emission],
     places: &RunPlaces,
-    id: u32,
 ) -> Result<(), NoMemory>
-    requires wanted { is_wanted places.now.wanted.items id ≡ wants Scalars model.now records.now id }
-    requires heard { places_at places.now.heard.items id ≡ wanted_places places.now.wanted.items records.now id emissions.now }
-    ensures { OnOk result (found.new ≡ found.old ++ scalars_by_places model.now records.now recorded.now emissions.now places.now id) }
+    requires wanted { is_wanted places.now.wanted.items member.now.id ≡ wants Scalars member.now.model.now member.now.records.now member.now.id }
+    requires heard { member.now.heard.now ≡ wanted_places places.now.wanted.items member.now.records.now member.now.id member.now.emissions.now }
+    ensures { OnOk result (found.new ≡ found.old ++ scalars_by_places member.now.model.now member.now.records.now recorded.now member.now.emissions.now places.now member.now.id) }
 {
-    let by = places_at(&places.recorded, id);
-    push_all_recorded(found, alloc, model, records, id, recorded, by)?;
-    push_statistics_at(found, alloc, model, records, emissions, places, id)
+    let by = places_at(&places.recorded, member.id);
+    push_all_recorded(found, alloc, member, recorded, by)?;
+    push_statistics_at(found, alloc, member, places)
 }
 
 /// The scalars that a run records, with the modules of these records, of which these were finished,
@@ -307,9 +268,14 @@ pub fn scalars(
     let mut found = Items::new(alloc);
     for (index, _record) in records.iter().enumerate() {
         let id = index as u32 + 1;
-        push_scalars_at(
-            &mut found, alloc, model, records, recorded, emissions, &places, id,
-        )?;
+        let member = Member {
+            model,
+            records,
+            emissions,
+            heard: places_at(&places.heard, id),
+            id,
+        };
+        push_scalars_at(&mut found, alloc, &member, recorded, &places)?;
     }
     Ok(found)
 }

@@ -1,11 +1,12 @@
 //! Which vectors a run records.
 
-ghost use Rattle.std.specs.Prelude.{◌≡◌, ◌+◌, ◌<◌, ◌^◌, [], ◌∷◌, ◌++◌, IfOk, OnOk, length, slice_get};
-ghost use Rattle.recorders.specs.Places.{heard_places, is_of, is_any_of, places_at, AreHeard};
+ghost use Rattle.std.specs.Prelude.{◌≡◌, ◌<◌, ◌^◌, [], ◌∷◌, ◌++◌, IfOk, OnOk, length, slice_get};
+ghost use Rattle.recorders.specs.Places.{heard_places, is_of, is_any_of, wanted_places};
 ghost use Rattle.recorders.specs.Vectors.{vector_of, vectors_among, vectors_at, vectors_of};
 ghost use Rattle.recorders.specs.Wanted.{is_wanted, wants};
 ghost use Rattle.recorders.specs.declared.wanted.Output.TheVariants.{Vector};
 
+use crate::member::Member;
 use crate::places::{heard_lists, places_at};
 use crate::selection::records_vector;
 use crate::vector_line::VectorLine;
@@ -13,7 +14,6 @@ use crate::wanted::{Output, is_wanted, wanted};
 use model_answers::model::Model;
 use model_answers::record::{Record, path_of};
 use ned_syntax::ast::Statistic;
-use ned_types::flat::statistics_of;
 use run_semantics::traces::Emission;
 use sim_values::NoMemory;
 use sqlite_items::{Items, at};
@@ -57,98 +57,66 @@ fn is_any_of(vector: &VectorLine, emissions: &[Emission], places: &[usize]) -> b
 fn push_vector(
     found: &mut Items<VectorLine>,
     alloc: Global,
-    model: &Model,
-    records: &[Record],
-    emissions: &[Emission],
-    heard: &[usize],
-    id: u32,
+    member: &Member<'_>,
     statistic: &Statistic,
 ) -> Result<(), NoMemory>
-    requires { heard.now ≡ heard_places records.now id emissions.now }
-    ensures { OnOk result (found.new ≡ found.old ++ vectors_among model.now records.now emissions.now id (statistic.now ∷ [])) }
+    requires { member.now.heard.now ≡ heard_places member.now.records.now member.now.id member.now.emissions.now }
+    ensures { OnOk result (found.new ≡ found.old ++ vectors_among member.now.model.now member.now.records.now member.now.emissions.now member.now.id (statistic.now ∷ [])) }
 {
-    let vector = vector_of(alloc, records, id, statistic)?;
-    if !records_vector(alloc, model, vector.path.as_bytes(), statistic)? {
+    let vector = vector_of(alloc, member.records, member.id, statistic)?;
+    if !records_vector(alloc, member.model, vector.path.as_bytes(), statistic)? {
         return Ok(());
     }
-    if is_any_of(&vector, emissions, heard) {
+    if is_any_of(&vector, member.emissions, member.heard) {
         found.push(vector)?;
     }
     Ok(())
 }
 
-/// Adds the vectors of these statistics of the module of that id.
+/// Adds the vectors of these statistics of the module.
 fn push_vectors(
     found: &mut Items<VectorLine>,
     alloc: Global,
-    model: &Model,
-    records: &[Record],
-    emissions: &[Emission],
-    heard: &[usize],
-    id: u32,
+    member: &Member<'_>,
     statistics: &[Statistic],
 ) -> Result<(), NoMemory>
-    requires { heard.now ≡ heard_places records.now id emissions.now }
-    ensures { OnOk result (found.new ≡ found.old ++ vectors_among model.now records.now emissions.now id statistics.now) }
+    requires { member.now.heard.now ≡ heard_places member.now.records.now member.now.id member.now.emissions.now }
+    ensures { OnOk result (found.new ≡ found.old ++ vectors_among member.now.model.now member.now.records.now member.now.emissions.now member.now.id statistics.now) }
 {
     for statistic in statistics {
-        push_vector(
-            found, alloc, model, records, emissions, heard, id, statistic,
-        )?;
+        push_vector(found, alloc, member, statistic)?;
     }
     Ok(())
 }
 
-/// Adds the vectors of the module of that id.
+/// Adds the vectors of the module.
 fn push_vectors_at(
     found: &mut Items<VectorLine>,
     alloc: Global,
-    model: &Model,
-    records: &[Record],
-    emissions: &[Emission],
-    heard: &[usize],
-    id: u32,
+    member: &Member<'_>,
 ) -> Result<(), NoMemory>
-    requires { heard.now ≡ heard_places records.now id emissions.now }
-    ensures { OnOk result (found.new ≡ found.old ++ vectors_at model.now records.now emissions.now id) }
+    requires { member.now.heard.now ≡ heard_places member.now.records.now member.now.id member.now.emissions.now }
+    ensures { OnOk result (found.new ≡ found.old ++ vectors_at member.now.model.now member.now.records.now member.now.emissions.now member.now.id) }
 {
-    let Some(declared) = model.type_at(records, id) else {
-        return Ok(());
-    };
-    let statistics = statistics_of(alloc, declared.lines.as_slice())?;
-    push_vectors(
-        found,
-        alloc,
-        model,
-        records,
-        emissions,
-        heard,
-        id,
-        statistics.as_slice(),
-    )
+    let statistics = member.statistics(alloc)?;
+    push_vectors(found, alloc, member, statistics.as_slice())
 }
 
-/// Adds the vectors of the module of that id, if it is wanted: it has none else.
+/// Adds the vectors of the module, if it is wanted: it has none else.
 fn push_wanted_vectors(
     found: &mut Items<VectorLine>,
     alloc: Global,
-    model: &Model,
-    records: &[Record],
-    emissions: &[Emission],
+    member: &Member<'_>,
     wanted: &[bool],
-    places: &[Vec<usize>],
-    id: u32,
 ) -> Result<(), NoMemory>
-    requires counted { id < length records.now + 1 }
-    requires wanted { is_wanted wanted.now id ≡ wants Vector model.now records.now id }
-    requires heard { AreHeard wanted.now records.now emissions.now places.now }
-    ensures { OnOk result (found.new ≡ found.old ++ vectors_at model.now records.now emissions.now id) }
+    requires wanted { is_wanted wanted.now member.now.id ≡ wants Vector member.now.model.now member.now.records.now member.now.id }
+    requires heard { member.now.heard.now ≡ wanted_places wanted.now member.now.records.now member.now.id member.now.emissions.now }
+    ensures { OnOk result (found.new ≡ found.old ++ vectors_at member.now.model.now member.now.records.now member.now.emissions.now member.now.id) }
 {
-    if !is_wanted(wanted, id) {
+    if !is_wanted(wanted, member.id) {
         return Ok(());
     }
-    let heard = places_at(places, id);
-    push_vectors_at(found, alloc, model, records, emissions, heard, id)
+    push_vectors_at(found, alloc, member)
 }
 
 /// The vectors that a run records, with the modules of these records and these emissions: all that
@@ -168,9 +136,14 @@ pub fn vectors(
     let mut found = Items::new(alloc);
     for (index, _record) in records.iter().enumerate() {
         let id = index as u32 + 1;
-        push_wanted_vectors(
-            &mut found, alloc, model, records, emissions, &wanted, &places, id,
-        )?;
+        let member = Member {
+            model,
+            records,
+            emissions,
+            heard: places_at(&places, id),
+            id,
+        };
+        push_wanted_vectors(&mut found, alloc, &member, &wanted)?;
     }
     Ok(found)
 }

@@ -10,8 +10,8 @@ returns c =
     (λ h.
     h
     ∙ ap (λ (lines : List ScalarLine). c.args.found.now ++ lines)
-    (statistic_by_places c.args.model.now c.args.records.now c.args.emissions.now c.args.id c.args.statistic.now c.in_ok-vector.vector
-    c.as_bytes-path.result.now c.as_bytes.result.now c.args.heard.now c.as_slice.result.now c.as_slice-2.result.now
+    (statistic_by_places c.args.member.now.model.now c.args.member.now.records.now c.args.member.now.emissions.now c.args.member.now.id c.args.statistic.now c.in_ok-vector.vector
+    c.as_bytes-path.result.now c.as_bytes.result.now c.args.member.now.heard.now c.as_slice.result.now c.as_slice-2.result.now
     c.in_ok-vector.ensures c.as_bytes-path.ensures c.as_bytes.ensures c.requires
     (c.as_slice.ensures.value ∙ c.in_ok-values.ensures) (c.as_slice-2.ensures ∙ c.in_ok-modes.ensures)))
     c.push_modes.ensures

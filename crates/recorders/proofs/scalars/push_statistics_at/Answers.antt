@@ -10,5 +10,5 @@ returns-then-not-is_wanted c =
     sym (append-nil c.args.found.now)
     ∙ ap (λ (lines : List ScalarLine). c.args.found.now ++ lines)
     (sym
-    (no_lines_if_finished c.args.model.now c.args.records.now c.args.emissions.now c.args.id (places_at c.args.places.now.finished.items c.args.id)
-    (sym c.requires.wanted ∙ ap (λ (wanted : List Bool). is_wanted wanted c.args.id) (sym c.deref-2.ensures.value) ∙ sym c.is_wanted.ensures ∙ c.if-not-is_wanted.true)))
+    (no_lines_if_finished c.args.member.now.model.now c.args.member.now.records.now c.args.member.now.emissions.now c.args.member.now.id (places_at c.args.places.now.finished.items c.args.member.now.id)
+    (sym c.requires.wanted ∙ ap (λ (wanted : List Bool). is_wanted wanted c.args.member.now.id) (sym c.deref-2.ensures.value) ∙ sym c.is_wanted.ensures ∙ c.if-not-is_wanted.true)))

@@ -4,5 +4,5 @@ use Rattle.recorders.proofs.vectors.push_vectors.Given as goal
 
 abbrev pub invariant-loop-statistic : goal.invariant-loop-statistic
 invariant-loop-statistic l =
-    l.found ++ vectors_among l.model l.records l.emissions l.id (drop l.statistic-index l.statistics)
-    ≡ l.fn.found ++ vectors_among l.model l.records l.emissions l.id l.statistics
+    l.found ++ vectors_among l.member.model.now l.member.records.now l.member.emissions.now l.member.id (drop l.statistic-index l.statistics)
+    ≡ l.fn.found ++ vectors_among l.member.model.now l.member.records.now l.member.emissions.now l.member.id l.statistics

@@ -7,4 +7,4 @@ pub returns-then-not-is_wanted : goal.returns-then-not-is_wanted
 returns-then-not-is_wanted c =
     sym (append-nil c.args.found.now)
     ∙ ap (λ (vectors : List VectorLine). c.args.found.now ++ vectors)
-    (sym (no_vectors c.args.model.now c.args.records.now c.args.emissions.now c.args.id (sym c.requires.wanted ∙ sym c.is_wanted.ensures ∙ c.if-not-is_wanted.true)))
+    (sym (no_vectors c.args.member.now.model.now c.args.member.now.records.now c.args.member.now.emissions.now c.args.member.now.id (sym c.requires.wanted ∙ sym c.is_wanted.ensures ∙ c.if-not-is_wanted.true)))

@@ -1,0 +1,41 @@
+//! A module of a run, as the result files tell of it.
+
+ghost use Rattle.std.specs.Prelude.{◌≡◌, IfOk};
+ghost use Rattle.model_answers.specs.Answering.{lines_of};
+ghost use Rattle.model_answers.specs.Models.{type_at};
+ghost use Rattle.ned_types.specs.Flat.{statistics_of};
+
+use model_answers::model::Model;
+use model_answers::record::Record;
+use ned_syntax::ast::Statistic;
+use ned_types::flat::statistics_of;
+use run_semantics::traces::Emission;
+use sqlite_items::Items;
+use std::alloc::{AllocError, Global};
+
+/// A module of a run, with all that decides what its statistics have in the result files.
+#[derive(Clone, Copy)]
+pub(crate) struct Member<'r> {
+    /// What the texts say: the modules' types, and the options.
+    pub model: &'r Model,
+    /// The modules of the run.
+    pub records: &'r [Record],
+    /// What they emitted.
+    pub emissions: &'r [Emission],
+    /// The places of those emissions that come from the subtree of this module, none where it is not wanted.
+    pub heard: &'r [usize],
+    /// Its id.
+    pub id: u32,
+}
+
+impl Member<'_> {
+    /// The statistics of its type, in their order.
+    pub(crate) fn statistics(&self, alloc: Global) -> Result<Items<Statistic>, AllocError>
+        ensures { IfOk result (λ statistics. statistics ≡ statistics_of (lines_of (type_at self.now.model.now self.now.records.now self.now.id))) }
+    {
+        match self.model.type_at(self.records, self.id) {
+            Some(declared) => statistics_of(alloc, declared.lines.as_slice()),
+            None => Ok(Items::new(alloc)),
+        }
+    }
+}
