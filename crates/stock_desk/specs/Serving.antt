@@ -185,6 +185,51 @@ module _ {O K X : Type 0} {Y : X → Type 0} where
   abbrev pub IsServer : Behaviour → Members X Y → Server O K X Y → Type 0
   IsServer b members server = IsSettled b members server.desk
 
+  -- What each step that answers a command takes for granted.
+  pub record IsReady (b : Behaviour) (members : Members X Y) (keeps : K → Type 0) (server : Server O K X Y) : Type 0 where
+    -- the desk keeps what it keeps
+    pub sound : IsServer b members server
+    -- no run goes on
+    pub idle : server.running ≡ None
+    -- the client keeps true of itself what it says
+    pub kept : keeps server.client
+
+  -- What each step comes to, by what the client says of itself. The step's own relation, and which of its answers end it, are handed over: it answers a
+  -- `Next` or a `Turn`.
+  pub record Serves {R : Type 0} (b : Behaviour) (members : Members X Y) (asked_of : K → List Asked) (heard_of : K → List Heard) (may_ask : K → ℕ)
+      (keeps : K → Type 0) (label_of : K → ℕ) (stops_of : K → Stop → Type 0) (may_stop : (Stop → Type 0) → R → Type 0) (is_step : Seen → Seen → R → Type 0)
+      (before after : Server O K X Y) (answer : R) : Type 0 where
+    -- the client keeps true of itself what it says
+    pub kept : keeps after.client
+    -- its label is that from before
+    pub label : label_of after.client ≡ label_of before.client
+    -- it is served no more only where that is true of it which it says of the reason
+    pub stops : may_stop (stops_of after.client) answer
+    -- the desk keeps what it keeps
+    pub sound : IsServer b members after
+    -- what is seen before and behind the step, and what it answers, are as its relation says
+    pub comes : is_step (seen_in members asked_of heard_of may_ask before) (seen_in members asked_of heard_of may_ask after) answer
+
+  -- The client hears this text, or is gone, and nothing else changes but which run goes on.
+  pub record Tells (asked_of : K → List Asked) (heard_of : K → List Heard) (may_ask : K → ℕ) (keeps : K → Type 0) (label_of : K → ℕ)
+      (stops_of : K → Stop → Type 0) (text : List ℕ) (goes_on : Option ℕ) (before after : Server O K X Y) (answer : Next) : Type 0 where
+    -- the client keeps true of itself what it says
+    pub kept : keeps after.client
+    -- its label is that from before
+    pub label : label_of after.client ≡ label_of before.client
+    -- it is served no more only where that is true of it which it says of the reason
+    pub stops : MayStopAt (stops_of after.client) answer
+    -- the desk is that from before
+    pub desk : after.desk ≡ before.desk
+    -- the limit of the run that goes on, if there is one
+    pub running : after.running ≡ goes_on
+    -- it asked nothing
+    pub asked : asked_of after.client ≡ asked_of before.client
+    -- it may ask as often as before
+    pub left : may_ask after.client ≡ may_ask before.client
+    -- it heard the text, or is gone
+    pub heard : HearsAnswer text (heard_of before.client) (heard_of after.client) answer
+
 -- ---- runs
 
 -- It waits for a box, as it began with setup.

@@ -10,7 +10,7 @@ ghost use Rattle.desk.specs.Turns.{editing_at, IsSettled};
 ghost use Rattle.stock_desk.specs.Served.{fresh_machine};
 ghost use Rattle.command_lines.specs.declared.commands.Command.TheVariants as commands;
 ghost use Rattle.stock_desk.specs.Served.{command_asked};
-ghost use Rattle.stock_desk.specs.Serving.{seen_in, AreFilled, ComesTo, Ends, HearsAnswer, HearsNext, IsMetIn, IsNextServing, IsRunIn, IsServer, IsServingTurn, MayStopAt, MayStopIn};
+ghost use Rattle.stock_desk.specs.Serving.{AreFilled, ComesTo, Ends, HearsNext, IsMetIn, IsNextServing, IsReady, IsRunIn, IsServer, IsServingTurn, MayStopAt, MayStopIn, Serves, Tells};
 ghost use Rattle.stock_desk.specs.Devices.{untouched, HasFailed};
 ghost use Rattle.stock_desk.specs.declared.serving.Stop.{Stop as StopValue};
 ghost use Rattle.stock_desk.specs.declared.serving.Stop.TheVariants as why;
@@ -178,16 +178,9 @@ struct Server<O, K> {
 impl<O: Out + Drop, K: Client<O> + Drop> Server<O, K> {
     /// The client hears an answer to this command.
     fn hear(&mut self, answer: &[u8]) -> Next
-        requires kept { K.keeps self.old.client }
-        ensures kept { K.keeps self.new.client }
-        ensures label { K.label self.new.client ≡ K.label self.old.client }
-        ensures stops { MayStopAt (K.stops self.new.client) result }
-        ensures desk { self.new.desk ≡ self.old.desk }
-        ensures running { self.new.running ≡ self.old.running }
-        ensures asked { K.asked self.new.client ≡ K.asked self.old.client }
-        ensures left { K.left self.new.client ≡ K.left self.old.client }
-        ensures heard { HearsAnswer answer.now (K.heard self.old.client)
-            (K.heard self.new.client) result }
+        requires { K.keeps self.old.client }
+        ensures { Tells K.asked K.heard K.left K.keeps K.label K.stops
+            answer.now self.old.running self.old self.new result }
     {
         match self.client.hear(answer) {
             Ok(()) => Next::GoOn,
@@ -218,13 +211,8 @@ impl<O: Out + Drop, K: Client<O> + Drop> Server<O, K> {
     fn run(&mut self, limit: u64) -> Turn
         requires sound { IsServer stock SimpleModule-box self.old }
         requires kept { K.keeps self.old.client }
-        ensures kept { K.keeps self.new.client }
-        ensures label { K.label self.new.client ≡ K.label self.old.client }
-        ensures stops { MayStopIn (K.stops self.new.client) result }
-        ensures sound { IsServer stock SimpleModule-box self.new }
-        ensures ran { let before = seen_in SimpleModule-box K.asked K.heard K.left self.old in
-            let after = seen_in SimpleModule-box K.asked K.heard K.left self.new in
-            IsRunIn stock limit before after result }
+        ensures { Serves stock SimpleModule-box K.asked K.heard K.left K.keeps K.label K.stops
+            MayStopIn (IsRunIn stock limit) self.old self.new result }
     {
         match self.desk.run(limit) {
             Ok(DeskTurn::Text(text)) => {
@@ -241,16 +229,9 @@ impl<O: Out + Drop, K: Client<O> + Drop> Server<O, K> {
 
     /// Memory ran out: no run goes on.
     fn out_of_memory(&mut self) -> Next
-        requires kept { K.keeps self.old.client }
-        ensures kept { K.keeps self.new.client }
-        ensures label { K.label self.new.client ≡ K.label self.old.client }
-        ensures stops { MayStopAt (K.stops self.new.client) result }
-        ensures desk { self.new.desk ≡ self.old.desk }
-        ensures running { self.new.running ≡ None }
-        ensures asked { K.asked self.new.client ≡ K.asked self.old.client }
-        ensures left { K.left self.new.client ≡ K.left self.old.client }
-        ensures heard { HearsAnswer (codes "refused NoMemory") (K.heard self.old.client)
-            (K.heard self.new.client) result }
+        requires { K.keeps self.old.client }
+        ensures { Tells K.asked K.heard K.left K.keeps K.label K.stops
+            (codes "refused NoMemory") None self.old self.new result }
     {
         self.running = None;
         self.hear(b"refused NoMemory".as_slice())
@@ -258,16 +239,9 @@ impl<O: Out + Drop, K: Client<O> + Drop> Server<O, K> {
 
     /// Changes the model as the edit says, or tells why not.
     fn edit(&mut self, edit: Edit) -> Next
-        requires sound { IsServer stock SimpleModule-box self.old }
-        requires idle { self.old.running ≡ None }
-        requires kept { K.keeps self.old.client }
-        ensures kept { K.keeps self.new.client }
-        ensures label { K.label self.new.client ≡ K.label self.old.client }
-        ensures stops { MayStopAt (K.stops self.new.client) result }
-        ensures sound { IsServer stock SimpleModule-box self.new }
-        ensures heard { let before = seen_in SimpleModule-box K.asked K.heard K.left self.old in
-            let after = seen_in SimpleModule-box K.asked K.heard K.left self.new in
-            HearsNext stock (commands.Edit edit) before after result }
+        requires { IsReady stock SimpleModule-box K.keeps self.old }
+        ensures { Serves stock SimpleModule-box K.asked K.heard K.left K.keeps K.label K.stops
+            MayStopAt (HearsNext stock (commands.Edit edit)) self.old self.new result }
     {
         match self.desk.edit(edit) {
             Ok(text) => self.hear(text.as_bytes()),
@@ -277,16 +251,9 @@ impl<O: Out + Drop, K: Client<O> + Drop> Server<O, K> {
 
     /// Tells after which events a position is stored.
     fn positions(&mut self) -> Next
-        requires sound { IsServer stock SimpleModule-box self.old }
-        requires idle { self.old.running ≡ None }
-        requires kept { K.keeps self.old.client }
-        ensures kept { K.keeps self.new.client }
-        ensures label { K.label self.new.client ≡ K.label self.old.client }
-        ensures stops { MayStopAt (K.stops self.new.client) result }
-        ensures sound { IsServer stock SimpleModule-box self.new }
-        ensures heard { let before = seen_in SimpleModule-box K.asked K.heard K.left self.old in
-            let after = seen_in SimpleModule-box K.asked K.heard K.left self.new in
-            HearsNext stock commands.Positions before after result }
+        requires { IsReady stock SimpleModule-box K.keeps self.old }
+        ensures { Serves stock SimpleModule-box K.asked K.heard K.left K.keeps K.label K.stops
+            MayStopAt (HearsNext stock commands.Positions) self.old self.new result }
     {
         match self.desk.positions() {
             Ok(text) => self.hear(text.as_bytes()),
@@ -296,16 +263,9 @@ impl<O: Out + Drop, K: Client<O> + Drop> Server<O, K> {
 
     /// Tells how many boxes there are.
     fn held(&mut self) -> Next
-        requires sound { IsServer stock SimpleModule-box self.old }
-        requires idle { self.old.running ≡ None }
-        requires kept { K.keeps self.old.client }
-        ensures kept { K.keeps self.new.client }
-        ensures label { K.label self.new.client ≡ K.label self.old.client }
-        ensures stops { MayStopAt (K.stops self.new.client) result }
-        ensures sound { IsServer stock SimpleModule-box self.new }
-        ensures heard { let before = seen_in SimpleModule-box K.asked K.heard K.left self.old in
-            let after = seen_in SimpleModule-box K.asked K.heard K.left self.new in
-            HearsNext stock commands.Held before after result }
+        requires { IsReady stock SimpleModule-box K.keeps self.old }
+        ensures { Serves stock SimpleModule-box K.asked K.heard K.left K.keeps K.label K.stops
+            MayStopAt (HearsNext stock commands.Held) self.old self.new result }
     {
         match self.desk.held() {
             Ok(text) => self.hear(text.as_bytes()),
@@ -315,16 +275,9 @@ impl<O: Out + Drop, K: Client<O> + Drop> Server<O, K> {
 
     /// Writes the files of the last run, the scalar file first.
     fn write(&mut self) -> Next
-        requires sound { IsServer stock SimpleModule-box self.old }
-        requires idle { self.old.running ≡ None }
-        requires kept { K.keeps self.old.client }
-        ensures kept { K.keeps self.new.client }
-        ensures label { K.label self.new.client ≡ K.label self.old.client }
-        ensures stops { MayStopAt (K.stops self.new.client) result }
-        ensures sound { IsServer stock SimpleModule-box self.new }
-        ensures heard { let before = seen_in SimpleModule-box K.asked K.heard K.left self.old in
-            let after = seen_in SimpleModule-box K.asked K.heard K.left self.new in
-            HearsNext stock commands.Write before after result }
+        requires { IsReady stock SimpleModule-box K.keeps self.old }
+        ensures { Serves stock SimpleModule-box K.asked K.heard K.left K.keeps K.label K.stops
+            MayStopAt (HearsNext stock commands.Write) self.old self.new result }
     {
         if self.desk.outcome().is_none() {
             return self.hear(b"refused NotDone".as_slice());
@@ -337,21 +290,14 @@ impl<O: Out + Drop, K: Client<O> + Drop> Server<O, K> {
 
     /// Writes the files of the last run to these devices, which the client then keeps.
     fn fill(&mut self, pages: Pages<O>) -> Next
-        requires sound { IsServer stock SimpleModule-box self.old }
-        requires idle { self.old.running ≡ None }
+        requires ready { IsReady stock SimpleModule-box K.keeps self.old }
         requires done { IsSome (editing_at SimpleModule-box self.old.desk).done }
         requires config { pages.config.bytes
             ≡ (editing_at SimpleModule-box self.old.desk).model.config }
         requires scalars { O.taken pages.scalars ≡ untouched }
         requires vectors { O.taken pages.vectors ≡ untouched }
-        requires kept { K.keeps self.old.client }
-        ensures kept { K.keeps self.new.client }
-        ensures label { K.label self.new.client ≡ K.label self.old.client }
-        ensures stops { MayStopAt (K.stops self.new.client) result }
-        ensures sound { IsServer stock SimpleModule-box self.new }
-        ensures heard { let before = seen_in SimpleModule-box K.asked K.heard K.left self.old in
-            let after = seen_in SimpleModule-box K.asked K.heard K.left self.new in
-            HearsNext stock commands.Write before after result }
+        ensures { Serves stock SimpleModule-box K.asked K.heard K.left K.keeps K.label K.stops
+            MayStopAt (HearsNext stock commands.Write) self.old self.new result }
     {
         let mut pages = pages;
         match self.write_both(&mut pages) {
@@ -392,16 +338,9 @@ impl<O: Out + Drop, K: Client<O> + Drop> Server<O, K> {
 
     /// Does what a command asks for.
     fn command(&mut self, command: Command) -> Turn
-        requires sound { IsServer stock SimpleModule-box self.old }
-        requires idle { self.old.running ≡ None }
-        requires kept { K.keeps self.old.client }
-        ensures kept { K.keeps self.new.client }
-        ensures label { K.label self.new.client ≡ K.label self.old.client }
-        ensures stops { MayStopIn (K.stops self.new.client) result }
-        ensures sound { IsServer stock SimpleModule-box self.new }
-        ensures comes { let before = seen_in SimpleModule-box K.asked K.heard K.left self.old in
-            let after = seen_in SimpleModule-box K.asked K.heard K.left self.new in
-            ComesTo stock command before after result }
+        requires { IsReady stock SimpleModule-box K.keeps self.old }
+        ensures { Serves stock SimpleModule-box K.asked K.heard K.left K.keeps K.label K.stops
+            MayStopIn (ComesTo stock command) self.old self.new result }
     {
         match command {
             Command::Run(limit) => self.run(limit),
@@ -416,16 +355,9 @@ impl<O: Out + Drop, K: Client<O> + Drop> Server<O, K> {
 
     /// Does what was asked.
     fn answer(&mut self, alloc: Global, asked: Asked) -> Turn
-        requires sound { IsServer stock SimpleModule-box self.old }
-        requires idle { self.old.running ≡ None }
-        requires kept { K.keeps self.old.client }
-        ensures kept { K.keeps self.new.client }
-        ensures label { K.label self.new.client ≡ K.label self.old.client }
-        ensures stops { MayStopIn (K.stops self.new.client) result }
-        ensures sound { IsServer stock SimpleModule-box self.new }
-        ensures comes { let before = seen_in SimpleModule-box K.asked K.heard K.left self.old in
-            let after = seen_in SimpleModule-box K.asked K.heard K.left self.new in
-            ComesTo stock (command_asked asked) before after result }
+        requires { IsReady stock SimpleModule-box K.keeps self.old }
+        ensures { Serves stock SimpleModule-box K.asked K.heard K.left K.keeps K.label K.stops
+            MayStopIn (ComesTo stock (command_asked asked)) self.old self.new result }
     {
         match asked {
             Asked::Line(text) => match command_of(alloc, text.as_bytes()) {
@@ -440,13 +372,8 @@ impl<O: Out + Drop, K: Client<O> + Drop> Server<O, K> {
     fn turn(&mut self, alloc: Global) -> Turn
         requires sound { IsServer stock SimpleModule-box self.old }
         requires kept { K.keeps self.old.client }
-        ensures kept { K.keeps self.new.client }
-        ensures label { K.label self.new.client ≡ K.label self.old.client }
-        ensures stops { MayStopIn (K.stops self.new.client) result }
-        ensures sound { IsServer stock SimpleModule-box self.new }
-        ensures turn { let before = seen_in SimpleModule-box K.asked K.heard K.left self.old in
-            let after = seen_in SimpleModule-box K.asked K.heard K.left self.new in
-            IsServingTurn stock before after result }
+        ensures { Serves stock SimpleModule-box K.asked K.heard K.left K.keeps K.label K.stops
+            MayStopIn (IsServingTurn stock) self.old self.new result }
     {
         if let Some(limit) = self.running {
             return self.run(limit);
@@ -466,13 +393,8 @@ impl<O: Out + Drop, K: Client<O> + Drop> Server<O, K> {
         requires going { IsSome self.old.running }
         requires sound { IsServer stock SimpleModule-box self.old }
         requires kept { K.keeps self.old.client }
-        ensures kept { K.keeps self.new.client }
-        ensures label { K.label self.new.client ≡ K.label self.old.client }
-        ensures stops { MayStopAt (K.stops self.new.client) result }
-        ensures sound { IsServer stock SimpleModule-box self.new }
-        ensures next { let before = seen_in SimpleModule-box K.asked K.heard K.left self.old in
-            let after = seen_in SimpleModule-box K.asked K.heard K.left self.new in
-            IsNextServing stock before after result }
+        ensures { Serves stock SimpleModule-box K.asked K.heard K.left K.keeps K.label K.stops
+            MayStopAt (IsNextServing stock) self.old self.new result }
     {
         match self.desk.supply(held) {
             Ok(()) => Next::GoOn,
