@@ -4,11 +4,11 @@ use Rattle.model_answers.specs.declared.answer.Answer.TheVariants as answer
 use Rattle.model_answers.specs.declared.answer.Asked.{Asked}
 use Rattle.model_answers.specs.declared.answer.Question.{Question}
 use Rattle.model_answers.specs.declared.answer.Question.TheVariants.{Root, Build, Param, GateSize, BeyondLimit, InjectionBefore}
-use Rattle.model_answers.specs.declared.injection.Injection.{Injection}
+use Rattle.injection_order.specs.declared.injection.Injection.{Injection}
 use Rattle.model_answers.specs.declared.model.Model.{Model}
 use Rattle.model_answers.specs.declared.record.Record.{Record}
 use Rattle.model_answers.specs.Answering.{answer_of, is_beyond}
-use Rattle.model_answers.specs.Injections.{injection_before}
+use Rattle.injection_order.specs.Injections.{injection_before}
 use Rattle.agreement.specs.declared.common.Common.{Common}
 use Rattle.run_semantics.specs.Agreement.{Agrees}
 use Rattle.agreement.specs.Common.{is_about, are_about, IsCommon}

@@ -10,7 +10,7 @@ use Rattle.model_answers.specs.contracts.answer.ModelFault as fault_kind
 use Rattle.model_answers.specs.declared.answer.Answer.{Answer}
 use Rattle.model_answers.specs.declared.answer.Answer.TheVariants as answer
 use Rattle.model_answers.specs.declared.answer.Built.{Built}
-use Rattle.model_answers.specs.declared.injection.Injection.{Injection}
+use Rattle.injection_order.specs.declared.injection.Injection.{Injection}
 
 abbrev pub same_value : Value → Value → Bool
 same_value (value.Whole a) (value.Whole b) = int_eq a b

@@ -11,9 +11,9 @@ ghost use Rattle.agreement.specs.Narrowing.{Narrows};
 
 use crate::common::{Common, common_of};
 use crate::same::same_answer;
+use injection_order::injection::Due;
 use model_answers::answer::Question;
 use model_answers::answering::answer;
-use model_answers::injection::Due;
 use model_answers::model::Model;
 use model_answers::record::Record;
 use question_log::entry::{Entry, first_injection};

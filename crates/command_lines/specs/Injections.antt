@@ -7,7 +7,7 @@ use Rattle.std.specs.Result.{result_ok}
 use Rattle.std.specs.Str.{bytes_eq, is_utf8}
 use Rattle.hex.specs.Hex.{decode_of}
 use Rattle.sim_time.specs.Decimal.{time_of_decimal}
-use Rattle.model_answers.specs.declared.injection.Due.{Due}
+use Rattle.injection_order.specs.declared.injection.Due.{Due}
 use Rattle.model_edits.specs.declared.edit.Edit.{Edit}
 use Rattle.model_edits.specs.declared.edit.Edit.TheVariants as edit
 use Rattle.command_lines.specs.Numbers.{number_of, signed_of}

@@ -12,7 +12,7 @@ ghost use Rattle.command_lines.specs.Words.{words_of};
 use crate::numbers::{number_of, signed_of};
 use crate::words::{behind, is_text, parted};
 use hex::FromHexError;
-use model_answers::injection::Due;
+use injection_order::injection::Due;
 use model_edits::edit::Edit;
 use sim_time::SimTime;
 use sim_values::text::Text;

@@ -1,12 +1,14 @@
 //! Why a configuration can't be run.
 
-use ini_config::entries::network_entry;
-use ini_config::error::{ChainError, IniError};
-use ini_config::lines::{IniLine, IniText, LineMeaning};
-use ini_config::scan::{entry_in, section_behind};
-use ini_config::speaks::last_name;
-use ini_entries::entry::EntryMeaning;
-use ned_syntax::ast::{TypeDeclaration, TypeKind};
+use ini_config::error::IniError;
+use ini_config::parse::parse_ini;
+use ini_texts::entries::network_entry;
+use ini_texts::entry::EntryMeaning;
+use ini_texts::error::ChainError;
+use ini_texts::lines::{IniLine, IniText, LineMeaning};
+use ini_texts::scan::{entry_in, section_behind};
+use ini_texts::speaks::last_name;
+use ned_trees::declarations::{TypeDeclaration, TypeKind};
 use sim_values::NoMemory;
 use sim_values::text::Text;
 use sqlite_items::Items;
@@ -18,7 +20,7 @@ use text_explanations::sources::Sources;
 
 /// The lines of an ini text that was read before; none where it was not.
 pub fn lines_of(alloc: Global, sources: &Sources<'_>) -> Result<IniText, NoMemory> {
-    match IniText::parse(alloc, sources.ini) {
+    match parse_ini(alloc, sources.ini) {
         Ok(text) => Ok(text),
         Err(IniError::NoMemory(error)) => Err(error),
         Err(_) => Ok(IniText::of_lines(Items::new(alloc))),

@@ -1,17 +1,18 @@
 //! Why a run ended with a fault.
 
-use ini_config::entries::value_for;
 use ini_entries::constants::is_constant;
-use ini_entries::entry::EntryValue;
+use ini_texts::entries::value_for;
+use ini_texts::entry::EntryValue;
 use model_answers::answer::ModelFault;
 use model_answers::model::Model;
 use model_answers::parameters::lone_value;
 use model_answers::record::path_under;
 use model_answers::scene::{Placed, Told};
 use model_texts::begin::model_of;
-use ned_syntax::ast::{
-    Declaration, Expression, ParameterValue, ParameterWord, SectionLine, TypeDeclaration,
+use ned_trees::declarations::{
+    Declaration, ParameterValue, ParameterWord, SectionLine, TypeDeclaration,
 };
+use ned_trees::expressions::Expression;
 use ned_types::flat::{class_of, last_value, submodule_named};
 use sim_values::NoMemory;
 use sim_values::value::Dimension;

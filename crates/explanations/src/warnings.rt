@@ -1,13 +1,13 @@
 //! Lines of an ini text that have no effect.
 
 use crate::configurations::{chain_of, lines_of};
-use ini_config::entries::network_entry;
-use ini_config::lines::{Entry, IniLine, IniText};
-use ini_config::scan::{entry_in, section_behind};
-use ini_config::speaks::last_name;
-use ini_entries::entry::{EntryMeaning, ObjectEntry, ObjectOption};
 use ini_pattern::Pattern;
-use ned_syntax::ast::{SectionLine, Submodule, TypeDeclaration};
+use ini_texts::entries::network_entry;
+use ini_texts::entry::{EntryMeaning, ObjectEntry, ObjectOption};
+use ini_texts::lines::{Entry, IniLine, IniText};
+use ini_texts::scan::{entry_in, section_behind};
+use ini_texts::speaks::last_name;
+use ned_trees::declarations::{SectionLine, Submodule, TypeDeclaration};
 use sim_values::NoMemory;
 use sim_values::text::Text;
 use std::alloc::Global;

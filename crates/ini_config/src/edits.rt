@@ -4,10 +4,11 @@ ghost use Rattle.std.specs.Prelude.{◌≡◌, ◌+◌, ◌<◌, ◌≤◌, ◌�
 ghost use Rattle.sim_values.specs.Limits.{max_length};
 ghost use Rattle.ini_config.specs.Meaning.{IsIniText};
 ghost use Rattle.ini_config.specs.Edits.{AnswersEdit, HasLines, IsEdited, Refused, RefusesBytes, bytes_of, edit_with, edit_without, holds_feed, insertion, is_line, is_place, removal, replacement, texts_of, with_between};
-ghost use Rattle.ini_config.specs.declared.lines.IniLine.{IniLine};
+ghost use Rattle.ini_texts.specs.declared.lines.IniLine.{IniLine};
 
 use crate::error::{EditError, IniError};
-use crate::lines::{IniLine, IniText};
+use crate::parse::parse_ini;
+use ini_texts::lines::{IniLine, IniText};
 use sim_values::text::MAX_LENGTH;
 use std::alloc::{AllocError, Global};
 
@@ -163,7 +164,7 @@ fn reread(alloc: Global, bytes: &[u8]) -> Result<IniText, EditError>
         → AnswersEdit lines result }
     ensures refused { IfErr result (λ e. RefusesBytes bytes.now e) }
 {
-    match IniText::parse(alloc, bytes) {
+    match parse_ini(alloc, bytes) {
         Ok(text) => Ok(text),
         Err(IniError::IniSyntax(line)) => Err(EditError::IniSyntax(line)),
         Err(IniError::TooLarge) => Err(EditError::TooLarge),
@@ -225,72 +226,70 @@ fn edited_without(
     reread(alloc, bytes.as_slice())
 }
 
-impl IniText {
-    /// The text with a line put before the line of that number. The number behind the last line adds one at the end.
-    pub fn with_inserted(
-        &self,
-        alloc: Global,
-        line: usize,
-        text: &[u8],
-    ) -> Result<IniText, EditError>
-        // What is made is the text with that line.
-        ensures accepted { IfOk result (IsEdited (insertion line text.now self.now)) }
-        // Such a text is made, unless memory runs out.
-        ensures complete { (lines : List IniLine)
-            → IsEdited (insertion line text.now self.now) lines
-            → AnswersEdit lines result }
-        // Its lines are those of the old text with the edit.
-        ensures lines { IfOk result (HasLines self.now (insertion line text.now self.now)) }
-        // Each refusal comes where it is due, in its order.
-        ensures refused { Refused (insertion line text.now self.now) result }
-    {
-        let at = line.saturating_sub(1);
-        let before = first_lines(self.lines(), at);
-        let behind = lines_behind(self.lines(), at);
-        let found = is_place(line, self.lines());
-        edited_with(alloc, before, text, behind, line, found)
-    }
+/// The text with a line put before the line of that number. The number behind the last line adds one at the end.
+pub fn with_inserted(
+    alloc: Global,
+    ini: &IniText,
+    line: usize,
+    text: &[u8],
+) -> Result<IniText, EditError>
+    // What is made is the text with that line.
+    ensures accepted { IfOk result (IsEdited (insertion line text.now ini.now)) }
+    // Such a text is made, unless memory runs out.
+    ensures complete { (lines : List IniLine)
+        → IsEdited (insertion line text.now ini.now) lines
+        → AnswersEdit lines result }
+    // Its lines are those of the old text with the edit.
+    ensures lines { IfOk result (HasLines ini.now (insertion line text.now ini.now)) }
+    // Each refusal comes where it is due, in its order.
+    ensures refused { Refused (insertion line text.now ini.now) result }
+{
+    let at = line.saturating_sub(1);
+    let before = first_lines(ini.lines(), at);
+    let behind = lines_behind(ini.lines(), at);
+    let found = is_place(line, ini.lines());
+    edited_with(alloc, before, text, behind, line, found)
+}
 
-    /// The text with another line instead of the line of that number.
-    pub fn with_replaced(
-        &self,
-        alloc: Global,
-        line: usize,
-        text: &[u8],
-    ) -> Result<IniText, EditError>
-        // What is made is the text with that line.
-        ensures accepted { IfOk result (IsEdited (replacement line text.now self.now)) }
-        // Such a text is made, unless memory runs out.
-        ensures complete { (lines : List IniLine)
-            → IsEdited (replacement line text.now self.now) lines
-            → AnswersEdit lines result }
-        // Its lines are those of the old text with the edit.
-        ensures lines { IfOk result (HasLines self.now (replacement line text.now self.now)) }
-        // Each refusal comes where it is due, in its order.
-        ensures refused { Refused (replacement line text.now self.now) result }
-    {
-        let before = first_lines(self.lines(), line.saturating_sub(1));
-        let after = lines_behind(self.lines(), line);
-        let found = is_line(line, self.lines());
-        edited_with(alloc, before, text, after, line, found)
-    }
+/// The text with another line instead of the line of that number.
+pub fn with_replaced(
+    alloc: Global,
+    ini: &IniText,
+    line: usize,
+    text: &[u8],
+) -> Result<IniText, EditError>
+    // What is made is the text with that line.
+    ensures accepted { IfOk result (IsEdited (replacement line text.now ini.now)) }
+    // Such a text is made, unless memory runs out.
+    ensures complete { (lines : List IniLine)
+        → IsEdited (replacement line text.now ini.now) lines
+        → AnswersEdit lines result }
+    // Its lines are those of the old text with the edit.
+    ensures lines { IfOk result (HasLines ini.now (replacement line text.now ini.now)) }
+    // Each refusal comes where it is due, in its order.
+    ensures refused { Refused (replacement line text.now ini.now) result }
+{
+    let before = first_lines(ini.lines(), line.saturating_sub(1));
+    let after = lines_behind(ini.lines(), line);
+    let found = is_line(line, ini.lines());
+    edited_with(alloc, before, text, after, line, found)
+}
 
-    /// The text without the line of that number.
-    pub fn with_removed(&self, alloc: Global, line: usize) -> Result<IniText, EditError>
-        // What is made is the text without that line.
-        ensures accepted { IfOk result (IsEdited (removal line self.now)) }
-        // Such a text is made, unless memory runs out.
-        ensures complete { (lines : List IniLine)
-            → IsEdited (removal line self.now) lines
-            → AnswersEdit lines result }
-        // Its lines are those of the old text with the edit.
-        ensures lines { IfOk result (HasLines self.now (removal line self.now)) }
-        // Each refusal comes where it is due, in its order.
-        ensures refused { Refused (removal line self.now) result }
-    {
-        let front = first_lines(self.lines(), line.saturating_sub(1));
-        let behind = lines_behind(self.lines(), line);
-        let found = is_line(line, self.lines());
-        edited_without(alloc, front, behind, line, found)
-    }
+/// The text without the line of that number.
+pub fn with_removed(alloc: Global, ini: &IniText, line: usize) -> Result<IniText, EditError>
+    // What is made is the text without that line.
+    ensures accepted { IfOk result (IsEdited (removal line ini.now)) }
+    // Such a text is made, unless memory runs out.
+    ensures complete { (lines : List IniLine)
+        → IsEdited (removal line ini.now) lines
+        → AnswersEdit lines result }
+    // Its lines are those of the old text with the edit.
+    ensures lines { IfOk result (HasLines ini.now (removal line ini.now)) }
+    // Each refusal comes where it is due, in its order.
+    ensures refused { Refused (removal line ini.now) result }
+{
+    let front = first_lines(ini.lines(), line.saturating_sub(1));
+    let behind = lines_behind(ini.lines(), line);
+    let found = is_line(line, ini.lines());
+    edited_without(alloc, front, behind, line, found)
 }

@@ -6,19 +6,19 @@ ghost use Rattle.std.specs.Str.{is_utf8};
 ghost use Rattle.ini_config.specs.Texts.{lines_of_ini};
 ghost use Rattle.ini_entries.specs.Meaning.{Tells, is_key, is_key_byte};
 ghost use Rattle.sim_values.specs.Limits.{max_length};
-ghost use Rattle.ini_config.specs.Meaning.{IsIniText, IsIniLine, IsLine, IsEntry, IsNamed, IsParted, IsSection, Settles, Answers, Explains, begins_entry, ends_with, in_brackets, is_first_of_entry, is_extends, is_value, may_stand, SettlesLine};
-ghost use Rattle.ini_config.specs.Sections.{section_behind};
-ghost use Rattle.ini_config.specs.declared.lines.IniLine.{IniLine};
-ghost use Rattle.ini_config.specs.declared.lines.LineMeaning.{LineMeaning};
+ghost use Rattle.ini_config.specs.Meaning.{IsIniText, IsIniLine, IsLine, IsEntry, IsNamed, IsParted, IsSection, Settles, Answers, Explains, begins_entry, ends_with, in_brackets, is_first_of_entry, is_value, may_stand, SettlesLine};
+ghost use Rattle.ini_texts.specs.Sections.{is_extends, section_behind};
+ghost use Rattle.ini_texts.specs.declared.lines.IniLine.{IniLine};
+ghost use Rattle.ini_texts.specs.declared.lines.LineMeaning.{LineMeaning};
 
 use crate::error::IniError;
-use crate::lines::{Entry, IniLine, IniText, LineMeaning};
 use crate::pieces::{first_ini_line, holds_variable, value_text};
 use ini_entries::blanks::{after_blanks, before_blanks, is_blank};
-use ini_entries::entry::EntryMeaning;
 use ini_entries::keys::is_key;
 use ini_entries::meaning::entry_meaning;
 use ini_entries::names::is_config_name;
+use ini_texts::entry::EntryMeaning;
+use ini_texts::lines::{Entry, IniLine, IniText, LineMeaning};
 use sim_values::text::{MAX_LENGTH, Text};
 use sqlite_items::Items;
 use std::alloc::{AllocError, Global};
@@ -265,20 +265,18 @@ fn read(alloc: Global, bytes: &[u8]) -> Result<Items<IniLine>, IniError>
     Ok(lines)
 }
 
-impl IniText {
-    /// The lines of an ini text (OMNeT++ Simulation Manual, "Ini Files").
-    pub fn parse(alloc: Global, bytes: &[u8]) -> Result<IniText, IniError>
-        // What is read is what the text says.
-        ensures accepted { IfOk result (λ text. IsIniText bytes.now text) }
-        // What the text says is read, unless memory runs out.
-        ensures complete { (lines : List IniLine) → IsIniText bytes.now lines → Answers lines result }
-        // Each refusal has its reason.
-        ensures refused { IfErr result (λ e. Explains bytes.now e) }
-        ensures large { max_length < length bytes.now → result ≡ Err IniError.TooLarge }
-    {
-        if bytes.len() > MAX_LENGTH {
-            return Err(IniError::TooLarge);
-        }
-        Ok(IniText::of_lines(read(alloc, bytes)?))
+/// The lines of an ini text (OMNeT++ Simulation Manual, "Ini Files").
+pub fn parse_ini(alloc: Global, bytes: &[u8]) -> Result<IniText, IniError>
+    // What is read is what the text says.
+    ensures accepted { IfOk result (λ text. IsIniText bytes.now text) }
+    // What the text says is read, unless memory runs out.
+    ensures complete { (lines : List IniLine) → IsIniText bytes.now lines → Answers lines result }
+    // Each refusal has its reason.
+    ensures refused { IfErr result (λ e. Explains bytes.now e) }
+    ensures large { max_length < length bytes.now → result ≡ Err IniError.TooLarge }
+{
+    if bytes.len() > MAX_LENGTH {
+        return Err(IniError::TooLarge);
     }
+    Ok(IniText::of_lines(read(alloc, bytes)?))
 }

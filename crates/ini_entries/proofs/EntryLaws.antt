@@ -10,17 +10,17 @@ use Rattle.ini_pattern.specs.PatternOf.{pattern_of}
 use Rattle.ned_tokens.specs.Lines.{tokens_of}
 use Rattle.ned_tokens.proofs.Whole as whole
 use Rattle.ned_expressions.proofs.ExpressionLaws.{expression-lawful}
-use Rattle.ned_expressions.specs.declared.ast.Expression.{Expression}
+use Rattle.ned_trees.specs.declared.expressions.Expression.{Expression}
 use Rattle.ned_expressions.specs.ExpressionText as value_text
 use Rattle.ned_expressions.specs.Grammar as grammar
 use Rattle.ned_values.specs.ExpressionText.{IsExpressionText}
-use Rattle.ini_entries.specs.declared.entry.EntryMeaning.{EntryMeaning}
-use Rattle.ini_entries.specs.declared.entry.EntryMeaning.TheVariants as meaning
-use Rattle.ini_entries.specs.declared.entry.EntryValue.{EntryValue}
-use Rattle.ini_entries.specs.declared.entry.EntryValue.TheVariants as value
-use Rattle.ini_entries.specs.declared.entry.ObjectEntry.{ObjectEntry}
-use Rattle.ini_entries.specs.declared.entry.ObjectOption.{ObjectOption}
-use Rattle.ini_entries.specs.declared.entry.ParameterEntry.{ParameterEntry}
+use Rattle.ini_texts.specs.declared.entry.EntryMeaning.{EntryMeaning}
+use Rattle.ini_texts.specs.declared.entry.EntryMeaning.TheVariants as meaning
+use Rattle.ini_texts.specs.declared.entry.EntryValue.{EntryValue}
+use Rattle.ini_texts.specs.declared.entry.EntryValue.TheVariants as value
+use Rattle.ini_texts.specs.declared.entry.ObjectEntry.{ObjectEntry}
+use Rattle.ini_texts.specs.declared.entry.ObjectOption.{ObjectOption}
+use Rattle.ini_texts.specs.declared.entry.ParameterEntry.{ParameterEntry}
 use Rattle.ini_entries.specs.Keys.{KeyKind, OptionKey, ObjectKey, TypeKey, ParameterKey, kind_of, last_part_from, has_hyphen_from, is_closed_from}
 use Rattle.ini_entries.specs.Meaning.{IsEntryMeaning, IsEntryValue, IsPatternAndValue, Tells}
 use Rattle.ini_entries.specs.Names.{is_config_name, is_dotted_name}

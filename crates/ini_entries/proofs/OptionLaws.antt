@@ -5,9 +5,9 @@ use Rattle.std.specs.List.{list_all}
 use Rattle.std.specs.Str.{bytes_eq}
 use Rattle.ned_values.proofs.OneExpression.{one_expression}
 use Rattle.ned_values.specs.ExpressionText.{IsExpressionText}
-use Rattle.ini_entries.specs.declared.entry.ModeItem.{ModeItem}
-use Rattle.ini_entries.specs.declared.entry.ObjectOption.{ObjectOption}
-use Rattle.ini_entries.specs.declared.entry.ObjectOption.TheVariants as object
+use Rattle.ini_texts.specs.declared.entry.ModeItem.{ModeItem}
+use Rattle.ini_texts.specs.declared.entry.ObjectOption.{ObjectOption}
+use Rattle.ini_texts.specs.declared.entry.ObjectOption.TheVariants as object
 use Rattle.ini_entries.specs.Meaning.{Tells}
 use Rattle.ini_entries.specs.Names.{is_config_name}
 use Rattle.ini_entries.specs.Options.{IsObjectOption, config_names, mode_item, mode_items, recording_words, time_literal, truth_word, word_modes}

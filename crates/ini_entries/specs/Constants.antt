@@ -1,7 +1,7 @@
 -- Constant expressions: those that say their value wherever they stand.
 use Rattle.std.specs.Prelude.{Bool, true, false, ◌&&◌}
-use Rattle.ned_expressions.specs.declared.ast.Expression.{Expression, fold-Expression}
-use Rattle.ned_expressions.specs.declared.ast.Expression.TheOpen.{Expression-F}
+use Rattle.ned_trees.specs.declared.expressions.Expression.{Expression, fold-Expression}
+use Rattle.ned_trees.specs.declared.expressions.Expression.TheOpen.{Expression-F}
 
 -- by whether the parts are so: literals, operators and signs, `?:`, parentheses, `min` and `max`; nothing that refers to a parameter, an
 -- index, a size or a submodule

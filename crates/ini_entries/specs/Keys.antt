@@ -4,7 +4,7 @@ use Rattle.std.specs.Prelude.{ℕ, Bool, true, false, ◌&&◌, [], ◌∷◌, O
 use Rattle.std.specs.Str.{bytes_eq}
 use Rattle.ini_entries.specs.declared.keys.KeyPlace.{KeyPlace}
 use Rattle.ini_entries.specs.declared.keys.KeyPlace.TheVariants.{Open, InSet, InBrackets, InSetInBrackets}
-use Rattle.ini_entries.specs.Texts.{Bytes}
+use Rattle.ini_texts.specs.Words.{Bytes, word_typename}
 
 -- ---- sets and brackets
 
@@ -93,9 +93,6 @@ abbrev pub has_hyphen : Bytes → Bool
 has_hyphen part = has_hyphen_from false false part
 
 -- ---- kinds
-
-abbrev pub word_typename : Bytes
-word_typename = codes "typename"
 
 -- what the entries of a key are: an option of the configuration, a per-object option of that name, the type of
 -- submodules, or a value for parameters

@@ -6,11 +6,11 @@ use Rattle.std.specs.Str.{chars}
 use Rattle.ini_pattern.specs.PatternOf.{pattern_of}
 use Rattle.ned_expressions.specs.ExpressionText.{IsExpressionText}
 use Rattle.ned_values.specs.ExpressionText.{IsExpressionText as IsLiteralText}
-use Rattle.ini_entries.specs.declared.entry.EntryMeaning.{EntryMeaning}
-use Rattle.ini_entries.specs.declared.entry.EntryMeaning.TheVariants as meaning
-use Rattle.ini_entries.specs.declared.entry.EntryValue.{EntryValue}
-use Rattle.ini_entries.specs.declared.entry.EntryValue.TheVariants as value
-use Rattle.ini_entries.specs.declared.entry.ParameterEntry.{ParameterEntry}
+use Rattle.ini_texts.specs.declared.entry.EntryMeaning.{EntryMeaning}
+use Rattle.ini_texts.specs.declared.entry.EntryMeaning.TheVariants as meaning
+use Rattle.ini_texts.specs.declared.entry.EntryValue.{EntryValue}
+use Rattle.ini_texts.specs.declared.entry.EntryValue.TheVariants as value
+use Rattle.ini_texts.specs.declared.entry.ParameterEntry.{ParameterEntry}
 use Rattle.ini_entries.specs.Constants.{is_constant}
 use Rattle.ini_entries.specs.Keys.{OptionKey, ObjectKey, TypeKey, ParameterKey, kind_of}
 use Rattle.ini_entries.specs.Names.{is_dotted_name, is_config_name}

@@ -9,10 +9,10 @@ use Rattle.sim_values.specs.declared.value.Value.TheVariants.{Quantity}
 use Rattle.ned_values.specs.declared.ast.Expression.{Expression}
 use Rattle.ned_values.specs.declared.ast.Expression.TheVariants.{Literal}
 use Rattle.ned_values.specs.Grammar.{mode_named}
-use Rattle.ini_entries.specs.declared.entry.ModeItem.{ModeItem}
-use Rattle.ini_entries.specs.declared.entry.ModeItem.TheVariants as item
-use Rattle.ini_entries.specs.declared.entry.ObjectOption.{ObjectOption}
-use Rattle.ini_entries.specs.declared.entry.ObjectOption.TheVariants as object
+use Rattle.ini_texts.specs.declared.entry.ModeItem.{ModeItem}
+use Rattle.ini_texts.specs.declared.entry.ModeItem.TheVariants as item
+use Rattle.ini_texts.specs.declared.entry.ObjectOption.{ObjectOption}
+use Rattle.ini_texts.specs.declared.entry.ObjectOption.TheVariants as object
 use Rattle.ini_entries.specs.Names.{is_config_name}
 use Rattle.ini_entries.specs.Texts.{Bytes, is_among, items_of}
 

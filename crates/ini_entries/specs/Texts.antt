@@ -2,9 +2,7 @@
 use Rattle.std.specs.Prelude.{ℕ, Bool, ◌||◌, List, [], ◌∷◌, ◌==◌, if◌then◌else◌, map}
 use Rattle.std.specs.List.{list_any, slice_split}
 use Rattle.std.specs.Str.{bytes_eq}
-
-abbrev pub Bytes : Type 0
-Bytes = List ℕ
+pub use Rattle.ini_texts.specs.Words.{Bytes}
 
 -- ---- blanks
 

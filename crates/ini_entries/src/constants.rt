@@ -3,7 +3,7 @@
 ghost use Rattle.std.specs.Prelude.{◌≡◌};
 ghost use Rattle.ini_entries.specs.Constants as constants;
 
-use ned_expressions::ast::Expression;
+use ned_trees::expressions::Expression;
 
 /// Whether an expression is constant: of literals, operators, `?:`, parentheses, `min` and `max` alone, with nothing that
 /// refers to a parameter, an index, a size or a submodule.

@@ -5,11 +5,7 @@
 
 pub mod blanks;
 pub mod constants;
-pub mod copies;
-pub mod entry;
 pub mod keys;
 pub mod meaning;
 pub mod names;
 pub mod options;
-
-pub use entry::EntryMeaning;

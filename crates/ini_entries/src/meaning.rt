@@ -9,11 +9,11 @@ ghost use Rattle.ini_entries.specs.Options as options;
 ghost use Rattle.ini_entries.specs.Texts.{is_among};
 
 use crate::constants::is_constant;
-use crate::entry::{EntryMeaning, EntryValue, ObjectEntry, ParameterEntry};
 use crate::keys::{has_hyphen, last_part};
 use crate::names::is_dotted_name;
 use crate::options::{config_names, is_other_option, object_option, time_limit};
 use ini_pattern::{Pattern, PatternFault};
+use ini_texts::entry::{EntryMeaning, EntryValue, ObjectEntry, ParameterEntry};
 use ned_expressions::parse::parse_expression;
 use ned_values::error::NedError;
 use sim_values::text::Text;

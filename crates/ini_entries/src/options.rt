@@ -8,8 +8,8 @@ ghost use Rattle.ini_entries.specs.Options as options;
 ghost use Rattle.ini_entries.specs.Texts as texts;
 
 use crate::blanks::{after_blanks, before_blanks};
-use crate::entry::{ModeItem, ObjectOption};
 use crate::names::is_config_name;
+use ini_texts::entry::{ModeItem, ObjectOption};
 use ned_values::ast::Expression;
 use ned_values::error::NedError;
 use ned_values::modes::mode_named;

@@ -24,7 +24,7 @@ use crate::core_part::{Core, Look, Next};
 use crate::position::Position;
 use crate::request::Request;
 use event_set::pending::{Happening, Pending};
-use model_answers::injection::Injection;
+use injection_order::injection::Injection;
 use model_answers::model::Model;
 use model_answers::record::{Record, path_of};
 use module_api::call::{Call, Prompt};

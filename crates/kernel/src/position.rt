@@ -3,7 +3,7 @@
 ghost use Rattle.std.specs.Prelude.{◌≡◌};
 
 use event_set::set::EventSet;
-use model_answers::injection::Turn as InjectionTurn;
+use injection_order::injection::Turn as InjectionTurn;
 use run_semantics::traces::Instance;
 use sim_time::SimTime;
 use sqlite_items::Items;

@@ -4,10 +4,10 @@ use Rattle.asking.specs.Asking.{Done, Ask, with_value, outcome}
 use Rattle.asking.specs.Following.{is_on, value_within, or_circle, value_of}
 use Rattle.asking.proofs.Binds.{outcome_bind}
 use Rattle.sim_values.specs.declared.value.Value.{Value}
-use Rattle.ini_entries.specs.declared.entry.EntryValue.{EntryValue}
-use Rattle.ini_config.specs.declared.lines.Entry.{Entry}
-use Rattle.ned_expressions.specs.declared.ast.Scope.TheVariants as scope
-use Rattle.ned_syntax.specs.declared.ast.Declaration.{Declaration}
+use Rattle.ini_texts.specs.declared.entry.EntryValue.{EntryValue}
+use Rattle.ini_texts.specs.declared.lines.Entry.{Entry}
+use Rattle.ned_trees.specs.declared.expressions.Scope.TheVariants as scope
+use Rattle.ned_trees.specs.declared.declarations.Declaration.{Declaration}
 use Rattle.ned_types.specs.Flat.{declaration_named}
 use Rattle.param_eval.specs.declared.fault.Fault.TheVariants.{Circle, Unassigned}
 use Rattle.param_eval.specs.Operators.{Evaluated}

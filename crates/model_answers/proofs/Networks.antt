@@ -1,12 +1,12 @@
 -- The network is one of the types.
 use Rattle.std.proofs.Common.{◌≡◌, ℕ, Bool, true, false, List, [], ◌∷◌, Option, Some, None, sym, bytes_eq, inl, inr, if◌then◌else◌}
 use Rattle.std.specs.Option.{option_and_then}
-use Rattle.ned_syntax.specs.declared.ast.TypeDeclaration.{TypeDeclaration}
-use Rattle.ned_syntax.specs.declared.ast.TypeKind.{TypeKind}
-use Rattle.ned_syntax.specs.declared.ast.TypeKind.TheVariants.{Simple, Network, Channel, ModuleInterface, ChannelInterface}
+use Rattle.ned_trees.specs.declared.declarations.TypeDeclaration.{TypeDeclaration}
+use Rattle.ned_trees.specs.declared.declarations.TypeKind.{TypeKind}
+use Rattle.ned_trees.specs.declared.declarations.TypeKind.TheVariants.{Simple, Network, Channel, ModuleInterface, ChannelInterface}
 use Rattle.ned_types.specs.Types.{type_named}
 use Rattle.ned_types.specs.WellFormed.{IsAmong}
-use Rattle.ini_config.specs.Entries.{last_name, network_entry}
+use Rattle.ini_texts.specs.Entries.{last_name, network_entry}
 use Rattle.model_answers.specs.declared.model.Model.{Model}
 use Rattle.model_answers.specs.Models.{as_network, entries_in, network_of, of_kind, type_by_last_name}
 

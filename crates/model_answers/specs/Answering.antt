@@ -1,12 +1,12 @@
 -- The answers of a model.
 use Rattle.std.specs.Prelude.{ℕ, nat_lt, Bool, false, List, [], ◌∷◌, Option, Some, None, Result, Ok, Err}
 use Rattle.module_api.specs.declared.call.Parameter.{Parameter}
-use Rattle.ned_syntax.specs.declared.ast.Declaration.{Declaration}
-use Rattle.ned_syntax.specs.declared.ast.SectionLine.{SectionLine}
-use Rattle.ned_syntax.specs.declared.ast.SectionLine.TheVariants as line
-use Rattle.ned_syntax.specs.declared.ast.TypeDeclaration.{TypeDeclaration}
-use Rattle.ned_syntax.specs.declared.ast.TypeKind.{TypeKind}
-use Rattle.ned_syntax.specs.declared.ast.TypeKind.TheVariants.{Network}
+use Rattle.ned_trees.specs.declared.declarations.Declaration.{Declaration}
+use Rattle.ned_trees.specs.declared.declarations.SectionLine.{SectionLine}
+use Rattle.ned_trees.specs.declared.declarations.SectionLine.TheVariants as line
+use Rattle.ned_trees.specs.declared.declarations.TypeDeclaration.{TypeDeclaration}
+use Rattle.ned_trees.specs.declared.declarations.TypeKind.{TypeKind}
+use Rattle.ned_trees.specs.declared.declarations.TypeKind.TheVariants.{Network}
 use Rattle.ned_types.specs.Flat.{declaration_named}
 use Rattle.sim_values.specs.declared.value.Value.{Value}
 use Rattle.model_answers.specs.declared.answer.Answer.{Answer}
@@ -19,7 +19,7 @@ use Rattle.model_answers.specs.declared.inside.PlacedFault.{PlacedFault}
 use Rattle.model_answers.specs.declared.model.Model.{Model}
 use Rattle.model_answers.specs.declared.record.Record.{Record}
 use Rattle.model_answers.specs.Inside.{built_all, fault_of_site}
-use Rattle.model_answers.specs.Injections.{injection_before}
+use Rattle.injection_order.specs.Injections.{injection_before}
 use Rattle.model_answers.specs.Models.{network_of, type_at, time_limit_of}
 use Rattle.model_answers.specs.Parameters.{parameter_value}
 use Rattle.model_answers.specs.Records.{path_of}

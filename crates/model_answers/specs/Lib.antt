@@ -3,7 +3,6 @@ pub mod Models
 pub mod Scenes
 pub mod Sites
 pub mod Parameters
-pub mod Injections
 pub mod Inside
 pub mod Answering
 pub mod Questions

@@ -1,13 +1,13 @@
 -- What the model says of types.
 use Rattle.std.specs.Prelude.{ℕ, ◌==◌, List, Option, Some, None, if◌then◌else◌}
 use Rattle.std.specs.Option.{option_and_then}
-use Rattle.ini_config.specs.declared.lines.Entry.{Entry}
-use Rattle.ini_config.specs.Entries.{last_name, network_entry, time_limit_entry}
-use Rattle.ini_config.specs.Sections.{entries_along}
-use Rattle.ned_syntax.specs.declared.ast.Submodule.{Submodule}
-use Rattle.ned_syntax.specs.declared.ast.TypeDeclaration.{TypeDeclaration}
-use Rattle.ned_syntax.specs.declared.ast.TypeKind.{TypeKind}
-use Rattle.ned_syntax.specs.declared.ast.TypeKind.TheVariants.{Network}
+use Rattle.ini_texts.specs.declared.lines.Entry.{Entry}
+use Rattle.ini_texts.specs.Entries.{last_name, network_entry, time_limit_entry}
+use Rattle.ini_texts.specs.Sections.{entries_along}
+use Rattle.ned_trees.specs.declared.declarations.Submodule.{Submodule}
+use Rattle.ned_trees.specs.declared.declarations.TypeDeclaration.{TypeDeclaration}
+use Rattle.ned_trees.specs.declared.declarations.TypeKind.{TypeKind}
+use Rattle.ned_trees.specs.declared.declarations.TypeKind.TheVariants.{Network}
 use Rattle.ned_types.specs.Types.{type_named}
 use Rattle.ned_types.specs.Flat.{submodule_named}
 use Rattle.model_answers.specs.declared.model.Model.{Model}

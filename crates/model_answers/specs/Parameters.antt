@@ -1,7 +1,7 @@
 -- Values of parameters.
 use Rattle.std.specs.Prelude.{ℕ, ◌≡◌, List, Some, None, Result, Ok, Err}
 use Rattle.sim_values.specs.declared.value.Value.{Value}
-use Rattle.ini_config.specs.declared.lines.Entry.{Entry}
+use Rattle.ini_texts.specs.declared.lines.Entry.{Entry}
 use Rattle.param_eval.specs.declared.fault.Fault.{Fault}
 use Rattle.param_eval.specs.declared.fault.Fault.TheVariants as eval_fault
 use Rattle.param_eval.specs.Operators.{Evaluated}

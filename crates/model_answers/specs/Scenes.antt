@@ -1,15 +1,15 @@
 -- What a model tells of the parameters of one module, and of those of the module around it.
 use Rattle.std.specs.Prelude.{ℕ, ◌==◌, List, Option, Some, None, if◌then◌else◌}
 use Rattle.sim_values.specs.declared.value.Dimension.{Dimension}
-use Rattle.ini_config.specs.declared.lines.Entry.{Entry}
-use Rattle.ini_config.specs.Entries.{value_for}
-use Rattle.ini_entries.specs.declared.entry.EntryValue.{EntryValue}
-use Rattle.ned_syntax.specs.declared.ast.Declaration.{Declaration}
-use Rattle.ned_syntax.specs.declared.ast.ParameterValue.{ParameterValue}
-use Rattle.ned_syntax.specs.declared.ast.ParameterValue.TheVariants as value
-use Rattle.ned_syntax.specs.declared.ast.ParameterWord.{ParameterWord}
-use Rattle.ned_syntax.specs.declared.ast.ParameterWord.TheVariants as word
-use Rattle.ned_syntax.specs.declared.ast.SectionLine.{SectionLine}
+use Rattle.ini_texts.specs.declared.lines.Entry.{Entry}
+use Rattle.ini_texts.specs.Entries.{value_for}
+use Rattle.ini_texts.specs.declared.entry.EntryValue.{EntryValue}
+use Rattle.ned_trees.specs.declared.declarations.Declaration.{Declaration}
+use Rattle.ned_trees.specs.declared.declarations.ParameterValue.{ParameterValue}
+use Rattle.ned_trees.specs.declared.declarations.ParameterValue.TheVariants as value
+use Rattle.ned_trees.specs.declared.declarations.ParameterWord.{ParameterWord}
+use Rattle.ned_trees.specs.declared.declarations.ParameterWord.TheVariants as word
+use Rattle.ned_trees.specs.declared.declarations.SectionLine.{SectionLine}
 use Rattle.ned_types.specs.Flat.{declaration_named, last_value, or_else}
 use Rattle.parameter_values.specs.declared.key.Key.{Key}
 use Rattle.parameter_values.specs.declared.kind.Kind.{Kind}

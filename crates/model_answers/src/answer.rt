@@ -2,7 +2,7 @@
 
 ghost use Rattle.std.specs.Prelude.{◌≡◌, IfOk};
 
-use crate::injection::{Due, Injection, Turn};
+use injection_order::injection::{Due, Injection, Turn};
 use sim_values::text::Text;
 use sim_values::value::Value;
 use sqlite_items::Items;

@@ -3,7 +3,7 @@
 ghost use Rattle.std.specs.Prelude.{◌≡◌, ◌++◌, [], Some, IfOk, OnOk};
 ghost use Rattle.answer_engine.specs.Tables.{IsKept};
 ghost use Rattle.model_answers.specs.Answering.{answer_in, answer_of, is_beyond, root_answer, inside_answer, inside_of, param_answer, parameters_of, with_line, with_lines};
-ghost use Rattle.model_answers.specs.Injections.{injection_before};
+ghost use Rattle.injection_order.specs.Injections.{injection_before};
 ghost use Rattle.model_answers.specs.declared.answer.Answer.TheVariants as answer;
 ghost use Rattle.model_answers.specs.Models.{network_of, type_at, time_limit_of};
 ghost use Rattle.model_answers.specs.Records.{path_of};
@@ -13,15 +13,15 @@ ghost use Rattle.parameter_values.specs.Values.{rules_of};
 ghost use Rattle.std.specs.Option.{option_copied};
 
 use crate::answer::{Answer, Question};
-use crate::injection::{Due, Turn, injection_before};
 use crate::inside::{built_all, first_fault};
 use crate::model::Model;
 use crate::parameters::{no_values, parameter_value};
 use crate::record::{Record, module_path, path_of};
 use crate::scene::{Placed, Told};
 use answer_engine::table::Table;
+use injection_order::injection::{Due, Turn, injection_before};
 use module_api::call::Parameter;
-use ned_syntax::ast::{SectionLine, TypeDeclaration, TypeKind};
+use ned_trees::declarations::{SectionLine, TypeDeclaration, TypeKind};
 use ned_types::flat::declaration_named;
 use parameter_values::key::Key;
 use sim_values::NoMemory;

@@ -12,7 +12,7 @@ use crate::parameters::{no_values, parameter_value};
 use crate::record::path_under;
 use crate::scene::{Placed, Told};
 use answer_engine::table::Table;
-use ned_syntax::ast::{SectionLine, Submodule, TypeDeclaration, TypeKind};
+use ned_trees::declarations::{SectionLine, Submodule, TypeDeclaration, TypeKind};
 use ned_types::flat::class_of;
 use parameter_values::key::Key;
 use sim_values::NoMemory;

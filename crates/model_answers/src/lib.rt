@@ -3,7 +3,6 @@
 
 pub mod answer;
 pub mod answering;
-pub mod injection;
 pub mod inside;
 pub mod laws;
 pub mod model;

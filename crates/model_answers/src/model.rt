@@ -6,13 +6,13 @@ ghost use Rattle.model_answers.specs.Models.{network_of, type_at, type_of_record
 ghost use Rattle.model_answers.specs.Records.{record_at};
 ghost use Rattle.ned_types.specs.Flat.{submodule_named};
 
-use crate::injection::Injection;
 use crate::record::{Record, record_at};
-use ini_config::entries::{network_entry, time_limit_entry};
-use ini_config::lines::IniText;
-use ini_config::speaks::last_name;
-use ini_entries::copies::copy_names;
-use ned_syntax::ast::{Submodule, TypeDeclaration, TypeKind};
+use ini_texts::copies::copy_names;
+use ini_texts::entries::{network_entry, time_limit_entry};
+use ini_texts::lines::IniText;
+use ini_texts::speaks::last_name;
+use injection_order::injection::Injection;
+use ned_trees::declarations::{Submodule, TypeDeclaration, TypeKind};
 use ned_types::table::TypeTable;
 use sim_values::NoMemory;
 use sim_values::text::Text;

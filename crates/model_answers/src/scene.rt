@@ -10,9 +10,9 @@ ghost use Rattle.parameter_values.specs.Scenes.{declared_by, given_by};
 
 use crate::model::Model;
 use crate::record::{ModulePath, Record, path_under, record_at};
-use ini_config::entries::value_for;
-use ini_entries::entry::EntryValue;
-use ned_syntax::ast::{
+use ini_texts::entries::value_for;
+use ini_texts::entry::EntryValue;
+use ned_trees::declarations::{
     Declaration, ParameterValue, ParameterWord, SectionLine, Submodule, TypeDeclaration,
 };
 use ned_types::flat::{declaration_named, last_value};

@@ -3,14 +3,14 @@ use Rattle.std.proofs.Common.{◌≡◌, ℕ, Bool, true, false, List, Option, S
 use Rattle.sim_values.specs.Memory.{no_memory}
 use Rattle.ini_config.specs.declared.error.EditError.{EditError}
 use Rattle.ini_config.specs.declared.error.EditError.TheVariants as errors
-use Rattle.ini_config.specs.declared.lines.IniLine.{IniLine}
+use Rattle.ini_texts.specs.declared.lines.IniLine.{IniLine}
 use Rattle.ini_config.specs.Edits.{AnswersEdit, IsEdited, Refused}
 use Rattle.ini_config.specs.Edits as change
-use Rattle.ini_config.specs.Sections.{IsChain, is_section}
-use Rattle.ini_config.proofs.ChainLaws.{one_chain_law}
+use Rattle.ini_texts.specs.Sections.{IsChain, is_section}
+use Rattle.ini_texts.proofs.ChainLaws.{one_chain_law}
 use Rattle.model_answers.specs.declared.model.Model.{Model}
 use Rattle.model_answers.specs.Models.{network_of}
-use Rattle.ned_syntax.specs.declared.ast.TypeDeclaration.{TypeDeclaration}
+use Rattle.ned_trees.specs.declared.declarations.TypeDeclaration.{TypeDeclaration}
 use Rattle.model_edits.specs.declared.edit.Edit.{Edit}
 use Rattle.model_edits.specs.declared.edit.Edit.TheVariants as edit
 use Rattle.model_edits.specs.declared.edit.Refusal.{Refusal}

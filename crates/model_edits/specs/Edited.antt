@@ -3,12 +3,12 @@ use Rattle.std.specs.Prelude.{◌≡◌, ℕ, ℤ, ◌+◌, ◌-◌, ◌^◌, �
 use Rattle.std.specs.List.{list_any}
 use Rattle.sim_values.specs.Memory.{no_memory}
 use Rattle.ini_config.specs.declared.error.EditError.TheVariants as errors
-use Rattle.ini_config.specs.declared.lines.IniLine.{IniLine}
+use Rattle.ini_texts.specs.declared.lines.IniLine.{IniLine}
 use Rattle.ini_config.specs.Edits.{insertion, replacement, removal, IsEdited, Refused}
 use Rattle.ini_config.specs.Edits as change
-use Rattle.ini_config.specs.Sections.{IsChain, is_section}
-use Rattle.model_answers.specs.declared.injection.Due.{Due}
-use Rattle.model_answers.specs.declared.injection.Injection.{Injection}
+use Rattle.ini_texts.specs.Sections.{IsChain, is_section}
+use Rattle.injection_order.specs.declared.injection.Due.{Due}
+use Rattle.injection_order.specs.declared.injection.Injection.{Injection}
 use Rattle.model_answers.specs.declared.model.Model.{Model}
 use Rattle.model_answers.specs.Models.{network_of}
 use Rattle.model_edits.specs.declared.edit.Edit.{Edit}

@@ -2,8 +2,8 @@
 use Rattle.std.specs.Prelude.{◌≡◌, ℕ, Bool, true, false, List, IsSome, is_some, Result, Ok, Err}
 use Rattle.ini_config.specs.declared.error.EditError.{EditError}
 use Rattle.ini_config.specs.declared.error.EditError.TheVariants as errors
-use Rattle.ini_config.specs.declared.lines.IniLine.{IniLine}
-use Rattle.ini_config.specs.Sections.{IsChain, is_section}
+use Rattle.ini_texts.specs.declared.lines.IniLine.{IniLine}
+use Rattle.ini_texts.specs.Sections.{IsChain, is_section}
 use Rattle.model_answers.specs.declared.model.Model.{Model}
 use Rattle.model_answers.specs.Models.{network_of}
 use Rattle.model_edits.specs.declared.edit.Edit.{Edit}

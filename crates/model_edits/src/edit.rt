@@ -2,19 +2,21 @@
 
 ghost use Rattle.std.specs.Prelude.{◌≡◌, ◌<◌, true, length, position, IfOk, IfErr, IfSome, OnOk, OnErr, is_some};
 ghost use Rattle.std.specs.Option.{option_and_then, option_copied};
-ghost use Rattle.ini_config.specs.Sections.{IsChain, is_section};
+ghost use Rattle.ini_texts.specs.Sections.{IsChain, is_section};
 ghost use Rattle.model_answers.specs.Models.{as_network};
 ghost use Rattle.model_edits.specs.Edited.{has_no_room, is_numbered, number_given, IsEditOf, IsOnlyEditOf, IsRuledOut, Refuses, RefusesLines};
 ghost use Rattle.model_edits.specs.declared.edit.Edit.TheVariants as edits;
 ghost use Rattle.model_edits.specs.Steps.{has_network, told_as, Comes, RefusesChain, Takes, TakesMade};
 
-use ini_config::entries::network_entry;
-use ini_config::error::{ChainError, EditError};
-use ini_config::lines::IniText;
-use ini_config::speaks::last_name;
-use model_answers::injection::{Due, Injection};
+use ini_config::edits::{with_inserted, with_removed, with_replaced};
+use ini_config::error::EditError;
+use ini_texts::entries::network_entry;
+use ini_texts::error::ChainError;
+use ini_texts::lines::IniText;
+use ini_texts::speaks::last_name;
+use injection_order::injection::{Due, Injection};
 use model_answers::model::Model;
-use ned_syntax::ast::{TypeDeclaration, TypeKind};
+use ned_trees::declarations::{TypeDeclaration, TypeKind};
 use sim_values::NoMemory;
 use sim_values::text::Text;
 use sqlite_items::Items;
@@ -250,15 +252,15 @@ fn change(alloc: Global, model: &mut Model, edit: Edit) -> Result<(), Refusal>
 {
     match edit {
         Edit::InsertIni(line, text) => {
-            let made = model.ini.with_inserted(alloc, line, text.as_bytes());
+            let made = with_inserted(alloc, &model.ini, line, text.as_bytes());
             take_made(alloc, model, made)
         }
         Edit::ReplaceIni(line, text) => {
-            let made = model.ini.with_replaced(alloc, line, text.as_bytes());
+            let made = with_replaced(alloc, &model.ini, line, text.as_bytes());
             take_made(alloc, model, made)
         }
         Edit::RemoveIni(line) => {
-            let made = model.ini.with_removed(alloc, line);
+            let made = with_removed(alloc, &model.ini, line);
             take_made(alloc, model, made)
         }
         Edit::SelectConfig(name) => select(alloc, model, name),

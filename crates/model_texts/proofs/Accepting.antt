@@ -2,8 +2,8 @@
 use Rattle.std.proofs.Common.{◌≡◌, ℕ, zero, suc, Bool, true, false, List, [], ◌∷◌, Option, Some, None, IsSome, Result, Ok, Err, IfOk, IfErr, refl, sym, ap, ◌∙◌, subst, slice_get}
 use Rattle.ned_tokens.specs.Lines.{tokens_of}
 use Rattle.ned_tokens.proofs.Whole as whole
-use Rattle.ned_syntax.specs.declared.ast.NedFile.{NedFile}
-use Rattle.ned_syntax.specs.declared.ast.TypeDeclaration.{TypeDeclaration}
+use Rattle.ned_trees.specs.declared.declarations.NedFile.{NedFile}
+use Rattle.ned_trees.specs.declared.declarations.TypeDeclaration.{TypeDeclaration}
 use Rattle.ned_syntax.specs.Grammar.{file}
 use Rattle.ned_syntax.specs.NedText.{IsNedFile}
 use Rattle.ned_syntax.proofs.GrammarLaws.{file-lawful}
@@ -12,11 +12,11 @@ use Rattle.type_building.specs.declared.table.TypeFault.TheVariants as types
 use Rattle.ned_scopes.specs.Scopes.{types_of}
 use Rattle.type_building.specs.Inheritance.{flat_types}
 use Rattle.type_building.specs.Building.{fault_of}
-use Rattle.ini_config.specs.declared.lines.IniLine.{IniLine}
-use Rattle.ini_config.specs.Sections.{IsChain, is_section}
-use Rattle.ini_config.proofs.ChainLaws.{one_chain_law}
+use Rattle.ini_texts.specs.declared.lines.IniLine.{IniLine}
+use Rattle.ini_texts.specs.Sections.{IsChain, is_section}
+use Rattle.ini_texts.proofs.ChainLaws.{one_chain_law}
 use Rattle.ini_config.proofs.MeaningLaws.{bad_text, text_same}
-use Rattle.model_answers.specs.declared.injection.Injection.{Injection}
+use Rattle.injection_order.specs.declared.injection.Injection.{Injection}
 use Rattle.model_answers.specs.declared.model.Model.{Model}
 use Rattle.model_answers.specs.Models.{network_of}
 use Rattle.model_texts.specs.declared.begin.BeginFault.{BeginFault}

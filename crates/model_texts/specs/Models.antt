@@ -2,15 +2,15 @@
 use Rattle.std.specs.Prelude.{◌≡◌, ℕ, Bool, true, false, ◌||◌, List, [], ◌∷◌, Some, None, IsSome, length, nat_lt, slice_get, take}
 use Rattle.std.specs.List.{list_any}
 use Rattle.sim_values.specs.Memory.{no_memory}
-use Rattle.ini_config.specs.declared.lines.IniLine.{IniLine}
+use Rattle.ini_texts.specs.declared.lines.IniLine.{IniLine}
 use Rattle.ini_config.specs.Meaning.{IsIniText, FirstBad}
-use Rattle.ini_config.specs.Sections.{IsChain, is_section}
+use Rattle.ini_texts.specs.Sections.{IsChain, is_section}
 use Rattle.model_answers.specs.declared.model.Model.{Model}
 use Rattle.model_answers.specs.Models.{network_of}
 use Rattle.sim_values.specs.Limits.{max_length}
 use Rattle.ned_tokens.specs.Viable.{IsFirstBadLine}
-use Rattle.ned_syntax.specs.declared.ast.NedFile.{NedFile}
-use Rattle.ned_syntax.specs.declared.ast.TypeDeclaration.{TypeDeclaration}
+use Rattle.ned_trees.specs.declared.declarations.NedFile.{NedFile}
+use Rattle.ned_trees.specs.declared.declarations.TypeDeclaration.{TypeDeclaration}
 use Rattle.ned_syntax.specs.Grammar.{file}
 use Rattle.ned_syntax.specs.NedText.{IsNedFile}
 use Rattle.type_building.specs.declared.table.TypeFault.{TypeFault}

@@ -4,19 +4,21 @@ ghost use Rattle.std.specs.Prelude.{◌≡◌, ◌++◌, [], ◌∷◌, None, tr
 ghost use Rattle.std.specs.List.{list_any};
 ghost use Rattle.sim_values.specs.Memory.{no_memory};
 ghost use Rattle.ini_config.specs.Meaning.{IsIniText};
-ghost use Rattle.ini_config.specs.Sections.{IsChain, is_section};
+ghost use Rattle.ini_texts.specs.Sections.{IsChain, is_section};
 ghost use Rattle.ned_syntax.specs.NedText.{IsNedFile};
 ghost use Rattle.ned_scopes.specs.Scopes.{types_of};
 ghost use Rattle.type_building.specs.Inheritance.{flat_types};
 ghost use Rattle.type_building.specs.Building.{fault_of};
 ghost use Rattle.model_texts.specs.Models.{AreNedFiles, IsModelOf, IsOnlyModelOf, IsRuledOut, RefusesFile, RefusesFiles, RefusesIni, RefusesTypes, RefusesConfig, Refuses, is_large, is_too_large};
 
-use ini_config::error::{ChainError, IniError};
-use ini_config::lines::IniText;
+use ini_config::error::IniError;
+use ini_config::parse::parse_ini;
+use ini_texts::error::ChainError;
+use ini_texts::lines::IniText;
 use model_answers::model::Model;
-use ned_syntax::ast::NedFile;
 use ned_syntax::parse::parse_ned;
 use ned_syntax::texts::NedTexts;
+use ned_trees::declarations::NedFile;
 use ned_types::table::TypeTable;
 use ned_values::error::NedError;
 use sim_values::NoMemory;
@@ -134,7 +136,7 @@ fn lines_of(alloc: Global, bytes: &[u8]) -> Result<IniText, BeginFault>
     ensures accepted { IfOk result (λ lines. IsIniText bytes.now lines) }
     ensures refused { IfErr result (λ fault. RefusesIni bytes.now fault) }
 {
-    match IniText::parse(alloc, bytes) {
+    match parse_ini(alloc, bytes) {
         Ok(lines) => Ok(lines),
         Err(IniError::IniSyntax(line)) => Err(BeginFault::IniSyntax(line)),
         Err(IniError::TooLarge) => Err(BeginFault::TooLarge),

@@ -14,8 +14,8 @@ use Rattle.ned_tokens.proofs.Many.{shorter}
 use Rattle.ned_tokens.proofs.GrowthLaws.{grown-lawful, Left, loop_begins, loop_first_fails, loop_goes_on, loop_fails, loop_ends}
 use Rattle.ned_values.specs.Grammar.{is_mark, plain_literal, word, mark, name}
 use Rattle.ned_values.proofs.GrammarLaws.{word-lawful, mark-lawful, name-lawful, plain_literal-lawful}
-use Rattle.ned_expressions.specs.declared.ast.Expression.{Expression}
-use Rattle.ned_expressions.specs.declared.ast.Choice.{Choice}
+use Rattle.ned_trees.specs.declared.expressions.Expression.{Expression}
+use Rattle.ned_trees.specs.declared.expressions.Choice.{Choice}
 use Rattle.ned_expressions.specs.declared.levels.Place.{Place}
 use Rattle.ned_expressions.specs.declared.levels.Place.TheVariants as place
 use Rattle.ned_expressions.specs.declared.chains.Step.{Step}

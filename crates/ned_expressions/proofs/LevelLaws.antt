@@ -8,11 +8,11 @@ use Rattle.ned_tokens.specs.declared.token.Token.TheVariants as token
 use Rattle.ned_tokens.specs.Growth.{next}
 use Rattle.ned_tokens.proofs.Laws.{or_left, or_right}
 use Rattle.ned_values.specs.Grammar.{is_mark}
-use Rattle.ned_expressions.specs.declared.ast.Expression.{Expression, out-Expression}
+use Rattle.ned_trees.specs.declared.expressions.Expression.{Expression, out-Expression}
 use denote.Hole.Carrier.{out}
-use Rattle.ned_expressions.specs.declared.ast.Expression.TheVariants as expr
-use Rattle.ned_expressions.specs.declared.ast.Operator.{Operator}
-use Rattle.ned_expressions.specs.declared.ast.Operator.TheVariants as op
+use Rattle.ned_trees.specs.declared.expressions.Expression.TheVariants as expr
+use Rattle.ned_trees.specs.declared.expressions.Operator.{Operator}
+use Rattle.ned_trees.specs.declared.expressions.Operator.TheVariants as op
 use Rattle.ned_expressions.specs.declared.levels.Place.{Place}
 use Rattle.ned_expressions.specs.Grammar.{operator_of, operator_in, level_of, level_in, left_level, right_level, rank, at_level, tightness, may, filtered, depth, or_level, follows, is_tail, reaches, continues}
 

@@ -13,11 +13,11 @@ use Rattle.ned_tokens.proofs.GrowthLaws.{grown-viable, sealed-viable, never-viab
 use Rattle.ned_values.specs.Grammar.{is_mark, name}
 use Rattle.ned_values.proofs.GrammarLaws.{word-lawful, mark-lawful, name-lawful}
 use Rattle.ned_values.proofs.ViableGrammar.{word_on, mark_on, letter, name_on, plain_literal_on}
-use Rattle.ned_expressions.specs.declared.ast.Expression.{Expression}
-use Rattle.ned_expressions.specs.declared.ast.Operator.{Operator}
-use Rattle.ned_expressions.specs.declared.ast.Choice.TheVariants as choices
-use Rattle.ned_expressions.specs.declared.ast.Scope.TheVariants as scopes
-use Rattle.ned_expressions.specs.declared.ast.Sign.TheVariants as signs
+use Rattle.ned_trees.specs.declared.expressions.Expression.{Expression}
+use Rattle.ned_trees.specs.declared.expressions.Operator.{Operator}
+use Rattle.ned_trees.specs.declared.expressions.Choice.TheVariants as choices
+use Rattle.ned_trees.specs.declared.expressions.Scope.TheVariants as scopes
+use Rattle.ned_trees.specs.declared.expressions.Sign.TheVariants as signs
 use Rattle.ned_expressions.specs.declared.atoms.Kind.{Kind}
 use Rattle.ned_expressions.specs.declared.atoms.Kind.TheVariants as kinds
 use Rattle.ned_expressions.specs.declared.levels.Place.{Place}

@@ -11,17 +11,17 @@ use Rattle.ned_tokens.specs.Rule.{Rule, token as one_token, ◌⊗◌, ◌◁◌
 use Rattle.ned_tokens.specs.Growth.{grown, never}
 use Rattle.ned_values.specs.Grammar.{Bytes, is_mark, literal_of, plain_literal, word, mark, name}
 use Rattle.ned_expressions.specs.contracts.atoms.Kind as kind
-use Rattle.ned_expressions.specs.declared.ast.Operator.{Operator}
-use Rattle.ned_expressions.specs.declared.ast.Operator.TheVariants as op
-use Rattle.ned_expressions.specs.declared.ast.Sign.{Sign}
-use Rattle.ned_expressions.specs.declared.ast.Sign.TheVariants as signs
-use Rattle.ned_expressions.specs.declared.ast.Choice.{Choice}
-use Rattle.ned_expressions.specs.declared.ast.Choice.TheVariants as choices
-use Rattle.ned_expressions.specs.declared.ast.Scope.{Scope}
-use Rattle.ned_expressions.specs.declared.ast.Scope.TheVariants as scopes
-use Rattle.ned_expressions.specs.declared.ast.Expression.{Expression, out-Expression, fold-Expression}
-use Rattle.ned_expressions.specs.declared.ast.Expression.TheOpen.{Expression-F}
-use Rattle.ned_expressions.specs.declared.ast.Expression.TheVariants as expr
+use Rattle.ned_trees.specs.declared.expressions.Operator.{Operator}
+use Rattle.ned_trees.specs.declared.expressions.Operator.TheVariants as op
+use Rattle.ned_trees.specs.declared.expressions.Sign.{Sign}
+use Rattle.ned_trees.specs.declared.expressions.Sign.TheVariants as signs
+use Rattle.ned_trees.specs.declared.expressions.Choice.{Choice}
+use Rattle.ned_trees.specs.declared.expressions.Choice.TheVariants as choices
+use Rattle.ned_trees.specs.declared.expressions.Scope.{Scope}
+use Rattle.ned_trees.specs.declared.expressions.Scope.TheVariants as scopes
+use Rattle.ned_trees.specs.declared.expressions.Expression.{Expression, out-Expression, fold-Expression}
+use Rattle.ned_trees.specs.declared.expressions.Expression.TheOpen.{Expression-F}
+use Rattle.ned_trees.specs.declared.expressions.Expression.TheVariants as expr
 use Rattle.ned_expressions.specs.declared.levels.Place.{Place}
 use Rattle.ned_expressions.specs.declared.levels.Place.TheVariants as place
 use Rattle.ned_expressions.specs.declared.chains.Step.{Step}

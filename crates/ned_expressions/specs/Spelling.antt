@@ -10,14 +10,14 @@ use Rattle.ned_tokens.specs.declared.token.Token.{Token}
 use Rattle.ned_tokens.specs.declared.token.Token.TheVariants as token
 use Rattle.ned_tokens.specs.Lines.{tokens_of}
 use Rattle.ned_tokens.specs.Rule.{all_read}
-use Rattle.ned_expressions.specs.declared.ast.Operator.{Operator}
-use Rattle.ned_expressions.specs.declared.ast.Operator.TheVariants as op
-use Rattle.ned_expressions.specs.declared.ast.Sign.{Sign}
-use Rattle.ned_expressions.specs.declared.ast.Sign.TheVariants as signs
-use Rattle.ned_expressions.specs.declared.ast.Scope.{Scope}
-use Rattle.ned_expressions.specs.declared.ast.Scope.TheVariants as scopes
-use Rattle.ned_expressions.specs.declared.ast.Expression.{Expression, fold-Expression}
-use Rattle.ned_expressions.specs.declared.ast.Expression.TheOpen.{Expression-F}
+use Rattle.ned_trees.specs.declared.expressions.Operator.{Operator}
+use Rattle.ned_trees.specs.declared.expressions.Operator.TheVariants as op
+use Rattle.ned_trees.specs.declared.expressions.Sign.{Sign}
+use Rattle.ned_trees.specs.declared.expressions.Sign.TheVariants as signs
+use Rattle.ned_trees.specs.declared.expressions.Scope.{Scope}
+use Rattle.ned_trees.specs.declared.expressions.Scope.TheVariants as scopes
+use Rattle.ned_trees.specs.declared.expressions.Expression.{Expression, fold-Expression}
+use Rattle.ned_trees.specs.declared.expressions.Expression.TheOpen.{Expression-F}
 use Rattle.ned_expressions.specs.Grammar.{choice_text, depth, max_depth, expression}
 use Rattle.ned_expressions.specs.ExpressionText.{IsExpressionText}
 

@@ -4,9 +4,10 @@ ghost use Rattle.std.specs.Prelude.{◌≡◌};
 ghost use Rattle.ned_tokens.specs.Rule.{Reads, begins, optional};
 ghost use Rattle.ned_expressions.specs.Grammar as grammar;
 
-use crate::ast::{Choice, Expression, Scope};
 use ned_tokens::refusal::Refusal;
 use ned_tokens::token::{Keyword, Mark, Token};
+use ned_trees::expressions::{Choice, Expression, Scope};
+use ned_trees::refusals::refused;
 use ned_values::leaves::{begins_mark, mark, name, word};
 use ned_values::literals::plain_literal;
 use sim_values::text::Text;
@@ -40,13 +41,6 @@ pub(crate) enum Tail {
     Member(Text),
     /// `[e].x`.
     Element(Boxed<Expression>, Text),
-}
-
-/// A refusal, behind which what was made before it is dropped.
-pub(crate) fn refused<T: Drop, E>(_held: T, refusal: E) -> E
-    ensures { result ≡ refusal }
-{
-    refusal
 }
 
 /// The function of that name.

@@ -4,12 +4,13 @@ ghost use Rattle.std.specs.Prelude.{◌≡◌, ◌≤◌, ◌<◌, suc, IfOk};
 ghost use Rattle.ned_tokens.specs.Rule.{Gives, Reads, all_read};
 ghost use Rattle.ned_expressions.specs.Grammar as grammar;
 
-use crate::ast::{Expression, Operator};
-use crate::atoms::{atom, refused};
+use crate::atoms::atom;
 use crate::levels::{Place, level_of, next_level, operator_in, right_level};
 use crate::operands::operand;
 use ned_tokens::refusal::Refusal;
 use ned_tokens::token::{Mark, Token};
+use ned_trees::expressions::{Expression, Operator};
+use ned_trees::refusals::refused;
 use ned_values::leaves::mark;
 use sqlite_items::Boxed;
 use std::alloc::{AllocError, Global};

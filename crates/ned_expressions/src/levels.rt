@@ -4,8 +4,8 @@ ghost use Rattle.std.specs.Prelude.{◌≡◌, ◌<◌, nat_lt};
 ghost use Rattle.ned_tokens.specs.Growth.{next};
 ghost use Rattle.ned_expressions.specs.Grammar as grammar;
 
-use crate::ast::{Expression, Operator};
 use ned_tokens::token::{Mark, Token};
+use ned_trees::expressions::{Expression, Operator};
 
 /// Where an expression stands.
 #[derive(Clone, Copy, PartialEq, Eq)]

@@ -1,7 +1,7 @@
 //! NED expressions: how they are written, and the trees that they are (OMNeT++ Simulation Manual, "NED Language Grammar").
 #![tactic(auto)]
 
-/// The value that was read, or copied; a refusal is the caller's own. It is `?` for an error that needs no conversion: the two
+/// The value that was read; a refusal is the caller's own. It is `?` for an error that needs no conversion: the two
 /// calls that `?` stands for would be steps of each reader's proof.
 macro_rules! read {
     ($reading:expr) => {
@@ -12,7 +12,7 @@ macro_rules! read {
     };
 }
 
-/// The value that was read, or copied; at a refusal what was made before it is dropped, by a call for each: in a function
+/// The value that was read; at a refusal what was read before it is dropped, by a call for each: in a function
 /// of its own each exit would open the drop of a tree.
 macro_rules! read_behind {
     ($held:expr, $reading:expr) => {
@@ -21,15 +21,8 @@ macro_rules! read_behind {
             Err(refusal) => return Err(refused($held, refusal)),
         }
     };
-    ($first:expr, $second:expr, $reading:expr) => {
-        match $reading {
-            Ok(it) => it,
-            Err(refusal) => return Err(refused($first, refused($second, refusal))),
-        }
-    };
 }
 
-pub mod ast;
 mod atoms;
 pub mod chains;
 pub mod laws;

@@ -4,14 +4,15 @@ ghost use Rattle.std.specs.Prelude.{◌≡◌, ◌<◌, IfOk};
 ghost use Rattle.ned_tokens.specs.Rule.{Gives, Reads, begins, optional, token_read};
 ghost use Rattle.ned_expressions.specs.Grammar as grammar;
 
-use crate::ast::{Choice, Expression, Sign};
 use crate::atoms::{
-    Kind, Tail, begins_member, choice_named, kind_of, literal, member, refused, scoped, with_tail,
+    Kind, Tail, begins_member, choice_named, kind_of, literal, member, scoped, with_tail,
 };
 use crate::chains::boxed_within;
 use crate::levels::Place;
 use ned_tokens::refusal::Refusal;
 use ned_tokens::token::{Keyword, Mark, Token};
+use ned_trees::expressions::{Choice, Expression, Sign};
+use ned_trees::refusals::refused;
 use ned_values::leaves::{begins_mark, mark, name, word};
 use sim_values::text::Text;
 use sqlite_items::Boxed;

@@ -1,10 +1,10 @@
 -- The types of a worked example, whose tree is two levels deep.
 use Rattle.std.proofs.Common.{◌≡◌, ℕ, List, [], ◌∷◌, ◌++◌, map, refl, ap, ◌∙◌}
-use Rattle.ned_syntax.specs.declared.ast.NestedType.{NestedType, roll-NestedType}
-use Rattle.ned_syntax.specs.declared.ast.NestedType.TheOpen.{NestedType-F}
-use Rattle.ned_syntax.specs.declared.ast.NestedType.TheFolds.{fold-roll-NestedType}
-use Rattle.ned_syntax.specs.declared.ast.NestedType.TheViews.{out-roll-NestedType}
-use Rattle.ned_syntax.specs.declared.ast.TypeDeclaration.{TypeDeclaration}
+use Rattle.ned_trees.specs.declared.declarations.NestedType.{NestedType, roll-NestedType}
+use Rattle.ned_trees.specs.declared.declarations.NestedType.TheOpen.{NestedType-F}
+use Rattle.ned_trees.specs.declared.declarations.NestedType.TheFolds.{fold-roll-NestedType}
+use Rattle.ned_trees.specs.declared.declarations.NestedType.TheViews.{out-roll-NestedType}
+use Rattle.ned_trees.specs.declared.declarations.TypeDeclaration.{TypeDeclaration}
 use Rattle.ned_scopes.specs.declared.known.Known.{Known}
 use Rattle.ned_scopes.specs.declared.known.TypesByName.{TypesByName}
 use Rattle.ned_scopes.specs.Known.{all_behind}

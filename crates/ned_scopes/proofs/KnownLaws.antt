@@ -5,7 +5,7 @@ use Rattle.std.specs.Map.{lookup}
 use Rattle.std.specs.Borrow.{Bor}
 use Rattle.std.specs.Option.{option_map}
 use Rattle.indexmap.specs.IndexMap.{insert_entry}
-use Rattle.ned_syntax.specs.declared.ast.NestedType.{NestedType}
+use Rattle.ned_trees.specs.declared.declarations.NestedType.{NestedType}
 use Rattle.ned_scopes.specs.declared.known.Known.{Known}
 use Rattle.ned_scopes.specs.Known.{known_at, is_known, base_named, once_behind, all_behind}
 

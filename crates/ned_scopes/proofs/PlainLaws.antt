@@ -1,10 +1,10 @@
 -- Where there are no types within others, each name means itself.
 use Rattle.std.proofs.Common.{◌≡◌, ℕ, Bool, true, false, List, [], ◌∷◌, ◌++◌, Option, Some, None, option_map, map, refl, sym, ap, ◌∙◌, append-nil, if◌then◌else◌}
-use Rattle.ned_syntax.specs.declared.ast.NestedType.{NestedType, out-NestedType}
-use Rattle.ned_syntax.specs.declared.ast.NestedType.TheFolds.{fold_out-NestedType}
-use Rattle.ned_syntax.specs.declared.ast.SectionLine.{SectionLine}
-use Rattle.ned_syntax.specs.declared.ast.Submodule.{Submodule}
-use Rattle.ned_syntax.specs.declared.ast.TypeDeclaration.{TypeDeclaration}
+use Rattle.ned_trees.specs.declared.declarations.NestedType.{NestedType, out-NestedType}
+use Rattle.ned_trees.specs.declared.declarations.NestedType.TheFolds.{fold_out-NestedType}
+use Rattle.ned_trees.specs.declared.declarations.SectionLine.{SectionLine}
+use Rattle.ned_trees.specs.declared.declarations.Submodule.{Submodule}
+use Rattle.ned_trees.specs.declared.declarations.TypeDeclaration.{TypeDeclaration}
 use Rattle.ned_scopes.specs.declared.known.Known.{Known}
 use Rattle.ned_scopes.specs.declared.known.TypesByName.{TypesByName}
 use Rattle.ned_scopes.specs.Known.{is_known, once_behind, all_behind}

@@ -1,11 +1,11 @@
 -- Types within others, worked by hand.
 use Rattle.std.specs.Prelude.{◌≡◌, ℕ, List, [], ◌∷◌, map, Option, Some, None, codes}
-use Rattle.ned_syntax.specs.declared.ast.NestedType.{NestedType, roll-NestedType}
-use Rattle.ned_syntax.specs.declared.ast.SectionLine.TheVariants as line
-use Rattle.ned_syntax.specs.declared.ast.Submodule.{Submodule}
-use Rattle.ned_syntax.specs.declared.ast.TypeDeclaration.{TypeDeclaration}
-use Rattle.ned_syntax.specs.declared.ast.TypeKind.{TypeKind}
-use Rattle.ned_syntax.specs.declared.ast.TypeKind.TheVariants.{Simple, Network, Channel, ModuleInterface}
+use Rattle.ned_trees.specs.declared.declarations.NestedType.{NestedType, roll-NestedType}
+use Rattle.ned_trees.specs.declared.declarations.SectionLine.TheVariants as line
+use Rattle.ned_trees.specs.declared.declarations.Submodule.{Submodule}
+use Rattle.ned_trees.specs.declared.declarations.TypeDeclaration.{TypeDeclaration}
+use Rattle.ned_trees.specs.declared.declarations.TypeKind.{TypeKind}
+use Rattle.ned_trees.specs.declared.declarations.TypeKind.TheVariants.{Simple, Network, Channel, ModuleInterface}
 use Rattle.ned_scopes.specs.Scopes.{types_of}
 
 -- `s: TYPE;`

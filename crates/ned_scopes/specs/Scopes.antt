@@ -1,16 +1,16 @@
 -- Types within others, and which type a name means.
 -- OMNeT++ Simulation Manual, "Inner Types", "Type Name Resolution".
 use Rattle.std.specs.Prelude.{ℕ, zero, suc, List, [], ◌∷◌, ◌++◌, length, map, Option, Some, None, option_map, if◌then◌else◌, codes}
-use Rattle.ned_syntax.specs.declared.ast.NedFile.{NedFile}
-use Rattle.ned_syntax.specs.declared.ast.NestedType.{NestedType, out-NestedType}
-use Rattle.ned_syntax.specs.declared.ast.NestedType.TheOpen.{NestedType-F}
-use Rattle.ned_syntax.specs.declared.ast.NestedType.TheFolds.{fold-NestedType}
-use Rattle.ned_syntax.specs.declared.ast.SectionLine.{SectionLine}
-use Rattle.ned_syntax.specs.declared.ast.SectionLine.TheVariants as line
-use Rattle.ned_syntax.specs.declared.ast.Submodule.{Submodule}
-use Rattle.ned_syntax.specs.declared.ast.TypeDeclaration.{TypeDeclaration}
-use Rattle.ned_syntax.specs.declared.ast.TypeKind.{TypeKind}
-use Rattle.ned_syntax.specs.declared.ast.TypeKind.TheVariants.{Simple, Network, Channel, ModuleInterface, ChannelInterface}
+use Rattle.ned_trees.specs.declared.declarations.NedFile.{NedFile}
+use Rattle.ned_trees.specs.declared.declarations.NestedType.{NestedType, out-NestedType}
+use Rattle.ned_trees.specs.declared.declarations.NestedType.TheOpen.{NestedType-F}
+use Rattle.ned_trees.specs.declared.declarations.NestedType.TheFolds.{fold-NestedType}
+use Rattle.ned_trees.specs.declared.declarations.SectionLine.{SectionLine}
+use Rattle.ned_trees.specs.declared.declarations.SectionLine.TheVariants as line
+use Rattle.ned_trees.specs.declared.declarations.Submodule.{Submodule}
+use Rattle.ned_trees.specs.declared.declarations.TypeDeclaration.{TypeDeclaration}
+use Rattle.ned_trees.specs.declared.declarations.TypeKind.{TypeKind}
+use Rattle.ned_trees.specs.declared.declarations.TypeKind.TheVariants.{Simple, Network, Channel, ModuleInterface, ChannelInterface}
 use Rattle.ned_scopes.specs.declared.known.Known.{Known}
 use Rattle.ned_scopes.specs.declared.known.TypesByName.{TypesByName}
 use Rattle.ned_scopes.specs.Known.{is_known, base_named, all_behind}

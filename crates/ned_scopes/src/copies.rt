@@ -2,10 +2,11 @@
 
 ghost use Rattle.std.specs.Prelude.{◌≡◌, ◌++◌, IfOk, OnOk};
 
-use ned_syntax::ast::{
-    Assignment, Declaration, Expression, GateDeclaration, GateLine, GateRefinement, GateSize,
-    ParameterValue, SectionLine, Submodule, TypeDeclaration,
+use ned_trees::declarations::{
+    Assignment, Declaration, GateDeclaration, GateLine, GateRefinement, GateSize, ParameterValue,
+    SectionLine, Submodule, TypeDeclaration,
 };
+use ned_trees::expressions::Expression;
 use ned_types::flat::copy_statistic;
 use sim_values::text::Text;
 use sqlite_items::Items;

@@ -6,7 +6,7 @@ ghost use Rattle.ned_scopes.specs.Scopes.{declaring, full_name, inner_name, mean
 
 use crate::copies::{add_lines, copy_gates, copy_lines};
 use crate::known::TypesByName;
-use ned_syntax::ast::{SectionLine, Submodule, TypeDeclaration, TypeKind};
+use ned_trees::declarations::{SectionLine, Submodule, TypeDeclaration, TypeKind};
 use sim_values::text::Text;
 use sqlite_items::Items;
 use std::alloc::{AllocError, Global};

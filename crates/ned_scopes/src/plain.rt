@@ -3,7 +3,7 @@
 ghost use Rattle.std.specs.Prelude.{◌≡◌, map, reverse, IfOk};
 ghost use Rattle.ned_scopes.specs.Scopes.{declared_of};
 
-use ned_syntax::ast::{NestedType, TypeDeclaration};
+use ned_trees::declarations::{NestedType, TypeDeclaration};
 use sqlite_items::Items;
 use std::alloc::{AllocError, Global};
 

@@ -8,7 +8,7 @@ use crate::copies::copy_base;
 use crate::known::{Known, KnownTypes, TypesByName};
 use crate::names::{inner_name, resolved, scopes_of};
 use crate::plain::plain_types;
-use ned_syntax::ast::{NedFile, NestedType, TypeDeclaration};
+use ned_trees::declarations::{NedFile, NestedType, TypeDeclaration};
 use sim_values::text::Text;
 use sqlite_items::Items;
 use std::alloc::{AllocError, Global};

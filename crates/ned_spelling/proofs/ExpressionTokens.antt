@@ -5,9 +5,9 @@ use Rattle.sim_values.specs.declared.value.Value.TheVariants as values
 use Rattle.ned_tokens.specs.declared.token.Mark.TheVariants as m
 use Rattle.ned_tokens.specs.declared.token.Token.{Token}
 use Rattle.ned_tokens.specs.declared.token.Token.TheVariants as token
-use Rattle.ned_expressions.specs.declared.ast.Expression.{Expression, map-Expression}
-use Rattle.ned_expressions.specs.declared.ast.Expression.TheOpen.{Expression-F}
-use Rattle.ned_expressions.specs.declared.ast.Expression.TheFolds.{fold-roll-Expression, ind-Expression}
+use Rattle.ned_trees.specs.declared.expressions.Expression.{Expression, map-Expression}
+use Rattle.ned_trees.specs.declared.expressions.Expression.TheOpen.{Expression-F}
+use Rattle.ned_trees.specs.declared.expressions.Expression.TheFolds.{fold-roll-Expression, ind-Expression}
 use Rattle.ned_expressions.specs.declared.levels.Place.TheVariants as place
 use Rattle.ned_expressions.specs.Grammar.{expression, max_depth}
 use Rattle.ned_expressions.specs.Spelling.{literal_tokens, operator_mark, tokens_at, expression_tokens}

@@ -5,9 +5,9 @@ use Rattle.ned_tokens.specs.Lines.{tokens_of}
 use Rattle.ned_spelling.proofs.SpellingLaws as spelling
 use Rattle.ned_spelling.proofs.SoundTokens.{sound_tokens}
 use Rattle.ned_tokens.proofs.Whole as whole
-use Rattle.ned_expressions.specs.declared.ast.Expression.{Expression}
+use Rattle.ned_trees.specs.declared.expressions.Expression.{Expression}
 use Rattle.ned_expressions.specs.Spelling.{expression_tokens}
-use Rattle.ned_syntax.specs.declared.ast.NedFile.{NedFile}
+use Rattle.ned_trees.specs.declared.declarations.NedFile.{NedFile}
 use Rattle.ned_syntax.specs.Grammar.{file, expression}
 use Rattle.ned_spelling.specs.Declarations.{file_tokens, spelled, spelled_expression, IsReadBack, SaysTheSame, ExpressionIsReadBack, SpellingDecides}
 use Rattle.ned_syntax.proofs.GrammarLaws.{file-lawful}

@@ -3,29 +3,29 @@ use Rattle.std.proofs.Common.{◌≡◌, ℕ, zero, suc, true, List, [], ◌∷�
 use Rattle.std.specs.Prelude.{is_some}
 use Rattle.sim_values.specs.declared.value.Dimension.{Dimension}
 use Rattle.ned_spelling.specs.Tokens.{IsName, HaveSpelling}
-use Rattle.ned_expressions.specs.declared.ast.Expression.{Expression}
+use Rattle.ned_trees.specs.declared.expressions.Expression.{Expression}
 use Rattle.ned_expressions.specs.Grammar.{expression}
 use Rattle.ned_expressions.specs.Spelling.{expression_tokens}
-use Rattle.ned_syntax.specs.declared.ast.ParameterValue.{ParameterValue}
-use Rattle.ned_syntax.specs.declared.ast.ParameterValue.TheVariants as given
-use Rattle.ned_syntax.specs.declared.ast.ParameterWord.{ParameterWord}
-use Rattle.ned_syntax.specs.declared.ast.ParameterWord.TheVariants as words
-use Rattle.ned_syntax.specs.declared.ast.Declaration.{Declaration}
-use Rattle.ned_syntax.specs.declared.ast.Assignment.{Assignment}
-use Rattle.ned_syntax.specs.declared.ast.Statistic.{Statistic}
-use Rattle.ned_syntax.specs.declared.ast.SectionLine.{SectionLine}
-use Rattle.ned_syntax.specs.declared.ast.SectionLine.TheVariants as lines
-use Rattle.ned_syntax.specs.declared.ast.Submodule.{Submodule}
-use Rattle.ned_syntax.specs.declared.ast.GateSize.{GateSize}
-use Rattle.ned_syntax.specs.declared.ast.GateSize.TheVariants as sizes
-use Rattle.ned_syntax.specs.declared.ast.GateLine.{GateLine}
-use Rattle.ned_syntax.specs.declared.ast.GateLine.TheVariants as gate_lines
-use Rattle.ned_syntax.specs.declared.ast.TypeKind.{TypeKind}
-use Rattle.ned_syntax.specs.declared.ast.TypeKind.TheVariants as kinds
-use Rattle.ned_syntax.specs.declared.ast.TypeDeclaration.{TypeDeclaration}
-use Rattle.ned_syntax.specs.declared.ast.NestedType.{NestedType, out-NestedType}
-use Rattle.ned_syntax.specs.declared.ast.NestedType.TheOpen.{NestedType-F}
-use Rattle.ned_syntax.specs.declared.ast.NedFile.{NedFile}
+use Rattle.ned_trees.specs.declared.declarations.ParameterValue.{ParameterValue}
+use Rattle.ned_trees.specs.declared.declarations.ParameterValue.TheVariants as given
+use Rattle.ned_trees.specs.declared.declarations.ParameterWord.{ParameterWord}
+use Rattle.ned_trees.specs.declared.declarations.ParameterWord.TheVariants as words
+use Rattle.ned_trees.specs.declared.declarations.Declaration.{Declaration}
+use Rattle.ned_trees.specs.declared.declarations.Assignment.{Assignment}
+use Rattle.ned_trees.specs.declared.declarations.Statistic.{Statistic}
+use Rattle.ned_trees.specs.declared.declarations.SectionLine.{SectionLine}
+use Rattle.ned_trees.specs.declared.declarations.SectionLine.TheVariants as lines
+use Rattle.ned_trees.specs.declared.declarations.Submodule.{Submodule}
+use Rattle.ned_trees.specs.declared.declarations.GateSize.{GateSize}
+use Rattle.ned_trees.specs.declared.declarations.GateSize.TheVariants as sizes
+use Rattle.ned_trees.specs.declared.declarations.GateLine.{GateLine}
+use Rattle.ned_trees.specs.declared.declarations.GateLine.TheVariants as gate_lines
+use Rattle.ned_trees.specs.declared.declarations.TypeKind.{TypeKind}
+use Rattle.ned_trees.specs.declared.declarations.TypeKind.TheVariants as kinds
+use Rattle.ned_trees.specs.declared.declarations.TypeDeclaration.{TypeDeclaration}
+use Rattle.ned_trees.specs.declared.declarations.NestedType.{NestedType, out-NestedType}
+use Rattle.ned_trees.specs.declared.declarations.NestedType.TheOpen.{NestedType-F}
+use Rattle.ned_trees.specs.declared.declarations.NedFile.{NedFile}
 use Rattle.ned_syntax.specs.Grammar.{max_blocks}
 
 -- P holds of each

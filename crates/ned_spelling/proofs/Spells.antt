@@ -12,33 +12,34 @@ use Rattle.ned_tokens.specs.Rule.{Rule, token as one_token, ◌⊗◌, ◌◁◌
 use Rattle.sim_values.specs.Units.{time_unit}
 use Rattle.ned_tokens.specs.Units.{unit_of, rate_unit, length_unit}
 use Rattle.ned_spelling.specs.Tokens.{unit_text}
-use Rattle.ned_expressions.specs.declared.ast.Expression.{Expression}
+use Rattle.ned_trees.specs.declared.expressions.Expression.{Expression}
 use Rattle.ned_expressions.specs.Spelling.{expression_tokens}
-use Rattle.ned_syntax.specs.declared.ast.ParameterValue.{ParameterValue}
-use Rattle.ned_syntax.specs.declared.ast.ParameterValue.TheVariants as given
-use Rattle.ned_syntax.specs.declared.ast.ParameterWord.{ParameterWord}
-use Rattle.ned_syntax.specs.declared.ast.ParameterWord.TheVariants as words
-use Rattle.ned_syntax.specs.declared.ast.Declaration.{Declaration}
-use Rattle.ned_syntax.specs.declared.ast.Assignment.{Assignment}
-use Rattle.ned_values.specs.declared.ast.Mode.{Mode}
-use Rattle.ned_values.specs.declared.ast.Mode.TheVariants as modes_are
-use Rattle.ned_syntax.specs.declared.ast.RecordedMode.{RecordedMode}
-use Rattle.ned_syntax.specs.declared.ast.Statistic.{Statistic}
-use Rattle.ned_syntax.specs.declared.ast.SectionLine.{SectionLine}
-use Rattle.ned_syntax.specs.declared.ast.SectionLine.TheVariants as lines
-use Rattle.ned_syntax.specs.declared.ast.Submodule.{Submodule}
-use Rattle.ned_syntax.specs.declared.ast.GateDirection.{GateDirection}
-use Rattle.ned_syntax.specs.declared.ast.GateDirection.TheVariants as directions
-use Rattle.ned_syntax.specs.declared.ast.GateSize.{GateSize}
-use Rattle.ned_syntax.specs.declared.ast.GateSize.TheVariants as sizes
-use Rattle.ned_syntax.specs.declared.ast.GateLine.{GateLine}
-use Rattle.ned_syntax.specs.declared.ast.GateLine.TheVariants as gate_lines
-use Rattle.ned_syntax.specs.declared.ast.TypeKind.{TypeKind}
-use Rattle.ned_syntax.specs.declared.ast.TypeKind.TheVariants as kinds
-use Rattle.ned_syntax.specs.declared.ast.TypeDeclaration.{TypeDeclaration}
-use Rattle.ned_syntax.specs.declared.ast.NestedType.{NestedType, out-NestedType, roll-NestedType, the_lemmas}
-use Rattle.ned_syntax.specs.declared.ast.NestedType.TheFolds.{fold_out-NestedType}
-use Rattle.ned_syntax.specs.declared.ast.NedFile.{NedFile}
+use Rattle.ned_trees.specs.declared.declarations.ParameterValue.{ParameterValue}
+use Rattle.ned_trees.specs.declared.declarations.ParameterValue.TheVariants as given
+use Rattle.ned_trees.specs.declared.declarations.ParameterWord.{ParameterWord}
+use Rattle.ned_trees.specs.declared.declarations.ParameterWord.TheVariants as words
+use Rattle.ned_trees.specs.declared.declarations.Declaration.{Declaration}
+use Rattle.ned_trees.specs.declared.declarations.Assignment.{Assignment}
+use Rattle.ned_trees.specs.declared.modes.Mode.{Mode}
+use Rattle.ned_trees.specs.declared.modes.Mode.TheVariants as modes_are
+use Rattle.ned_trees.specs.declared.declarations.RecordedMode.{RecordedMode}
+use Rattle.ned_trees.specs.declared.declarations.Statistic.{Statistic}
+use Rattle.ned_trees.specs.declared.declarations.SectionLine.{SectionLine}
+use Rattle.ned_trees.specs.declared.declarations.SectionLine.TheVariants as lines
+use Rattle.ned_trees.specs.declared.declarations.Submodule.{Submodule}
+use Rattle.ned_trees.specs.declared.declarations.GateDirection.{GateDirection}
+use Rattle.ned_trees.specs.declared.declarations.GateDirection.TheVariants as directions
+use Rattle.ned_trees.specs.declared.declarations.GateSize.{GateSize}
+use Rattle.ned_trees.specs.declared.declarations.GateSize.TheVariants as sizes
+use Rattle.ned_trees.specs.declared.declarations.GateLine.{GateLine}
+use Rattle.ned_trees.specs.declared.declarations.GateLine.TheVariants as gate_lines
+use Rattle.ned_trees.specs.declared.declarations.TypeKind.{TypeKind}
+use Rattle.ned_trees.specs.declared.declarations.TypeKind.TheVariants as kinds
+use Rattle.ned_trees.specs.declared.declarations.TypeDeclaration.{TypeDeclaration}
+use Rattle.ned_trees.specs.declared.declarations.NestedType.{NestedType, out-NestedType, roll-NestedType, the_lemmas}
+use Rattle.ned_trees.specs.declared.declarations.NestedType.TheFolds.{fold_out-NestedType}
+use Rattle.ned_trees.specs.declared.declarations.NedFile.{NedFile}
+use Rattle.ned_trees.specs.Modes.{mode_name}
 use Rattle.ned_syntax.specs.declared.properties.Effect.{Effect}
 use Rattle.ned_syntax.specs.declared.properties.Effect.TheVariants as effects
 use Rattle.ned_syntax.specs.declared.properties.PropertyName.TheVariants as names
@@ -48,7 +49,7 @@ use Rattle.ned_syntax.specs.declared.parameters.Valued.{Valued}
 use Rattle.ned_tokens.specs.Words.{or_else}
 use Rattle.ned_tokens.specs.Balanced.{balanced}
 use Rattle.ned_syntax.specs.Grammar.{turn_of, effect_of, said_in, statistic_line, other_part, first_unit, unit_behind, value_in, unit_in, is_measured_word, valued, tail, parameter_word, volatile, any_declaration, declaration, assignment, source_word, source_value, source_tail, source_part, record_word, record_value, record_tail, record_part, no_value, record_or_other, any_part, part, next_part, statistic_body, optional_body, indexed_statistic, unnamed_statistic, named_or_not, statistic_tail, statistic_word, statistic, plain_name, plain_line, property_text, property_line, assigned_or_said, any_line, section_line, heading, section, dotted, direction, open_size, size_value, size_tail, vector_size, gate_size, size_in_brackets, refined_size, declared_gate, refined_gate, any_gate, gate_line, gate_section, gates, says_loose, base_name, optional_base, next_dotted, dotted_list, names_behind, optional_names, head, gated_block, simple, ignored_property, assigned_or_ignored, any_body_line, body_line, body_section, optional_semi, braced_body, no_body, any_body, submodule_body, submodule, submodules, lone, inner_types, network_block, network, module_type, section_block, channel, interface_kind, interface, channel_or_interface, any_type, type_within, max_blocks, silent_entry, entry, types_in, file, word, mark, name, is_word, is_mark, expression, default_value, value_rule, in_parens, property_name, bracketed, index, body, property, mode_word, question, mode_rule, next_mode, modes}
-use Rattle.ned_spelling.specs.Declarations.{listed_tokens, given_tokens, valued_tokens, unit_tokens, parameter_keyword, declaration_tokens, assignment_tokens, mode_name, question_tokens, mode_tokens, next_mode_tokens, record_tokens, statistic_tokens, line_tokens, section_line_tokens, section_tokens, body_tokens, submodule_tokens, submodules_tokens, base_tokens, next_name_tokens, names_tokens, in_braces, interface_tokens, direction_keyword, size_tokens, refined_size_tokens, loose_tokens, gate_tokens, gate_line_tokens, gates_tokens, types_tokens, kind_tokens, tokens_at, type_tokens, file_tokens}
+use Rattle.ned_spelling.specs.Declarations.{listed_tokens, given_tokens, valued_tokens, unit_tokens, parameter_keyword, declaration_tokens, assignment_tokens, question_tokens, mode_tokens, next_mode_tokens, record_tokens, statistic_tokens, line_tokens, section_line_tokens, section_tokens, body_tokens, submodule_tokens, submodules_tokens, base_tokens, next_name_tokens, names_tokens, in_braces, interface_tokens, direction_keyword, size_tokens, refined_size_tokens, loose_tokens, gate_tokens, gate_line_tokens, gates_tokens, types_tokens, kind_tokens, tokens_at, type_tokens, file_tokens}
 use Rattle.ned_spelling.proofs.Spellable.{Each, IfThere, CanBeExpression, CanBeGiven, CanBeUnit, CanBeDeclaration, CanBeAssignment, CanBeLine, CanBeBodyLine, HasRoom, CanBeSubmodule, CanBeSize, CanBeGate, CanBeInterface, CanBeParts, CanBeTypes, CanBeNested, CanBeFile}
 
 -- these tokens spell this value by the rule

@@ -8,33 +8,32 @@ use Rattle.ned_tokens.specs.declared.token.Token.{Token}
 use Rattle.ned_tokens.specs.declared.token.Token.TheVariants as token
 use Rattle.ned_tokens.specs.Lines.{tokens_of}
 use Rattle.sim_values.specs.Limits.{max_length}
+use Rattle.ned_trees.specs.Modes.{mode_name}
 use Rattle.ned_spelling.specs.Tokens.{unit_text, spell}
-use Rattle.ned_expressions.specs.declared.ast.Expression.{Expression}
-use Rattle.ned_syntax.specs.declared.ast.ParameterValue.{ParameterValue}
-use Rattle.ned_syntax.specs.declared.ast.ParameterValue.TheVariants as given
-use Rattle.ned_syntax.specs.declared.ast.ParameterWord.{ParameterWord}
-use Rattle.ned_syntax.specs.declared.ast.ParameterWord.TheVariants as words
-use Rattle.ned_syntax.specs.declared.ast.Declaration.{Declaration}
-use Rattle.ned_syntax.specs.declared.ast.Assignment.{Assignment}
-use Rattle.ned_values.specs.declared.ast.Mode.{Mode}
-use Rattle.ned_values.specs.declared.ast.Mode.TheVariants as modes_are
-use Rattle.ned_syntax.specs.declared.ast.RecordedMode.{RecordedMode}
-use Rattle.ned_syntax.specs.declared.ast.Statistic.{Statistic}
-use Rattle.ned_syntax.specs.declared.ast.SectionLine.{SectionLine}
-use Rattle.ned_syntax.specs.declared.ast.SectionLine.TheVariants as lines
-use Rattle.ned_syntax.specs.declared.ast.Submodule.{Submodule}
-use Rattle.ned_syntax.specs.declared.ast.GateDirection.{GateDirection}
-use Rattle.ned_syntax.specs.declared.ast.GateDirection.TheVariants as directions
-use Rattle.ned_syntax.specs.declared.ast.GateSize.{GateSize}
-use Rattle.ned_syntax.specs.declared.ast.GateSize.TheVariants as sizes
-use Rattle.ned_syntax.specs.declared.ast.GateLine.{GateLine}
-use Rattle.ned_syntax.specs.declared.ast.GateLine.TheVariants as gate_lines
-use Rattle.ned_syntax.specs.declared.ast.TypeKind.{TypeKind}
-use Rattle.ned_syntax.specs.declared.ast.TypeKind.TheVariants as kinds
-use Rattle.ned_syntax.specs.declared.ast.TypeDeclaration.{TypeDeclaration}
-use Rattle.ned_syntax.specs.declared.ast.NestedType.{NestedType, fold-NestedType}
-use Rattle.ned_syntax.specs.declared.ast.NestedType.TheOpen.{NestedType-F}
-use Rattle.ned_syntax.specs.declared.ast.NedFile.{NedFile}
+use Rattle.ned_trees.specs.declared.expressions.Expression.{Expression}
+use Rattle.ned_trees.specs.declared.declarations.ParameterValue.{ParameterValue}
+use Rattle.ned_trees.specs.declared.declarations.ParameterValue.TheVariants as given
+use Rattle.ned_trees.specs.declared.declarations.ParameterWord.{ParameterWord}
+use Rattle.ned_trees.specs.declared.declarations.ParameterWord.TheVariants as words
+use Rattle.ned_trees.specs.declared.declarations.Declaration.{Declaration}
+use Rattle.ned_trees.specs.declared.declarations.Assignment.{Assignment}
+use Rattle.ned_trees.specs.declared.declarations.RecordedMode.{RecordedMode}
+use Rattle.ned_trees.specs.declared.declarations.Statistic.{Statistic}
+use Rattle.ned_trees.specs.declared.declarations.SectionLine.{SectionLine}
+use Rattle.ned_trees.specs.declared.declarations.SectionLine.TheVariants as lines
+use Rattle.ned_trees.specs.declared.declarations.Submodule.{Submodule}
+use Rattle.ned_trees.specs.declared.declarations.GateDirection.{GateDirection}
+use Rattle.ned_trees.specs.declared.declarations.GateDirection.TheVariants as directions
+use Rattle.ned_trees.specs.declared.declarations.GateSize.{GateSize}
+use Rattle.ned_trees.specs.declared.declarations.GateSize.TheVariants as sizes
+use Rattle.ned_trees.specs.declared.declarations.GateLine.{GateLine}
+use Rattle.ned_trees.specs.declared.declarations.GateLine.TheVariants as gate_lines
+use Rattle.ned_trees.specs.declared.declarations.TypeKind.{TypeKind}
+use Rattle.ned_trees.specs.declared.declarations.TypeKind.TheVariants as kinds
+use Rattle.ned_trees.specs.declared.declarations.TypeDeclaration.{TypeDeclaration}
+use Rattle.ned_trees.specs.declared.declarations.NestedType.{NestedType, fold-NestedType}
+use Rattle.ned_trees.specs.declared.declarations.NestedType.TheOpen.{NestedType-F}
+use Rattle.ned_trees.specs.declared.declarations.NedFile.{NedFile}
 use Rattle.ned_syntax.specs.Grammar.{file}
 use Rattle.ned_syntax.specs.NedText.{IsNedFile}
 use Rattle.ned_expressions.specs.ExpressionText.{IsExpressionText}
@@ -78,15 +77,6 @@ declaration_tokens d = token.Word (parameter_keyword d.word) ∷ token.Name d.na
 -- name [value]
 abbrev pub assignment_tokens : Assignment → List Token
 assignment_tokens a = token.Name a.name ∷ valued_tokens a.value
-
--- the name of a mode
-abbrev pub mode_name : Mode → List ℕ
-mode_name modes_are.Count = codes "count"
-mode_name modes_are.Sum = codes "sum"
-mode_name modes_are.Min = codes "min"
-mode_name modes_are.Max = codes "max"
-mode_name modes_are.Last = codes "last"
-mode_name modes_are.Vector = codes "vector"
 
 -- `?`, where it is asked for
 abbrev pub question_tokens : Bool → List Token

@@ -2,18 +2,18 @@
 use Rattle.std.specs.Prelude.{◌≡◌, List, ℕ, [], ◌∷◌, Some, None, true, false, pos, codes}
 use Rattle.sim_values.specs.declared.value.Value.TheVariants as values
 use Rattle.sim_values.specs.declared.value.Dimension.TheVariants as dimension
-use Rattle.ned_expressions.specs.declared.ast.Expression.TheVariants as expressions
-use Rattle.ned_expressions.specs.declared.ast.Sign.TheVariants as signs
-use Rattle.ned_syntax.specs.declared.ast.ParameterValue.TheVariants as given
-use Rattle.ned_syntax.specs.declared.ast.ParameterWord.TheVariants as words
-use Rattle.ned_values.specs.declared.ast.Mode.TheVariants as modes_are
-use Rattle.ned_syntax.specs.declared.ast.SectionLine.TheVariants as lines
-use Rattle.ned_syntax.specs.declared.ast.GateDirection.TheVariants as directions
-use Rattle.ned_syntax.specs.declared.ast.GateSize.TheVariants as sizes
-use Rattle.ned_syntax.specs.declared.ast.GateLine.TheVariants as gate_lines
-use Rattle.ned_syntax.specs.declared.ast.TypeKind.TheVariants as kinds
-use Rattle.ned_syntax.specs.declared.ast.NestedType.{roll-NestedType}
-use Rattle.ned_syntax.specs.declared.ast.NedFile.{NedFile}
+use Rattle.ned_trees.specs.declared.expressions.Expression.TheVariants as expressions
+use Rattle.ned_trees.specs.declared.expressions.Sign.TheVariants as signs
+use Rattle.ned_trees.specs.declared.declarations.ParameterValue.TheVariants as given
+use Rattle.ned_trees.specs.declared.declarations.ParameterWord.TheVariants as words
+use Rattle.ned_trees.specs.declared.modes.Mode.TheVariants as modes_are
+use Rattle.ned_trees.specs.declared.declarations.SectionLine.TheVariants as lines
+use Rattle.ned_trees.specs.declared.declarations.GateDirection.TheVariants as directions
+use Rattle.ned_trees.specs.declared.declarations.GateSize.TheVariants as sizes
+use Rattle.ned_trees.specs.declared.declarations.GateLine.TheVariants as gate_lines
+use Rattle.ned_trees.specs.declared.declarations.TypeKind.TheVariants as kinds
+use Rattle.ned_trees.specs.declared.declarations.NestedType.{roll-NestedType}
+use Rattle.ned_trees.specs.declared.declarations.NedFile.{NedFile}
 use Rattle.ned_syntax.specs.Grammar.{lone}
 use Rattle.ned_spelling.specs.Declarations.{spelled}
 

@@ -11,10 +11,10 @@ use Rattle.ned_tokens.specs.declared.token.Token.{Token}
 use Rattle.ned_tokens.specs.declared.token.Token.TheVariants as token
 use Rattle.ned_tokens.specs.Rule.{Rule, begins, ◌⊗◌, ◌◁◌, ◌▷◌, made, optional, many}
 use Rattle.ned_tokens.specs.Balanced.{balanced}
-use Rattle.ned_syntax.specs.declared.ast.ParameterValue.TheVariants as given
-use Rattle.ned_syntax.specs.declared.ast.SectionLine.TheVariants as lines
-use Rattle.ned_syntax.specs.declared.ast.NestedType.{NestedType}
-use Rattle.ned_syntax.specs.declared.ast.GateSize.TheVariants as sizes
+use Rattle.ned_trees.specs.declared.declarations.ParameterValue.TheVariants as given
+use Rattle.ned_trees.specs.declared.declarations.SectionLine.TheVariants as lines
+use Rattle.ned_trees.specs.declared.declarations.NestedType.{NestedType}
+use Rattle.ned_trees.specs.declared.declarations.GateSize.TheVariants as sizes
 use Rattle.ned_syntax.specs.declared.properties.PropertyName.{PropertyName}
 use Rattle.ned_syntax.specs.declared.properties.PropertyName.TheVariants as names
 use Rattle.ned_syntax.specs.declared.statistics.Except.{Except}

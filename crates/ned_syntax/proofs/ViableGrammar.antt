@@ -11,16 +11,16 @@ use Rattle.ned_tokens.specs.declared.token.Token.TheVariants as token
 use Rattle.ned_tokens.specs.Rule.{Rule, begins, ◌⊗◌, ◌◁◌, ◌▷◌, made, such_that, optional, many}
 use Rattle.ned_tokens.specs.Balanced.{balanced_read}
 use Rattle.ned_tokens.specs.Viable.{CanGoOn}
-use Rattle.ned_syntax.specs.declared.ast.ParameterValue.TheVariants as given
-use Rattle.ned_syntax.specs.declared.ast.ParameterWord.TheVariants as words
-use Rattle.ned_values.specs.declared.ast.Mode.TheVariants as modes_are
-use Rattle.ned_syntax.specs.declared.ast.SectionLine.TheVariants as lines
-use Rattle.ned_syntax.specs.declared.ast.GateDirection.TheVariants as directions
-use Rattle.ned_syntax.specs.declared.ast.GateSize.TheVariants as sizes
-use Rattle.ned_syntax.specs.declared.ast.TypeKind.TheVariants as kinds
-use Rattle.ned_syntax.specs.declared.ast.NestedType.{NestedType}
-use Rattle.ned_syntax.specs.declared.ast.Declaration.{Declaration}
-use Rattle.ned_syntax.specs.declared.ast.ParameterWord.{ParameterWord}
+use Rattle.ned_trees.specs.declared.declarations.ParameterValue.TheVariants as given
+use Rattle.ned_trees.specs.declared.declarations.ParameterWord.TheVariants as words
+use Rattle.ned_trees.specs.declared.modes.Mode.TheVariants as modes_are
+use Rattle.ned_trees.specs.declared.declarations.SectionLine.TheVariants as lines
+use Rattle.ned_trees.specs.declared.declarations.GateDirection.TheVariants as directions
+use Rattle.ned_trees.specs.declared.declarations.GateSize.TheVariants as sizes
+use Rattle.ned_trees.specs.declared.declarations.TypeKind.TheVariants as kinds
+use Rattle.ned_trees.specs.declared.declarations.NestedType.{NestedType}
+use Rattle.ned_trees.specs.declared.declarations.Declaration.{Declaration}
+use Rattle.ned_trees.specs.declared.declarations.ParameterWord.{ParameterWord}
 use Rattle.ned_syntax.specs.declared.parameters.Valued.{Valued}
 use Rattle.ned_syntax.specs.declared.parameters.Tail.{Tail}
 use Rattle.ned_tokens.specs.Words.{or_else}

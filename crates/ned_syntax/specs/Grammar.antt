@@ -14,28 +14,28 @@ use Rattle.ned_tokens.specs.Units.{unit_of}
 use Rattle.ned_tokens.specs.Rule.{Rule, Reading, ◌>>=◌, map_read, token as one_token, ◌⊗◌, ◌◁◌, ◌▷◌, made, such_that, either, optional, many, left}
 use Rattle.ned_tokens.specs.Lexing.{is_slash_next}
 use Rattle.ned_tokens.specs.Balanced.{Turn, opens, closes, stays, bars, balanced}
-use Rattle.ned_syntax.specs.declared.ast.ParameterValue.{ParameterValue}
-use Rattle.ned_syntax.specs.declared.ast.ParameterValue.TheVariants as given
-use Rattle.ned_syntax.specs.declared.ast.ParameterWord.{ParameterWord}
-use Rattle.ned_syntax.specs.declared.ast.ParameterWord.TheVariants as words
-use Rattle.ned_syntax.specs.declared.ast.Declaration.{Declaration}
-use Rattle.ned_syntax.specs.declared.ast.Assignment.{Assignment}
-use Rattle.ned_values.specs.declared.ast.Mode.{Mode}
-use Rattle.ned_syntax.specs.declared.ast.RecordedMode.{RecordedMode}
-use Rattle.ned_syntax.specs.declared.ast.SectionLine.{SectionLine}
-use Rattle.ned_syntax.specs.declared.ast.SectionLine.TheVariants as lines
-use Rattle.ned_syntax.specs.declared.ast.Submodule.{Submodule}
-use Rattle.ned_syntax.specs.declared.ast.GateDirection.{GateDirection}
-use Rattle.ned_syntax.specs.declared.ast.GateDirection.TheVariants as directions
-use Rattle.ned_syntax.specs.declared.ast.GateSize.{GateSize}
-use Rattle.ned_syntax.specs.declared.ast.GateSize.TheVariants as sizes
-use Rattle.ned_syntax.specs.declared.ast.GateLine.{GateLine}
-use Rattle.ned_syntax.specs.declared.ast.GateLine.TheVariants as gate_lines
-use Rattle.ned_syntax.specs.declared.ast.NestedType.{NestedType, roll-NestedType}
-use Rattle.ned_syntax.specs.declared.ast.TypeDeclaration.{TypeDeclaration}
-use Rattle.ned_syntax.specs.declared.ast.TypeKind.{TypeKind}
-use Rattle.ned_syntax.specs.declared.ast.TypeKind.TheVariants as kinds
-use Rattle.ned_syntax.specs.declared.ast.NedFile.{NedFile}
+use Rattle.ned_trees.specs.declared.declarations.ParameterValue.{ParameterValue}
+use Rattle.ned_trees.specs.declared.declarations.ParameterValue.TheVariants as given
+use Rattle.ned_trees.specs.declared.declarations.ParameterWord.{ParameterWord}
+use Rattle.ned_trees.specs.declared.declarations.ParameterWord.TheVariants as words
+use Rattle.ned_trees.specs.declared.declarations.Declaration.{Declaration}
+use Rattle.ned_trees.specs.declared.declarations.Assignment.{Assignment}
+use Rattle.ned_trees.specs.declared.modes.Mode.{Mode}
+use Rattle.ned_trees.specs.declared.declarations.RecordedMode.{RecordedMode}
+use Rattle.ned_trees.specs.declared.declarations.SectionLine.{SectionLine}
+use Rattle.ned_trees.specs.declared.declarations.SectionLine.TheVariants as lines
+use Rattle.ned_trees.specs.declared.declarations.Submodule.{Submodule}
+use Rattle.ned_trees.specs.declared.declarations.GateDirection.{GateDirection}
+use Rattle.ned_trees.specs.declared.declarations.GateDirection.TheVariants as directions
+use Rattle.ned_trees.specs.declared.declarations.GateSize.{GateSize}
+use Rattle.ned_trees.specs.declared.declarations.GateSize.TheVariants as sizes
+use Rattle.ned_trees.specs.declared.declarations.GateLine.{GateLine}
+use Rattle.ned_trees.specs.declared.declarations.GateLine.TheVariants as gate_lines
+use Rattle.ned_trees.specs.declared.declarations.NestedType.{NestedType, roll-NestedType}
+use Rattle.ned_trees.specs.declared.declarations.TypeDeclaration.{TypeDeclaration}
+use Rattle.ned_trees.specs.declared.declarations.TypeKind.{TypeKind}
+use Rattle.ned_trees.specs.declared.declarations.TypeKind.TheVariants as kinds
+use Rattle.ned_trees.specs.declared.declarations.NedFile.{NedFile}
 use Rattle.ned_syntax.specs.declared.properties.PropertyName.{PropertyName}
 use Rattle.ned_syntax.specs.declared.properties.PropertyName.TheVariants as names
 use Rattle.ned_syntax.specs.declared.properties.Effect.{Effect}
@@ -48,7 +48,7 @@ use Rattle.ned_syntax.specs.declared.statistics.Said.{Said}
 use Rattle.ned_syntax.specs.declared.parameters.Valued.{Valued}
 use Rattle.ned_syntax.specs.declared.parameters.Tail.{Tail}
 use Rattle.ned_syntax.specs.declared.heads.Head.{Head}
-use Rattle.ned_expressions.specs.declared.ast.Expression.{Expression}
+use Rattle.ned_trees.specs.declared.expressions.Expression.{Expression}
 -- single tokens and names of modes are those of `ned_values`, expressions those of `ned_expressions`
 unfoldable pub use Rattle.ned_values.specs.Grammar.{word, mark, name}
 unfoldable pub use Rattle.ned_expressions.specs.Grammar.{expression}

@@ -4,12 +4,12 @@ ghost use Rattle.std.specs.Prelude.{◌≡◌};
 ghost use Rattle.ned_tokens.specs.Rule.{Gives, Reads, begins, many};
 ghost use Rattle.ned_syntax.specs.Grammar as grammar;
 
-use crate::ast::SectionLine;
 use crate::leaves::{begins_mark, begins_name, ended, mark};
 use crate::parameters::{assignment, begins_declaration, declaration, heading};
 use crate::properties::property;
 use ned_tokens::refusal::Refusal;
 use ned_tokens::token::{Mark, Token};
+use ned_trees::declarations::SectionLine;
 use sqlite_items::Items;
 use std::alloc::Global;
 

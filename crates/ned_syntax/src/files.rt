@@ -5,13 +5,13 @@ ghost use Rattle.ned_tokens.specs.Rule.{Gives, Reads, begins, all_read, map_read
 ghost use Rattle.ned_tokens.specs.Lexing as lex;
 ghost use Rattle.ned_syntax.specs.Grammar as grammar;
 
-use crate::ast::{NedFile, NestedType};
 use crate::dotted::dotted;
 use crate::leaves::{begins_word, mark, word};
 use crate::properties::{begins_property, property};
 use crate::types::{begins_type, type_declaration};
 use ned_tokens::refusal::Refusal;
 use ned_tokens::token::{Keyword, Mark, Token};
+use ned_trees::declarations::{NedFile, NestedType};
 use sqlite_items::Items;
 use std::alloc::Global;
 

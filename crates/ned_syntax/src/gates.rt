@@ -4,12 +4,14 @@ ghost use Rattle.std.specs.Prelude.{◌≡◌};
 ghost use Rattle.ned_tokens.specs.Rule.{Reads, begins, many};
 ghost use Rattle.ned_syntax.specs.Grammar as grammar;
 
-use crate::ast::{Expression, GateDeclaration, GateDirection, GateLine, GateRefinement, GateSize};
-use crate::leaves::{begins_mark, begins_name, begins_word, ended, mark, name, refused, word};
+use crate::leaves::{begins_mark, begins_name, begins_word, ended, mark, name, word};
 use crate::properties::{properties, says_loose};
 use ned_expressions::chains::expression;
 use ned_tokens::refusal::Refusal;
 use ned_tokens::token::{Keyword, Mark, Token};
+use ned_trees::declarations::{GateDeclaration, GateDirection, GateLine, GateRefinement, GateSize};
+use ned_trees::expressions::Expression;
+use ned_trees::refusals::refused;
 use sqlite_items::Items;
 use std::alloc::Global;
 

@@ -64,14 +64,6 @@ pub(crate) fn ended<T: Drop>(
     Ok((value, rest))
 }
 
-/// The refusal, behind which what was read before it is dropped.
-pub(crate) fn refused<T: Drop>(held: T, refusal: Refusal) -> Refusal
-    ensures { result ≡ refusal }
-{
-    drop(held);
-    refusal
-}
-
 /// `in_parens = "(" balanced ")"`.
 #[tactic(auto, unfolding(crate::specs::Grammar::in_parens))]
 pub(crate) fn in_parens(tokens: &[Token]) -> Result<(&[Token], &[Token]), Refusal>

@@ -23,7 +23,6 @@ macro_rules! read_behind {
     };
 }
 
-pub mod ast;
 mod bodies;
 mod dotted;
 mod files;

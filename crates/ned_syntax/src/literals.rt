@@ -3,11 +3,11 @@
 ghost use Rattle.ned_tokens.specs.Rule.{Reads};
 ghost use Rattle.ned_syntax.specs.Grammar as grammar;
 
-use crate::ast::ParameterValue;
 use crate::leaves::{begins_word, ended, mark, word};
 use ned_expressions::chains::expression;
 use ned_tokens::refusal::Refusal;
 use ned_tokens::token::{Keyword, Mark, Token};
+use ned_trees::declarations::ParameterValue;
 use std::alloc::Global;
 
 /// `default_value = "default" "(" expression ")"`.

@@ -4,13 +4,16 @@ ghost use Rattle.std.specs.Prelude.{◌≡◌};
 ghost use Rattle.ned_tokens.specs.Rule.{Gives, Reads, begins, many, optional};
 ghost use Rattle.ned_syntax.specs.Grammar as grammar;
 
-use crate::ast::{Assignment, Declaration, ParameterValue, ParameterWord, SectionLine};
-use crate::leaves::{begins_mark, begins_name, begins_word, ended, mark, name, refused, word};
+use crate::leaves::{begins_mark, begins_name, begins_word, ended, mark, name, word};
 use crate::literals::value;
 use crate::properties::{Effect, first_unit, plain_line, properties};
 use crate::statistics::{begins_statistic, statistic};
 use ned_tokens::refusal::Refusal;
 use ned_tokens::token::{Keyword, Mark, Token};
+use ned_trees::declarations::{
+    Assignment, Declaration, ParameterValue, ParameterWord, SectionLine,
+};
+use ned_trees::refusals::refused;
 use sim_values::text::Text;
 use sim_values::value::Dimension;
 use sqlite_items::Items;

@@ -4,11 +4,11 @@ ghost use Rattle.std.specs.Prelude.{◌≡◌, IfOk, option_map};
 ghost use Rattle.ned_tokens.specs.Rule.{Gives, Reads, begins, many};
 ghost use Rattle.ned_syntax.specs.Grammar as grammar;
 
-use crate::ast::SectionLine;
 use crate::leaves::{begins_mark, ended, in_parens, mark, name};
 use ned_tokens::refusal::Refusal;
 use ned_tokens::token::{Mark, Token};
 use ned_tokens::unit_of;
+use ned_trees::declarations::SectionLine;
 use sim_values::text::Text;
 use sim_values::value::Dimension;
 use sqlite_items::Items;

@@ -4,12 +4,13 @@ ghost use Rattle.std.specs.Prelude.{◌≡◌, ◌∷◌, IfOk};
 ghost use Rattle.ned_tokens.specs.Rule.{Gives, Reads, begins, many};
 ghost use Rattle.ned_syntax.specs.Grammar as grammar;
 
-use crate::ast::{Mode, RecordedMode, SectionLine, Statistic};
 use crate::leaves::{begins_mark, ended, in_parens, mark, name};
 use crate::lists::with_first;
 use crate::properties::bracketed;
 use ned_tokens::refusal::Refusal;
 use ned_tokens::token::{Mark, Token};
+use ned_trees::declarations::{RecordedMode, SectionLine, Statistic};
+use ned_trees::modes::Mode;
 use ned_values::modes::mode_named;
 use sim_values::text::Text;
 use sqlite_items::Items;

@@ -4,7 +4,6 @@ ghost use Rattle.std.specs.Prelude.{◌≡◌};
 ghost use Rattle.ned_tokens.specs.Rule.{Reads, begins, many};
 ghost use Rattle.ned_syntax.specs.Grammar as grammar;
 
-use crate::ast::{GateLine, NestedType, SectionLine, Submodule, TypeDeclaration, TypeKind};
 use crate::bodies::submodule_body;
 use crate::dotted::dotted;
 use crate::gates::gates;
@@ -13,6 +12,9 @@ use crate::leaves::{begins_name, begins_word, ended, mark, name, word};
 use crate::parameters::section;
 use ned_tokens::refusal::Refusal;
 use ned_tokens::token::{Keyword, Mark, Token};
+use ned_trees::declarations::{
+    GateLine, NestedType, SectionLine, Submodule, TypeDeclaration, TypeKind,
+};
 use sim_values::text::Text;
 use sqlite_items::Items;
 use std::alloc::Global;

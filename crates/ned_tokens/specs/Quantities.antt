@@ -1,9 +1,8 @@
 -- Quantities: digits, perhaps a point and digits, and directly behind them a unit. Several in a row, parted by nothing or by
 -- spaces and tabs, are summed (OMNeT++ Simulation Manual, "Quantities with Units").
-use denote.Enum.Bare.{sameb}
 use Rattle.std.specs.Prelude.{◌≡◌, ◌↔◌, ℕ, zero, suc, ◌+◌, ◌*◌, ◌/◌, ◌%◌, ◌^◌, Bool, false, ◌&&◌, ◌||◌, [], ◌∷◌, length, Option, Some, None, ◌==◌, if◌then◌else◌, option_map}
 use Rattle.sim_values.specs.declared.value.Dimension.{Dimension}
-use Rattle.sim_values.specs.contracts.value.Dimension as dimensions
+pub use Rattle.sim_values.specs.Dimensions.{same_dimension}
 use Rattle.ned_tokens.specs.declared.runs.Class.TheVariants as class
 use Rattle.ned_tokens.specs.declared.token.Token.{Token}
 use Rattle.ned_tokens.specs.declared.token.Token.TheVariants as token
@@ -57,9 +56,6 @@ piece_from whole f = (measured (run class.Letter f.1) whole f.0, behind class.Le
 
 abbrev pub piece_at : Bytes → Option (Dimension × ℕ) × Bytes
 piece_at bs = piece_from (run class.Digit bs) (fraction_at (behind class.Digit bs))
-
-abbrev pub same_dimension : Dimension → Dimension → Bool
-same_dimension = sameb dimensions.the_type
 
 -- the sum of two amounts of one dimension, below 2^63
 abbrev pub added : Option (Dimension × ℕ) → Option (Dimension × ℕ) → Option (Dimension × ℕ)

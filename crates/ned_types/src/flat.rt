@@ -5,7 +5,7 @@ ghost use Rattle.std.specs.Option.{option_copied, option_map};
 ghost use Rattle.ned_types.specs.Flat.{declares_statistic, last_value, declaration_named, class_in, class_of, submodule_named, is_statistic_declared, statistic_named, last_statistic, statistic_at, statistics_of};
 
 use crate::given::{gives, value_in};
-use ned_syntax::ast::{
+use ned_trees::declarations::{
     Declaration, ParameterValue, SectionLine, Statistic, Submodule, TypeDeclaration,
 };
 use sqlite_items::Items;

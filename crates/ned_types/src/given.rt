@@ -4,7 +4,7 @@ ghost use Rattle.std.specs.Prelude.{◌≡◌};
 ghost use Rattle.std.specs.Option.{option_copied};
 ghost use Rattle.ned_types.specs.Types.{gives, is_fixed, name_in, value_in};
 
-use ned_syntax::ast::{ParameterValue, SectionLine};
+use ned_trees::declarations::{ParameterValue, SectionLine};
 
 /// The parameter that a line speaks of.
 pub fn name_in(line: &SectionLine) -> &[u8]

@@ -8,7 +8,7 @@ ghost use Rattle.ned_types.specs.WellFormed.{HaveOwnNames, IsAmong, IsWellFormed
 
 use crate::flat::submodule_named;
 use indexmap::IndexMap;
-use ned_syntax::ast::{Submodule, TypeDeclaration};
+use ned_trees::declarations::{Submodule, TypeDeclaration};
 use sqlite_items::Items;
 use std::alloc::{AllocError, Global};
 use std::marker::Model;
@@ -35,9 +35,9 @@ impl Drop for TypeTable {
 impl Model for TypeTable {
     ghost use Rattle.std.specs.Prelude.{List};
     ghost use Rattle.std.specs.Coded.{coded_list};
-    ghost use Rattle.ned_syntax.specs.contracts.ast.TypeDeclaration.{the_row};
+    ghost use Rattle.ned_trees.specs.contracts.declarations.TypeDeclaration.{the_row};
     ghost use Rattle.ned_types.specs.WellFormed.{IsWellFormed};
-    ghost use Rattle.ned_syntax.specs.declared.ast.TypeDeclaration.{TypeDeclaration};
+    ghost use Rattle.ned_trees.specs.declared.declarations.TypeDeclaration.{TypeDeclaration};
 
     ghost Value = { List TypeDeclaration };
 

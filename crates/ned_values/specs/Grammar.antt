@@ -18,8 +18,8 @@ use Rattle.ned_tokens.specs.Digits.{below_limit}
 use Rattle.ned_tokens.specs.Rule.{Rule, token as one_token, ◌▷◌, made, either}
 use Rattle.ned_values.specs.declared.ast.Expression.{Expression}
 use Rattle.ned_values.specs.declared.ast.Expression.TheVariants as expressions
-use Rattle.ned_values.specs.declared.ast.Mode.{Mode}
-use Rattle.ned_values.specs.declared.ast.Mode.TheVariants as modes_are
+use Rattle.ned_trees.specs.declared.modes.Mode.{Mode}
+use Rattle.ned_trees.specs.declared.modes.Mode.TheVariants as modes_are
 
 abbrev pub Bytes : Type 0
 Bytes = List ℕ

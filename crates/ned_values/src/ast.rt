@@ -7,14 +7,3 @@ use sim_values::value::Value;
 pub enum Expression {
     Literal(Value),
 }
-
-/// How the values of a signal are recorded.
-#[derive(Clone, Copy, Debug, PartialEq, Eq)]
-pub enum Mode {
-    Count,
-    Sum,
-    Min,
-    Max,
-    Last,
-    Vector,
-}

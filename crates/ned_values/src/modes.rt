@@ -3,7 +3,7 @@
 ghost use Rattle.std.specs.Prelude.{◌≡◌};
 ghost use Rattle.ned_values.specs.Grammar as grammar;
 
-use crate::ast::Mode;
+use ned_trees::modes::Mode;
 
 /// The mode of that name.
 pub fn mode_named(text: &[u8]) -> Option<Mode>

@@ -5,11 +5,11 @@ use Rattle.asking.specs.Asking.{Done, ◌>>=◌}
 use Rattle.asking.proofs.Binds.{bind_assoc, bind_done}
 use Rattle.sim_values.specs.declared.NoMemory.{NoMemory}
 use Rattle.sim_values.specs.declared.value.Value.{Value}
-use Rattle.ned_expressions.specs.declared.ast.Choice.{Choice}
-use Rattle.ned_expressions.specs.declared.ast.Expression.{Expression, the_lemmas}
-use Rattle.ned_expressions.specs.declared.ast.Expression.TheVariants as expr
-use Rattle.ned_expressions.specs.declared.ast.Operator.{Operator}
-use Rattle.ned_expressions.specs.declared.ast.Sign.{Sign}
+use Rattle.ned_trees.specs.declared.expressions.Choice.{Choice}
+use Rattle.ned_trees.specs.declared.expressions.Expression.{Expression, the_lemmas}
+use Rattle.ned_trees.specs.declared.expressions.Expression.TheVariants as expr
+use Rattle.ned_trees.specs.declared.expressions.Operator.{Operator}
+use Rattle.ned_trees.specs.declared.expressions.Sign.{Sign}
 use Rattle.param_eval.specs.declared.evaluation.Step.{Step}
 use Rattle.param_eval.specs.declared.evaluation.Task.{Task}
 use Rattle.param_eval.specs.declared.evaluation.Task.TheVariants as task

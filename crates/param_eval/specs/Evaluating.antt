@@ -2,8 +2,8 @@
 use Rattle.std.specs.Prelude.{ℕ, ◌+◌, List, [], ◌∷◌, Ok, Err}
 use Rattle.asking.specs.Asking.{Done, Ask, ◌>>=◌}
 use Rattle.sim_values.specs.declared.value.Value.{Value}
-use Rattle.ned_expressions.specs.declared.ast.Expression.{Expression, fold-Expression}
-use Rattle.ned_expressions.specs.declared.ast.Expression.TheOpen.{Expression-F}
+use Rattle.ned_trees.specs.declared.expressions.Expression.{Expression, fold-Expression}
+use Rattle.ned_trees.specs.declared.expressions.Expression.TheOpen.{Expression-F}
 use Rattle.param_eval.specs.declared.evaluation.Evaluation.{Evaluation}
 use Rattle.param_eval.specs.declared.evaluation.Step.{Step}
 use Rattle.param_eval.specs.declared.evaluation.Step.TheVariants as step

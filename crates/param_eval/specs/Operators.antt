@@ -7,13 +7,13 @@ use Rattle.std.specs.Ordering.{nat_cmp, int_cmp, is_eq, is_ne, is_lt, is_le, is_
 use Rattle.sim_values.specs.declared.value.Dimension.{Dimension}
 use Rattle.sim_values.specs.declared.value.Value.{Value}
 use Rattle.sim_values.specs.declared.value.Value.TheVariants as value
-use Rattle.ned_tokens.specs.Quantities.{same_dimension}
-use Rattle.ned_expressions.specs.declared.ast.Choice.{Choice}
-use Rattle.ned_expressions.specs.declared.ast.Choice.TheVariants as choice
-use Rattle.ned_expressions.specs.declared.ast.Operator.{Operator}
-use Rattle.ned_expressions.specs.declared.ast.Operator.TheVariants as op
-use Rattle.ned_expressions.specs.declared.ast.Sign.{Sign}
-use Rattle.ned_expressions.specs.declared.ast.Sign.TheVariants as sign
+use Rattle.sim_values.specs.Dimensions.{same_dimension}
+use Rattle.ned_trees.specs.declared.expressions.Choice.{Choice}
+use Rattle.ned_trees.specs.declared.expressions.Choice.TheVariants as choice
+use Rattle.ned_trees.specs.declared.expressions.Operator.{Operator}
+use Rattle.ned_trees.specs.declared.expressions.Operator.TheVariants as op
+use Rattle.ned_trees.specs.declared.expressions.Sign.{Sign}
+use Rattle.ned_trees.specs.declared.expressions.Sign.TheVariants as sign
 use Rattle.param_eval.specs.declared.fault.Fault.{Fault}
 use Rattle.param_eval.specs.declared.fault.Fault.TheVariants.{Mismatch}
 use Rattle.param_eval.specs.Wholes.{sum, difference, product, quotient, remainder, power, shift_left, shift_right, negation, complement}

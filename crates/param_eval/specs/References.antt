@@ -1,6 +1,6 @@
 -- References, as they are written (OMNeT++ Simulation Manual, "Referencing Parameters").
 use Rattle.std.specs.Prelude.{ℤ, ℕ, List}
-use Rattle.ned_expressions.specs.declared.ast.Scope.{Scope}
+use Rattle.ned_trees.specs.declared.expressions.Scope.{Scope}
 use Rattle.param_eval.specs.declared.names.Name.{Name}
 use Rattle.param_eval.specs.declared.names.Name.TheVariants as name
 

@@ -3,8 +3,8 @@ use Rattle.std.specs.Prelude.{ℤ, true, false, Option, Some, None, Ok, Err}
 use Rattle.asking.specs.Asking.{Asking, Done, Ask, ◌>>=◌}
 use Rattle.sim_values.specs.declared.value.Value.{Value}
 use Rattle.sim_values.specs.declared.value.Value.TheVariants as value
-use Rattle.ned_expressions.specs.declared.ast.Expression.{Expression, fold-Expression}
-use Rattle.ned_expressions.specs.declared.ast.Expression.TheOpen.{Expression-F}
+use Rattle.ned_trees.specs.declared.expressions.Expression.{Expression, fold-Expression}
+use Rattle.ned_trees.specs.declared.expressions.Expression.TheOpen.{Expression-F}
 use Rattle.param_eval.specs.declared.fault.Fault.{Fault}
 use Rattle.param_eval.specs.declared.fault.Fault.TheVariants.{Mismatch}
 use Rattle.param_eval.specs.Operators.{Evaluated, applied, decided, signed, chosen}

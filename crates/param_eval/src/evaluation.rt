@@ -8,7 +8,7 @@ ghost use Rattle.param_eval.specs.Values.{valued, value_in};
 use crate::fault::Fault;
 use crate::names::{Name, Names};
 use crate::operators::{Combination, combined, settled, signed};
-use ned_expressions::ast::{Expression, Sign};
+use ned_trees::expressions::{Expression, Sign};
 use sim_values::NoMemory;
 use sim_values::text::Text;
 use sim_values::value::Value;

@@ -6,7 +6,7 @@ ghost use Rattle.param_eval.specs.Operators.{Evaluated};
 ghost use Rattle.param_eval.specs.References.{Reference, reference_of};
 
 use crate::fault::Fault;
-use ned_expressions::ast::Scope;
+use ned_trees::expressions::Scope;
 use sim_values::NoMemory;
 use sim_values::text::Text;
 use sim_values::value::Value;

@@ -9,7 +9,7 @@ use crate::wholes::{
     complement, difference, negation, power, product, quotient, remainder, shift_left, shift_right,
     sum,
 };
-use ned_expressions::ast::{Choice, Operator, Sign};
+use ned_trees::expressions::{Choice, Operator, Sign};
 use sim_values::NoMemory;
 use sim_values::text::Text;
 use sim_values::value::{Dimension, Value};

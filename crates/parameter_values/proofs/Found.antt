@@ -8,12 +8,12 @@ use Rattle.asking.specs.Laws.{IsExact}
 use Rattle.asking.proofs.Circles.{count, no_circle}
 use Rattle.sim_values.specs.declared.value.Value.{Value}
 use Rattle.sim_values.specs.declared.value.Value.TheVariants as value
-use Rattle.ned_expressions.specs.declared.ast.Expression.{Expression, the_lemmas}
-use Rattle.ned_expressions.specs.declared.ast.Expression.TheVariants as expression
-use Rattle.ned_expressions.specs.declared.ast.Scope.{Scope}
-use Rattle.ned_expressions.specs.declared.ast.Scope.TheVariants as scope
-use Rattle.ini_entries.specs.declared.entry.EntryValue.{EntryValue}
-use Rattle.ini_entries.specs.declared.entry.EntryValue.TheVariants as entry
+use Rattle.ned_trees.specs.declared.expressions.Expression.{Expression, the_lemmas}
+use Rattle.ned_trees.specs.declared.expressions.Expression.TheVariants as expression
+use Rattle.ned_trees.specs.declared.expressions.Scope.{Scope}
+use Rattle.ned_trees.specs.declared.expressions.Scope.TheVariants as scope
+use Rattle.ini_texts.specs.declared.entry.EntryValue.{EntryValue}
+use Rattle.ini_texts.specs.declared.entry.EntryValue.TheVariants as entry
 use Rattle.param_eval.specs.declared.fault.Fault.TheVariants.{Unassigned, Circle, Mismatch}
 use Rattle.param_eval.specs.Operators.{Evaluated}
 use Rattle.param_eval.specs.References.{Own, Scoped}

@@ -1,7 +1,6 @@
 -- Which values a parameter may have (OMNeT++ Simulation Manual, "Parameters"). The one numbers are whole; those with a unit are quantities.
 use Rattle.std.specs.Prelude.{Bool, true, false, Some, None, Ok, Err, if◌then◌else◌}
-use denote.Enum.Bare.{sameb}
-use Rattle.sim_values.specs.contracts.value.Dimension as dimension_kind
+use Rattle.sim_values.specs.Dimensions.{same_dimension}
 use Rattle.sim_values.specs.declared.value.Dimension.{Dimension}
 use Rattle.sim_values.specs.declared.value.Value.{Value}
 use Rattle.sim_values.specs.declared.value.Value.TheVariants as value
@@ -9,9 +8,6 @@ use Rattle.param_eval.specs.declared.fault.Fault.TheVariants.{Mismatch}
 use Rattle.param_eval.specs.Operators.{Evaluated}
 use Rattle.parameter_values.specs.declared.kind.Kind.{Kind}
 use Rattle.parameter_values.specs.declared.kind.Kind.TheVariants as kind
-
-abbrev pub same_dimension : Dimension → Dimension → Bool
-same_dimension = sameb dimension_kind.the_type
 
 -- a quantity of that dimension
 abbrev pub is_quantity : Dimension → Value → Bool

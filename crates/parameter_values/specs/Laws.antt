@@ -3,11 +3,11 @@ use Rattle.std.specs.Prelude.{ℕ, suc, ◌≡◌, ◌<◌, ◌^◌, ℤ, pos, B
 use Rattle.asking.specs.Asking.{Done, Ask}
 use Rattle.sim_values.specs.declared.value.Value.{Value}
 use Rattle.sim_values.specs.declared.value.Value.TheVariants as value
-use Rattle.ned_expressions.specs.declared.ast.Expression.{Expression}
-use Rattle.ned_expressions.specs.declared.ast.Expression.TheVariants as expression
-use Rattle.ned_expressions.specs.declared.ast.Scope.TheVariants as scope
-use Rattle.ini_entries.specs.declared.entry.EntryValue.{EntryValue}
-use Rattle.ini_entries.specs.declared.entry.EntryValue.TheVariants as entry
+use Rattle.ned_trees.specs.declared.expressions.Expression.{Expression}
+use Rattle.ned_trees.specs.declared.expressions.Expression.TheVariants as expression
+use Rattle.ned_trees.specs.declared.expressions.Scope.TheVariants as scope
+use Rattle.ini_texts.specs.declared.entry.EntryValue.{EntryValue}
+use Rattle.ini_texts.specs.declared.entry.EntryValue.TheVariants as entry
 use Rattle.param_eval.specs.declared.fault.Fault.TheVariants.{Circle, Unassigned, Mismatch}
 use Rattle.param_eval.specs.Operators.{Evaluated}
 use Rattle.parameter_values.specs.declared.key.Key.{Key}

@@ -1,6 +1,6 @@
 -- What references mean (OMNeT++ Simulation Manual, "Referencing Parameters").
 use Rattle.std.specs.Prelude.{ℕ, List, Option, Some, None}
-use Rattle.ned_expressions.specs.declared.ast.Scope.TheVariants as scope
+use Rattle.ned_trees.specs.declared.expressions.Scope.TheVariants as scope
 use Rattle.param_eval.specs.References.{Reference, Own, Scoped}
 use Rattle.parameter_values.specs.declared.key.Key.{Key}
 use Rattle.parameter_values.specs.declared.place.Place.{Place}

@@ -1,7 +1,7 @@
 -- What values of parameters rest on.
 use Rattle.std.specs.Prelude.{ℕ, Option}
-use Rattle.ned_expressions.specs.declared.ast.Expression.{Expression}
-use Rattle.ini_entries.specs.declared.entry.EntryValue.{EntryValue}
+use Rattle.ned_trees.specs.declared.expressions.Expression.{Expression}
+use Rattle.ini_texts.specs.declared.entry.EntryValue.{EntryValue}
 use Rattle.parameter_values.specs.declared.key.Key.{Key}
 use Rattle.parameter_values.specs.declared.kind.Kind.{Kind}
 use Rattle.parameter_values.specs.declared.scene.Section.{Section}

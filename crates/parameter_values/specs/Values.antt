@@ -4,10 +4,10 @@ use Rattle.std.specs.Prelude.{ℕ, ◌==◌, Bool, ◌&&◌, bytes_eq, Option, S
 use Rattle.asking.specs.Asking.{Asking, Done, Ask, ◌>>=◌}
 use Rattle.asking.specs.Following.{Rules, value_of}
 use Rattle.sim_values.specs.declared.value.Value.{Value}
-use Rattle.ned_expressions.specs.declared.ast.Expression.{Expression}
-use Rattle.ned_expressions.specs.declared.ast.Expression.TheVariants.{Literal}
-use Rattle.ini_entries.specs.declared.entry.EntryValue.{EntryValue}
-use Rattle.ini_entries.specs.declared.entry.EntryValue.TheVariants as entry
+use Rattle.ned_trees.specs.declared.expressions.Expression.{Expression}
+use Rattle.ned_trees.specs.declared.expressions.Expression.TheVariants.{Literal}
+use Rattle.ini_texts.specs.declared.entry.EntryValue.{EntryValue}
+use Rattle.ini_texts.specs.declared.entry.EntryValue.TheVariants as entry
 use Rattle.param_eval.specs.declared.fault.Fault.{Fault}
 use Rattle.param_eval.specs.declared.fault.Fault.TheVariants.{Unassigned, Circle}
 use Rattle.param_eval.specs.Operators.{Evaluated}

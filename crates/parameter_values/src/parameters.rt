@@ -15,7 +15,7 @@ use crate::place::{Place, meant};
 use crate::scene::{Given, Parameter, Scene, Section, Written};
 use answer_engine::asker::Asker;
 use answer_engine::turn::Turn;
-use ini_entries::entry::EntryValue;
+use ini_texts::entry::EntryValue;
 use param_eval::evaluation::{Evaluation, Turn as Stop};
 use param_eval::fault::Fault;
 use sim_values::NoMemory;

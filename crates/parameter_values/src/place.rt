@@ -6,7 +6,7 @@ ghost use Rattle.parameter_values.specs.Meaning as meaning;
 
 use crate::key::Key;
 use crate::scene::Section;
-use ned_expressions::ast::Scope;
+use ned_trees::expressions::Scope;
 use param_eval::names::Name;
 use sim_values::NoMemory;
 use std::alloc::Global;

@@ -7,8 +7,8 @@ ghost use Rattle.parameter_values.specs.Scenes.{declared_by};
 
 use crate::key::Key;
 use crate::kind::Kind;
-use ini_entries::entry::EntryValue;
-use ned_expressions::ast::Expression;
+use ini_texts::entry::EntryValue;
+use ned_trees::expressions::Expression;
 use sim_values::NoMemory;
 use std::alloc::Global;
 

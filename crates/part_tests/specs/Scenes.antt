@@ -1,7 +1,7 @@
 -- What the rows of a table say of parameters.
 use Rattle.std.specs.Prelude.{Option, Some, None}
 use Rattle.std.specs.Map.{lookup}
-use Rattle.ini_entries.specs.declared.entry.EntryValue.{EntryValue}
+use Rattle.ini_texts.specs.declared.entry.EntryValue.{EntryValue}
 use Rattle.parameter_values.specs.Settings.{Given, Fixed, Default, Declared, Setting}
 use Rattle.parameter_values.specs.Values.{same_key}
 use Rattle.part_tests.specs.declared.scene.Row.{Row}

@@ -5,8 +5,8 @@ ghost use Rattle.part_tests.specs.Scenes.{setting_of, told};
 ghost use Rattle.parameter_values.specs.Scenes.{given_by};
 
 use indexmap::IndexMap;
-use ini_entries::entry::EntryValue;
-use ned_expressions::ast::Expression;
+use ini_texts::entry::EntryValue;
+use ned_trees::expressions::Expression;
 use parameter_values::key::Key;
 use parameter_values::kind::Kind;
 use parameter_values::scene::{Given, Parameter, Scene, Section, Written};

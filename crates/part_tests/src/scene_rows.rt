@@ -3,7 +3,7 @@
 use crate::chain_rows::tell_chain;
 use crate::rows::first_part;
 use crate::scene::{Row, Rows, Said, both};
-use ini_entries::entry::EntryValue;
+use ini_texts::entry::EntryValue;
 use ned_expressions::parse::parse_expression;
 use ned_values::error::NedError;
 use param_eval::fault::Fault;

@@ -4,8 +4,8 @@ ghost use Rattle.std.specs.Prelude.{◌≡◌, [], ◌∷◌, ◌++◌, IfOk, If
 ghost use Rattle.model_answers.specs.declared.answer.Question.TheVariants.{InjectionBefore};
 ghost use Rattle.question_log.specs.Entries.{asked_in, asked_in_any, AreOf};
 
+use injection_order::injection::{Due, Turn};
 use model_answers::answer::{Asked, Question};
-use model_answers::injection::{Due, Turn};
 use sim_time::SimTime;
 use sim_values::NoMemory;
 use sqlite_items::Boxed;

@@ -5,8 +5,8 @@ use crate::ini_rows::ini_text;
 use crate::meaning_rows::tell_given;
 use crate::telling::Telling;
 use crate::words::{tell_names, text_of, written};
-use ini_config::entries::{first_match, network_entry, time_limit_entry, value_for};
-use ini_config::lines::{IniLine, IniText};
+use ini_texts::entries::{first_match, network_entry, time_limit_entry, value_for};
+use ini_texts::lines::{IniLine, IniText};
 use sim_values::text::Text;
 use std::alloc::Global;
 

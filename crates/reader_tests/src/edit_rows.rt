@@ -3,16 +3,17 @@
 use crate::escapes::{number, parted, unescaped};
 use crate::ini_rows::{ini_text, tell_lines};
 use crate::telling::Telling;
+use ini_config::edits::{with_inserted, with_removed, with_replaced};
 use ini_config::error::EditError;
-use ini_config::lines::IniText;
+use ini_texts::lines::IniText;
 use std::alloc::Global;
 
 /// The text that an edit gives. The edit is a word and the number of a line.
 fn edited(alloc: Global, text: &IniText, edit: &str, given: &[u8]) -> Result<IniText, EditError> {
     match parted(edit, ' ') {
-        ("insert", line) => text.with_inserted(alloc, number(line), given),
-        ("replace", line) => text.with_replaced(alloc, number(line), given),
-        (_, line) => text.with_removed(alloc, number(line)),
+        ("insert", line) => with_inserted(alloc, text, number(line), given),
+        ("replace", line) => with_replaced(alloc, text, number(line), given),
+        (_, line) => with_removed(alloc, text, number(line)),
     }
 }
 

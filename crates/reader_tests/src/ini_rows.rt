@@ -4,7 +4,8 @@ use crate::escapes::unescaped_behind;
 use crate::telling::Telling;
 use crate::words::text_of;
 use ini_config::error::IniError;
-use ini_config::lines::IniText;
+use ini_config::parse::parse_ini;
+use ini_texts::lines::IniText;
 use std::alloc::Global;
 
 /// The ini text that a row writes, behind a head.
@@ -15,7 +16,7 @@ pub fn ini_text(
     row: &str,
 ) -> Result<IniText, IniError> {
     let text = unescaped_behind(alloc, told, head, row);
-    IniText::parse(alloc, text.as_slice())
+    parse_ini(alloc, text.as_slice())
 }
 
 /// Tells whether a text is an ini text, or why it is none.

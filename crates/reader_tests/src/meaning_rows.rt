@@ -5,10 +5,10 @@ use crate::pattern_rows::tell_matching;
 use crate::telling::Telling;
 use crate::tree_rows::tell_tree;
 use crate::words::{tell_names, written};
-use ini_config::lines::{Entry, IniLine, LineMeaning};
-use ini_entries::entry::{EntryMeaning, EntryValue};
 use ini_pattern::Pattern;
-use ned_expressions::ast::Expression;
+use ini_texts::entry::{EntryMeaning, EntryValue};
+use ini_texts::lines::{Entry, IniLine, LineMeaning};
+use ned_trees::expressions::Expression;
 use sim_values::text::Text;
 use std::alloc::Global;
 

@@ -4,12 +4,13 @@ use crate::escapes::unescaped;
 use crate::telling::Telling;
 use crate::tree_rows::tell_tree;
 use crate::words::{tell_names, written};
-use ned_syntax::ast::{
-    Declaration, Expression, GateLine, GateSize, NedFile, NestedType, ParameterValue, SectionLine,
-    Statistic, Submodule, TypeDeclaration,
-};
 use ned_syntax::parse::parse_ned;
 use ned_syntax::texts::NedTexts;
+use ned_trees::declarations::{
+    Declaration, GateLine, GateSize, NedFile, NestedType, ParameterValue, SectionLine, Statistic,
+    Submodule, TypeDeclaration,
+};
+use ned_trees::expressions::Expression;
 use ned_values::parse::parse_expression;
 use sim_values::text::Text;
 use std::alloc::Global;

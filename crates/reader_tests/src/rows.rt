@@ -2,11 +2,11 @@
 
 ghost use Rattle.std.specs.Prelude.{◌≡◌, ◌++◌, true, false, codes, IfOk, List};
 ghost use Rattle.ini_config.specs.Meaning.{IsIniText};
-ghost use Rattle.ini_config.specs.declared.lines.IniLine.{IniLine};
+ghost use Rattle.ini_texts.specs.declared.lines.IniLine.{IniLine};
 
 use crate::telling::Telling;
 use ini_config::error::IniError;
-use ini_config::lines::IniText;
+use ini_config::parse::parse_ini;
 use std::alloc::Global;
 
 /// Whether a text is an ini text. An error where it is too long, or memory ran out.
@@ -14,7 +14,7 @@ fn is_read(alloc: Global, text: &[u8]) -> Result<bool, IniError>
     ensures read { IfOk result (λ is. is ≡ true → (lines : List IniLine) × IsIniText text.now lines) }
     ensures refused { IfOk result (λ is. is ≡ false → (lines : List IniLine) → IsIniText text.now lines → ⊥) }
 {
-    match IniText::parse(alloc, text) {
+    match parse_ini(alloc, text) {
         Ok(_) => Ok(true),
         Err(IniError::IniSyntax(_)) => Ok(false),
         Err(fault) => Err(fault),

@@ -3,12 +3,12 @@
 use crate::escapes::unescaped;
 use crate::telling::Telling;
 use crate::words::written;
-use ned_expressions::ast::{Choice, Expression, Operator, Scope, Sign};
 use ned_expressions::chains::angled;
 use ned_expressions::parse::parse_expression;
 use ned_tokens::lines::tokenize;
 use ned_tokens::refusal::Refusal;
 use ned_tokens::token::Token;
+use ned_trees::expressions::{Choice, Expression, Operator, Scope, Sign};
 use sim_values::value::{Dimension, Value};
 use std::alloc::Global;
 

@@ -8,8 +8,8 @@ use Rattle.model_answers.specs.declared.record.Record.{Record}
 use Rattle.model_answers.specs.declared.model.Model.{Model}
 use Rattle.model_answers.specs.Models.{entries_in}
 use Rattle.model_answers.specs.Records.{path_of}
-use Rattle.ned_values.specs.declared.ast.Mode.{Mode}
-use Rattle.ned_syntax.specs.declared.ast.Statistic.{Statistic}
+use Rattle.ned_trees.specs.declared.modes.Mode.{Mode}
+use Rattle.ned_trees.specs.declared.declarations.Statistic.{Statistic}
 use Rattle.recorders.proofs.Noted.{found_at_end}
 use Rattle.recorders.specs.ByPlaces.{lines_at_places, lines_of_type, lines_if_finished, scalars_by_places}
 use Rattle.recorders.specs.declared.places.RunPlaces.{RunPlaces}

@@ -1,15 +1,15 @@
 -- Of modules that are not wanted nothing is recorded, and of the others all places are noted.
 use Rattle.std.proofs.Common.{◌≡◌, ℕ, suc, ◌+◌, ◌==◌, Bool, true, false, ◌&&◌, ◌||◌, List, [], ◌∷◌, ◌++◌, Option, Some, None, ℤ, refl, sym, ap, ◌∙◌, length, map, if◌then◌else◌}
 use Rattle.std.proofs.lemmas.Bool.{false≢true}
-use Rattle.ini_config.specs.declared.lines.Entry.{Entry}
+use Rattle.ini_texts.specs.declared.lines.Entry.{Entry}
 use Rattle.model_answers.specs.Answering.{lines_of}
 use Rattle.model_answers.specs.declared.model.Model.{Model}
 use Rattle.model_answers.specs.declared.record.Record.{Record}
 use Rattle.model_answers.specs.Models.{entries_in, type_at}
 use Rattle.model_answers.specs.Records.{path_of, record_at}
-use Rattle.ned_syntax.specs.declared.ast.Statistic.{Statistic}
+use Rattle.ned_trees.specs.declared.declarations.Statistic.{Statistic}
 use Rattle.ned_types.specs.Flat.{statistics_of}
-use Rattle.ned_values.specs.declared.ast.Mode.{Mode}
+use Rattle.ned_trees.specs.declared.modes.Mode.{Mode}
 use Rattle.recorders.proofs.Noted.{noted_above}
 use Rattle.recorders.specs.ByPlaces.{lines_of_type, lines_if_finished}
 use Rattle.recorders.specs.declared.scalar_line.ScalarLine.{ScalarLine}

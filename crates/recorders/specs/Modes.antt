@@ -2,9 +2,9 @@
 use Rattle.std.specs.Prelude.{Bool, false, not, List, [], ◌∷◌, ◌++◌, map, filter, fold, if◌then◌else◌}
 use Rattle.std.specs.List.{list_any}
 use denote.Enum.Bare.{sameb}
-use Rattle.ned_values.specs.contracts.ast.Mode as mode_kind
-use Rattle.ned_values.specs.declared.ast.Mode.{Mode}
-use Rattle.ned_syntax.specs.declared.ast.RecordedMode.{RecordedMode}
+use Rattle.ned_trees.specs.contracts.modes.Mode as mode_kind
+use Rattle.ned_trees.specs.declared.modes.Mode.{Mode}
+use Rattle.ned_trees.specs.declared.declarations.RecordedMode.{RecordedMode}
 
 abbrev pub same_mode : Mode → Mode → Bool
 same_mode = sameb mode_kind.the_type

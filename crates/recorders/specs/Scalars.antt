@@ -2,14 +2,14 @@
 -- OMNeT++ Simulation Manual, "Result Recording".
 use Rattle.std.specs.Prelude.{ℕ, ◌+◌, ℤ, Bool, List, [], ◌∷◌, ◌++◌, flat_map, Option, Some, None, ◌==◌, if◌then◌else◌}
 use Rattle.std.specs.List.{list_any}
-use Rattle.ini_config.specs.declared.lines.Entry.{Entry}
+use Rattle.ini_texts.specs.declared.lines.Entry.{Entry}
 use Rattle.model_answers.specs.declared.model.Model.{Model}
 use Rattle.model_answers.specs.declared.record.Record.{Record}
 use Rattle.model_answers.specs.Answering.{lines_of}
 use Rattle.model_answers.specs.Models.{entries_in, type_at}
 use Rattle.model_answers.specs.Records.{path_of}
-use Rattle.ned_values.specs.declared.ast.Mode.{Mode}
-use Rattle.ned_syntax.specs.declared.ast.Statistic.{Statistic}
+use Rattle.ned_trees.specs.declared.modes.Mode.{Mode}
+use Rattle.ned_trees.specs.declared.declarations.Statistic.{Statistic}
 use Rattle.ned_types.specs.Flat.{statistics_of}
 use Rattle.recorders.specs.declared.scalar_line.ScalarLine.{ScalarLine}
 use Rattle.recorders.specs.Selection.{records_scalar_named, result_name, selected_modes}

@@ -2,18 +2,18 @@
 -- OMNeT++ Simulation Manual, "Configuring Result Collection", "Selecting Recording Modes".
 use Rattle.std.specs.Prelude.{ℕ, Bool, true, false, ◌&&◌, List, [], ◌∷◌, ◌++◌, fold, Option, Some, codes, if◌then◌else◌}
 use Rattle.std.specs.List.{list_any}
-use Rattle.ini_config.specs.declared.lines.Entry.{Entry}
-use Rattle.ini_entries.specs.declared.entry.ModeItem.{ModeItem}
-use Rattle.ini_entries.specs.declared.entry.ModeItem.TheVariants as item
-use Rattle.ini_entries.specs.declared.entry.ObjectOption.{ObjectOption}
-use Rattle.ini_entries.specs.declared.entry.ObjectOption.TheVariants as object
-use Rattle.ini_config.specs.Entries.{object_for}
+use Rattle.ini_texts.specs.declared.lines.Entry.{Entry}
+use Rattle.ini_texts.specs.declared.entry.ModeItem.{ModeItem}
+use Rattle.ini_texts.specs.declared.entry.ModeItem.TheVariants as item
+use Rattle.ini_texts.specs.declared.entry.ObjectOption.{ObjectOption}
+use Rattle.ini_texts.specs.declared.entry.ObjectOption.TheVariants as object
+use Rattle.ini_texts.specs.Entries.{object_for}
 use Rattle.model_answers.specs.Records.{path_under}
-use Rattle.ned_spelling.specs.Declarations.{mode_name}
-use Rattle.ned_values.specs.declared.ast.Mode.{Mode}
-use Rattle.ned_values.specs.declared.ast.Mode.TheVariants as mode
-use Rattle.ned_syntax.specs.declared.ast.RecordedMode.{RecordedMode}
-use Rattle.ned_syntax.specs.declared.ast.Statistic.{Statistic}
+use Rattle.ned_trees.specs.Modes.{mode_name}
+use Rattle.ned_trees.specs.declared.modes.Mode.{Mode}
+use Rattle.ned_trees.specs.declared.modes.Mode.TheVariants as mode
+use Rattle.ned_trees.specs.declared.declarations.RecordedMode.{RecordedMode}
+use Rattle.ned_trees.specs.declared.declarations.Statistic.{Statistic}
 use Rattle.recorders.specs.Modes.{is_among, with_mode, with_modes, without_mode, declared_modes, default_modes, in_order}
 
 -- something is recorded, unless its option says that it isn't

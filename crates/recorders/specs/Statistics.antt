@@ -4,8 +4,8 @@ use Rattle.std.specs.Prelude.{◌-◌, ℤ, pos, ◌+ℤ◌, List, map, filter, 
 use Rattle.std.specs.Int.{int_min, int_max}
 use Rattle.std.specs.List.{reduce}
 use Rattle.model_answers.specs.declared.record.Record.{Record}
-use Rattle.ned_values.specs.declared.ast.Mode.{Mode}
-use Rattle.ned_values.specs.declared.ast.Mode.TheVariants as mode
+use Rattle.ned_trees.specs.declared.modes.Mode.{Mode}
+use Rattle.ned_trees.specs.declared.modes.Mode.TheVariants as mode
 use Rattle.recorders.specs.declared.vector_line.VectorLine.{VectorLine}
 use Rattle.recorders.specs.Hearing.{hears}
 use Rattle.run_semantics.specs.declared.traces.Emission.{Emission}

@@ -6,7 +6,7 @@ use Rattle.model_answers.specs.declared.record.Record.{Record}
 use Rattle.model_answers.specs.Answering.{lines_of}
 use Rattle.model_answers.specs.Models.{entries_in, type_at}
 use Rattle.model_answers.specs.Records.{path_of}
-use Rattle.ned_syntax.specs.declared.ast.Statistic.{Statistic}
+use Rattle.ned_trees.specs.declared.declarations.Statistic.{Statistic}
 use Rattle.ned_types.specs.Flat.{statistics_of}
 use Rattle.recorders.specs.declared.vector_line.VectorLine.{VectorLine}
 use Rattle.recorders.specs.Hearing.{hears}

@@ -1,13 +1,13 @@
 -- The modules of whose statistics something is recorded.
 use Rattle.std.specs.Prelude.{◌≡◌, ℕ, ◌+◌, ◌<◌, Bool, false, List, Option, Some, None, length, slice_get}
 use Rattle.std.specs.List.{list_any}
-use Rattle.ini_config.specs.declared.lines.Entry.{Entry}
+use Rattle.ini_texts.specs.declared.lines.Entry.{Entry}
 use Rattle.model_answers.specs.declared.model.Model.{Model}
 use Rattle.model_answers.specs.declared.record.Record.{Record}
 use Rattle.model_answers.specs.Answering.{lines_of}
 use Rattle.model_answers.specs.Models.{entries_in, type_at}
 use Rattle.model_answers.specs.Records.{path_of}
-use Rattle.ned_syntax.specs.declared.ast.Statistic.{Statistic}
+use Rattle.ned_trees.specs.declared.declarations.Statistic.{Statistic}
 use Rattle.ned_types.specs.Flat.{statistics_of}
 use Rattle.recorders.specs.Selection.{records_scalars, records_vector}
 use Rattle.recorders.specs.declared.wanted.Output.{Output}

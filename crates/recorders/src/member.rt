@@ -7,7 +7,7 @@ ghost use Rattle.ned_types.specs.Flat.{statistics_of};
 
 use model_answers::model::Model;
 use model_answers::record::Record;
-use ned_syntax::ast::Statistic;
+use ned_trees::declarations::Statistic;
 use ned_types::flat::statistics_of;
 use run_semantics::traces::Emission;
 use sqlite_items::Items;

@@ -3,7 +3,8 @@
 ghost use Rattle.std.specs.Prelude.{◌≡◌, ◌++◌, IfOk, OnOk};
 ghost use Rattle.recorders.specs.Modes.{is_recorded, is_among, with_mode, with_modes, without_mode, declared_modes, default_modes, modes_among, modes_not_among, in_order};
 
-use ned_syntax::ast::{Mode, RecordedMode};
+use ned_trees::declarations::RecordedMode;
+use ned_trees::modes::Mode;
 use sqlite_items::Items;
 use std::alloc::{AllocError, Global};
 

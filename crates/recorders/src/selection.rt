@@ -3,17 +3,18 @@
 ghost use Rattle.std.specs.Prelude.{◌≡◌, IfOk, OnOk};
 ghost use Rattle.std.specs.Option.{option_copied};
 ghost use Rattle.model_answers.specs.Models.{entries_in};
-ghost use Rattle.ned_spelling.specs.Declarations.{mode_name};
+ghost use Rattle.ned_trees.specs.Modes.{mode_name};
 ghost use Rattle.recorders.specs.Selection.{after_item, after_items, begins_signed, chosen_modes, first_modes, is_on, is_signed, modes_of, option_of, recorded_modes, records_scalar_among, records_scalar_named, records_scalars, records_statistic, records_vector, records_vector_named, result_name, selected_modes};
 
 use crate::modes::{
     add_mode, add_modes, declared_modes, default_modes, in_order, is_among, without_mode,
 };
-use ini_config::entries::object_for;
-use ini_entries::entry::{ModeItem, ObjectOption};
+use ini_texts::entries::object_for;
+use ini_texts::entry::{ModeItem, ObjectOption};
 use model_answers::model::Model;
 use model_answers::record::path_under;
-use ned_syntax::ast::{Mode, RecordedMode, Statistic};
+use ned_trees::declarations::{RecordedMode, Statistic};
+use ned_trees::modes::Mode;
 use sim_values::NoMemory;
 use sim_values::text::Text;
 use sqlite_items::Items;

@@ -7,7 +7,7 @@ ghost use Rattle.recorders.specs.Places.{of_place, value_of};
 ghost use Rattle.recorders.specs.Statistics.{count_of, sum_of, min_of, max_of, last_of, value_in};
 
 use crate::vector_line::VectorLine;
-use ned_syntax::ast::Mode;
+use ned_trees::modes::Mode;
 use run_semantics::traces::Emission;
 use sqlite_items::at;
 use std::alloc::{AllocError, Global};

@@ -13,7 +13,7 @@ use crate::vector_line::VectorLine;
 use crate::wanted::{Output, is_wanted, wanted};
 use model_answers::model::Model;
 use model_answers::record::{Record, path_of};
-use ned_syntax::ast::Statistic;
+use ned_trees::declarations::Statistic;
 use run_semantics::traces::Emission;
 use sim_values::NoMemory;
 use sqlite_items::{Items, at};

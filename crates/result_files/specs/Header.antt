@@ -1,9 +1,9 @@
 -- The header of a result file.
 use Rattle.std.specs.Prelude.{ℕ, List, [], ◌∷◌, ◌++◌, codes, unwrap_or, if◌then◌else◌}
 use Rattle.std.specs.List.{list_all, flat_map}
-use Rattle.ini_config.specs.declared.lines.Entry.{Entry}
-use Rattle.ini_config.specs.Entries.{last_name, network_entry}
-use Rattle.ini_config.specs.Meaning.{is_extends}
+use Rattle.ini_texts.specs.declared.lines.Entry.{Entry}
+use Rattle.ini_texts.specs.Entries.{last_name, network_entry}
+use Rattle.ini_texts.specs.Sections.{is_extends}
 use Rattle.model_answers.specs.declared.model.Model.{Model}
 use Rattle.model_answers.specs.Models.{entries_in}
 use Rattle.module_api.specs.Names.{is_plain, is_quoting}

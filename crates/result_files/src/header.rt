@@ -2,14 +2,14 @@
 
 ghost use Rattle.std.specs.Prelude.{◌≡◌, ◌++◌, IfOk, OnOk};
 ghost use Rattle.std.specs.List.{flat_map};
-ghost use Rattle.ini_config.specs.Sections.{entries_along, entries_under};
+ghost use Rattle.ini_texts.specs.Sections.{entries_along, entries_under};
 ghost use Rattle.result_files.specs.Header.{escaped, value_text, item_line, run_lines, attribute_lines, config_line, config_lines, header_text, network_name, header_of};
 
-use ini_config::entries::network_entry;
-use ini_config::lines::{Entry, IniLine};
-use ini_config::scan::{entry_in, section_behind};
-use ini_config::speaks::last_name;
-use ini_entries::entry::EntryMeaning;
+use ini_texts::entries::network_entry;
+use ini_texts::entry::EntryMeaning;
+use ini_texts::lines::{Entry, IniLine};
+use ini_texts::scan::{entry_in, section_behind};
+use ini_texts::speaks::last_name;
 use model_answers::model::Model;
 use module_api::names::{is_all_plain, is_quoting};
 use sim_values::text::Text;

@@ -3,11 +3,11 @@ use Rattle.std.proofs.Common.{◌≡◌, ◌⊎◌, inl, inr, ℕ, zero, suc, �
 use Rattle.std.proofs.lemmas.Bool.Decides.{nat_tests}
 use Rattle.model_answers.specs.declared.answer.Answer.TheVariants as answer
 use Rattle.model_answers.specs.declared.answer.Question.TheVariants.{InjectionBefore}
-use Rattle.model_answers.specs.declared.injection.Due.{Due}
-use Rattle.model_answers.specs.declared.injection.Injection.{Injection}
-use Rattle.model_answers.specs.declared.injection.Turn.{Turn}
+use Rattle.injection_order.specs.declared.injection.Due.{Due}
+use Rattle.injection_order.specs.declared.injection.Injection.{Injection}
+use Rattle.injection_order.specs.declared.injection.Turn.{Turn}
 use Rattle.model_answers.specs.declared.model.Model.{Model}
-use Rattle.model_answers.specs.Injections.{due_before, goes_before, turn_of, is_undelivered, sooner, first_undelivered, goes_first, if_first}
+use Rattle.injection_order.specs.Injections.{due_before, goes_before, turn_of, is_undelivered, sooner, first_undelivered, goes_first, if_first}
 use Rattle.event_set.specs.declared.pending.Pending.{Pending}
 use Rattle.run_semantics.specs.Laws.{Each, AreInOrder}
 use Rattle.run_semantics.specs.World.{World, asked_next}

@@ -5,11 +5,11 @@ use Rattle.model_answers.specs.declared.answer.Answer.TheVariants as answer
 use Rattle.model_answers.specs.declared.answer.Asked.{Asked}
 use Rattle.model_answers.specs.declared.answer.Question.{Question}
 use Rattle.model_answers.specs.declared.answer.Question.TheVariants.{BeyondLimit, InjectionBefore}
-use Rattle.model_answers.specs.declared.injection.Injection.{Injection}
-use Rattle.model_answers.specs.declared.injection.Turn.{Turn}
+use Rattle.injection_order.specs.declared.injection.Injection.{Injection}
+use Rattle.injection_order.specs.declared.injection.Turn.{Turn}
 use Rattle.model_answers.specs.declared.model.Model.{Model}
 use Rattle.model_answers.specs.Answering.{answer_of}
-use Rattle.model_answers.specs.Injections.{turn_of}
+use Rattle.injection_order.specs.Injections.{turn_of}
 use Rattle.model_answers.proofs.AnswerLemmas.{about}
 use Rattle.event_set.specs.declared.pending.Pending.{Pending}
 use Rattle.run_semantics.specs.Agreement.{tried}

@@ -13,7 +13,7 @@ use Rattle.model_answers.specs.declared.answer.Answer.TheVariants as answer
 use Rattle.model_answers.specs.declared.answer.Asked.{Asked}
 use Rattle.model_answers.specs.declared.answer.Question.{Question}
 use Rattle.model_answers.specs.declared.answer.Question.TheVariants.{Root, Build, BeyondLimit, InjectionBefore}
-use Rattle.model_answers.specs.declared.injection.Injection.{Injection}
+use Rattle.injection_order.specs.declared.injection.Injection.{Injection}
 use Rattle.model_answers.specs.declared.model.Model.{Model}
 use Rattle.model_answers.specs.declared.record.Record.{Record}
 use Rattle.model_answers.specs.Answering.{answer_of, parameters_of}

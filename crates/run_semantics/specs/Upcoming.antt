@@ -3,12 +3,12 @@ use Rattle.std.specs.Prelude.{ℕ, zero, suc, List, [], ◌∷◌, Option, Some,
 use Rattle.model_answers.specs.declared.answer.Answer.{Answer}
 use Rattle.model_answers.specs.declared.answer.Answer.TheVariants as answer
 use Rattle.model_answers.specs.declared.answer.Question.TheVariants.{InjectionBefore}
-use Rattle.model_answers.specs.declared.injection.Due.{Due}
-use Rattle.model_answers.specs.declared.injection.Injection.{Injection}
+use Rattle.injection_order.specs.declared.injection.Due.{Due}
+use Rattle.injection_order.specs.declared.injection.Injection.{Injection}
 use Rattle.model_answers.specs.declared.model.Model.{Model}
 use Rattle.model_answers.specs.declared.record.Record.{Record}
 use Rattle.model_answers.specs.Answering.{answer_of}
-use Rattle.model_answers.specs.Injections.{turn_of}
+use Rattle.injection_order.specs.Injections.{turn_of}
 use Rattle.model_answers.specs.Records.{path_of}
 use Rattle.event_set.specs.declared.pending.Happening.TheVariants.{Arrival}
 use Rattle.event_set.specs.declared.pending.Pending.{Pending}

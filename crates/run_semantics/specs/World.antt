@@ -3,7 +3,7 @@ use Rattle.std.specs.Prelude.{ℕ, ◌+◌, ◌*◌, ◌^◌, ◌≤◌, Bool, f
 use Rattle.std.specs.List.{list_any}
 use Rattle.model_answers.specs.declared.answer.Asked.{Asked}
 use Rattle.model_answers.specs.declared.answer.Question.{Question}
-use Rattle.model_answers.specs.declared.injection.Turn.{Turn}
+use Rattle.injection_order.specs.declared.injection.Turn.{Turn}
 use Rattle.model_answers.specs.declared.record.Record.{Record}
 use Rattle.model_answers.specs.Questions.{same_question}
 use Rattle.event_set.specs.declared.pending.Pending.{Pending}

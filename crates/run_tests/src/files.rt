@@ -1,7 +1,7 @@
 //! Result files: their header, and devices that fail.
 
-use ini_config::lines::{Entry, IniLine, LineMeaning};
-use ini_entries::entry::EntryMeaning;
+use ini_texts::entry::EntryMeaning;
+use ini_texts::lines::{Entry, IniLine, LineMeaning};
 use recorders::scalar_line::ScalarLine;
 use recorders::vector_line::VectorLine;
 use result_files::files::{ResultFiles, write_scalars, write_vectors};

@@ -1,4 +1,5 @@
 pub mod Counts
+pub mod Dimensions
 pub mod Limits
 pub mod Memory
 pub mod Units

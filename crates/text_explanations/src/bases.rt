@@ -1,7 +1,7 @@
 //! What types extend.
 
 use crate::ned_files::{place_of, type_named};
-use ned_syntax::ast::{TypeDeclaration, TypeKind};
+use ned_trees::declarations::{TypeDeclaration, TypeKind};
 use sim_values::NoMemory;
 use sim_values::text::Text;
 use std::alloc::Global;

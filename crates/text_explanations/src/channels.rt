@@ -1,6 +1,6 @@
 //! The channels that every file knows.
 
-use ned_syntax::ast::{ParameterWord, TypeDeclaration};
+use ned_trees::declarations::{ParameterWord, TypeDeclaration};
 use sim_values::text::Text;
 
 /// Their names.

@@ -4,7 +4,7 @@ use crate::bases::is_interface;
 use crate::explanation::Explanation;
 use crate::ned_files::{Files, place_of};
 use crate::places::Sign;
-use ned_syntax::ast::TypeDeclaration;
+use ned_trees::declarations::TypeDeclaration;
 use sim_values::NoMemory;
 use sim_values::text::Text;
 use std::alloc::Global;

@@ -3,7 +3,7 @@
 use crate::explanation::Explanation;
 use crate::ned_files::Files;
 use crate::places::{Sign, Spot};
-use ned_syntax::ast::{GateLine, SectionLine, TypeDeclaration};
+use ned_trees::declarations::{GateLine, SectionLine, TypeDeclaration};
 
 /// Whether the line declares a gate of that name.
 fn declares_gate(line: &GateLine, name: &[u8]) -> bool {

@@ -5,7 +5,7 @@ use crate::channels::is_built_in;
 use crate::explanation::Explanation;
 use crate::ned_files::{Files, is_known, is_of_kind};
 use crate::places::Sign;
-use ned_syntax::ast::{Submodule, TypeDeclaration, TypeKind};
+use ned_trees::declarations::{Submodule, TypeDeclaration, TypeKind};
 use sim_values::text::Text;
 
 /// A name in the head of a type.

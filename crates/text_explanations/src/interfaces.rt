@@ -6,7 +6,7 @@ use crate::explanation::Explanation;
 use crate::names::shown;
 use crate::ned_files::{Files, type_named};
 use crate::places::{Sign, Spot};
-use ned_syntax::ast::{
+use ned_trees::declarations::{
     Declaration, GateDeclaration, GateDirection, GateLine, GateSize, ParameterWord, SectionLine,
     TypeDeclaration,
 };

@@ -4,7 +4,7 @@ use crate::channels::declaring_channel;
 use crate::explanation::Explanation;
 use crate::ned_files::Files;
 use crate::places::{Sign, Spot};
-use ned_syntax::ast::{SectionLine, Submodule, TypeDeclaration};
+use ned_trees::declarations::{SectionLine, Submodule, TypeDeclaration};
 use ned_types::flat::declaration_named;
 use ned_types::given::{fixes, name_in, value_in};
 

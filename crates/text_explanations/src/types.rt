@@ -12,7 +12,7 @@ use crate::names::{is_inner, last_part};
 use crate::ned_files::{Files, is_of_kind, place_of, read_types, type_named};
 use crate::places::{Sign, Spot};
 use crate::sources::Sources;
-use ned_syntax::ast::{Submodule, TypeDeclaration, TypeKind};
+use ned_trees::declarations::{Submodule, TypeDeclaration, TypeKind};
 
 /// Says that the type at that place has the name of another before it, or of a built-in channel. Answers whether it has.
 fn tell_taken(told: &mut Explanation, files: &Files<'_>, at: usize, name: &[u8]) -> bool {

@@ -5,7 +5,7 @@ use crate::explanation::Explanation;
 use crate::ned_files::{Files, read_types, type_named};
 use crate::places::{Sign, Spot};
 use crate::sources::Sources;
-use ned_syntax::ast::{SectionLine, TypeDeclaration};
+use ned_trees::declarations::{SectionLine, TypeDeclaration};
 use ned_types::flat::submodule_named;
 use ned_types::given::{name_in, value_in};
 

@@ -2,7 +2,7 @@
 use Rattle.std.proofs.Common.{◌≡◌, ⊎_elim, inl, inr, ◌⊎◌, ℕ, zero, suc, ◌+◌, ◌-◌, ◌<◌, ◌≤◌, Bool, true, false, not, ◌||◌, ◌&&◌, List, [], ◌∷◌, length, Option, Some, None, refl, sym, ap, ◌∙◌, subst, arith, slice_get, bytes_eq, if◌then◌else◌}
 use Rattle.std.specs.List.{filter, list_any}
 use Rattle.std.proofs.lemmas.Bool.{cases_eq, false≢true}
-use Rattle.ned_syntax.specs.declared.ast.TypeDeclaration.{TypeDeclaration}
+use Rattle.ned_trees.specs.declared.declarations.TypeDeclaration.{TypeDeclaration}
 use Rattle.ned_types.specs.Types.{is_interface_kind, is_type_named}
 use Rattle.type_building.specs.Inheritance.{extends_one, has_circle, heirs, is_base_among, is_one_among, is_one_left, left_after}
 use Rattle.type_building.specs.Circles.{Extends, ExtendsItself, LeadsTo}

@@ -1,9 +1,9 @@
 -- Names that were seen before stand for the lines that declare gates of those names.
 use Rattle.std.proofs.Common.{◌≡◌, ℕ, zero, suc, ◌-◌, ◌≤◌, ◌<◌, Bool, true, false, not, ◌||◌, List, [], ◌∷◌, ◌++◌, refl, sym, ap, ◌∙◌, arith, length, append-nil, take, drop, slice_index_or, bytes_eq, Bor, if◌then◌else◌}
 use Rattle.std.specs.List.{list_any}
-use Rattle.ned_syntax.specs.declared.ast.GateDeclaration.{GateDeclaration}
-use Rattle.ned_syntax.specs.declared.ast.GateLine.{GateLine}
-use Rattle.ned_syntax.specs.declared.ast.GateLine.TheVariants as gate
+use Rattle.ned_trees.specs.declared.declarations.GateDeclaration.{GateDeclaration}
+use Rattle.ned_trees.specs.declared.declarations.GateLine.{GateLine}
+use Rattle.ned_trees.specs.declared.declarations.GateLine.TheVariants as gate
 use Rattle.type_building.specs.Seen.{declared_gate, declares_one, is_one_gate_named, names_in}
 use Rattle.ned_types.specs.Types.{declares_gate, is_declared_again, is_gate_declared, redeclares_gate}
 use Rattle.type_building.proofs.Repeats.{or_joined, or_false, any_more, any_name, mixed, names_more}

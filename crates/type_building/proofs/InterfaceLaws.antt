@@ -3,17 +3,17 @@ use Rattle.std.proofs.Common.{◌≡◌, inl, inr, ℕ, Bool, true, false, not, 
 use Rattle.std.specs.List.{list_any}
 use Rattle.std.specs.Str.{bytes_eq}
 use Rattle.std.proofs.lemmas.Bool.{false≢true, or_parts}
-use Rattle.ned_syntax.specs.declared.ast.Declaration.{Declaration}
-use Rattle.ned_syntax.specs.declared.ast.GateDeclaration.{GateDeclaration}
-use Rattle.ned_syntax.specs.declared.ast.GateDirection.{GateDirection}
-use Rattle.ned_syntax.specs.declared.ast.GateDirection.TheVariants as direction
-use Rattle.ned_syntax.specs.declared.ast.GateLine.{GateLine}
-use Rattle.ned_syntax.specs.declared.ast.GateLine.TheVariants as gate
-use Rattle.ned_syntax.specs.declared.ast.ParameterWord.{ParameterWord}
-use Rattle.ned_syntax.specs.declared.ast.ParameterWord.TheVariants as word
-use Rattle.ned_syntax.specs.declared.ast.SectionLine.{SectionLine}
-use Rattle.ned_syntax.specs.declared.ast.SectionLine.TheVariants as line
-use Rattle.ned_syntax.specs.declared.ast.TypeDeclaration.{TypeDeclaration}
+use Rattle.ned_trees.specs.declared.declarations.Declaration.{Declaration}
+use Rattle.ned_trees.specs.declared.declarations.GateDeclaration.{GateDeclaration}
+use Rattle.ned_trees.specs.declared.declarations.GateDirection.{GateDirection}
+use Rattle.ned_trees.specs.declared.declarations.GateDirection.TheVariants as direction
+use Rattle.ned_trees.specs.declared.declarations.GateLine.{GateLine}
+use Rattle.ned_trees.specs.declared.declarations.GateLine.TheVariants as gate
+use Rattle.ned_trees.specs.declared.declarations.ParameterWord.{ParameterWord}
+use Rattle.ned_trees.specs.declared.declarations.ParameterWord.TheVariants as word
+use Rattle.ned_trees.specs.declared.declarations.SectionLine.{SectionLine}
+use Rattle.ned_trees.specs.declared.declarations.SectionLine.TheVariants as line
+use Rattle.ned_trees.specs.declared.declarations.TypeDeclaration.{TypeDeclaration}
 use Rattle.type_building.specs.Interfaces as i
 use Rattle.ned_types.specs.Types as t
 use Rattle.ned_types.specs.Types.{is_vector}

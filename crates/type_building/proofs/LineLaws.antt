@@ -1,7 +1,7 @@
 -- Lines of interfaces.
 use Rattle.std.proofs.Common.{◌≡◌, ℕ, ◌-◌, ◌≤◌, Bool, true, false, ◌&&◌, List, [], ◌∷◌, Some, None, refl, sym, subst, ap, ◌∙◌, length, map, take, drop, slice_index_or, bytes_eq, Bor, if◌then◌else◌}
 use Rattle.std.specs.Map.{lookup}
-use Rattle.ned_syntax.specs.declared.ast.TypeDeclaration.{TypeDeclaration}
+use Rattle.ned_trees.specs.declared.declarations.TypeDeclaration.{TypeDeclaration}
 use Rattle.ned_types.specs.Types.{is_interface_kind}
 use Rattle.type_building.specs.Inheritance.{bare, flat_interface, gathered, heirs_first, joined_behind, line_named, once_behind, taken_within, turned_onto, types_in, with_members, without_interfaces}
 use Rattle.type_building.specs.Named.{AddsLine, HaveLines, flat_by_lines, line_at, line_or_none}

@@ -1,7 +1,7 @@
 -- Names that were seen before stand for the submodules that had them.
 use Rattle.std.proofs.Common.{◌≡◌, ℕ, zero, suc, ◌-◌, ◌≤◌, ◌<◌, Bool, true, false, not, ◌||◌, List, [], ◌∷◌, ◌++◌, refl, sym, ap, ◌∙◌, arith, length, take, drop, slice_index_or, bytes_eq, Bor, if◌then◌else◌}
 use Rattle.std.specs.List.{list_any}
-use Rattle.ned_syntax.specs.declared.ast.Submodule.{Submodule}
+use Rattle.ned_trees.specs.declared.declarations.Submodule.{Submodule}
 use Rattle.type_building.specs.Seen.{is_one_named, names_in}
 use Rattle.ned_types.specs.Types.{is_submodule_named, repeats_submodule}
 

@@ -2,8 +2,8 @@
 use Rattle.std.proofs.Common.{◌≡◌, ℕ, zero, suc, ◌-◌, ◌≤◌, Bool, true, false, not, ◌||◌, ◌&&◌, List, [], ◌∷◌, ◌++◌, refl, sym, ap, ◌∙◌, arith, length, take, drop, slice_index_or, bytes_eq, Bor, if◌then◌else◌}
 use Rattle.std.specs.Prelude.{is_some}
 use Rattle.std.specs.List.{list_any}
-use Rattle.ned_syntax.specs.declared.ast.SectionLine.{SectionLine}
-use Rattle.ned_syntax.specs.declared.ast.SectionLine.TheVariants as line
+use Rattle.ned_trees.specs.declared.declarations.SectionLine.{SectionLine}
+use Rattle.ned_trees.specs.declared.declarations.SectionLine.TheVariants as line
 use Rattle.type_building.specs.Seen.{names_in, is_in, AddsNames, redeclares_seen, gives_seen, gives_unseen}
 use Rattle.ned_types.specs.Types.{is_declaration, name_in, value_in, declares, is_declared, redeclares, is_fixed, gives, is_given, gives_fixed, gives_again, gives_undeclared, is_undeclared}
 use Rattle.type_building.proofs.NamedLaws.{turned}

@@ -6,12 +6,12 @@ use Rattle.sim_values.specs.declared.value.Dimension.{Dimension}
 use Rattle.sim_values.specs.declared.value.Dimension.TheVariants.{Time, Rate}
 use Rattle.sim_values.specs.declared.value.Value.{Value}
 use Rattle.sim_values.specs.declared.value.Value.TheVariants as values
-use Rattle.ned_expressions.specs.declared.ast.Expression.TheVariants as expression
-use Rattle.ned_syntax.specs.declared.ast.ParameterValue.TheVariants as parameter_value
-use Rattle.ned_syntax.specs.declared.ast.ParameterWord.{ParameterWord}
-use Rattle.ned_syntax.specs.declared.ast.ParameterWord.TheVariants as word
-use Rattle.ned_syntax.specs.declared.ast.SectionLine.{SectionLine}
-use Rattle.ned_syntax.specs.declared.ast.SectionLine.TheVariants as line
+use Rattle.ned_trees.specs.declared.expressions.Expression.TheVariants as expression
+use Rattle.ned_trees.specs.declared.declarations.ParameterValue.TheVariants as parameter_value
+use Rattle.ned_trees.specs.declared.declarations.ParameterWord.{ParameterWord}
+use Rattle.ned_trees.specs.declared.declarations.ParameterWord.TheVariants as word
+use Rattle.ned_trees.specs.declared.declarations.SectionLine.{SectionLine}
+use Rattle.ned_trees.specs.declared.declarations.SectionLine.TheVariants as line
 
 -- `WORD NAME @unit(UNIT) = default(VALUE);`
 abbrev pub built_in_line : List ℕ → ParameterWord → Option Dimension → Value → SectionLine

@@ -1,6 +1,6 @@
 -- Types that extend themselves, in the words of the manual and not of a count (OMNeT++ Simulation Manual, "Inheritance").
 use Rattle.std.specs.Prelude.{◌≡◌, ◌↔◌, ◌⊎◌, ℕ, zero, suc, true, List, Some}
-use Rattle.ned_syntax.specs.declared.ast.TypeDeclaration.{TypeDeclaration}
+use Rattle.ned_trees.specs.declared.declarations.TypeDeclaration.{TypeDeclaration}
 use Rattle.ned_types.specs.Types.{is_interface_kind}
 use Rattle.type_building.specs.Inheritance.{has_circle}
 use Rattle.ned_types.specs.WellFormed.{IsAmong}

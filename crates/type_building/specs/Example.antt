@@ -2,21 +2,21 @@
 use Rattle.std.specs.Prelude.{◌≡◌, ℕ, pos, false, List, [], ◌∷◌, ◌++◌, Option, Some, None, codes}
 use Rattle.sim_values.specs.declared.value.Value.TheVariants as values
 use Rattle.sim_values.specs.declared.value.Dimension.TheVariants as dimension
-use Rattle.ned_expressions.specs.declared.ast.Expression.TheVariants as expression
-use Rattle.ned_values.specs.declared.ast.Mode.TheVariants as mode
-use Rattle.ned_syntax.specs.declared.ast.GateDirection.TheVariants.{Input, Output}
-use Rattle.ned_syntax.specs.declared.ast.GateLine.{GateLine}
-use Rattle.ned_syntax.specs.declared.ast.GateLine.TheVariants as gate
-use Rattle.ned_syntax.specs.declared.ast.GateSize.TheVariants as size
-use Rattle.ned_syntax.specs.declared.ast.ParameterValue.{ParameterValue}
-use Rattle.ned_syntax.specs.declared.ast.ParameterValue.TheVariants as parameter_value
-use Rattle.ned_syntax.specs.declared.ast.ParameterWord.TheVariants as word
-use Rattle.ned_syntax.specs.declared.ast.SectionLine.{SectionLine}
-use Rattle.ned_syntax.specs.declared.ast.SectionLine.TheVariants as line
-use Rattle.ned_syntax.specs.declared.ast.Statistic.{Statistic}
-use Rattle.ned_syntax.specs.declared.ast.Submodule.{Submodule}
-use Rattle.ned_syntax.specs.declared.ast.TypeDeclaration.{TypeDeclaration}
-use Rattle.ned_syntax.specs.declared.ast.TypeKind.TheVariants.{Simple, Network, Channel, ModuleInterface, ChannelInterface}
+use Rattle.ned_trees.specs.declared.expressions.Expression.TheVariants as expression
+use Rattle.ned_trees.specs.declared.modes.Mode.TheVariants as mode
+use Rattle.ned_trees.specs.declared.declarations.GateDirection.TheVariants.{Input, Output}
+use Rattle.ned_trees.specs.declared.declarations.GateLine.{GateLine}
+use Rattle.ned_trees.specs.declared.declarations.GateLine.TheVariants as gate
+use Rattle.ned_trees.specs.declared.declarations.GateSize.TheVariants as size
+use Rattle.ned_trees.specs.declared.declarations.ParameterValue.{ParameterValue}
+use Rattle.ned_trees.specs.declared.declarations.ParameterValue.TheVariants as parameter_value
+use Rattle.ned_trees.specs.declared.declarations.ParameterWord.TheVariants as word
+use Rattle.ned_trees.specs.declared.declarations.SectionLine.{SectionLine}
+use Rattle.ned_trees.specs.declared.declarations.SectionLine.TheVariants as line
+use Rattle.ned_trees.specs.declared.declarations.Statistic.{Statistic}
+use Rattle.ned_trees.specs.declared.declarations.Submodule.{Submodule}
+use Rattle.ned_trees.specs.declared.declarations.TypeDeclaration.{TypeDeclaration}
+use Rattle.ned_trees.specs.declared.declarations.TypeKind.TheVariants.{Simple, Network, Channel, ModuleInterface, ChannelInterface}
 use Rattle.type_building.specs.declared.table.TypeFault.{TypeFault}
 use Rattle.type_building.specs.declared.table.TypeFault.TheVariants.{DuplicateType, UnknownType, InheritanceCircle, KindClash, Interface}
 use Rattle.ned_types.specs.Flat.{class_of, last_value, statistics_of}

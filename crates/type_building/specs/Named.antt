@@ -4,7 +4,7 @@ use Rattle.std.specs.Borrow.{Bor}
 use Rattle.std.specs.Map.{lookup}
 use Rattle.std.specs.Str.{bytes_eq}
 use Rattle.std.specs.List.{list_any}
-use Rattle.ned_syntax.specs.declared.ast.TypeDeclaration.{TypeDeclaration}
+use Rattle.ned_trees.specs.declared.declarations.TypeDeclaration.{TypeDeclaration}
 use Rattle.ned_types.specs.Types.{has_duplicate, has_inner_network, is_type_named, is_interface_kind, names_unknown}
 use Rattle.type_building.specs.Interfaces.{keeps_other, names_no_type}
 use Rattle.type_building.specs.Inheritance.{extends_unknown, extends_other, line_named, joined_behind, gathered, bare, with_members, without_interfaces}

@@ -3,10 +3,10 @@ use Rattle.std.specs.Prelude.{◌≡◌, ℕ, Bool, false, not, ◌||◌, ◌&&�
 use Rattle.std.specs.Borrow.{Bor}
 use Rattle.std.specs.List.{list_any}
 use Rattle.std.specs.Str.{bytes_eq}
-use Rattle.ned_syntax.specs.declared.ast.GateLine.{GateLine}
-use Rattle.ned_syntax.specs.declared.ast.GateLine.TheVariants as gate
-use Rattle.ned_syntax.specs.declared.ast.SectionLine.{SectionLine}
-use Rattle.ned_syntax.specs.declared.ast.Submodule.{Submodule}
+use Rattle.ned_trees.specs.declared.declarations.GateLine.{GateLine}
+use Rattle.ned_trees.specs.declared.declarations.GateLine.TheVariants as gate
+use Rattle.ned_trees.specs.declared.declarations.SectionLine.{SectionLine}
+use Rattle.ned_trees.specs.declared.declarations.Submodule.{Submodule}
 use Rattle.ned_types.specs.Types.{is_declaration, name_in, value_in}
 
 -- the names that references in a set lead to

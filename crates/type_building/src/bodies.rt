@@ -10,7 +10,7 @@ use crate::sections::{
     gives_again, gives_seen, gives_unseen, is_declaration, see_declared, see_fixed,
 };
 use indexmap::IndexSet;
-use ned_syntax::ast::{SectionLine, Submodule};
+use ned_trees::declarations::{SectionLine, Submodule};
 use std::alloc::{AllocError, Global};
 
 /// Whether the body of a submodule can't stand over the lines of its type.

@@ -4,7 +4,8 @@
 ghost use Rattle.std.specs.Prelude.{◌≡◌, ◌++◌, IfOk, OnOk};
 ghost use Rattle.type_building.specs.Channels.{built_in_line, built_in_lines, delay_lines, error_lines, rate_lines, root_lines};
 
-use ned_syntax::ast::{Declaration, Expression, ParameterValue, ParameterWord, SectionLine};
+use ned_trees::declarations::{Declaration, ParameterValue, ParameterWord, SectionLine};
+use ned_trees::expressions::Expression;
 use sim_values::text::Text;
 use sim_values::value::{Dimension, Value};
 use sqlite_items::Items;

@@ -18,7 +18,8 @@ use crate::named::{NamedTypes, by_name};
 use crate::sections::section_clashes;
 use crate::table::TypeFault;
 use indexmap::IndexSet;
-use ned_syntax::ast::{Submodule, TypeDeclaration, TypeKind};
+use ned_trees::declarations::{Submodule, TypeDeclaration, TypeKind};
+use ned_trees::refusals::refused;
 use sqlite_items::Items;
 use std::alloc::{AllocError, Global};
 
@@ -68,13 +69,6 @@ fn built_by<'a>(
     }
     let flat = flat_over(alloc, named, lines, types)?;
     faultless(alloc, flat)
-}
-
-/// A fault, behind which what was made before it is dropped: in a function of its own each exit would open that drop.
-fn refused<T: Drop>(_held: T, fault: TypeFault) -> TypeFault
-    ensures { result ≡ fault }
-{
-    fault
 }
 
 /// The flat type of each, where these are the lines of the interfaces among the types, which nothing needs behind it.

@@ -5,7 +5,7 @@ ghost use Rattle.ned_types.specs.Types.{redeclares_gate};
 ghost use Rattle.type_building.specs.Seen.{declared_gate, declares_one, is_one_gate_named, names_in};
 
 use indexmap::IndexSet;
-use ned_syntax::ast::GateLine;
+use ned_trees::declarations::GateLine;
 use std::alloc::{AllocError, Global};
 
 /// Whether a gate is declared twice. The names that were seen stand in a set, so each is compared with few.

@@ -13,7 +13,7 @@ use crate::lines::{Lines, add_lines_of};
 use crate::named::NamedTypes;
 use crate::order::is_interface_kind;
 use ned_scopes::copies::{add_gates, add_lines, add_names, add_submodules, copy_type};
-use ned_syntax::ast::{SectionLine, TypeDeclaration, TypeKind};
+use ned_trees::declarations::{SectionLine, TypeDeclaration, TypeKind};
 use ned_types::flat::{class_in, class_of};
 use sim_values::text::Text;
 use sqlite_items::Items;

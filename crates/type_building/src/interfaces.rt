@@ -8,7 +8,7 @@ ghost use Rattle.ned_types.specs.Types.{is_vector};
 
 use crate::faults::is_taken;
 use crate::named::NamedTypes;
-use ned_syntax::ast::{
+use ned_trees::declarations::{
     Declaration, GateDeclaration, GateDirection, GateLine, GateSize, ParameterWord, SectionLine,
     TypeDeclaration, TypeKind,
 };

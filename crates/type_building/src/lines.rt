@@ -8,7 +8,7 @@ ghost use Rattle.type_building.specs.Named.{AddsLine, HaveLines, line_at};
 use crate::named::NamedTypes;
 use crate::order::{is_interface_kind, take_all};
 use indexmap::IndexMap;
-use ned_syntax::ast::TypeDeclaration;
+use ned_trees::declarations::TypeDeclaration;
 use sim_values::text::Text;
 use std::alloc::{AllocError, Global};
 

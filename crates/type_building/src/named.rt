@@ -8,7 +8,7 @@ ghost use Rattle.type_building.specs.Inheritance.{types_in};
 
 use crate::faults::is_built_in;
 use indexmap::IndexMap;
-use ned_syntax::ast::TypeDeclaration;
+use ned_trees::declarations::TypeDeclaration;
 use std::alloc::{AllocError, Global};
 use std::marker::Model;
 
@@ -21,8 +21,8 @@ pub(crate) struct NamedTypes<'a> {
 impl<'a> Model for NamedTypes<'a> {
     ghost use Rattle.std.specs.Prelude.{List};
     ghost use Rattle.std.specs.Coded.{coded_list};
-    ghost use Rattle.ned_syntax.specs.contracts.ast.TypeDeclaration.{the_row};
-    ghost use Rattle.ned_syntax.specs.declared.ast.TypeDeclaration.{TypeDeclaration};
+    ghost use Rattle.ned_trees.specs.contracts.declarations.TypeDeclaration.{the_row};
+    ghost use Rattle.ned_trees.specs.declared.declarations.TypeDeclaration.{TypeDeclaration};
     ghost use Rattle.type_building.specs.Named.{types_at, HaveNames};
 
     ghost Value = { List TypeDeclaration };

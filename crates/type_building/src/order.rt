@@ -7,7 +7,7 @@ ghost use Rattle.ned_types.specs.Types.{is_interface_kind};
 ghost use Rattle.type_building.specs.Named.{HaveNamesOf};
 
 use crate::named::NamedTypes;
-use ned_syntax::ast::{TypeDeclaration, TypeKind};
+use ned_trees::declarations::{TypeDeclaration, TypeKind};
 use sim_values::text::Text;
 use std::alloc::{AllocError, Global};
 

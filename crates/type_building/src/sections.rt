@@ -8,7 +8,7 @@ ghost use Rattle.ned_types.specs.Types.{section_clashes, is_declaration, declare
 ghost use Rattle.type_building.specs.Seen.{names_in, is_in, AddsNames, redeclares_seen, gives_seen, gives_unseen};
 
 use indexmap::IndexSet;
-use ned_syntax::ast::SectionLine;
+use ned_trees::declarations::SectionLine;
 use ned_types::given::{fixes, name_in, value_in};
 use std::alloc::{AllocError, Global};
 

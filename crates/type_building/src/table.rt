@@ -8,7 +8,7 @@ ghost use Rattle.type_building.specs.Building.{AnswersTable, Builds, CanBuild};
 
 use crate::faults;
 use ned_scopes::scopes::types_of;
-use ned_syntax::ast::NedFile;
+use ned_trees::declarations::NedFile;
 use ned_types::table::TypeTable;
 use sim_values::NoMemory;
 use std::alloc::{AllocError, Global};

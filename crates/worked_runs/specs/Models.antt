@@ -3,21 +3,21 @@ use Rattle.std.specs.Prelude.{ℕ, pos, false, List, [], ◌∷◌, ◌++◌, ma
 use Rattle.sim_values.specs.declared.value.Dimension.TheVariants as dimension
 use Rattle.sim_values.specs.declared.value.Value.{Value}
 use Rattle.sim_values.specs.declared.value.Value.TheVariants as values
-use Rattle.ned_expressions.specs.declared.ast.Expression.TheVariants as expression
-use Rattle.ned_values.specs.declared.ast.Mode.TheVariants as mode
-use Rattle.ned_syntax.specs.declared.ast.ParameterValue.TheVariants as parameter_value
-use Rattle.ned_syntax.specs.declared.ast.ParameterWord.TheVariants as word
-use Rattle.ned_syntax.specs.declared.ast.SectionLine.{SectionLine}
-use Rattle.ned_syntax.specs.declared.ast.SectionLine.TheVariants as line
-use Rattle.ned_syntax.specs.declared.ast.Submodule.{Submodule}
-use Rattle.ned_syntax.specs.declared.ast.TypeDeclaration.{TypeDeclaration}
-use Rattle.ned_syntax.specs.declared.ast.TypeKind.TheVariants as kind
+use Rattle.ned_trees.specs.declared.expressions.Expression.TheVariants as expression
+use Rattle.ned_trees.specs.declared.modes.Mode.TheVariants as mode
+use Rattle.ned_trees.specs.declared.declarations.ParameterValue.TheVariants as parameter_value
+use Rattle.ned_trees.specs.declared.declarations.ParameterWord.TheVariants as word
+use Rattle.ned_trees.specs.declared.declarations.SectionLine.{SectionLine}
+use Rattle.ned_trees.specs.declared.declarations.SectionLine.TheVariants as line
+use Rattle.ned_trees.specs.declared.declarations.Submodule.{Submodule}
+use Rattle.ned_trees.specs.declared.declarations.TypeDeclaration.{TypeDeclaration}
+use Rattle.ned_trees.specs.declared.declarations.TypeKind.TheVariants as kind
 use Rattle.ini_pattern.specs.declared.piece.Piece.{Piece}
 use Rattle.ini_pattern.specs.declared.piece.Piece.TheVariants.{AnyPath, Char}
-use Rattle.ini_entries.specs.declared.entry.EntryValue.TheVariants as entry_value
-use Rattle.ini_entries.specs.declared.entry.EntryMeaning.TheVariants as meaning
-use Rattle.ini_config.specs.declared.lines.IniLine.{IniLine}
-use Rattle.ini_config.specs.declared.lines.LineMeaning.TheVariants as ini
+use Rattle.ini_texts.specs.declared.entry.EntryValue.TheVariants as entry_value
+use Rattle.ini_texts.specs.declared.entry.EntryMeaning.TheVariants as meaning
+use Rattle.ini_texts.specs.declared.lines.IniLine.{IniLine}
+use Rattle.ini_texts.specs.declared.lines.LineMeaning.TheVariants as ini
 use Rattle.model_answers.specs.declared.model.Model.{Model}
 
 -- `int NAME;`

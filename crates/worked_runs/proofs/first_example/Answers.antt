@@ -5,10 +5,10 @@ use Rattle.std.specs.Str.{chars, is_utf8}
 use Rattle.sim_values.specs.declared.value.Value.TheVariants as values
 use Rattle.ned_tokens.specs.Lines.{tokens_of}
 use Rattle.ned_tokens.proofs.Whole.{all_took}
-use Rattle.ned_expressions.specs.declared.ast.Expression.{the_lemmas}
-use Rattle.ned_expressions.specs.declared.ast.Expression.TheVariants as expression_is
+use Rattle.ned_trees.specs.declared.expressions.Expression.{the_lemmas}
+use Rattle.ned_trees.specs.declared.expressions.Expression.TheVariants as expression_is
 use Rattle.ned_expressions.proofs.ExpressionLaws.{expression-lawful}
-use Rattle.ned_syntax.specs.declared.ast.NedFile.{NedFile}
+use Rattle.ned_trees.specs.declared.declarations.NedFile.{NedFile}
 use Rattle.ned_syntax.proofs.GrammarLaws.{file-lawful}
 use Rattle.ned_syntax.specs.NedText.{IsNedFile}
 use Rattle.ned_expressions.specs.ExpressionText.{IsExpressionText}
@@ -44,7 +44,7 @@ use Rattle.ini_config.specs.Texts.{lines_of_ini, literal_rest, uncommented, befo
 use Rattle.model_answers.specs.Models.{time_limit_of}
 use Rattle.ned_scopes.specs.Scopes.{types_of}
 use Rattle.ned_scopes.proofs.ExampleLaws.{two_levels}
-use Rattle.ned_syntax.specs.declared.ast.TypeDeclaration.{TypeDeclaration}
+use Rattle.ned_trees.specs.declared.declarations.TypeDeclaration.{TypeDeclaration}
 use Rattle.type_building.specs.Building.{fault_of}
 use Rattle.type_building.specs.Inheritance.{flat_types}
 use Rattle.model_answers.specs.Records.{path_around, path_of}

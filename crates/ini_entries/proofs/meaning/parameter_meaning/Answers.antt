@@ -1,6 +1,6 @@
 use Rattle.std.proofs.Common.{Some, subst}
 use Rattle.ini_entries.specs.Meaning.{IsPatternAndValue, Tells}
-use Rattle.ini_entries.specs.declared.entry.EntryMeaning.TheVariants as meaning
+use Rattle.ini_texts.specs.declared.entry.EntryMeaning.TheVariants as meaning
 use Rattle.ini_entries.proofs.EntryLaws.{no_parameter, only_meaning}
 use Rattle.ini_entries.proofs.meaning.parameter_meaning.Goals as goal
 

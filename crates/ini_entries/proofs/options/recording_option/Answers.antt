@@ -1,5 +1,5 @@
 use Rattle.ini_entries.proofs.OptionLaws.{no_recording, only_option}
-use Rattle.ini_entries.specs.declared.entry.ObjectOption.TheVariants as object
+use Rattle.ini_texts.specs.declared.entry.ObjectOption.TheVariants as object
 use Rattle.ini_entries.proofs.options.recording_option.Goals as goal
 
 pub returns-in_err-truth_named : goal.returns-in_err-truth_named

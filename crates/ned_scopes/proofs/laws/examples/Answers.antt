@@ -1,6 +1,6 @@
 use Rattle.std.proofs.Common.{◌++◌, List, map, ap}
-use Rattle.ned_syntax.specs.declared.ast.Submodule.{Submodule}
-use Rattle.ned_syntax.specs.declared.ast.TypeDeclaration.{TypeDeclaration}
+use Rattle.ned_trees.specs.declared.declarations.Submodule.{Submodule}
+use Rattle.ned_trees.specs.declared.declarations.TypeDeclaration.{TypeDeclaration}
 use Rattle.ned_scopes.specs.Scopes.{types_of}
 use Rattle.ned_scopes.specs.Example.{first_file, second_file, head_of}
 use Rattle.ned_scopes.proofs.ExampleLaws.{two_levels}

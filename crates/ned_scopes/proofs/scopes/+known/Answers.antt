@@ -1,5 +1,5 @@
 use Rattle.std.proofs.Common.{◌≡◌, ◌+◌, List, ◌∷◌, sym, ap, ◌∙◌, drop}
-use Rattle.ned_syntax.specs.declared.ast.NestedType.{NestedType}
+use Rattle.ned_trees.specs.declared.declarations.NestedType.{NestedType}
 use Rattle.ned_scopes.specs.declared.known.Known.{Known}
 use Rattle.ned_scopes.specs.Known.{all_behind}
 use Rattle.ned_scopes.specs.Scopes.{known_from, known_within}

@@ -6,14 +6,14 @@ use Rattle.ned_tokens.specs.declared.token.Keyword.TheVariants as k
 use Rattle.ned_tokens.specs.declared.token.Mark.TheVariants as m
 use Rattle.ned_tokens.specs.declared.token.Token.{Token}
 use Rattle.ned_tokens.specs.declared.token.Token.TheVariants as token
-use Rattle.ned_expressions.specs.declared.ast.Expression.{Expression, the_lemmas}
-use Rattle.ned_expressions.specs.declared.ast.Expression.TheVariants as expressions
-use Rattle.ned_expressions.specs.declared.ast.Sign.TheVariants as signs
+use Rattle.ned_trees.specs.declared.expressions.Expression.{Expression, the_lemmas}
+use Rattle.ned_trees.specs.declared.expressions.Expression.TheVariants as expressions
+use Rattle.ned_trees.specs.declared.expressions.Sign.TheVariants as signs
 use Rattle.ned_expressions.specs.Spelling.{literal_tokens, expression_tokens}
 use Rattle.ned_spelling.specs.Tokens.{spell, word_text, mark_text, unit_text}
-use Rattle.ned_syntax.specs.declared.ast.TypeDeclaration.{TypeDeclaration}
-use Rattle.ned_syntax.specs.declared.ast.NestedType.{NestedType, roll-NestedType}
-use Rattle.ned_syntax.specs.declared.ast.NestedType.TheFolds.{fold-roll-NestedType}
+use Rattle.ned_trees.specs.declared.declarations.TypeDeclaration.{TypeDeclaration}
+use Rattle.ned_trees.specs.declared.declarations.NestedType.{NestedType, roll-NestedType}
+use Rattle.ned_trees.specs.declared.declarations.NestedType.TheFolds.{fold-roll-NestedType}
 use Rattle.ned_spelling.specs.Declarations.{kind_tokens, tokens_at, type_tokens, file_tokens, spelled}
 use Rattle.ned_spelling.specs.Example.{example}
 use Rattle.ned_spelling.proofs.declarations.spelled_example.Goals as goal

@@ -1,6 +1,6 @@
 use Rattle.std.proofs.Common.{◌≡◌, drop}
 use Rattle.std.specs.Prelude.{map}
-use Rattle.ned_syntax.specs.declared.ast.RecordedMode.{RecordedMode}
+use Rattle.ned_trees.specs.declared.declarations.RecordedMode.{RecordedMode}
 use Rattle.recorders.specs.Modes.{with_modes, declared_modes}
 use Rattle.recorders.proofs.modes.declared_modes.Given as goal
 

@@ -1,6 +1,6 @@
 use Rattle.std.proofs.Common.{◌≡◌, ◌++◌, drop}
 use Rattle.std.specs.Prelude.{filter}
-use Rattle.ned_values.specs.declared.ast.Mode.{Mode}
+use Rattle.ned_trees.specs.declared.modes.Mode.{Mode}
 use Rattle.recorders.specs.Modes.{is_recorded, default_modes}
 use Rattle.recorders.proofs.modes.default_modes.Given as goal
 

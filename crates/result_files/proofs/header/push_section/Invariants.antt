@@ -1,6 +1,6 @@
 use Rattle.std.proofs.Common.{◌≡◌, ◌++◌, drop}
 use Rattle.std.specs.Option.{option_copied}
-use Rattle.ini_config.specs.Sections.{entries_from, entries_under}
+use Rattle.ini_texts.specs.Sections.{entries_from, entries_under}
 use Rattle.result_files.specs.Header.{config_lines}
 use Rattle.result_files.proofs.header.push_section.Given as goal
 

@@ -1,6 +1,6 @@
 use Rattle.std.proofs.Common.{◌++◌, ◌∷◌, [], ap, ◌∙◌, append_assoc, List, Some}
-use Rattle.ned_syntax.specs.declared.ast.ParameterWord.TheVariants as word
-use Rattle.ned_syntax.specs.declared.ast.SectionLine.{SectionLine}
+use Rattle.ned_trees.specs.declared.declarations.ParameterWord.TheVariants as word
+use Rattle.ned_trees.specs.declared.declarations.SectionLine.{SectionLine}
 use Rattle.sim_values.specs.declared.value.Dimension.TheVariants.{Rate}
 use Rattle.sim_values.specs.declared.value.Value.TheVariants as values
 use Rattle.std.specs.Prelude.{pos}

@@ -1,5 +1,5 @@
 use Rattle.std.proofs.Common.{List, Bor, [], ◌∷◌, refl, sym, subst, ap, ◌∙◌}
-use Rattle.ned_syntax.specs.declared.ast.TypeDeclaration.{TypeDeclaration}
+use Rattle.ned_trees.specs.declared.declarations.TypeDeclaration.{TypeDeclaration}
 use Rattle.type_building.specs.Inheritance.{turned_onto, types_in}
 use Rattle.type_building.specs.Named.{HaveLines, line_at}
 use Rattle.type_building.proofs.LineLaws.{line_left, turned_moved}

@@ -1,5 +1,5 @@
 use Rattle.std.proofs.Common.{◌||◌, List, Bor, subst, sym, ap, ◌∙◌}
-use Rattle.ned_syntax.specs.declared.ast.TypeDeclaration.{TypeDeclaration}
+use Rattle.ned_trees.specs.declared.declarations.TypeDeclaration.{TypeDeclaration}
 use Rattle.type_building.specs.Inheritance.{types_in}
 use Rattle.ned_types.specs.Types.{is_type_named}
 use Rattle.type_building.specs.Named.{AddsName}

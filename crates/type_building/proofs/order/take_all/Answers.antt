@@ -1,5 +1,5 @@
 use Rattle.std.proofs.Common.{List, Bor, ◌++◌, ap, ◌∙◌, arith}
-use Rattle.ned_syntax.specs.declared.ast.TypeDeclaration.{TypeDeclaration}
+use Rattle.ned_trees.specs.declared.declarations.TypeDeclaration.{TypeDeclaration}
 use Rattle.type_building.specs.Inheritance.{heirs, roots, types_in}
 use Rattle.type_building.proofs.OrderLaws.{round_left, round_taken, stuck_circle, taken_end}
 use Rattle.type_building.proofs.order.take_all.Goals as goal

@@ -1,0 +1,5 @@
+pub mod Entries
+pub mod Scans
+pub mod Sections
+pub mod Walk
+pub mod Words

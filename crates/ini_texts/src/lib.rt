@@ -1,0 +1,15 @@
+//! Ini texts as values: their lines and entries, the sections that make a configuration, and the first entry that counts for a
+//! path. How they are read, `ini_entries` and `ini_config` say.
+//!
+//! OMNeT++ Simulation Manual, "Configuring Simulations".
+#![tactic(auto)]
+
+pub mod chain;
+pub mod copies;
+pub mod entries;
+pub mod entry;
+pub mod error;
+pub mod laws;
+pub mod lines;
+pub mod scan;
+pub mod speaks;

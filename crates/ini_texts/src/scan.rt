@@ -1,0 +1,122 @@
+//! Looking through the entries of a configuration, in their order.
+
+ghost use Rattle.std.specs.Prelude.{◌≡◌};
+ghost use Rattle.std.specs.Option.{option_and_then, option_copied};
+ghost use Rattle.ini_texts.specs.Scans.{is_wanted, wanted_of, first_wanted};
+ghost use Rattle.ini_texts.specs.Sections.{is_in, entry_here, section_behind, entries_under, entries_along};
+
+use crate::entry::EntryMeaning;
+use crate::lines::{Entry, IniLine, LineMeaning};
+use crate::speaks::speaks;
+use sim_values::text::Text;
+
+// ---- lines in their sections
+
+/// The section that the lines behind a line stand in, where this line stands in `section`.
+pub fn section_behind<'a>(section: Option<&'a [u8]>, line: &'a IniLine) -> Option<&'a [u8]>
+    ensures { option_copied result ≡ section_behind (option_copied section.entry) line.now.meaning }
+{
+    match &line.meaning {
+        LineMeaning::Section(name) => Some(name.as_bytes()),
+        _ => section,
+    }
+}
+
+/// Whether it is the section of that name.
+fn is_in(name: &[u8], section: Option<&[u8]>) -> bool
+    ensures { result ≡ is_in name.now (option_copied section.entry) }
+{
+    match section {
+        Some(section) => section == name,
+        None => false,
+    }
+}
+
+/// The entry of a line that stands in `section`, where this is the section of that name.
+pub fn entry_in<'a>(name: &[u8], section: Option<&[u8]>, line: &'a IniLine) -> Option<&'a Entry>
+    ensures { option_copied result ≡ entry_here (is_in name.now (option_copied section.entry)) line.now.meaning }
+{
+    if !is_in(name, section) {
+        return None;
+    }
+    match &line.meaning {
+        LineMeaning::Entry(entry) => Some(entry),
+        _ => None,
+    }
+}
+
+// ---- the first that is wanted
+
+/// Which entries are looked for.
+#[derive(Clone, Copy)]
+pub(crate) enum Wanted<'a> {
+    /// Those of the option `extends`.
+    Bases,
+    /// Those of the option `network`.
+    Network,
+    /// Those of the option `sim-time-limit`.
+    TimeLimit,
+    /// Those that count for the path and match it.
+    Path(&'a str),
+}
+
+/// Whether an entry that says this is looked for.
+fn is_wanted(wanted: Wanted<'_>, meaning: &EntryMeaning) -> bool
+    ensures { result ≡ is_wanted wanted.entry meaning.now }
+{
+    match wanted {
+        Wanted::Bases => matches!(meaning, EntryMeaning::Extends(_)),
+        Wanted::Network => matches!(meaning, EntryMeaning::Network(_)),
+        Wanted::TimeLimit => matches!(meaning, EntryMeaning::TimeLimit(_)),
+        Wanted::Path(path) => speaks(path, meaning),
+    }
+}
+
+/// The entry of a line, which stands in `section`, where this is the section of that name and the entry is looked for.
+fn wanted_in<'a>(
+    name: &[u8],
+    section: Option<&[u8]>,
+    line: &'a IniLine,
+    wanted: Wanted<'_>,
+) -> Option<&'a Entry>
+    ensures { option_copied result ≡ option_and_then (wanted_of wanted.entry) (entry_here (is_in name.now (option_copied section.entry)) line.now.meaning) }
+{
+    match entry_in(name, section, line) {
+        Some(entry) if is_wanted(wanted, &entry.meaning) => Some(entry),
+        _ => None,
+    }
+}
+
+/// The first entry that is looked for in the section of that name.
+pub(crate) fn first_under<'a>(
+    lines: &'a [IniLine],
+    name: &[u8],
+    wanted: Wanted<'_>,
+) -> Option<&'a Entry>
+    ensures { option_copied result ≡ first_wanted wanted.entry (entries_under name.now lines.now) }
+{
+    let mut section = None;
+    for line in lines {
+        if let Some(entry) = wanted_in(name, section, line, wanted) {
+            return Some(entry);
+        }
+        section = section_behind(section, line);
+    }
+    None
+}
+
+/// The first entry that is looked for along a chain.
+pub(crate) fn first_along<'a>(
+    lines: &'a [IniLine],
+    chain: &[Text],
+    wanted: Wanted<'_>,
+) -> Option<&'a Entry>
+    ensures { option_copied result ≡ first_wanted wanted.entry (entries_along chain.now lines.now) }
+{
+    for name in chain {
+        if let Some(entry) = first_under(lines, name.as_bytes(), wanted) {
+            return Some(entry);
+        }
+    }
+    None
+}

@@ -1,0 +1,4 @@
+//! Messages from outside, and the order in which they go.
+#![tactic(auto)]
+
+pub mod injection;
