@@ -1,8 +1,9 @@
 //! Cuts a line into tokens.
 
-ghost use Rattle.std.specs.Prelude.{◌≡◌, ◌++◌, ◌∷◌, IfOk, OnOk, false, option_map};
+ghost use Rattle.std.specs.Prelude.{◌≡◌, ◌++◌, ◌∷◌, [], IfOk, OnOk, Some, false, option_map};
 ghost use Rattle.ned_tokens.specs.Lexing as lex;
 ghost use Rattle.ned_tokens.specs.Lexing.{numbered_by, ends_open};
+ghost use Rattle.ned_tokens.specs.Literals.{literal_from};
 ghost use Rattle.std.specs.Str.{is_utf8};
 
 use crate::literal::literal;
@@ -77,6 +78,23 @@ fn is_open(token: &Token) -> bool
     matches!(token, Token::OpenLiteral)
 }
 
+/// Adds a token of the line of that number, and says whether the token goes on behind the line.
+fn add(
+    token: Token,
+    number: usize,
+    tokens: &mut Vec<Token>,
+    lines: &mut Vec<usize>,
+) -> Result<bool, AllocError>
+    ensures tokens { OnOk result (tokens.new.items ≡ tokens.old.items ++ token ∷ []) }
+    ensures lines { OnOk result (lines.new.items ≡ lines.old.items ++ number ∷ []) }
+    ensures carried { IfOk result (λ carried. carried ≡ lex.is_open token) }
+{
+    let carried = is_open(&token);
+    tokens.push(token)?;
+    lines.push(number)?;
+    Ok(carried)
+}
+
 /// Adds the tokens of the rest of a line, and says whether the last of all goes on behind the line.
 fn scan(
     alloc: Global,
@@ -93,9 +111,7 @@ fn scan(
     let mut rest = bytes;
     let mut carried = was_open;
     'tokens: while let Some((token, after)) = token_of(alloc, behind(Class::Blank, rest))? {
-        carried = is_open(&token);
-        tokens.push(token)?;
-        lines.push(number)?;
+        carried = add(token, number, tokens, lines)?;
         rest = after;
     }
     Ok(carried)
@@ -108,6 +124,23 @@ fn is_text(line: &[u8]) -> bool
         Ok(_) => true,
         Err(_) => false,
     }
+}
+
+/// Adds the tokens of a line that begins in a text in quotes, and says whether the next does.
+fn add_from_inside(
+    alloc: Global,
+    line: &[u8],
+    number: usize,
+    tokens: &mut Vec<Token>,
+    lines: &mut Vec<usize>,
+) -> Result<bool, AllocError>
+    ensures tokens { OnOk result (tokens.new.items ≡ tokens.old.items ++ lex.behind_literal (literal_from false (Some []) line.now)) }
+    ensures lines { OnOk result (lines.new.items ≡ lines.old.items ++ numbered_by number (lex.behind_literal (literal_from false (Some []) line.now))) }
+    ensures carried { IfOk result (λ carried. carried ≡ ends_open false (lex.behind_literal (literal_from false (Some []) line.now))) }
+{
+    let (token, after) = literal(alloc, line)?;
+    let carried = add(token, number, tokens, lines)?;
+    scan(alloc, after, carried, number, tokens, lines)
 }
 
 /// Adds the tokens of a line that begins in a text in quotes, or outside one, and says whether the next does.
@@ -125,16 +158,11 @@ pub(crate) fn line_tokens(
     ensures carried { IfOk result (λ carried. carried ≡ ends_open false (lex.line_tokens inside line.now)) }
 {
     if !is_text(line) {
-        tokens.push(Token::Broken)?;
-        lines.push(number)?;
-        return Ok(false);
+        return add(Token::Broken, number, tokens, lines);
     }
-    if !inside {
-        return scan(alloc, line, false, number, tokens, lines);
+    if inside {
+        add_from_inside(alloc, line, number, tokens, lines)
+    } else {
+        scan(alloc, line, false, number, tokens, lines)
     }
-    let (token, after) = literal(alloc, line)?;
-    let carried = is_open(&token);
-    tokens.push(token)?;
-    lines.push(number)?;
-    scan(alloc, after, carried, number, tokens, lines)
 }

@@ -62,7 +62,7 @@ fn last_line(bytes: &[u8]) -> usize
 {
     let mut line = 1;
     let mut rest = bytes;
-    'bytes: while let [b, after @ ..] = rest {
+    'bytes: while let Some((b, after)) = rest.split_first() {
         if after.is_empty() {
             return line;
         }

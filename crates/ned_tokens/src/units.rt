@@ -3,6 +3,7 @@
 ghost use Rattle.std.specs.Prelude.{◌≡◌, ◌<◌, ◌≤◌, ◌*◌, ◌^◌, IfSome};
 ghost use Rattle.ned_tokens.specs.Units as units;
 
+use sim_values::text::spells;
 use sim_values::units::time_unit;
 use sim_values::value::Dimension;
 
@@ -11,13 +12,13 @@ fn rate_unit(word: &[u8]) -> Option<u64>
     ensures value { result ≡ units.rate_unit word.now }
     ensures bounds { IfSome result (λ n. (0 < n) × (n ≤ 9 * 10 ^ 16)) }
 {
-    if word == b"bps".as_slice() {
+    if spells(word, b"bps") {
         Some(1)
-    } else if word == b"kbps".as_slice() {
+    } else if spells(word, b"kbps") {
         Some(1_000)
-    } else if word == b"Mbps".as_slice() {
+    } else if spells(word, b"Mbps") {
         Some(1_000_000)
-    } else if word == b"Gbps".as_slice() {
+    } else if spells(word, b"Gbps") {
         Some(1_000_000_000)
     } else {
         None
@@ -29,13 +30,13 @@ fn length_unit(word: &[u8]) -> Option<u64>
     ensures value { result ≡ units.length_unit word.now }
     ensures bounds { IfSome result (λ n. (0 < n) × (n ≤ 9 * 10 ^ 16)) }
 {
-    if word == b"b".as_slice() {
+    if spells(word, b"b") {
         Some(1)
-    } else if word == b"B".as_slice() {
+    } else if spells(word, b"B") {
         Some(8)
-    } else if word == b"KiB".as_slice() {
+    } else if spells(word, b"KiB") {
         Some(8_192)
-    } else if word == b"MiB".as_slice() {
+    } else if spells(word, b"MiB") {
         Some(8_388_608)
     } else {
         None

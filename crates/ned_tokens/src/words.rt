@@ -4,31 +4,32 @@ ghost use Rattle.std.specs.Prelude.{◌≡◌};
 ghost use Rattle.ned_tokens.specs.Words as words;
 
 use crate::token::Keyword;
+use sim_values::text::spells;
 
 /// The words that begin a type, or stand in its head or before it.
 #[tactic(auto, unfolding(crate::specs::Words::head_word))]
 fn head_word(word: &[u8]) -> Option<Keyword>
     ensures { result ≡ words.head_word word.now }
 {
-    if word == b"package".as_slice() {
+    if spells(word, b"package") {
         Some(Keyword::Package)
-    } else if word == b"import".as_slice() {
+    } else if spells(word, b"import") {
         Some(Keyword::Import)
-    } else if word == b"simple".as_slice() {
+    } else if spells(word, b"simple") {
         Some(Keyword::Simple)
-    } else if word == b"module".as_slice() {
+    } else if spells(word, b"module") {
         Some(Keyword::Module)
-    } else if word == b"network".as_slice() {
+    } else if spells(word, b"network") {
         Some(Keyword::Network)
-    } else if word == b"channel".as_slice() {
+    } else if spells(word, b"channel") {
         Some(Keyword::Channel)
-    } else if word == b"moduleinterface".as_slice() {
+    } else if spells(word, b"moduleinterface") {
         Some(Keyword::ModuleInterface)
-    } else if word == b"channelinterface".as_slice() {
+    } else if spells(word, b"channelinterface") {
         Some(Keyword::ChannelInterface)
-    } else if word == b"extends".as_slice() {
+    } else if spells(word, b"extends") {
         Some(Keyword::Extends)
-    } else if word == b"like".as_slice() {
+    } else if spells(word, b"like") {
         Some(Keyword::Like)
     } else {
         None
@@ -40,21 +41,21 @@ fn head_word(word: &[u8]) -> Option<Keyword>
 fn section_word(word: &[u8]) -> Option<Keyword>
     ensures { result ≡ words.section_word word.now }
 {
-    if word == b"parameters".as_slice() {
+    if spells(word, b"parameters") {
         Some(Keyword::Parameters)
-    } else if word == b"gates".as_slice() {
+    } else if spells(word, b"gates") {
         Some(Keyword::Gates)
-    } else if word == b"types".as_slice() {
+    } else if spells(word, b"types") {
         Some(Keyword::Types)
-    } else if word == b"submodules".as_slice() {
+    } else if spells(word, b"submodules") {
         Some(Keyword::Submodules)
-    } else if word == b"connections".as_slice() {
+    } else if spells(word, b"connections") {
         Some(Keyword::Connections)
-    } else if word == b"allowunconnected".as_slice() {
+    } else if spells(word, b"allowunconnected") {
         Some(Keyword::AllowUnconnected)
-    } else if word == b"if".as_slice() {
+    } else if spells(word, b"if") {
         Some(Keyword::If)
-    } else if word == b"for".as_slice() {
+    } else if spells(word, b"for") {
         Some(Keyword::For)
     } else {
         None
@@ -66,23 +67,23 @@ fn section_word(word: &[u8]) -> Option<Keyword>
 fn member_word(word: &[u8]) -> Option<Keyword>
     ensures { result ≡ words.member_word word.now }
 {
-    if word == b"volatile".as_slice() {
+    if spells(word, b"volatile") {
         Some(Keyword::Volatile)
-    } else if word == b"bool".as_slice() {
+    } else if spells(word, b"bool") {
         Some(Keyword::Bool)
-    } else if word == b"int".as_slice() {
+    } else if spells(word, b"int") {
         Some(Keyword::Int)
-    } else if word == b"string".as_slice() {
+    } else if spells(word, b"string") {
         Some(Keyword::Text)
-    } else if word == b"double".as_slice() {
+    } else if spells(word, b"double") {
         Some(Keyword::Double)
-    } else if word == b"default".as_slice() {
+    } else if spells(word, b"default") {
         Some(Keyword::Default)
-    } else if word == b"input".as_slice() {
+    } else if spells(word, b"input") {
         Some(Keyword::Input)
-    } else if word == b"output".as_slice() {
+    } else if spells(word, b"output") {
         Some(Keyword::Output)
-    } else if word == b"inout".as_slice() {
+    } else if spells(word, b"inout") {
         Some(Keyword::Inout)
     } else {
         None
@@ -94,21 +95,21 @@ fn member_word(word: &[u8]) -> Option<Keyword>
 fn value_word(word: &[u8]) -> Option<Keyword>
     ensures { result ≡ words.value_word word.now }
 {
-    if word == b"true".as_slice() {
+    if spells(word, b"true") {
         Some(Keyword::True)
-    } else if word == b"false".as_slice() {
+    } else if spells(word, b"false") {
         Some(Keyword::False)
-    } else if word == b"this".as_slice() {
+    } else if spells(word, b"this") {
         Some(Keyword::This)
-    } else if word == b"parent".as_slice() {
+    } else if spells(word, b"parent") {
         Some(Keyword::Parent)
-    } else if word == b"index".as_slice() {
+    } else if spells(word, b"index") {
         Some(Keyword::Index)
-    } else if word == b"parentIndex".as_slice() {
+    } else if spells(word, b"parentIndex") {
         Some(Keyword::ParentIndex)
-    } else if word == b"sizeof".as_slice() {
+    } else if spells(word, b"sizeof") {
         Some(Keyword::Sizeof)
-    } else if word == b"exists".as_slice() {
+    } else if spells(word, b"exists") {
         Some(Keyword::Exists)
     } else {
         None

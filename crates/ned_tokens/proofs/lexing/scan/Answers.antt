@@ -19,9 +19,9 @@ pub tokens-preserved : goal.tokens-preserved
 tokens-preserved c =
     let more = scanned-some c.tokens.rest.now (c.in-Some.token, c.in-Some.after.now) (found (goal.at.tokens-preserved c).In-Some) in
     record {
-      tokens = rw (c.in_ok-push.ensures.items, append_assoc) (ap (λ (l : List Token). c.tokens.tokens.items ++ l) (sym more) ∙ c.tokens.invariant.tokens);
-      lines = rw (c.in_ok-push-2.ensures.items, append_assoc) (ap (λ (l : List Token). c.tokens.lines.items ++ numbered_by c.args.number l) (sym more) ∙ c.tokens.invariant.lines);
-      carried = rw c.is_open-carried.ensures (ap (ends_open c.tokens.carried) (sym more) ∙ c.tokens.invariant.carried);
+      tokens = rw (c.in_ok-carried.ensures.tokens, append_assoc) (ap (λ (l : List Token). c.tokens.tokens.items ++ l) (sym more) ∙ c.tokens.invariant.tokens);
+      lines = rw (c.in_ok-carried.ensures.lines, append_assoc) (ap (λ (l : List Token). c.tokens.lines.items ++ numbered_by c.args.number l) (sym more) ∙ c.tokens.invariant.lines);
+      carried = rw c.in_ok-carried.ensures.carried (ap (ends_open c.tokens.carried) (sym more) ∙ c.tokens.invariant.carried);
     }
 
 pub returns-clause-tokens : goal.returns-clause-tokens
