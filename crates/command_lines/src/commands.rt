@@ -9,7 +9,7 @@ use crate::numbers::number_of;
 use crate::words::{behind, numbered, word_of};
 use model_edits::edit::Edit;
 use sim_values::NoMemory;
-use sim_values::text::Text;
+use sim_values::text::{Text, spells};
 use std::alloc::{AllocError, Global};
 
 /// The longest command line, in bytes.
@@ -135,11 +135,11 @@ fn limit_of(line: &[u8]) -> Option<u64>
 fn plain_command(line: &[u8]) -> Command
     ensures { result ≡ plain_command line.now }
 {
-    if line == b"write".as_slice() {
+    if spells(line, b"write") {
         Command::Write
-    } else if line == b"held".as_slice() {
+    } else if spells(line, b"held") {
         Command::Held
-    } else if line == b"positions".as_slice() {
+    } else if spells(line, b"positions") {
         Command::Positions
     } else {
         Command::Unknown

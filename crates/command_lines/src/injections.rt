@@ -15,7 +15,7 @@ use hex::FromHexError;
 use injection_order::injection::Due;
 use model_edits::edit::Edit;
 use sim_time::SimTime;
-use sim_values::text::Text;
+use sim_values::text::{Text, spells};
 use std::alloc::{AllocError, Global};
 
 // ---- the words of an injection
@@ -99,7 +99,7 @@ fn is_lower_hex(word: &[u8]) -> bool
 fn is_dash(word: &[u8]) -> bool
     ensures { result ≡ bytes_eq word.now (codes "-") }
 {
-    word == b"-".as_slice()
+    spells(word, b"-")
 }
 
 /// Whether a word says the bytes of a payload.

@@ -10,7 +10,7 @@ use ini_texts::scan::{entry_in, section_behind};
 use ini_texts::speaks::last_name;
 use ned_trees::declarations::{TypeDeclaration, TypeKind};
 use sim_values::NoMemory;
-use sim_values::text::Text;
+use sim_values::text::{Text, spells};
 use sqlite_items::Items;
 use std::alloc::Global;
 use text_explanations::explanation::Explanation;
@@ -91,7 +91,7 @@ fn bases_of<'a>(lines: &'a [IniLine], name: &[u8]) -> Option<(usize, &'a [Text])
 
 /// Whether there is a configuration of that name.
 fn exists(names: &[&[u8]], name: &[u8]) -> bool {
-    name == b"General".as_slice() || names.iter().any(|other| *other == name)
+    spells(name, b"General") || names.iter().any(|other| *other == name)
 }
 
 /// Begins what is wrong with the configuration of that name, which extends something in that line.

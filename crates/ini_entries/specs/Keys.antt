@@ -1,6 +1,6 @@
 -- Keys of entries: their parts, and what they are for.
 -- OMNeT++ Simulation Manual, "Configuring Simulations", "Per-Object Configuration Options".
-use Rattle.std.specs.Prelude.{ℕ, Bool, true, false, ◌&&◌, [], ◌∷◌, Option, Some, None, ◌==◌, if◌then◌else◌, codes}
+use Rattle.std.specs.Prelude.{ℕ, Bool, true, false, ◌&&◌, [], ◌∷◌, Option, Some, None, ◌==◌, if◌then◌else◌}
 use Rattle.std.specs.Str.{bytes_eq}
 use Rattle.ini_entries.specs.declared.keys.KeyPlace.{KeyPlace}
 use Rattle.ini_entries.specs.declared.keys.KeyPlace.TheVariants.{Open, InSet, InBrackets, InSetInBrackets}

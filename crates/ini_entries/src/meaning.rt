@@ -16,7 +16,7 @@ use ini_pattern::{Pattern, PatternFault};
 use ini_texts::entry::{EntryMeaning, EntryValue, ObjectEntry, ParameterEntry};
 use ned_expressions::parse::parse_expression;
 use ned_values::error::NedError;
-use sim_values::text::Text;
+use sim_values::text::{Text, spells};
 use std::alloc::{AllocError, Global};
 use std::str::from_utf8;
 
@@ -47,7 +47,7 @@ fn is_pattern(alloc: Global, key: &[u8]) -> Result<bool, AllocError>
 fn entry_value(alloc: Global, bytes: &[u8]) -> Result<Option<EntryValue>, AllocError>
     ensures { IfOk result (λ found. Tells (IsEntryValue bytes.now) found) }
 {
-    if bytes == b"default".as_slice() {
+    if spells(bytes, b"default") {
         return Ok(Some(EntryValue::Default));
     }
     match parse_expression(alloc, bytes) {
@@ -197,7 +197,7 @@ fn part_meaning(
 {
     if has_hyphen(part) {
         object_meaning(alloc, key, part, value)
-    } else if part == b"typename".as_slice() {
+    } else if spells(part, b"typename") {
         type_meaning(alloc, key, value)
     } else {
         parameter_meaning(alloc, key, value)
@@ -226,11 +226,11 @@ pub fn entry_meaning(
     requires { is_key key.now ≡ true }
     ensures { IfOk result (λ found. Tells (IsEntryMeaning key.now value.now) found) }
 {
-    if key == b"network".as_slice() {
+    if spells(key, b"network") {
         network_meaning(alloc, value)
-    } else if key == b"extends".as_slice() {
+    } else if spells(key, b"extends") {
         extends_meaning(alloc, value)
-    } else if key == b"sim-time-limit".as_slice() {
+    } else if spells(key, b"sim-time-limit") {
         limit_meaning(alloc, value)
     } else {
         kind_meaning(alloc, key, value)

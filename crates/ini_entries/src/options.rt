@@ -14,7 +14,7 @@ use ned_values::ast::Expression;
 use ned_values::error::NedError;
 use ned_values::modes::mode_named;
 use ned_values::parse::parse_expression;
-use sim_values::text::Text;
+use sim_values::text::{Text, spells};
 use sim_values::value::{Dimension, Value};
 use sqlite_items::Items;
 use std::alloc::{AllocError, Global};
@@ -81,17 +81,17 @@ pub(crate) fn time_limit(alloc: Global, bytes: &[u8]) -> Result<Option<u64>, All
 fn is_left_out(key: &[u8]) -> bool
     ensures { result ≡ texts.is_among key.now options.words_left_out }
 {
-    key == b"include".as_slice() || key == b"warmup-period".as_slice()
+    spells(key, b"include") || spells(key, b"warmup-period")
 }
 
 /// Whether an option without effect may have a value.
 fn is_only_value(key: &[u8], value: &[u8]) -> bool
     ensures { result ≡ options.is_only_value key.now value.now }
 {
-    if key == b"repeat".as_slice() {
-        value == b"1".as_slice()
-    } else if key == b"simtime-resolution".as_slice() {
-        value == b"ps".as_slice()
+    if spells(key, b"repeat") {
+        spells(value, b"1")
+    } else if spells(key, b"simtime-resolution") {
+        spells(value, b"ps")
     } else {
         true
     }
@@ -111,9 +111,9 @@ pub(crate) fn is_other_option(key: &[u8], value: &[u8]) -> bool
 fn plain_item(text: &[u8]) -> Option<ModeItem>
     ensures { result ≡ options.plain_item text.now }
 {
-    if text == b"default".as_slice() {
+    if spells(text, b"default") {
         Some(ModeItem::Default)
-    } else if text == b"all".as_slice() {
+    } else if spells(text, b"all") {
         Some(ModeItem::All)
     } else {
         Some(ModeItem::Only(mode_named(text)?))
@@ -152,9 +152,9 @@ fn mode_items(alloc: Global, bytes: &[u8]) -> Result<Option<Items<ModeItem>>, Al
 fn truth_named(bytes: &[u8]) -> Option<bool>
     ensures { Tells (λ on. bytes.now ≡ options.truth_word on) result }
 {
-    if bytes == b"true".as_slice() {
+    if spells(bytes, b"true") {
         Some(true)
-    } else if bytes == b"false".as_slice() {
+    } else if spells(bytes, b"false") {
         Some(false)
     } else {
         None
@@ -165,9 +165,9 @@ fn truth_named(bytes: &[u8]) -> Option<bool>
 fn is_recording_word(name: &[u8]) -> bool
     ensures { result ≡ texts.is_among name.now options.recording_words }
 {
-    name == b"scalar-recording".as_slice()
-        || name == b"vector-recording".as_slice()
-        || name == b"statistic-recording".as_slice()
+    spells(name, b"scalar-recording")
+        || spells(name, b"vector-recording")
+        || spells(name, b"statistic-recording")
 }
 
 /// What the option of recording modes says.
@@ -196,7 +196,7 @@ pub(crate) fn object_option(
 ) -> Result<Option<ObjectOption>, AllocError>
     ensures { IfOk result (λ found. Tells (options.IsObjectOption name.now bytes.now) found) }
 {
-    if name == b"result-recording-modes".as_slice() {
+    if spells(name, b"result-recording-modes") {
         return modes_option(alloc, bytes);
     }
     if is_recording_word(name) {

@@ -16,7 +16,7 @@ use crate::entry::EntryMeaning;
 use crate::error::ChainError;
 use crate::lines::{IniLine, IniText, LineMeaning};
 use crate::scan::{Wanted, first_under};
-use sim_values::text::Text;
+use sim_values::text::{Text, spells};
 use sqlite_items::Items;
 use std::alloc::{AllocError, Global};
 
@@ -24,7 +24,7 @@ use std::alloc::{AllocError, Global};
 fn is_general(name: &[u8]) -> bool
     ensures { result ≡ bytes_eq name.now general }
 {
-    name == b"General".as_slice()
+    spells(name, b"General")
 }
 
 /// Whether a line begins a section of that name.

@@ -7,6 +7,7 @@ ghost use Rattle.ini_texts.specs.Entries.{last_name, is_parameter_name, speaks};
 ghost use Rattle.ini_texts.specs.Words.{word_typename};
 
 use crate::entry::EntryMeaning;
+use sim_values::text::spells;
 
 /// What stands behind the last dot of a path, or all of it.
 pub fn last_name(path: &[u8]) -> &[u8]
@@ -23,7 +24,7 @@ pub fn last_name(path: &[u8]) -> &[u8]
 fn is_typename(name: &[u8]) -> bool
     ensures { result ≡ bytes_eq name.now word_typename }
 {
-    name == b"typename".as_slice()
+    spells(name, b"typename")
 }
 
 /// Whether a name has a `-`.

@@ -10,7 +10,7 @@ use ned_trees::expressions::{Choice, Expression, Scope};
 use ned_trees::refusals::refused;
 use ned_values::leaves::{begins_mark, mark, name, word};
 use ned_values::literals::plain_literal;
-use sim_values::text::Text;
+use sim_values::text::{Text, spells};
 use sqlite_items::Boxed;
 use std::alloc::Global;
 
@@ -47,9 +47,9 @@ pub(crate) enum Tail {
 pub(crate) fn choice_named(text: &[u8]) -> Option<Choice>
     ensures { result ≡ grammar.choice_named text.now }
 {
-    if text == b"min".as_slice() {
+    if spells(text, b"min") {
         Some(Choice::Min)
-    } else if text == b"max".as_slice() {
+    } else if spells(text, b"max") {
         Some(Choice::Max)
     } else {
         None

@@ -9,7 +9,7 @@ use ned_tokens::refusal::Refusal;
 use ned_tokens::token::{Mark, Token};
 use ned_tokens::unit_of;
 use ned_trees::declarations::SectionLine;
-use sim_values::text::Text;
+use sim_values::text::{Text, spells};
 use sim_values::value::Dimension;
 use sqlite_items::Items;
 use std::alloc::{AllocError, Global};
@@ -45,13 +45,13 @@ pub enum Effect {
 fn name_of(text: &[u8]) -> PropertyName
     ensures { result ≡ grammar.property_named text.now }
 {
-    if text == b"statistic".as_slice() {
+    if spells(text, b"statistic") {
         PropertyName::Statistic
-    } else if text == b"unit".as_slice() {
+    } else if spells(text, b"unit") {
         PropertyName::Unit
-    } else if text == b"class".as_slice() {
+    } else if spells(text, b"class") {
         PropertyName::Class
-    } else if text == b"loose".as_slice() || text == b"directIn".as_slice() {
+    } else if spells(text, b"loose") || spells(text, b"directIn") {
         PropertyName::Loose
     } else {
         PropertyName::Other

@@ -12,7 +12,7 @@ use ned_tokens::token::{Mark, Token};
 use ned_trees::declarations::{RecordedMode, SectionLine, Statistic};
 use ned_trees::modes::Mode;
 use ned_values::modes::mode_named;
-use sim_values::text::Text;
+use sim_values::text::{Text, spells};
 use sqlite_items::Items;
 use std::alloc::{AllocError, Global};
 
@@ -129,13 +129,13 @@ pub enum Except {
 fn is_source(text: &[u8]) -> bool
     ensures { result ≡ grammar.is_source text.now }
 {
-    text == b"source".as_slice()
+    spells(text, b"source")
 }
 
 fn is_record(text: &[u8]) -> bool
     ensures { result ≡ grammar.is_record text.now }
 {
-    text == b"record".as_slice()
+    spells(text, b"record")
 }
 
 /// Whether a token may begin a loose text outside parentheses.
@@ -588,7 +588,7 @@ fn statistic_word(tokens: &[Token]) -> Result<&[Token], Refusal>
 fn is_statistic(text: &[u8]) -> bool
     ensures { result ≡ grammar.is_statistic text.now }
 {
-    text == b"statistic".as_slice()
+    spells(text, b"statistic")
 }
 
 /// `statistic = statistic_word statistic_tail`: a statistic behind its `@`.

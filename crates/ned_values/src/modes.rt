@@ -4,22 +4,23 @@ ghost use Rattle.std.specs.Prelude.{◌≡◌};
 ghost use Rattle.ned_values.specs.Grammar as grammar;
 
 use ned_trees::modes::Mode;
+use sim_values::text::spells;
 
 /// The mode of that name.
 pub fn mode_named(text: &[u8]) -> Option<Mode>
     ensures { result ≡ grammar.mode_named text.now }
 {
-    if text == b"count".as_slice() {
+    if spells(text, b"count") {
         Some(Mode::Count)
-    } else if text == b"sum".as_slice() {
+    } else if spells(text, b"sum") {
         Some(Mode::Sum)
-    } else if text == b"min".as_slice() {
+    } else if spells(text, b"min") {
         Some(Mode::Min)
-    } else if text == b"max".as_slice() {
+    } else if spells(text, b"max") {
         Some(Mode::Max)
-    } else if text == b"last".as_slice() {
+    } else if spells(text, b"last") {
         Some(Mode::Last)
-    } else if text == b"vector".as_slice() {
+    } else if spells(text, b"vector") {
         Some(Mode::Vector)
     } else {
         None

@@ -1,7 +1,7 @@
 //! The channels that every file knows.
 
 use ned_trees::declarations::{ParameterWord, TypeDeclaration};
-use sim_values::text::Text;
+use sim_values::text::{Text, spells};
 
 /// Their names.
 const BUILT_IN: [&str; 3] = ["IdealChannel", "DelayChannel", "DatarateChannel"];
@@ -16,9 +16,9 @@ pub fn is_built_in(name: &[u8]) -> bool {
 
 /// Whether the built-in channel of that name has the parameter.
 fn has_parameter(channel: &[u8], name: &[u8]) -> bool {
-    let known = if channel == b"DatarateChannel".as_slice() {
+    let known = if spells(channel, b"DatarateChannel") {
         5
-    } else if channel == b"DelayChannel".as_slice() {
+    } else if spells(channel, b"DelayChannel") {
         2
     } else {
         0
@@ -51,9 +51,9 @@ pub fn declaring_channel<'a>(along: &[&'a TypeDeclaration], name: &[u8]) -> Opti
 
 /// The word of a parameter of a built-in channel.
 pub fn built_in_word(name: &[u8]) -> ParameterWord {
-    if name == b"disabled".as_slice() {
+    if spells(name, b"disabled") {
         ParameterWord::Bool
-    } else if name == b"delay".as_slice() || name == b"datarate".as_slice() {
+    } else if spells(name, b"delay") || spells(name, b"datarate") {
         ParameterWord::Double
     } else {
         ParameterWord::Int

@@ -6,7 +6,7 @@ ghost use Rattle.type_building.specs.Channels.{built_in_line, built_in_lines, de
 
 use ned_trees::declarations::{Declaration, ParameterValue, ParameterWord, SectionLine};
 use ned_trees::expressions::Expression;
-use sim_values::text::Text;
+use sim_values::text::{Text, spells};
 use sim_values::value::{Dimension, Value};
 use sqlite_items::Items;
 use std::alloc::{AllocError, Global};
@@ -70,10 +70,10 @@ fn add_built_in(
 ) -> Result<(), AllocError>
     ensures { OnOk result (lines.new ≡ lines.old ++ built_in_lines name.now) }
 {
-    if name == b"DelayChannel".as_slice() {
+    if spells(name, b"DelayChannel") {
         return add_delay(alloc, lines);
     }
-    if name == b"DatarateChannel".as_slice() {
+    if spells(name, b"DatarateChannel") {
         add_delay(alloc, lines)?;
         add_rate(alloc, lines)?;
     }

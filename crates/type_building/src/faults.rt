@@ -20,6 +20,7 @@ use crate::table::TypeFault;
 use indexmap::IndexSet;
 use ned_trees::declarations::{Submodule, TypeDeclaration, TypeKind};
 use ned_trees::refusals::refused;
+use sim_values::text::spells;
 use sqlite_items::Items;
 use std::alloc::{AllocError, Global};
 
@@ -145,9 +146,9 @@ pub(crate) fn is_taken(name: &[u8], named: &NamedTypes<'_>) -> bool
 pub(crate) fn is_built_in(name: &[u8]) -> bool
     ensures { result ≡ is_built_in name.now }
 {
-    name == b"IdealChannel".as_slice()
-        || name == b"DelayChannel".as_slice()
-        || name == b"DatarateChannel".as_slice()
+    spells(name, b"IdealChannel")
+        || spells(name, b"DelayChannel")
+        || spells(name, b"DatarateChannel")
 }
 
 /// Whether a submodule's type isn't there.

@@ -6,7 +6,7 @@ use Rattle.ini_entries.specs.Options.{word_time_limit}
 use Rattle.ini_entries.specs.Texts.{Bytes}
 use Rattle.ini_entries.proofs.meaning.entry_meaning.Goals as goal
 
-pub returns-then-eq-3 : goal.returns-then-eq-3
-returns-then-eq-3 c =
-    let same : c.args.key.now ≡ word_time_limit = (bytes_eq-Decides c.args.key.now c.as_slice-else-eq-2.result.now).0 (sym c.eq-else-eq-2.ensures ∙ c.if-eq-3.true) ∙ c.as_slice-else-eq-2.ensures in
+pub returns-then-spells-3 : goal.returns-then-spells-3
+returns-then-spells-3 c =
+    let same : c.args.key.now ≡ word_time_limit = (bytes_eq-Decides c.args.key.now word_time_limit).0 (sym c.spells-else-spells-2.ensures ∙ c.if-spells-3.true) in
     subst (λ (k : Bytes). IfOk c.limit_meaning.result (λ found. Tells (IsEntryMeaning k c.args.value.now) found)) (sym same) c.limit_meaning.ensures

@@ -1,6 +1,5 @@
-use Rattle.std.proofs.Common.{◌≡◌, sym, ap, subst, ◌∙◌}
+use Rattle.std.proofs.Common.{◌≡◌, sym, subst, ◌∙◌}
 use Rattle.std.specs.Prelude.{IfOk}
-use Rattle.std.specs.Str.{bytes_eq}
 use Rattle.std.proofs.lemmas.Slice.Eq.{bytes_eq-Decides}
 use Rattle.ini_entries.specs.Meaning.{Tells}
 use Rattle.ini_entries.specs.Options.{IsObjectOption, word_modes}
@@ -8,10 +7,10 @@ use Rattle.ini_entries.specs.Texts.{Bytes}
 use Rattle.ini_entries.proofs.OptionLaws.{other_option}
 use Rattle.ini_entries.proofs.options.object_option.Goals as goal
 
-pub returns-then-eq : goal.returns-then-eq
-returns-then-eq c =
-    let same : c.args.name.now ≡ word_modes = (bytes_eq-Decides c.args.name.now c.as_slice.result.now).0 (sym c.eq.ensures ∙ c.if-eq.true) ∙ c.as_slice.ensures in
+pub returns-then-spells : goal.returns-then-spells
+returns-then-spells c =
+    let same : c.args.name.now ≡ word_modes = (bytes_eq-Decides c.args.name.now word_modes).0 (sym c.spells.ensures ∙ c.if-spells.true) in
     subst (λ (n : Bytes). IfOk c.modes_option.result (λ found. Tells (IsObjectOption n c.args.bytes.now) found)) (sym same) c.modes_option.ensures
 
 pub returns : goal.returns
-returns c = other_option c.args.name.now c.args.bytes.now (ap (bytes_eq c.args.name.now) (sym c.as_slice.ensures) ∙ sym c.eq.ensures ∙ c.if-eq.false) (sym c.is_recording_word.ensures ∙ c.if-is_recording_word.false)
+returns c = other_option c.args.name.now c.args.bytes.now (sym c.spells.ensures ∙ c.if-spells.false) (sym c.is_recording_word.ensures ∙ c.if-is_recording_word.false)
