@@ -1,15 +1,19 @@
 -- Why a user can't go on, and why a session ends early.
-use Rattle.std.proofs.Common.{◌≡◌, ◌⊎◌, ◌<◌, ℕ, List, ◌++◌, String, string_bytes, get_or, length, inl, inr, refl, sym, subst, Option, Some, None, Result, Ok, Err, IfOk, IfErr, OnOk, IsErrAnd, IsSomeAnd, codes}
-use Rattle.std.specs.declared.io.Error.{Error as SystemError}
+use Rattle.std.proofs.Common.{◌≡◌, ◌⊎◌, ℕ, List, inl, inr, refl, sym, subst, Option, Some, None, Result, Ok, Err, IfOk, IfErr, OnOk, IsErrAnd, IsSomeAnd}
 use Rattle.line_reading.specs.Waits.{Waiting}
 use Rattle.model_answers.specs.declared.model.Model.{Model}
 use Rattle.model_texts.specs.declared.begin.BeginFault.{BeginFault}
 use Rattle.stock_desk.specs.Stops.{at_stop}
 use Rattle.stock_desk.specs.declared.serving.Stop.{Stop as Why}
 use Rattle.stock_desk.specs.declared.serving.Stop.TheVariants as why
-use Rattle.nedrun.specs.Stops.{IsFailed, IsLost, IsOneUnreadable, IsOneUnwritable, IsReason, IsShortOf, IsShortOfRun, IsStopOf, IsUnadvised, IsUnsaid, IsUntold, IsUnwritable}
-use Rattle.nedrun.specs.declared.stops.Stop.{Stop}
-use Rattle.nedrun.specs.declared.stops.Stop.TheVariants as stop
+use Rattle.program_dialogue.specs.Asking.{IsUnasked, IsUnread}
+use Rattle.program_dialogue.specs.declared.dialogue.Ask.{Ask}
+use Rattle.program_dialogue.specs.declared.dialogue.Ask.TheVariants as ask
+use Rattle.program_stops.specs.Stops.{IsOutOfMemory}
+use Rattle.program_stops.specs.declared.stops.Stop.{Stop}
+use Rattle.program_stops.specs.declared.stops.Stop.TheVariants as stop
+use Rattle.program_streams.specs.Stops.{IsShortOf, IsShortOfRun, IsUnadvised, IsUnsaid, IsUnwritable}
+use Rattle.nedrun.specs.Stops.{IsLost, IsOneUnwritable, IsReason, IsStopOf, IsUntold}
 
 -- ---- reasons
 
@@ -58,14 +62,26 @@ pub reason_short : (directory config : List ℕ) (waiting : Waiting) (s : Stop) 
 reason_short directory config waiting s (inl h) = reason_unwritable _ waiting s (unwritable_short _ s h)
 reason_short directory config waiting s (inr h) = reason_unwritable _ waiting s (unwritable_short _ s h)
 
--- standard input failed
-pub reason_input : (error : SystemError) (waiting : Waiting) (s : Stop)
-    → IsFailed (codes "the next command can't be read") (codes "standard input") error s → IsReason waiting s
-reason_input error waiting stop.Spent h = absurd h
-reason_input error waiting (stop.Failed line told) h = inl h.0
-reason_input error waiting (stop.NoMemory _) h = tt
-reason_input error waiting (stop.Words _) h = h
-reason_input error waiting (stop.Refused _ _) h = h
+-- a line is not read
+reason_unread : (failures failures' : ℕ) (waiting : Waiting) (s : Stop) → IsUnread failures failures' waiting s → IsReason waiting s
+reason_unread failures failures' waiting stop.Spent h = h.0
+reason_unread failures failures' waiting (stop.Failed line told) h = inl h.0
+reason_unread failures failures' waiting (stop.NoMemory _) h = tt
+reason_unread failures failures' waiting (stop.Words _) h = h
+reason_unread failures failures' waiting (stop.Refused _ _) h = h
+
+reason_out_of_memory : (waiting : Waiting) (s : Stop) → IsOutOfMemory s → IsReason waiting s
+reason_out_of_memory waiting stop.Spent h = absurd h
+reason_out_of_memory waiting (stop.Failed line told) h = absurd h
+reason_out_of_memory waiting (stop.NoMemory _) h = tt
+reason_out_of_memory waiting (stop.Words _) h = h
+reason_out_of_memory waiting (stop.Refused _ _) h = h
+
+-- nothing is asked
+pub reason_unasked : (a : Ask) (failures failures' : ℕ) (waiting : Waiting) (s : Stop) → IsUnasked a failures failures' waiting s → IsReason waiting s
+reason_unasked ask.Run failures failures' waiting s h = reason_out_of_memory waiting s h
+reason_unasked ask.Write failures failures' waiting s h = reason_out_of_memory waiting s h
+reason_unasked ask.Line failures failures' waiting s h = reason_unread failures failures' waiting s h
 
 -- a user who can't go on, for that reason
 pub stuck_for : (noted : Option Stop) (waiting : Waiting) (s : Stop) → noted ≡ Some s → IsReason waiting s → IsSomeAnd noted (IsReason waiting)
@@ -81,16 +97,6 @@ kept_for noted scalars vectors W s e (inr h) = subst (λ (o : Option Stop). IsSo
 pub for_reason : (P Q : Stop → Type 0) (o : Option Stop) → ((s : Stop) → P s → Q s) → IsSomeAnd o P → IsSomeAnd o Q
 for_reason P Q None f h = h
 for_reason P Q (Some s) f h = f s h
-
--- ---- files that are read
-
-pub one_unreadable : {A : Type 0} (paths : List (String A)) (number : ℕ) (path : String A) (error : SystemError) (s : Stop) → path ≡ get_or paths number path
-    → number < length paths → IsFailed (codes "this file can't be read") (string_bytes path) error s → IsOneUnreadable paths s
-one_unreadable paths number path error stop.Spent e l h = h
-one_unreadable paths number path error (stop.Failed line told) e l h = (path, (number, l, sym e), h.0)
-one_unreadable paths number path error (stop.NoMemory _) e l h = tt
-one_unreadable paths number path error (stop.Words _) e l h = h
-one_unreadable paths number path error (stop.Refused _ _) e l h = h
 
 -- ---- sessions
 

@@ -10,26 +10,23 @@ ghost use Rattle.stock_desk.specs.Serving.{Ends};
 ghost use Rattle.stock_desk.specs.Stops.{at_stop};
 ghost use Rattle.stock_desk.specs.declared.serving.Stop.TheVariants as why;
 ghost use Rattle.nedrun.specs.Stops.{EndsEarly, IsLost, IsReason, IsStopOf};
-ghost use Rattle.nedrun.specs.declared.stops.Stop.{Stop as StopValue};
-ghost use Rattle.nedrun.specs.declared.user.Ask.TheVariants as ask;
-ghost use Rattle.nedrun.specs.Typing.{AsksInOrder};
+ghost use Rattle.program_dialogue.specs.Typing.{AsksInOrder};
+ghost use Rattle.program_dialogue.specs.declared.dialogue.Ask.TheVariants as ask;
+ghost use Rattle.program_stops.specs.declared.stops.Stop.{Stop as StopValue};
 
-mod devices;
-mod files;
-mod output;
-mod stops;
+mod advice;
 mod user;
-mod words;
 
 use model_texts::begin::BeginFault;
+use program_stops::stops::Stop;
+use program_streams::{endings, files, output};
+use program_words::words::Words;
 use std::process::ExitCode;
 use std::rt::{Env, Files};
 use stock_desk::serving;
 use stock_desk::serving::serve;
-use stops::Stop;
 use text_explanations::sources::Sources;
 use user::User;
-use words::Words;
 
 /// Serves the user at a desk of the model that the files make, until the user asks nothing more or can't go on.
 fn serve_user<'a, R: Files + Input + Print + Eprint + AllocGlobal>(
@@ -41,13 +38,13 @@ fn serve_user<'a, R: Files + Input + Print + Eprint + AllocGlobal>(
     // What the user hears is what the plain machine says to what the user asks.
     ensures served { IfOk result (λ r. (model : Model)
         × IsModelOf sources.now.texts.now sources.now.ini.now (string_bytes words.now.config) model
-        × Ends stock (fresh_machine model words.now.interval) r.0.transcript.asked r.0.transcript.heard r.1) }
+        × Ends stock (fresh_machine model words.now.interval) r.0.dialogue.transcript.asked r.0.dialogue.transcript.heard r.1) }
     // What is asked: the run of the words, then to write its files, then the lines of standard input;
-    ensures asked { IfOk result (λ r. AsksInOrder words.now.limit r.0.ask r.0.transcript.asked
-        r.0.lines.source.given.bytes r.0.lines.buffer) }
+    ensures asked { IfOk result (λ r. AsksInOrder words.now.limit r.0.dialogue.ask r.0.dialogue.transcript.asked
+        r.0.dialogue.lines.source.given.bytes r.0.dialogue.lines.buffer) }
     // and nothing that it gave is left unasked, unless the user can't go on, or a device fails, and knows why.
-    ensures stopped { IfOk result (λ r. at_stop ((r.0.ask ≡ ask.Line) × (r.0.lines.buffer.bytes ≡ []))
-        (IsSomeAnd r.0.stop (IsReason r.0.lines.buffer)) (λ _ _. IsSomeAnd r.0.stop IsLost) r.1) }
+    ensures stopped { IfOk result (λ r. at_stop ((r.0.dialogue.ask ≡ ask.Line) × (r.0.dialogue.lines.buffer.bytes ≡ []))
+        (IsSomeAnd r.0.stop (IsReason r.0.dialogue.lines.buffer)) (λ _ _. IsSomeAnd r.0.stop IsLost) r.1) }
     // It is refused only where the texts are, and for that reason.
     ensures refused { IfErr result (λ fault.
         Refuses sources.now.texts.now sources.now.ini.now (string_bytes words.now.config) fault) }
@@ -80,7 +77,7 @@ fn ended<R: Files + Input + Print + Eprint + AllocGlobal>(
     match served {
         Ok((_, serving::Stop::End)) => Ok(()),
         Ok((user, _)) => Err(user.into_stop()),
-        Err(fault) => Err(Stop::refused(rt.alloc(), fault, sources)),
+        Err(fault) => Err(advice::refused(rt.alloc(), fault, sources)),
     }
 }
 
@@ -116,5 +113,5 @@ fn work<R: Files + Env + Input + Print + Eprint + AllocGlobal>(rt: &R) -> Result
 }
 
 fn main(rt: HostRuntime) -> ExitCode {
-    stops::status(&rt, work(&rt))
+    endings::status(&rt, work(&rt))
 }

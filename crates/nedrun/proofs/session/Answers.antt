@@ -4,7 +4,7 @@ use Rattle.stock_modules.specs.Stock.{stock}
 use Rattle.stock_desk.specs.Served.{fresh_machine}
 use Rattle.stock_desk.specs.Serving.{Ends}
 use Rattle.std.specs.String.{string_bytes}
-use Rattle.nedrun.specs.declared.user.Ask.TheVariants as ask
+use Rattle.program_dialogue.specs.declared.dialogue.Ask.TheVariants as ask
 use Rattle.nedrun.proofs.Reasons.{session_ends, session_served}
 use Rattle.nedrun.proofs.session.Goals as goal
 
@@ -12,12 +12,12 @@ pub returns-clause-served : goal.returns-clause-served
 returns-clause-served g c =
     session_served c.serve_user.result c.ended.result
     (λ model. IsModelOf c.args.sources.now.texts.now c.args.sources.now.ini.now (string_bytes c.args.words.now.config) model)
-    (λ model r. Ends stock (fresh_machine model c.args.words.now.interval) r.0.transcript.asked r.0.transcript.heard r.1)
+    (λ model r. Ends stock (fresh_machine model c.args.words.now.interval) r.0.dialogue.transcript.asked r.0.dialogue.transcript.heard r.1)
     c.serve_user.ensures.served c.ended.ensures.refused
 
 pub returns-clause-early : goal.returns-clause-early
 returns-clause-early g c =
-    session_ends c.serve_user.result c.ended.result (λ user. user.stop) (λ user. user.lines.buffer)
-    (λ user. (user.ask ≡ ask.Line) × (user.lines.buffer.bytes ≡ []))
+    session_ends c.serve_user.result c.ended.result (λ user. user.stop) (λ user. user.dialogue.lines.buffer)
+    (λ user. (user.dialogue.ask ≡ ask.Line) × (user.dialogue.lines.buffer.bytes ≡ []))
     (λ fault. Refuses c.args.sources.now.texts.now c.args.sources.now.ini.now (string_bytes c.args.words.now.config) fault)
     c.serve_user.ensures.stopped c.serve_user.ensures.refused c.ended.ensures.over c.ended.ensures.stuck c.ended.ensures.refused

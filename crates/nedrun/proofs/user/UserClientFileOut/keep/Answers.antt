@@ -1,13 +1,13 @@
 use Rattle.std.proofs.Common.{◌≡◌, [], string_bytes}
-use Rattle.nedrun.specs.Devices.{unwritten}
+use Rattle.program_streams.specs.Devices.{unwritten}
 use Rattle.nedrun.proofs.Reasons.{kept_for, reason_of_files, stuck_for}
 use Rattle.nedrun.proofs.user.UserClientFileOut.keep.Goals as goal
 
 pub returns-clause-stuck : goal.returns-clause-stuck
 returns-clause-stuck g c =
-    stuck_for c.gone.new.self.stop c.gone.new.self.lines.buffer c.in-Err.stop c.gone.ensures.reason
+    stuck_for c.gone.new.self.stop c.gone.new.self.dialogue.lines.buffer c.in-Err.stop c.gone.ensures.reason
     (reason_of_files (string_bytes c.args.pages.scalars.path) (string_bytes c.args.pages.vectors.path) (unwritten c.finish.new.pages.scalars ≡ [])
-    c.gone.new.self.lines.buffer c.in-Err.stop c.in-Err.ensures.failed)
+    c.gone.new.self.dialogue.lines.buffer c.in-Err.stop c.in-Err.ensures.failed)
 
 pub returns-clause-reason : goal.returns-clause-reason
 returns-clause-reason g c =

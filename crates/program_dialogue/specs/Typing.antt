@@ -1,0 +1,52 @@
+-- What was asked.
+use Rattle.std.specs.Prelude.{◌≡◌, ◌⊎◌, ℕ, ◌<◌, ◌≤◌, false, List, [], ◌∷◌, ◌++◌, Option, Some, None, Result, Ok, Err, codes, length}
+use Rattle.std.specs.Fmt.{decimal}
+use Rattle.line_reading.specs.Feeds.{has_feed}
+use Rattle.line_reading.specs.Limits.{longest}
+use Rattle.line_reading.specs.Waits.{Waiting}
+use Rattle.program_stops.specs.declared.stops.Stop.{Stop}
+use Rattle.transcripts.specs.declared.asked.Asked.{Asked}
+use Rattle.transcripts.specs.declared.asked.Asked.TheVariants as asked
+use Rattle.program_dialogue.specs.declared.dialogue.Ask.{Ask}
+use Rattle.program_dialogue.specs.declared.dialogue.Ask.TheVariants as ask
+
+-- These bytes begin with this line, and then come the others: a line feed parts them; or nothing does, as where the source was at its end behind
+-- the line, which then is not empty.
+abbrev pub BeginsWithLine : List ℕ → List ℕ → List ℕ → Type 0
+BeginsWithLine all line rest = (all ≡ line ++ 10 ∷ rest) ⊎ ((all ≡ line ++ rest) × (0 < length line))
+
+-- the line is asked as it stands there, where it is not too long
+abbrev pub IsAskedAs : Asked → List ℕ → Type 0
+IsAskedAs (asked.Line text) line = (text ≡ line) × (length line ≤ longest)
+IsAskedAs asked.TooLong line = longest < length line
+
+-- a line is asked that stands at the front of these bytes
+pub record IsFirstLine (all : List ℕ) (a : Asked) (rest : List ℕ) : Type 0 where
+  pub line : List ℕ
+  pub begins : BeginsWithLine all line rest
+  pub one : has_feed line ≡ false
+  pub told : IsAskedAs a line
+
+-- THE LINES at the front of these bytes are asked, one after the other, and none is left out; the rest of the bytes follows
+abbrev pub AreLines : List Asked → List ℕ → List ℕ → Type 0
+AreLines [] all rest = all ≡ rest
+AreLines (a ∷ asks) all rest = (next : List ℕ) × IsFirstLine all a next × AreLines asks next rest
+
+abbrev pub run_line : ℕ → Asked
+run_line limit = asked.Line (codes "run " ++ decimal limit)
+
+abbrev pub write_line : Asked
+write_line = asked.Line (codes "write")
+
+-- WHAT IS ASKED: first the run to the limit of the words, then to write its files, and then the lines that standard input gave
+abbrev pub AsksInOrder : ℕ → Ask → List Asked → List ℕ → Waiting → Type 0
+AsksInOrder limit ask.Run asks given waiting = (asks ≡ []) × (given ≡ waiting.bytes)
+AsksInOrder limit ask.Write asks given waiting = (asks ≡ run_line limit ∷ []) × (given ≡ waiting.bytes)
+AsksInOrder limit ask.Line asks given waiting =
+    (typed : List Asked) × (asks ≡ run_line limit ∷ write_line ∷ typed) × AreLines typed given waiting.bytes
+
+-- one thing more is asked, and less is left to be asked; or nothing is asked
+abbrev pub AsksNext : List Asked → ℕ → Result (Option Asked) Stop → List Asked → ℕ → Type 0
+AsksNext asks left (Ok (Some a)) asks' left' = (asks' ≡ asks ++ a ∷ []) × (left' < left)
+AsksNext asks left (Ok None) asks' left' = asks' ≡ asks
+AsksNext asks left (Err stop) asks' left' = asks' ≡ asks

@@ -1,0 +1,182 @@
+//! What the program asks, one thing after the other, and what it hears.
+
+ghost use Rattle.std.specs.Prelude.{◌≡◌, [], ◌∷◌, ◌++◌, IfOk, OnErr, IfErr, codes};
+ghost use Rattle.std.specs.Fmt.{decimal};
+ghost use Rattle.program_stops.specs.Stops.{IsFailed, IsOutOfMemory};
+ghost use Rattle.program_dialogue.specs.Asking.{Asks, IsInOrder, IsUnread};
+ghost use Rattle.program_dialogue.specs.declared.dialogue.Ask.TheVariants as ask;
+ghost use Rattle.transcripts.specs.Heard as heards;
+
+use itoa::Buffer as Digits;
+use line_reading::line::NextLine;
+use line_reading::reader::LineReader;
+use program_stops::stops::Stop;
+use sim_values::NoMemory;
+use sim_values::text::Text;
+use std::alloc::Global;
+use std::io;
+use std::io::Read;
+use text_files::noted::Noted;
+use text_files::reader::NotedReader;
+use text_files::reading::ReadFault;
+use transcripts::asked::Asked;
+use transcripts::transcript::Transcript;
+
+/// What is asked next.
+#[derive(Clone, Copy, Drop)]
+enum Ask {
+    /// The run of the words.
+    Run,
+    /// To write the files of that run.
+    Write,
+    /// A line of standard input.
+    Line,
+}
+
+/// The line that asks for a run to that limit.
+fn run_line(alloc: Global, limit: u64) -> Result<Text, NoMemory>
+    ensures { IfOk result (λ line. line ≡ codes "run " ++ decimal limit) }
+{
+    let mut digits = Digits::new();
+    let mut line = Vec::new(alloc);
+    line.extend_from_slice(b"run ".as_slice())?;
+    line.extend_from_slice(digits.format(limit).as_bytes())?;
+    Ok(Text::from_vec(line))
+}
+
+/// What ends the program where a line of standard input can't be read.
+fn unread_line(alloc: Global, error: io::Error) -> Stop
+    ensures { IsFailed (codes "the next command can't be read") (codes "standard input")
+        error result }
+{
+    Stop::failed(
+        alloc,
+        "the next command can't be read",
+        "standard input",
+        error,
+    )
+}
+
+/// What the program asks at its desk: the run to a limit, then to write its files, and then what the lines of standard input ask for;
+/// and what it hears of that.
+#[derive(Drop)]
+pub struct Dialogue<I> {
+    /// The limit of the first run, in events.
+    limit: u64,
+    ask: Ask,
+    lines: LineReader<NotedReader<I>>,
+    transcript: Transcript,
+}
+
+impl<I: Read> Dialogue<I> {
+    /// A dialogue in which nothing was asked yet: with that limit of its first run, in events, and lines of that input, which was not read yet.
+    pub fn new(alloc: Global, limit: u64, input: I) -> Dialogue<I>
+        ensures limit { result.limit ≡ limit }
+        ensures unasked { result.transcript.asked ≡ [] }
+        ensures unheard { result.transcript.heard ≡ [] }
+        ensures kept { IsInOrder result }
+    {
+        Dialogue {
+            limit,
+            ask: Ask::Run,
+            lines: LineReader::new(alloc, NotedReader::new(input)),
+            transcript: Transcript::new(),
+        }
+    }
+
+    /// Hears an answer.
+    pub fn hears(&mut self, answer: &[u8])
+        ensures heard { self.new.transcript.heard ≡ self.old.transcript.heard
+            ++ heards.Answer answer.now ∷ [] }
+        ensures asked { self.new.transcript.asked ≡ self.old.transcript.asked }
+        ensures limit { self.new.limit ≡ self.old.limit }
+        ensures ask { self.new.ask ≡ self.old.ask }
+        ensures lines { self.new.lines ≡ self.old.lines }
+    {
+        self.transcript.hears(answer);
+    }
+
+    /// Hears that both files of a run were kept, of these bytes, with the name of the configuration that they are of.
+    pub fn hears_files(&mut self, config: &Noted, scalars: &Noted, vectors: &Noted)
+        ensures heard { self.new.transcript.heard ≡ self.old.transcript.heard
+            ++ heards.Files config.now.bytes scalars.now.bytes vectors.now.bytes ∷ [] }
+        ensures asked { self.new.transcript.asked ≡ self.old.transcript.asked }
+        ensures limit { self.new.limit ≡ self.old.limit }
+        ensures ask { self.new.ask ≡ self.old.ask }
+        ensures lines { self.new.lines ≡ self.old.lines }
+    {
+        self.transcript.hears_files(config, scalars, vectors);
+    }
+
+    /// Asks for the run of the words.
+    fn ask_run(&mut self, alloc: Global) -> Result<Option<Asked>, Stop>
+        requires first { self.old.ask ≡ ask.Run }
+        requires kept { IsInOrder self.old }
+        ensures asks { Asks self.old result self.new }
+        ensures reason { IfErr result IsOutOfMemory }
+    {
+        match run_line(alloc, self.limit) {
+            Ok(line) => {
+                self.ask = Ask::Write;
+                self.transcript.asks_line(line.as_bytes());
+                Ok(Some(Asked::Line(line)))
+            }
+            Err(error) => Err(error.into()),
+        }
+    }
+
+    /// Asks to write the files of that run.
+    fn ask_write(&mut self, alloc: Global) -> Result<Option<Asked>, Stop>
+        requires first { self.old.ask ≡ ask.Write }
+        requires kept { IsInOrder self.old }
+        ensures asks { Asks self.old result self.new }
+        ensures reason { IfErr result IsOutOfMemory }
+    {
+        match Text::from_bytes(alloc, b"write".as_slice()) {
+            Ok(line) => {
+                self.ask = Ask::Line;
+                self.transcript.asks_line(line.as_bytes());
+                Ok(Some(Asked::Line(line)))
+            }
+            Err(error) => Err(error.into()),
+        }
+    }
+
+    /// Asks what the next line of standard input asks for.
+    fn ask_line(&mut self, alloc: Global) -> Result<Option<Asked>, Stop>
+        requires typed { self.old.ask ≡ ask.Line }
+        requires kept { IsInOrder self.old }
+        ensures asks { Asks self.old result self.new }
+        ensures reason { let before = self.old.lines.source.failures in
+            let after = self.new.lines.source.failures in
+            IfErr result (IsUnread before after self.new.lines.buffer) }
+    {
+        match self.lines.next() {
+            Ok(NextLine::Line(line)) => {
+                self.transcript.asks_line(line.as_bytes());
+                Ok(Some(Asked::Line(line)))
+            }
+            Ok(NextLine::TooLong) => {
+                self.transcript.asks_too_long();
+                Ok(Some(Asked::TooLong))
+            }
+            Ok(NextLine::End) => Ok(None),
+            Ok(NextLine::Spent) => Err(Stop::Spent),
+            Err(ReadFault::Failed(error)) => Err(unread_line(alloc, error)),
+            Err(ReadFault::NoMemory(error)) => Err(error.into()),
+        }
+    }
+
+    /// Asks the next thing, or nothing more: standard input is at its end then, and all that it gave was asked. Fails where memory
+    /// runs out, where standard input failed, or where as many lines were read as are; then nothing is asked.
+    pub fn next(&mut self, alloc: Global) -> Result<Option<Asked>, Stop>
+        requires kept { IsInOrder self.old }
+        ensures { Asks self.old result self.new }
+    {
+        match self.ask {
+            Ask::Run => self.ask_run(alloc),
+            Ask::Write => self.ask_write(alloc),
+            Ask::Line => self.ask_line(alloc),
+        }
+    }
+}

@@ -1,0 +1,4 @@
+//! What the program asks at its desk, and what it hears.
+#![tactic(auto)]
+
+pub mod dialogue;

@@ -1,0 +1,4 @@
+//! Why the program ends early.
+#![tactic(auto)]
+
+pub mod stops;

@@ -1,0 +1,149 @@
+//! The files that a run is written to.
+
+ghost use Rattle.std.specs.Prelude.{◌≡◌, [], Some, None, IfErr, IfOk, OnOk, codes, string_bytes};
+ghost use Rattle.std.specs.Io.Buffered.{writer_inner};
+ghost use Rattle.std.specs.declared.io.Error.{Error as SystemError};
+ghost use Rattle.sim_values.specs.Counts.{next_count};
+ghost use Rattle.program_stops.specs.Stops.{IsFailed};
+ghost use Rattle.program_streams.specs.Devices.{taken_by, untouched, unwritten};
+ghost use Rattle.program_streams.specs.Stops.{IsShortOf, IsUnwritable};
+
+use program_stops::stops::Stop;
+use result_files::writer::{Out, WriteFault};
+use std::fs::File;
+use std::io;
+use std::io::{BufWriter, ErrorKind, Write};
+use std::rt::Files;
+use text_files::noted::Noted;
+
+/// A file of the system that is made at the first write.
+#[derive(Drop)]
+struct LateFile<'a, R: Files> {
+    rt: &'a R,
+    path: String,
+    file: Option<R::File>,
+}
+
+impl<R: Files> Write for LateFile<'_, R> {
+    fn write(&mut self, buf: &[u8]) -> io::Result<usize> {
+        if self.file.is_none() {
+            self.file = Some(File::create(self.rt, self.path.as_str())?);
+        }
+        match &mut self.file {
+            Some(file) => file.write(buf),
+            None => Ok(0),
+        }
+    }
+
+    fn flush(&mut self) -> io::Result<()> {
+        Ok(())
+    }
+}
+
+/// A file as a device. Bytes are gathered before they are written, in room that is there before the first of them.
+#[derive(Drop)]
+pub struct FileOut<'a, R: Files> {
+    rt: &'a R,
+    path: String,
+    writer: BufWriter<LateFile<'a, R>>,
+    content: Noted,
+    failures: u64,
+    /// What failed last.
+    fault: Option<io::Error>,
+}
+
+impl<'a, R: Files + AllocGlobal> FileOut<'a, R> {
+    /// The file of that path. It is not made yet.
+    pub fn new(rt: &'a R, path: String) -> Result<FileOut<'a, R>, Stop>
+        ensures taken { IfOk result (λ out. taken_by out ≡ untouched) }
+        ensures path { IfOk result (λ out. out.path ≡ path) }
+        ensures file { IfOk result (λ out.
+            string_bytes (writer_inner out.writer).path ≡ string_bytes path) }
+        ensures unmade { IfOk result (λ out. (writer_inner out.writer).file ≡ None) }
+        // Only memory can be wanting: nothing is asked of the system yet.
+        ensures failed { IfErr result (IsShortOf (string_bytes path)) }
+    {
+        let file = LateFile {
+            rt,
+            path: String::from_str(rt.alloc(), path.as_str())?,
+            file: None,
+        };
+        match BufWriter::new(rt.alloc(), file) {
+            Ok(writer) => Ok(FileOut {
+                rt,
+                path,
+                writer,
+                content: Noted::new(),
+                failures: 0,
+                fault: None,
+            }),
+            Err(error) => Err(unwritable(rt, path.as_str(), error)),
+        }
+    }
+
+    /// Writes what is gathered still. Where that succeeds, all that it took is written.
+    pub fn finish(&mut self) -> Result<(), Stop>
+        ensures written { OnOk result (unwritten self.new ≡ []) }
+        ensures content { self.new.content.bytes ≡ self.old.content.bytes }
+        ensures failed { IfErr result (λ stop. IsUnwritable (string_bytes self.old.path) stop) }
+    {
+        match self.writer.flush() {
+            Ok(()) => Ok(()),
+            Err(error) => Err(unwritable(self.rt, self.path.as_str(), error)),
+        }
+    }
+
+    /// What it took.
+    pub fn content(&self) -> &Noted
+        ensures { result.now ≡ self.now.content }
+    {
+        &self.content
+    }
+
+    /// What ends the program where the last write failed.
+    pub fn stop(&self) -> Stop
+        ensures unwritable { IsUnwritable (string_bytes self.now.path) result }
+        ensures fault { (error : SystemError) → self.now.fault ≡ Some error
+            → IsFailed (codes "this file can't be written") (string_bytes self.now.path)
+            error result }
+    {
+        let fault = self.fault.unwrap_or(io::Error::from(ErrorKind::WriteZero));
+        unwritable(self.rt, self.path.as_str(), fault)
+    }
+}
+
+/// What ends the program where the file of that path can't be written.
+fn unwritable<R: AllocGlobal>(rt: &R, path: &str, error: io::Error) -> Stop
+    ensures { IsFailed (codes "this file can't be written") path.now error result }
+{
+    Stop::failed(rt.alloc(), "this file can't be written", path, error)
+}
+
+impl<R: Files> FileOut<'_, R> {
+    /// Keeps why a write failed.
+    fn failed(&mut self, error: io::Error) -> WriteFault
+        ensures content { self.new.content.bytes ≡ self.old.content.bytes }
+        ensures failures { self.new.failures ≡ next_count self.old.failures }
+        ensures fault { self.new.fault ≡ Some error }
+        ensures path { self.new.path ≡ self.old.path }
+    {
+        self.failures = self.failures.wrapping_add(1);
+        self.fault = Some(error);
+        error.into()
+    }
+}
+
+impl<R: Files> Out for FileOut<'_, R> {
+    ghost taken = { taken_by };
+
+    fn write(&mut self, bytes: &[u8]) -> Result<usize, WriteFault> {
+        match self.writer.write(bytes) {
+            Ok(count) if count > 0 || bytes.is_empty() => {
+                self.content.note(&bytes[..count]);
+                Ok(count)
+            }
+            Ok(_) => Err(self.failed(io::Error::from(ErrorKind::WriteZero))),
+            Err(error) => Err(self.failed(error)),
+        }
+    }
+}

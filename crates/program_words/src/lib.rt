@@ -1,0 +1,4 @@
+//! What the program is asked for, by its words.
+#![tactic(auto)]
+
+pub mod words;
