@@ -2,4 +2,5 @@ pub mod Alike
 pub mod Boxes
 pub mod Hearing
 pub mod ServingTurns
+pub mod Telling
 pub mod Turning
