@@ -1,5 +1,5 @@
 -- A file of the system as a device.
-use Rattle.std.specs.Prelude.{ℕ, List, []}
+use Rattle.std.specs.Prelude.{ℕ, List}
 use Rattle.std.specs.Io.Buffered.{writer_buffer}
 use Rattle.result_files.specs.Taken.{Taken}
 use Rattle.program_streams.specs.declared.devices.FileOut.{FileOut}
@@ -7,10 +7,6 @@ use Rattle.program_streams.specs.declared.devices.FileOut.{FileOut}
 -- what it took
 abbrev pub taken_by : {A B C : Type 0} → FileOut A B C → Taken
 taken_by out = record { bytes = out.content.bytes; failures = out.failures }
-
--- a device that took nothing yet, and never failed
-abbrev pub untouched : Taken
-untouched = record { bytes = []; failures = 0 }
 
 -- what was taken and is not written yet
 abbrev pub unwritten : {A B C : Type 0} → FileOut A B C → List ℕ

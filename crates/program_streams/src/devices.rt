@@ -5,7 +5,8 @@ ghost use Rattle.std.specs.Io.Buffered.{writer_inner};
 ghost use Rattle.std.specs.declared.io.Error.{Error as SystemError};
 ghost use Rattle.sim_values.specs.Counts.{next_count};
 ghost use Rattle.program_stops.specs.Stops.{IsFailed};
-ghost use Rattle.program_streams.specs.Devices.{taken_by, untouched, unwritten};
+ghost use Rattle.program_streams.specs.Devices.{taken_by, unwritten};
+ghost use Rattle.result_files.specs.Taken.{untouched};
 ghost use Rattle.program_streams.specs.Stops.{IsShortOf, IsUnwritable};
 
 use program_stops::stops::Stop;

@@ -1,7 +1,8 @@
 //! A scenario at a desk, with the stock modules.
 
 ghost use Rattle.std.specs.Prelude.{◌≡◌, ◌≤◌, ℕ, ◌++◌, ◌∷◌, [], Some, IfOk, IfSome, IsSome, OnOk, OnErr, length};
-ghost use Rattle.stock_desk.specs.Devices.{untouched, HasFailed};
+ghost use Rattle.result_files.specs.Taken.{untouched};
+ghost use Rattle.stock_desk.specs.Devices.{HasFailed};
 ghost use Rattle.stock_desk.specs.Stops.{at_stop};
 ghost use Rattle.transcripts.specs.Heard as heards;
 
