@@ -17,9 +17,15 @@ pub struct Known {
 }
 
 /// Types, which contracts see as their list, each name once.
-#[derive(Drop)]
 pub struct KnownTypes {
     bases: IndexMap<Text, Option<Text>>,
+}
+
+// Written out, so that what drops some need not open what that does.
+impl Drop for KnownTypes {
+    fn drop(self) {
+        let KnownTypes { bases: _ } = self;
+    }
 }
 
 impl Model for KnownTypes {
@@ -90,8 +96,14 @@ impl KnownTypes {
 }
 
 /// The types of files by their full names: all, and those within others.
-#[derive(Drop)]
 pub struct TypesByName {
     pub all: KnownTypes,
     pub inner: KnownTypes,
+}
+
+// Written out, so that what drops them need not open what that does.
+impl Drop for TypesByName {
+    fn drop(self) {
+        let TypesByName { all: _, inner: _ } = self;
+    }
 }

@@ -9,6 +9,7 @@ use crate::known::{Known, KnownTypes, TypesByName};
 use crate::names::{inner_name, resolved, scopes_of};
 use crate::plain::plain_types;
 use ned_trees::declarations::{NedFile, NestedType, TypeDeclaration};
+use ned_types::made::{behind, changed};
 use sim_values::text::Text;
 use sqlite_items::Items;
 use std::alloc::{AllocError, Global};
@@ -56,38 +57,44 @@ fn add_within(
 }
 
 #[tactic(auto, using(crate::proofs::KnownLaws::behind_both))]
+/// Adds all types within these types of files.
+fn add_inner(alloc: Global, known: &mut KnownTypes, types: &[NestedType]) -> Result<(), AllocError>
+    ensures { OnOk result (known.new ≡ all_behind known.old (inner_types types.now)) }
+{
+    for nested in types {
+        add_within(alloc, known, &nested.declared.name, nested.types.as_slice())?;
+    }
+    Ok(())
+}
+
 /// All types within these types of files.
 fn inner_types(alloc: Global, types: &[NestedType]) -> Result<KnownTypes, AllocError>
     ensures { IfOk result (λ known. known ≡ all_behind [] (inner_types types.now)) }
 {
     let mut known = KnownTypes::new(alloc);
-    for nested in types {
-        add_within(
-            alloc,
-            &mut known,
-            &nested.declared.name,
-            nested.types.as_slice(),
-        )?;
-    }
-    Ok(known)
+    let done = add_inner(alloc, &mut known, types);
+    changed(known, done)
 }
 
 #[tactic(auto, using(crate::proofs::KnownLaws::behind_both))]
+/// Adds these types of files, each with all within it.
+fn add_types(alloc: Global, known: &mut KnownTypes, types: &[NestedType]) -> Result<(), AllocError>
+    ensures { OnOk result (known.new ≡ all_behind known.old (all_types types.now)) }
+{
+    for nested in types {
+        known.add(known_as(alloc, &nested.declared.name, &nested.declared)?)?;
+        add_within(alloc, known, &nested.declared.name, nested.types.as_slice())?;
+    }
+    Ok(())
+}
+
 /// These types of files, each with all within it.
 fn all_types(alloc: Global, types: &[NestedType]) -> Result<KnownTypes, AllocError>
     ensures { IfOk result (λ known. known ≡ all_behind [] (all_types types.now)) }
 {
     let mut known = KnownTypes::new(alloc);
-    for nested in types {
-        known.add(known_as(alloc, &nested.declared.name, &nested.declared)?)?;
-        add_within(
-            alloc,
-            &mut known,
-            &nested.declared.name,
-            nested.types.as_slice(),
-        )?;
-    }
-    Ok(known)
+    let done = add_types(alloc, &mut known, types);
+    changed(known, done)
 }
 
 /// Adds a type and all types within it, where these are the scopes of its head.
@@ -143,14 +150,11 @@ fn resolved_types(
     requires { inner ≡ all_behind [] (inner_types nested.now) }
     ensures { IfOk result (λ list. list ≡ resolved_within (types_by_name nested.now) [] nested.now) }
 {
-    let types = TypesByName {
-        all: all_types(alloc, nested)?,
-        inner,
-    };
+    let (inner, all) = behind(inner, all_types(alloc, nested))?;
+    let types = TypesByName { all, inner };
     let mut list = Items::new(alloc);
-    let no_scopes = Vec::new(alloc);
-    add_all_resolved(alloc, &mut list, &types, no_scopes.as_slice(), nested)?;
-    Ok(list)
+    let done = add_all_resolved(alloc, &mut list, &types, &[], nested);
+    changed(list, done)
 }
 
 #[tactic(auto, using(crate::proofs::PlainLaws::plain), unfolding(crate::specs::Scopes::types_of))]
@@ -160,7 +164,8 @@ pub fn types_of(alloc: Global, files: Vec<NedFile>) -> Result<Items<TypeDeclarat
     ensures { IfOk result (λ types. types ≡ types_of files.items) }
 {
     let nested = nested_of(alloc, files)?;
-    let inner = inner_types(alloc, nested.as_slice())?;
+    let inner = inner_types(alloc, nested.as_slice());
+    let (nested, inner) = behind(nested, inner)?;
     if inner.is_empty() {
         return plain_types(alloc, nested);
     }

@@ -1,10 +1,11 @@
 //! What a type is when it stands alone.
 
-ghost use Rattle.std.specs.Prelude.{◌≡◌, IfOk};
+ghost use Rattle.std.specs.Prelude.{◌≡◌, ◌++◌, IfOk, OnOk};
 ghost use Rattle.std.specs.Option.{option_copied, option_map};
 ghost use Rattle.ned_types.specs.Flat.{declares_statistic, last_value, declaration_named, class_in, class_of, submodule_named, is_statistic_declared, statistic_named, last_statistic, statistic_at, statistics_of};
 
 use crate::given::{gives, value_in};
+use crate::made::changed;
 use ned_trees::declarations::{
     Declaration, ParameterValue, SectionLine, Statistic, Submodule, TypeDeclaration,
 };
@@ -151,16 +152,28 @@ pub fn copy_statistic(alloc: Global, statistic: &Statistic) -> Result<Statistic,
     })
 }
 
+/// Adds the statistics that the lines declare.
+fn add_statistics_of(
+    alloc: Global,
+    statistics: &mut Items<Statistic>,
+    lines: &[SectionLine],
+) -> Result<(), AllocError>
+    ensures { OnOk result (statistics.new ≡ statistics.old ++ statistics_of lines.now) }
+{
+    for (at, line) in lines.iter().enumerate() {
+        if let Some(statistic) = statistic_at(&lines[..at], line, &lines[at + 1..]) {
+            statistics.push(copy_statistic(alloc, statistic)?)?;
+        }
+    }
+    Ok(())
+}
+
 /// The statistics that the lines declare, in the order of the first line of each name, each as the
 /// last line of its name has it.
 pub fn statistics_of(alloc: Global, lines: &[SectionLine]) -> Result<Items<Statistic>, AllocError>
     ensures { IfOk result (λ statistics. statistics ≡ statistics_of lines.now) }
 {
     let mut statistics = Items::new(alloc);
-    for (at, line) in lines.iter().enumerate() {
-        if let Some(statistic) = statistic_at(&lines[..at], line, &lines[at + 1..]) {
-            statistics.push(copy_statistic(alloc, statistic)?)?;
-        }
-    }
-    Ok(statistics)
+    let done = add_statistics_of(alloc, &mut statistics, lines);
+    changed(statistics, done)
 }

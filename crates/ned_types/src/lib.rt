@@ -3,4 +3,5 @@
 
 pub mod flat;
 pub mod given;
+pub mod made;
 pub mod table;

@@ -7,6 +7,7 @@ ghost use Rattle.ned_types.specs.Flat.{submodule_named};
 ghost use Rattle.ned_types.specs.WellFormed.{HaveOwnNames, IsAmong, IsWellFormed};
 
 use crate::flat::submodule_named;
+use crate::made::{behind, changed};
 use indexmap::IndexMap;
 use ned_trees::declarations::{Submodule, TypeDeclaration};
 use sqlite_items::Items;
@@ -54,8 +55,10 @@ impl TypeTable {
         requires { IsWellFormed types }
         ensures { IfOk result (λ table. table ≡ types) }
     {
-        let places = shared(alloc, places_of(alloc, types.as_slice())?)?;
-        let types = shared(alloc, types)?;
+        let places = shared_places(alloc, types.as_slice());
+        let (types, places) = behind(types, places)?;
+        let types = shared(alloc, types);
+        let (places, types) = behind(places, types)?;
         Ok(TypeTable { types, places })
     }
 
@@ -118,16 +121,28 @@ fn shared<T: Drop>(alloc: Global, value: T) -> Result<Rc<T>, AllocError>
     }
 }
 
-/// The place of each name.
-fn places_of(
+/// Adds the place of each name.
+fn add_places(
+    alloc: Global,
+    places: &mut IndexMap<Vec<u8>, usize>,
+    types: &[TypeDeclaration],
+) -> Result<(), AllocError> {
+    for (place, declared) in types.iter().enumerate() {
+        let name = Vec::from_slice(alloc, declared.name.as_bytes())?;
+        places.insert(name, place)?;
+    }
+    Ok(())
+}
+
+/// The place of each name, which copies of a table share.
+fn shared_places(
     alloc: Global,
     types: &[TypeDeclaration],
-) -> Result<IndexMap<Vec<u8>, usize>, AllocError> {
+) -> Result<Rc<IndexMap<Vec<u8>, usize>>, AllocError> {
     let mut places = IndexMap::new(alloc);
-    for (place, declared) in types.iter().enumerate() {
-        places.insert(Vec::from_slice(alloc, declared.name.as_bytes())?, place)?;
-    }
-    Ok(places)
+    let done = add_places(alloc, &mut places, types);
+    let places = changed(places, done)?;
+    shared(alloc, places)
 }
 
 /// The type of that name, looked for at that place first.

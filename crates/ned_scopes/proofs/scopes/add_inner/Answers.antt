@@ -4,7 +4,7 @@ use Rattle.ned_scopes.specs.declared.known.Known.{Known}
 use Rattle.ned_scopes.specs.Known.{all_behind}
 use Rattle.ned_scopes.specs.Scopes.{inner_types, known_within}
 use Rattle.ned_scopes.proofs.KnownLaws.{behind_both, next_one}
-use Rattle.ned_scopes.proofs.scopes.inner_types.Goals as goal
+use Rattle.ned_scopes.proofs.scopes.add_inner.Goals as goal
 
 pub loop-nested-preserved : goal.loop-nested-preserved
 loop-nested-preserved c =

@@ -4,7 +4,7 @@ use Rattle.ned_scopes.specs.declared.known.Known.{Known}
 use Rattle.ned_scopes.specs.Known.{all_behind, once_behind}
 use Rattle.ned_scopes.specs.Scopes.{all_types, known_as, known_within}
 use Rattle.ned_scopes.proofs.KnownLaws.{behind_both, next_one}
-use Rattle.ned_scopes.proofs.scopes.all_types.Goals as goal
+use Rattle.ned_scopes.proofs.scopes.add_types.Goals as goal
 
 pub loop-nested-preserved : goal.loop-nested-preserved
 loop-nested-preserved c =
