@@ -1,5 +1,5 @@
 -- Names that were seen before stand for the lines that declare gates of those names.
-use Rattle.std.proofs.Common.{◌≡◌, ℕ, zero, suc, ◌-◌, ◌≤◌, ◌<◌, Bool, true, false, not, ◌||◌, List, [], ◌∷◌, ◌++◌, refl, sym, ap, ◌∙◌, arith, length, append-nil, take, drop, slice_index_or, bytes_eq, Bor, if◌then◌else◌}
+use Rattle.std.proofs.Common.{◌≡◌, ℕ, Bool, true, false, not, ◌||◌, List, [], ◌∷◌, ◌++◌, refl, sym, ap, ◌∙◌, arith, length, append-nil, bytes_eq, Bor, if◌then◌else◌}
 use Rattle.std.specs.List.{list_any}
 use Rattle.ned_trees.specs.declared.declarations.GateDeclaration.{GateDeclaration}
 use Rattle.ned_trees.specs.declared.declarations.GateLine.{GateLine}
@@ -23,32 +23,24 @@ line_more : (names : List (List ℕ)) (g : GateLine) (gs : List GateLine) → is
 line_more names (gate.Declaration d) gs = one_more d.name names gs
 line_more names (gate.Refinement r) gs = ap (λ ns. is_one_gate_named ns gs) (append-nil names) ∙ sym (or_false (is_one_gate_named names gs))
 
-take_all : (gs : List GateLine) (n : ℕ) → length gs ≤ n → take n gs ≡ gs
-take_all [] zero h = refl
-take_all [] (suc n) h = refl
-take_all (g ∷ gs) zero h = absurd (omega (arith, h))
-take_all (g ∷ gs) (suc n) h = ap (λ rs. g ∷ rs) (take_all gs n (omega (arith, h)))
-
 -- no line is left
-pub none_left : (names : List (List ℕ)) (rest : List GateLine) → length rest < 1 → false ≡ (is_one_gate_named names rest || redeclares_gate rest)
+pub none_left : (names : List (List ℕ)) (rest : List GateLine) → length rest ≡ 0 → false ≡ (is_one_gate_named names rest || redeclares_gate rest)
 none_left names [] h = refl
 none_left names (g ∷ gs) h = absurd (omega (arith, h))
 
 -- its name was seen
-pub seen_before : (names : List (List ℕ)) (rest : List GateLine) (d : GateLine) → 1 ≤ length rest → declares_one names (slice_index_or rest 0 d) ≡ true → true ≡ (is_one_gate_named names rest || redeclares_gate rest)
-seen_before names [] d h e = absurd (omega (arith, h))
-seen_before names (g ∷ gs) d h e = sym (ap (λ t. (t || is_one_gate_named names gs) || redeclares_gate (g ∷ gs)) e)
+pub seen_before : (names : List (List ℕ)) (rest : List GateLine) (g : GateLine) (gs : List GateLine) → rest ≡ g ∷ gs → declares_one names g ≡ true → true ≡ (is_one_gate_named names rest || redeclares_gate rest)
+seen_before names rest g gs is e =
+    sym (ap (λ rs. is_one_gate_named names rs || redeclares_gate rs) is ∙ ap (λ t. (t || is_one_gate_named names gs) || redeclares_gate (g ∷ gs)) e)
 
 -- it wasn't
-pub not_seen : (names : List (List ℕ)) (rest : List GateLine) (line d : GateLine) → 1 ≤ length rest → line ≡ slice_index_or rest 0 d → declares_one names line ≡ false
-    → (is_one_gate_named (names ++ declared_gate line) (take (length rest - 1) (drop 1 rest)) || redeclares_gate (take (length rest - 1) (drop 1 rest))) ≡ (is_one_gate_named names rest || redeclares_gate rest)
-not_seen names [] line d h is e = absurd (omega (arith, h))
-not_seen names (g ∷ gs) line d h is e =
-    ap (λ rs. is_one_gate_named (names ++ declared_gate line) rs || redeclares_gate rs) (take_all gs (length (g ∷ gs) - 1) (omega arith))
-    ∙ ap (λ (x : GateLine). is_one_gate_named (names ++ declared_gate x) gs || redeclares_gate gs) is
-    ∙ ap (λ t. t || redeclares_gate gs) (line_more names g gs)
+pub not_seen : (names : List (List ℕ)) (rest : List GateLine) (g : GateLine) (gs : List GateLine) → rest ≡ g ∷ gs → declares_one names g ≡ false
+    → (is_one_gate_named (names ++ declared_gate g) gs || redeclares_gate gs) ≡ (is_one_gate_named names rest || redeclares_gate rest)
+not_seen names rest g gs is e =
+    ap (λ t. t || redeclares_gate gs) (line_more names g gs)
     ∙ or_joined (is_one_gate_named names gs) (is_declared_again gs g) (redeclares_gate gs)
-    ∙ sym (ap (λ t. (t || is_one_gate_named names gs) || redeclares_gate (g ∷ gs)) (ap (declares_one names) (sym is) ∙ e))
+    ∙ sym (ap (λ t. (t || is_one_gate_named names gs) || redeclares_gate (g ∷ gs)) e)
+    ∙ sym (ap (λ rs. is_one_gate_named names rs || redeclares_gate rs) is)
 
 -- nothing was seen yet
 pub none_seen : (keys : List (Bor (List ℕ))) (gs : List GateLine) → keys ≡ [] → (is_one_gate_named (names_in keys) gs || redeclares_gate gs) ≡ redeclares_gate gs

@@ -1,5 +1,6 @@
 -- Types by their names: what is found, what is added, and when two have one name.
-use Rattle.std.proofs.Common.{◌≡◌, ℕ, zero, suc, ◌-◌, ◌≤◌, ◌<◌, Bool, true, false, not, ◌||◌, List, [], ◌∷◌, ◌++◌, Option, Some, None, refl, sym, ap, ◌∙◌, arith, length, append_assoc, take, drop, slice_index_or, bytes_eq, Bor, if◌then◌else◌}
+use Rattle.std.proofs.Common.{◌≡◌, ℕ, Bool, true, false, not, ◌||◌, List, [], ◌∷◌, ◌++◌, Option, Some, None, refl, sym, ap, ◌∙◌, arith, length, append_assoc, bytes_eq, Bor, if◌then◌else◌}
+use Rattle.std.proofs.lemmas.Bool.{false≢true}
 use Rattle.std.specs.Prelude.{is_some, is_none}
 use Rattle.std.specs.Map.{lookup, values_of}
 use Rattle.std.specs.Option.{option_map}
@@ -33,8 +34,8 @@ found name (e ∷ es) h = by (bytes_eq name e.0.now) (bytes_eq e.1.now.name name
         → option_map (λ (r : Bor TypeDeclaration). r.now) (if b then Some e.1 else lookup (λ (k : Bor (List ℕ)). bytes_eq name k.now) es) ≡ (if c then Some e.1.now else type_named name (types_at es))
     by true true p later = refl
     by false false p later = later
-    by true false p later = absurd cc
-    by false true p later = absurd cc
+    by true false p later = absurd (false≢true (sym p))
+    by false true p later = absurd (false≢true p)
 
 -- a type is found exactly where one has the name
 pub is_found : (name : List ℕ) (ts : List TypeDeclaration) → is_some (type_named name ts) ≡ is_type_named name ts
@@ -63,10 +64,10 @@ is_absent k name es h n = none_of (lookup (λ (y : Bor (List ℕ)). bytes_eq k.n
 
 -- what it tells that nothing is there
 pub told_none : (o : Option (Bor TypeDeclaration)) (none : Bool) → is_some o ≡ not none → none ≡ is_none o
-told_none (Some r) true e = absurd cc
+told_none (Some r) true e = absurd (false≢true (sym e))
 told_none (Some r) false e = refl
 told_none None true e = refl
-told_none None false e = absurd cc
+told_none None false e = absurd (false≢true e)
 
 -- ---- what is added
 
@@ -85,9 +86,8 @@ added k t (e ∷ es) n h none = by (bytes_eq k.now e.0.now) (bytes_eq e.1.now.na
     by : (b c : Bool) → b ≡ c → (c || is_type_named t.now.name (types_at es)) ≡ false → (is_type_named t.now.name (types_at es) ≡ false → types_at (insert_entry (λ (x y : Bor (List ℕ)). bytes_eq x.now y.now) es k t) ≡ types_at es ++ t.now ∷ [])
         → types_at (if b then (e.0, t) ∷ es else e ∷ insert_entry (λ (x y : Bor (List ℕ)). bytes_eq x.now y.now) es k t) ≡ e.1.now ∷ types_at es ++ t.now ∷ []
     by false false p q later = ap (λ ts. e.1.now ∷ ts) (later q)
-    by true true p q later = absurd cc
-    by true false p q later = absurd cc
-    by false true p q later = absurd cc
+    by b true p q later = absurd (false≢true (sym q))
+    by true false p q later = absurd (false≢true (sym p))
 
 -- ---- two types of one name
 
@@ -119,17 +119,11 @@ taken_more seen t (u ∷ ts) =
     ∙ ap (λ b. (is_type_named u.name seen || bytes_eq u.name t.name) || b) (taken_more seen t ts)
     ∙ mixed (is_type_named u.name seen) (bytes_eq u.name t.name) (is_one_taken seen ts) (is_type_named t.name ts)
 
-take_all : (ts : List TypeDeclaration) (n : ℕ) → length ts ≤ n → take n ts ≡ ts
-take_all [] zero h = refl
-take_all [] (suc n) h = refl
-take_all (t ∷ ts) zero h = absurd (omega (arith, h))
-take_all (t ∷ ts) (suc n) h = ap (λ rs. t ∷ rs) (take_all ts n (omega (arith, h)))
-
 abbrev pub is_taken_from : List TypeDeclaration → List TypeDeclaration → Bool
 is_taken_from seen rest = is_one_taken seen rest || has_duplicate rest
 
 -- no type is left
-pub none_left : (seen rest types : List TypeDeclaration) → length rest < 1 → is_taken_from seen rest ≡ has_duplicate types → seen ++ rest ≡ types → (has_duplicate types ≡ false) × (seen ≡ types)
+pub none_left : (seen rest types : List TypeDeclaration) → length rest ≡ 0 → is_taken_from seen rest ≡ has_duplicate types → seen ++ rest ≡ types → (has_duplicate types ≡ false) × (seen ≡ types)
 none_left seen [] types h d e = (sym d, sym (nil seen) ∙ e)
   where
     nil : (ts : List TypeDeclaration) → ts ++ [] ≡ ts
@@ -138,33 +132,28 @@ none_left seen [] types h d e = (sym d, sym (nil seen) ∙ e)
 none_left seen (t ∷ ts) types h d e = absurd (omega (arith, h))
 
 -- the next one has the name of a built-in channel
-pub channel_name : (seen rest : List TypeDeclaration) (d : TypeDeclaration) → 1 ≤ length rest → is_built_in (slice_index_or rest 0 d).name ≡ true → is_taken_from seen rest ≡ true
-channel_name seen [] d h e = absurd (omega (arith, h))
-channel_name seen (t ∷ ts) d h e = ap (λ b. is_one_taken seen (t ∷ ts) || ((b || is_type_named t.name ts) || has_duplicate ts)) e ∙ or_one (is_one_taken seen (t ∷ ts))
+pub channel_name : (seen rest : List TypeDeclaration) (t : TypeDeclaration) (ts : List TypeDeclaration) → rest ≡ t ∷ ts → is_built_in t.name ≡ true → is_taken_from seen rest ≡ true
+channel_name seen rest t ts is e =
+    ap (is_taken_from seen) is
+    ∙ ap (λ b. is_one_taken seen (t ∷ ts) || ((b || is_type_named t.name ts) || has_duplicate ts)) e
+    ∙ or_one (is_one_taken seen (t ∷ ts))
 
 -- or that of one before it
-pub name_before : (seen rest : List TypeDeclaration) (d : TypeDeclaration) → 1 ≤ length rest → is_type_named (slice_index_or rest 0 d).name seen ≡ true → is_taken_from seen rest ≡ true
-name_before seen [] d h e = absurd (omega (arith, h))
-name_before seen (t ∷ ts) d h e = ap (λ b. (b || is_one_taken seen ts) || has_duplicate (t ∷ ts)) e
+pub name_before : (seen rest : List TypeDeclaration) (t : TypeDeclaration) (ts : List TypeDeclaration) → rest ≡ t ∷ ts → is_type_named t.name seen ≡ true → is_taken_from seen rest ≡ true
+name_before seen rest t ts is e = ap (is_taken_from seen) is ∙ ap (λ b. (b || is_one_taken seen ts) || has_duplicate (t ∷ ts)) e
 
 -- or another one
-pub name_of_its_own : (seen rest : List TypeDeclaration) (d : TypeDeclaration) → 1 ≤ length rest → is_built_in (slice_index_or rest 0 d).name ≡ false → is_type_named (slice_index_or rest 0 d).name seen ≡ false
-    → is_taken_from (seen ++ slice_index_or rest 0 d ∷ []) (take (length rest - 1) (drop 1 rest)) ≡ is_taken_from seen rest
-name_of_its_own seen [] d h e f = absurd (omega (arith, h))
-name_of_its_own seen (t ∷ ts) d h e f =
-    ap (λ rs. is_taken_from (seen ++ t ∷ []) rs) (take_all ts (length (t ∷ ts) - 1) (omega arith))
-    ∙ ap (λ b. b || has_duplicate ts) (taken_more seen t ts)
+pub name_of_its_own : (seen rest : List TypeDeclaration) (t : TypeDeclaration) (ts : List TypeDeclaration) → rest ≡ t ∷ ts → is_built_in t.name ≡ false → is_type_named t.name seen ≡ false → is_taken_from (seen ++ t ∷ []) ts ≡ is_taken_from seen rest
+name_of_its_own seen rest t ts is e f =
+    ap (λ b. b || has_duplicate ts) (taken_more seen t ts)
     ∙ or_joined (is_one_taken seen ts) (is_type_named t.name ts) (has_duplicate ts)
     ∙ sym (ap (λ b. is_one_taken seen ts || ((b || is_type_named t.name ts) || has_duplicate ts)) e)
     ∙ sym (ap (λ b. (b || is_one_taken seen ts) || ((is_built_in t.name || is_type_named t.name ts) || has_duplicate ts)) f)
+    ∙ sym (ap (is_taken_from seen) is)
 
 -- and then it is seen
-pub one_moved : (seen rest types : List TypeDeclaration) (d : TypeDeclaration) → 1 ≤ length rest → seen ++ rest ≡ types → (seen ++ slice_index_or rest 0 d ∷ []) ++ take (length rest - 1) (drop 1 rest) ≡ types
-one_moved seen [] types d h e = absurd (omega (arith, h))
-one_moved seen (t ∷ ts) types d h e =
-    ap (λ rs. (seen ++ t ∷ []) ++ rs) (take_all ts (length (t ∷ ts) - 1) (omega arith))
-    ∙ append_assoc seen (t ∷ []) ts
-    ∙ e
+pub one_moved : (seen rest types : List TypeDeclaration) (t : TypeDeclaration) (ts : List TypeDeclaration) → rest ≡ t ∷ ts → seen ++ rest ≡ types → (seen ++ t ∷ []) ++ ts ≡ types
+one_moved seen rest types t ts is e = append_assoc seen (t ∷ []) ts ∙ sym (ap (λ rs. seen ++ rs) is) ∙ e
 
 -- at first none is seen
 pub none_seen : (seen types : List TypeDeclaration) → seen ≡ [] → (seen ++ types ≡ types) × (is_taken_from seen types ≡ has_duplicate types)
@@ -177,11 +166,11 @@ none_seen seen types e = (ap (λ (ns : List TypeDeclaration). ns ++ types) e, ap
 -- what the answer of an addition tells
 pub told_there : (b x : Bool) → b ≡ not x → b ≡ false → x ≡ true
 told_there b true e f = refl
-told_there b false e f = absurd cc
+told_there b false e f = absurd (false≢true (sym f ∙ e))
 
 pub told_new : (b x : Bool) → b ≡ not x → b ≡ true → x ≡ false
 told_new b false e f = refl
-told_new b true e f = absurd cc
+told_new b true e f = absurd (false≢true (sym e ∙ f))
 
 -- ---- names, whatever stands at them
 

@@ -1,5 +1,6 @@
 -- Names that were seen before stand for the submodules that had them.
-use Rattle.std.proofs.Common.{◌≡◌, ℕ, zero, suc, ◌-◌, ◌≤◌, ◌<◌, Bool, true, false, not, ◌||◌, List, [], ◌∷◌, ◌++◌, refl, sym, ap, ◌∙◌, arith, length, take, drop, slice_index_or, bytes_eq, Bor, if◌then◌else◌}
+use Rattle.std.proofs.Common.{◌≡◌, ℕ, Bool, true, false, not, ◌||◌, List, [], ◌∷◌, ◌++◌, refl, sym, ap, ◌∙◌, arith, length, bytes_eq, Bor, if◌then◌else◌}
+use Rattle.std.proofs.lemmas.Bool.{false≢true}
 use Rattle.std.specs.List.{list_any}
 use Rattle.ned_trees.specs.declared.declarations.Submodule.{Submodule}
 use Rattle.type_building.specs.Seen.{is_one_named, names_in}
@@ -41,31 +42,24 @@ pub or_joined : (a b c : Bool) → ((a || b) || c) ≡ (a || (b || c))
 or_joined true b c = refl
 or_joined false b c = refl
 
-take_all : (ss : List Submodule) (n : ℕ) → length ss ≤ n → take n ss ≡ ss
-take_all [] zero h = refl
-take_all [] (suc n) h = refl
-take_all (s ∷ ss) zero h = absurd (omega (arith, h))
-take_all (s ∷ ss) (suc n) h = ap (λ rs. s ∷ rs) (take_all ss n (omega (arith, h)))
-
 -- no submodule is left
-pub none_left : (names : List (List ℕ)) (rest : List Submodule) → length rest < 1 → false ≡ (is_one_named names rest || repeats_submodule rest)
+pub none_left : (names : List (List ℕ)) (rest : List Submodule) → length rest ≡ 0 → false ≡ (is_one_named names rest || repeats_submodule rest)
 none_left names [] h = refl
 none_left names (s ∷ ss) h = absurd (omega (arith, h))
 
 -- its name was seen
-pub seen_before : (names : List (List ℕ)) (rest : List Submodule) (d : Submodule) → 1 ≤ length rest → list_any (bytes_eq (slice_index_or rest 0 d).name) names ≡ true → true ≡ (is_one_named names rest || repeats_submodule rest)
-seen_before names [] d h e = absurd (omega (arith, h))
-seen_before names (s ∷ ss) d h e = sym (ap (λ t. (t || is_one_named names ss) || repeats_submodule (s ∷ ss)) e)
+pub seen_before : (names : List (List ℕ)) (rest : List Submodule) (s : Submodule) (ss : List Submodule) → rest ≡ s ∷ ss → list_any (bytes_eq s.name) names ≡ true → true ≡ (is_one_named names rest || repeats_submodule rest)
+seen_before names rest s ss is e =
+    sym (ap (λ rs. is_one_named names rs || repeats_submodule rs) is ∙ ap (λ t. (t || is_one_named names ss) || repeats_submodule (s ∷ ss)) e)
 
 -- it wasn't
-pub not_seen : (names : List (List ℕ)) (rest : List Submodule) (d : Submodule) → 1 ≤ length rest → list_any (bytes_eq (slice_index_or rest 0 d).name) names ≡ false
-    → (is_one_named (names ++ (slice_index_or rest 0 d).name ∷ []) (take (length rest - 1) (drop 1 rest)) || repeats_submodule (take (length rest - 1) (drop 1 rest))) ≡ (is_one_named names rest || repeats_submodule rest)
-not_seen names [] d h e = absurd (omega (arith, h))
-not_seen names (s ∷ ss) d h e =
-    ap (λ rs. is_one_named (names ++ s.name ∷ []) rs || repeats_submodule rs) (take_all ss (length (s ∷ ss) - 1) (omega arith))
-    ∙ ap (λ t. t || repeats_submodule ss) (one_more s.name names ss)
+pub not_seen : (names : List (List ℕ)) (rest : List Submodule) (s : Submodule) (ss : List Submodule) → rest ≡ s ∷ ss → list_any (bytes_eq s.name) names ≡ false
+    → (is_one_named (names ++ s.name ∷ []) ss || repeats_submodule ss) ≡ (is_one_named names rest || repeats_submodule rest)
+not_seen names rest s ss is e =
+    ap (λ t. t || repeats_submodule ss) (one_more s.name names ss)
     ∙ or_joined (is_one_named names ss) (is_submodule_named s.name ss) (repeats_submodule ss)
     ∙ sym (ap (λ t. (t || is_one_named names ss) || repeats_submodule (s ∷ ss)) e)
+    ∙ sym (ap (λ rs. is_one_named names rs || repeats_submodule rs) is)
 
 -- ---- the set
 
@@ -79,10 +73,10 @@ names_more (y ∷ keys) k = ap (λ ns. y.now ∷ ns) (names_more keys k)
 
 pub seen_more : (keys more : List (Bor (List ℕ))) (k : Bor (List ℕ)) (added : Bool) → added ≡ not (list_any (λ (y : Bor (List ℕ)). bytes_eq k.now y.now) keys) → more ≡ (if list_any (λ (y : Bor (List ℕ)). bytes_eq k.now y.now) keys then keys else keys ++ k ∷ []) → added ≡ true
     → (list_any (bytes_eq k.now) (names_in keys) ≡ false) × (names_in more ≡ names_in keys ++ k.now ∷ [])
-seen_more keys more k added is now t = by (list_any (λ (y : Bor (List ℕ)). bytes_eq k.now y.now) keys) (any_name k keys) is now
+seen_more keys more k added is now fresh = by (list_any (λ (y : Bor (List ℕ)). bytes_eq k.now y.now) keys) (any_name k keys) is now
   where
     by : (c : Bool) → c ≡ list_any (bytes_eq k.now) (names_in keys) → added ≡ not c → more ≡ (if c then keys else keys ++ k ∷ []) → (list_any (bytes_eq k.now) (names_in keys) ≡ false) × (names_in more ≡ names_in keys ++ k.now ∷ [])
-    by true e is now = cc
+    by true e is now = absurd (false≢true (sym is ∙ fresh))
     by false e is now = (sym e, ap names_in now ∙ names_more keys k)
 
 -- nothing was seen yet
@@ -98,4 +92,4 @@ seen_already keys k added is t = by (list_any (λ (y : Bor (List ℕ)). bytes_eq
   where
     by : (c : Bool) → c ≡ list_any (bytes_eq k.now) (names_in keys) → added ≡ not c → list_any (bytes_eq k.now) (names_in keys) ≡ true
     by true e is = sym e
-    by false e is = cc
+    by false e is = absurd (false≢true (sym t ∙ is))

@@ -1,22 +1,16 @@
 -- Names that were seen before stand for the lines that declare parameters of those names, or give them fixed values.
-use Rattle.std.proofs.Common.{◌≡◌, ℕ, zero, suc, ◌-◌, ◌≤◌, Bool, true, false, not, ◌||◌, ◌&&◌, List, [], ◌∷◌, ◌++◌, refl, sym, ap, ◌∙◌, arith, length, take, drop, slice_index_or, bytes_eq, Bor, if◌then◌else◌}
+use Rattle.std.proofs.Common.{◌≡◌, ℕ, Bool, true, false, not, ◌||◌, ◌&&◌, List, [], ◌∷◌, ◌++◌, refl, sym, ap, ◌∙◌, bytes_eq, Bor, if◌then◌else◌}
 use Rattle.std.specs.Prelude.{is_some}
 use Rattle.std.specs.List.{list_any}
 use Rattle.ned_trees.specs.declared.declarations.SectionLine.{SectionLine}
 use Rattle.ned_trees.specs.declared.declarations.SectionLine.TheVariants as line
-use Rattle.type_building.specs.Seen.{names_in, is_in, AddsNames, redeclares_seen, gives_seen, gives_unseen}
-use Rattle.ned_types.specs.Types.{is_declaration, name_in, value_in, declares, is_declared, redeclares, is_fixed, gives, is_given, gives_fixed, gives_again, gives_undeclared, is_undeclared}
+use Rattle.type_building.specs.Seen.{names_in, is_in, AddsNames, redeclares_seen, gives_seen, gives_unseen, is_unfit_over}
+use Rattle.ned_types.specs.Types.{is_declaration, name_in, value_in, declares, is_declared, redeclares, is_fixed, gives, is_given, gives_fixed, gives_again, gives_undeclared, is_undeclared, is_fixed_in, is_unfit, has_unfit}
 use Rattle.type_building.proofs.NamedLaws.{turned}
 use Rattle.type_building.proofs.Repeats.{or_false, or_joined, mixed, any_more, any_name, names_more}
 use Rattle.type_building.proofs.WellFormedLaws.{same_names}
 
 -- ---- of one of several lines
-
-take_all : (ls : List SectionLine) (n : ℕ) → length ls ≤ n → take n ls ≡ ls
-take_all [] zero h = refl
-take_all [] (suc n) h = refl
-take_all (l ∷ ls) zero h = absurd (omega (arith, h))
-take_all (l ∷ ls) (suc n) h = ap (λ rs. l ∷ rs) (take_all ls n (omega (arith, h)))
 
 any_same : (p q : SectionLine → Bool) → ((l : SectionLine) → p l ≡ q l) → (ls : List SectionLine) → list_any p ls ≡ list_any q ls
 any_same p q same [] = refl
@@ -80,13 +74,11 @@ from_none keys more picks e adds n = adds n ∙ ap (λ ks. is_in n (names_in ks)
 -- ---- the names of lines
 
 -- what one line more adds
-pub more_left : (p : SectionLine → Bool) (was now : Bool) (rest : List SectionLine) (line d : SectionLine) → 1 ≤ length rest → line ≡ slice_index_or rest 0 d → now ≡ (was || p line)
-    → (now || list_any p (take (length rest - 1) (drop 1 rest))) ≡ (was || list_any p rest)
-more_left p was now [] line d h is e = absurd (omega (arith, h))
-more_left p was now (l ∷ ls) line d h is e =
-    ap (λ rs. now || list_any p rs) (take_all ls (length (l ∷ ls) - 1) (omega arith))
-    ∙ ap (λ t. t || list_any p ls) (e ∙ ap (λ x. was || p x) is)
+pub more_left : (p : SectionLine → Bool) (was now : Bool) (rest : List SectionLine) (l : SectionLine) (ls : List SectionLine) → rest ≡ l ∷ ls → now ≡ (was || p l) → (now || list_any p ls) ≡ (was || list_any p rest)
+more_left p was now rest l ls is e =
+    ap (λ t. t || list_any p ls) e
     ∙ or_joined was (p l) (list_any p ls)
+    ∙ sym (ap (λ rs. was || list_any p rs) is)
 
 declares_by : (n : List ℕ) (l : SectionLine) → declares n l ≡ (is_declaration l && bytes_eq (name_in l) n)
 declares_by n (line.Declaration d) = refl
@@ -106,15 +98,13 @@ seen_or_here names more line adds l =
     ∙ spread (is_declaration l) (is_in (name_in l) names) (is_declaration line) (bytes_eq (name_in l) (name_in line))
     ∙ sym (ap (λ t. redeclares_seen names l || (is_declaration line && t)) (declares_by (name_in line) l))
 
-pub declared_more : (again seen : Bool) (names more : List (List ℕ)) (rest : List SectionLine) (line d : SectionLine) → 1 ≤ length rest → line ≡ slice_index_or rest 0 d → seen ≡ redeclares_seen names line → AddsNames names (λ n. declares n line) more
-    → is_twice (again || seen) more (take (length rest - 1) (drop 1 rest)) ≡ is_twice again names rest
-declared_more again seen names more [] line d h is told adds = absurd (omega (arith, h))
-declared_more again seen names more (l ∷ ls) line d h is told adds =
-    ap (λ rs. is_twice (again || seen) more rs) (take_all ls (length (l ∷ ls) - 1) (omega arith))
-    ∙ ap (λ t. is_twice (again || t) more ls) told
-    ∙ ap (λ t. (again || redeclares_seen names line) || (t || redeclares ls)) (any_parted (redeclares_seen more) (redeclares_seen names) (declares (name_in line)) (is_declaration line) (seen_or_here names more line adds) ls)
-    ∙ ap (λ x. (again || redeclares_seen names x) || ((list_any (redeclares_seen names) ls || (is_declaration x && is_declared (name_in x) ls)) || redeclares ls)) is
+pub declared_more : (again seen : Bool) (names more : List (List ℕ)) (rest : List SectionLine) (l : SectionLine) (ls : List SectionLine) → rest ≡ l ∷ ls → seen ≡ redeclares_seen names l → AddsNames names (λ n. declares n l) more
+    → is_twice (again || seen) more ls ≡ is_twice again names rest
+declared_more again seen names more rest l ls is told adds =
+    ap (λ t. is_twice (again || t) more ls) told
+    ∙ ap (λ t. (again || redeclares_seen names l) || (t || redeclares ls)) (any_parted (redeclares_seen more) (redeclares_seen names) (declares (name_in l)) (is_declaration l) (seen_or_here names more l adds) ls)
     ∙ grouped again (redeclares_seen names l) (list_any (redeclares_seen names) ls) (is_declaration l && is_declared (name_in l) ls) (redeclares ls)
+    ∙ sym (ap (is_twice again names) is)
   where
     grouped : (g s o h r : Bool) → ((g || s) || ((o || h) || r)) ≡ (g || ((s || o) || (h || r)))
     grouped true s o h r = refl
@@ -137,15 +127,13 @@ given_or_here names more line adds l =
     ap (λ t. is_some (value_in l) && t) (adds (name_in l) ∙ ap (λ t. is_in (name_in l) names || (is_fixed (value_in line) && t)) (turned (name_in line) (name_in l)))
     ∙ spread (is_some (value_in l)) (is_in (name_in l) names) (is_fixed (value_in line)) (bytes_eq (name_in l) (name_in line))
 
-pub not_given : (names more : List (List ℕ)) (rest : List SectionLine) (line d : SectionLine) → 1 ≤ length rest → line ≡ slice_index_or rest 0 d → gives_seen names line ≡ false → AddsNames names (λ n. gives_fixed n line) more
-    → (list_any (gives_seen more) (take (length rest - 1) (drop 1 rest)) || gives_again (take (length rest - 1) (drop 1 rest))) ≡ (list_any (gives_seen names) rest || gives_again rest)
-not_given names more [] line d h is none adds = absurd (omega (arith, h))
-not_given names more (l ∷ ls) line d h is none adds =
-    ap (λ rs. list_any (gives_seen more) rs || gives_again rs) (take_all ls (length (l ∷ ls) - 1) (omega arith))
-    ∙ ap (λ t. t || gives_again ls) (any_parted (gives_seen more) (gives_seen names) (gives (name_in line)) (is_fixed (value_in line)) (given_or_here names more line adds) ls)
-    ∙ ap (λ x. (list_any (gives_seen names) ls || (is_fixed (value_in x) && is_given (name_in x) ls)) || gives_again ls) is
+pub not_given : (names more : List (List ℕ)) (rest : List SectionLine) (l : SectionLine) (ls : List SectionLine) → rest ≡ l ∷ ls → gives_seen names l ≡ false → AddsNames names (λ n. gives_fixed n l) more
+    → (list_any (gives_seen more) ls || gives_again ls) ≡ (list_any (gives_seen names) rest || gives_again rest)
+not_given names more rest l ls is none adds =
+    ap (λ t. t || gives_again ls) (any_parted (gives_seen more) (gives_seen names) (gives (name_in l)) (is_fixed (value_in l)) (given_or_here names more l adds) ls)
     ∙ or_joined (list_any (gives_seen names) ls) (is_fixed (value_in l) && is_given (name_in l) ls) (gives_again ls)
-    ∙ sym (ap (λ t. (t || list_any (gives_seen names) ls) || gives_again (l ∷ ls)) (ap (gives_seen names) (sym is) ∙ none))
+    ∙ sym (ap (λ t. (t || list_any (gives_seen names) ls) || gives_again (l ∷ ls)) none)
+    ∙ sym (ap (λ rs. list_any (gives_seen names) rs || gives_again rs) is)
 
 pub first_given : (keys : List (Bor (List ℕ))) (ls : List SectionLine) → keys ≡ [] → (list_any (gives_seen (names_in keys)) ls || gives_again ls) ≡ gives_again ls
 first_given keys ls e = ap (λ t. t || gives_again ls) (none_of keys e (λ l. is_some (value_in l)) ls)
@@ -158,3 +146,13 @@ unseen_undeclared names lines declared l = ap (λ t. is_some (value_in l) && not
 -- in the names that lines declare
 pub undeclared_by : (names : List (List ℕ)) (lines : List SectionLine) → ((n : List ℕ) → is_in n names ≡ is_declared n lines) → list_any (gives_unseen names) lines ≡ gives_undeclared lines
 undeclared_by names lines declared = any_same (gives_unseen names) (λ l. is_undeclared lines l) (unseen_undeclared names lines declared) lines
+
+-- in the names that lines declare, and in those that they give fixed values
+pub unfit_by : (declared fixed : List (List ℕ)) (lines : List SectionLine) → ((n : List ℕ) → is_in n declared ≡ is_declared n lines) → ((n : List ℕ) → is_in n fixed ≡ is_fixed_in n lines) → (body : List SectionLine)
+    → list_any (is_unfit_over declared fixed) body ≡ has_unfit lines body
+unfit_by declared fixed lines own given body = any_same (is_unfit_over declared fixed) (λ l. is_unfit lines l) one body
+  where
+    one : (l : SectionLine) → is_unfit_over declared fixed l ≡ is_unfit lines l
+    one l =
+        ap (λ t. is_declaration l || (t || gives_seen fixed l)) (unseen_undeclared declared lines own l)
+        ∙ ap (λ t. is_declaration l || (is_undeclared lines l || (is_some (value_in l) && t))) (given (name_in l))

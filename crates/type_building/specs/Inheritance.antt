@@ -148,16 +148,19 @@ class_lines false class = []
 
 -- a type that extends another, before it has any member. The class of a simple type stands before its lines, as the first
 -- class that lines name counts; types of other kinds have none
-abbrev pub bare_heir : List TypeDeclaration → TypeDeclaration → TypeDeclaration
-bare_heir types t = record {
+abbrev pub bare_heir_of : List TypeDeclaration → TypeDeclaration → TypeDeclaration
+bare_heir_of line t = record {
   kind = t.kind;
   name = t.name;
   base = None;
   interfaces = [];
-  lines = class_lines (is_simple_kind t.kind) (class_along (line_of types t));
+  lines = class_lines (is_simple_kind t.kind) (class_along line);
   gates = [];
   submodules = [];
 }
+
+abbrev pub bare_heir : List TypeDeclaration → TypeDeclaration → TypeDeclaration
+bare_heir types t = bare_heir_of (line_of types t) t
 
 -- a type that extends another, with all that its bases have, what the root has first and its own last
 abbrev pub heir_of : List TypeDeclaration → TypeDeclaration → TypeDeclaration

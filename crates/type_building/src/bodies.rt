@@ -1,6 +1,6 @@
 //! What the bodies of submodules may say.
 
-ghost use Rattle.std.specs.Prelude.{◌≡◌, IfOk};
+ghost use Rattle.std.specs.Prelude.{◌≡◌, [], IfOk};
 ghost use Rattle.std.specs.List.{list_any};
 ghost use Rattle.ned_types.specs.Types.{bodies_clash, has_unfit_body, body_clashes, has_unfit};
 ghost use Rattle.type_building.specs.Seen.{names_in, is_unfit_over};
@@ -22,7 +22,7 @@ pub(crate) fn bodies_clash(
     ensures { IfOk result (λ clash. clash ≡ bodies_clash named.now submodules.now) }
 {
     let mut rest = submodules;
-    while let [submodule, after @ ..] = rest {
+    'submodules: while let Some((submodule, after)) = rest.split_first() {
         if has_unfit_body(alloc, named, submodule)? {
             return Ok(true);
         }
@@ -66,11 +66,24 @@ fn has_unfit(alloc: Global, lines: &[SectionLine], body: &[SectionLine]) -> Resu
     ensures { IfOk result (λ unfit. unfit ≡ has_unfit lines.now body.now) }
 {
     let mut declared = IndexSet::new(alloc);
-    see_declared(&mut declared, lines)?;
     let mut fixed = IndexSet::new(alloc);
-    see_fixed(&mut fixed, lines)?;
-    let unfit = is_one_unfit(&declared, &fixed, body);
-    Ok(unfit)
+    has_unfit_over(&mut declared, &mut fixed, lines, body)
+}
+
+/// Whether one of the lines of a body can't stand over these lines of a type, whose names are added to two empty sets.
+fn has_unfit_over<'a>(
+    declared: &mut IndexSet<&'a [u8]>,
+    fixed: &mut IndexSet<&'a [u8]>,
+    lines: &'a [SectionLine],
+    body: &'a [SectionLine],
+) -> Result<bool, AllocError>
+    requires declared { declared.old.keys ≡ [] }
+    requires fixed { fixed.old.keys ≡ [] }
+    ensures { IfOk result (λ unfit. unfit ≡ has_unfit lines.now body.now) }
+{
+    see_declared(declared, lines)?;
+    see_fixed(fixed, lines)?;
+    Ok(is_one_unfit(declared, fixed, body))
 }
 
 /// Whether one of the lines of a body can't stand over lines that declare parameters of the first names, and fix those of the

@@ -1,7 +1,7 @@
 //! What the built-in channels have.
 //! See OMNeT++ Simulation Manual, "Channels".
 
-ghost use Rattle.std.specs.Prelude.{◌≡◌, ◌++◌, IfOk, OnOk};
+ghost use Rattle.std.specs.Prelude.{◌≡◌, ◌++◌, ◌∷◌, [], IfOk, OnOk};
 ghost use Rattle.type_building.specs.Channels.{built_in_line, built_in_lines, delay_lines, error_lines, rate_lines, root_lines};
 
 use ned_trees::declarations::{Declaration, ParameterValue, ParameterWord, SectionLine};
@@ -29,15 +29,29 @@ fn built_in_line(
     }))
 }
 
+/// Adds one behind these lines.
+fn add_line(
+    alloc: Global,
+    lines: &mut Items<SectionLine>,
+    name: &[u8],
+    word: ParameterWord,
+    unit: Option<Dimension>,
+    value: Value,
+) -> Result<(), AllocError>
+    ensures { OnOk result (lines.new ≡ lines.old ++ built_in_line name.now word unit value ∷ []) }
+{
+    lines.push(built_in_line(alloc, name, word, unit, value)?)
+}
+
 /// Adds what a DelayChannel has.
 fn add_delay(alloc: Global, lines: &mut Items<SectionLine>) -> Result<(), AllocError>
     ensures { OnOk result (lines.new ≡ lines.old ++ delay_lines) }
 {
-    let (time, flag) = (Value::Quantity(Dimension::Time, 0), Value::Truth(false));
-    let (name, unit) = (b"delay".as_slice(), Some(Dimension::Time));
-    lines.push(built_in_line(alloc, name, ParameterWord::Double, unit, time)?)?;
-    let name = b"disabled".as_slice();
-    lines.push(built_in_line(alloc, name, ParameterWord::Bool, None, flag)?)?;
+    let (unit, time) = (Some(Dimension::Time), Value::Quantity(Dimension::Time, 0));
+    let name = b"delay".as_slice();
+    add_line(alloc, lines, name, ParameterWord::Double, unit, time)?;
+    let (name, flag) = (b"disabled".as_slice(), Value::Truth(false));
+    add_line(alloc, lines, name, ParameterWord::Bool, None, flag)?;
     Ok(())
 }
 
@@ -46,8 +60,8 @@ fn add_errors(alloc: Global, lines: &mut Items<SectionLine>) -> Result<(), Alloc
     ensures { OnOk result (lines.new ≡ lines.old ++ error_lines) }
 {
     let (ber, per) = (b"ber".as_slice(), b"per".as_slice());
-    lines.push(built_in_line(alloc, ber, ParameterWord::Int, None, Value::Whole(0))?)?;
-    lines.push(built_in_line(alloc, per, ParameterWord::Int, None, Value::Whole(0))?)?;
+    add_line(alloc, lines, ber, ParameterWord::Int, None, Value::Whole(0))?;
+    add_line(alloc, lines, per, ParameterWord::Int, None, Value::Whole(0))?;
     Ok(())
 }
 
@@ -55,9 +69,9 @@ fn add_errors(alloc: Global, lines: &mut Items<SectionLine>) -> Result<(), Alloc
 fn add_rate(alloc: Global, lines: &mut Items<SectionLine>) -> Result<(), AllocError>
     ensures { OnOk result (lines.new ≡ lines.old ++ rate_lines) }
 {
-    let (rate, unit) = (Value::Quantity(Dimension::Rate, 0), Some(Dimension::Rate));
+    let (unit, rate) = (Some(Dimension::Rate), Value::Quantity(Dimension::Rate, 0));
     let name = b"datarate".as_slice();
-    lines.push(built_in_line(alloc, name, ParameterWord::Double, unit, rate)?)?;
+    add_line(alloc, lines, name, ParameterWord::Double, unit, rate)?;
     add_errors(alloc, lines)?;
     Ok(())
 }

@@ -210,7 +210,7 @@ fn one_clashes(
     ensures { IfOk result (λ clash. clash ≡ list_any (λ t. clashes named.now t) types.now) }
 {
     let mut rest = types;
-    while let [declared, after @ ..] = rest {
+    'types: while let Some((declared, after)) = rest.split_first() {
         if clashes(alloc, named, declared)? {
             return Ok(true);
         }
@@ -257,8 +257,7 @@ fn repeats_submodule(alloc: Global, submodules: &[Submodule]) -> Result<bool, Al
     ensures { IfOk result (λ repeats. repeats ≡ repeats_submodule submodules.now) }
 {
     let mut seen = IndexSet::new(alloc);
-    let repeats = repeats_seen(&mut seen, submodules)?;
-    Ok(repeats)
+    repeats_seen(&mut seen, submodules)
 }
 
 /// Whether one of these has a name that was seen before.
@@ -270,7 +269,7 @@ fn repeats_seen<'a>(
         ≡ (is_one_named (names_in seen.old.keys) submodules.now || repeats_submodule submodules.now)) }
 {
     let mut rest = submodules;
-    while let [submodule, after @ ..] = rest {
+    'submodules: while let Some((submodule, after)) = rest.split_first() {
         if !seen.insert(submodule.name.as_bytes())? {
             return Ok(true);
         }

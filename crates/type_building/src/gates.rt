@@ -13,8 +13,7 @@ pub(crate) fn redeclares_gate(alloc: Global, gates: &[GateLine]) -> Result<bool,
     ensures { IfOk result (λ again. again ≡ redeclares_gate gates.now) }
 {
     let mut seen = IndexSet::new(alloc);
-    let again = declares_seen(&mut seen, gates)?;
-    Ok(again)
+    declares_seen(&mut seen, gates)
 }
 
 /// Whether one of these lines declares a gate whose name was seen before.
@@ -26,7 +25,7 @@ fn declares_seen<'a>(
         ≡ (is_one_gate_named (names_in seen.old.keys) gates.now || redeclares_gate gates.now)) }
 {
     let mut rest = gates;
-    while let [line, after @ ..] = rest {
+    'lines: while let Some((line, after)) = rest.split_first() {
         if !see_gate(seen, line)? {
             return Ok(true);
         }

@@ -1,10 +1,10 @@
 //! Types that extend others.
 
-ghost use Rattle.std.specs.Prelude.{◌≡◌, ◌++◌, [], map, Ok, IfOk, OnOk};
+ghost use Rattle.std.specs.Prelude.{◌≡◌, ◌++◌, [], map, IfOk, OnOk};
 ghost use Rattle.std.specs.List.{list_any};
 ghost use Rattle.std.specs.Option.{option_copied};
 ghost use Rattle.ned_types.specs.Types.{is_channel_kind, is_simple_kind};
-ghost use Rattle.type_building.specs.Inheritance.{base_of, line_of, extends_unknown, extends_other, can_extend, is_base, is_channel_of, with_members, joined_with, class_along, class_lines, bare, bare_heir, flat_by, gathered, heir_of, heirs_first, flat_type, joined_behind, types_in};
+ghost use Rattle.type_building.specs.Inheritance.{base_of, line_of, extends_unknown, extends_other, can_extend, is_base, is_channel_of, with_members, joined_with, class_along, class_lines, bare, bare_heir_of, flat_by, gathered, heir_of, heirs_first, flat_type, joined_behind, types_in};
 ghost use Rattle.type_building.specs.Named.{HaveLines, flat_by_lines, line_at};
 
 use crate::channels::add_root;
@@ -15,6 +15,7 @@ use crate::order::is_interface_kind;
 use ned_scopes::copies::{add_gates, add_lines, add_names, add_submodules, copy_type};
 use ned_trees::declarations::{SectionLine, TypeDeclaration, TypeKind};
 use ned_types::flat::{class_in, class_of};
+use ned_types::made::{behind, changed};
 use sim_values::text::Text;
 use sqlite_items::Items;
 use std::alloc::{AllocError, Global};
@@ -169,6 +170,21 @@ fn class_along<'a>(line: &[&'a TypeDeclaration]) -> &'a [u8]
     b"".as_slice()
 }
 
+/// Adds the line that names the class of a type that extends another, where it is a simple type.
+fn add_class_line(
+    alloc: Global,
+    lines: &mut Items<SectionLine>,
+    declared: &TypeDeclaration,
+    line: &[&TypeDeclaration],
+) -> Result<(), AllocError>
+    ensures { OnOk result (lines.new ≡ lines.old ++ class_lines (is_simple_kind declared.now.kind) (class_along (types_in line.now))) }
+{
+    if is_simple_kind(declared.kind) {
+        lines.push(SectionLine::Class(Text::from_bytes(alloc, class_along(line))?))?;
+    }
+    Ok(())
+}
+
 /// The line that names the class of a type that extends another, where it is a simple type.
 fn class_lines(
     alloc: Global,
@@ -178,10 +194,29 @@ fn class_lines(
     ensures { IfOk result (λ lines. lines ≡ class_lines (is_simple_kind declared.now.kind) (class_along (types_in line.now))) }
 {
     let mut lines = Items::new(alloc);
-    if is_simple_kind(declared.kind) {
-        lines.push(SectionLine::Class(Text::from_bytes(alloc, class_along(line))?))?;
-    }
-    Ok(lines)
+    let done = add_class_line(alloc, &mut lines, declared, line);
+    changed(lines, done)
+}
+
+/// A type that extends another, where these are the type and its bases, before it has any member.
+fn bare_heir(
+    alloc: Global,
+    declared: &TypeDeclaration,
+    line: &[&TypeDeclaration],
+) -> Result<TypeDeclaration, AllocError>
+    ensures { IfOk result (λ flat. flat ≡ bare_heir_of (types_in line.now) declared.now) }
+{
+    let name = declared.name.copy(alloc)?;
+    let (name, lines) = behind(name, class_lines(alloc, declared, line))?;
+    Ok(TypeDeclaration {
+        kind: declared.kind,
+        name,
+        base: None,
+        interfaces: Items::new(alloc),
+        lines,
+        gates: Items::new(alloc),
+        submodules: Items::new(alloc),
+    })
 }
 
 /// A type that extends another, with all that its bases have.
@@ -193,17 +228,11 @@ fn heir_of<'a>(
     ensures { IfOk result (λ flat. flat ≡ heir_of named.now declared.now) }
 {
     let line = line_of(alloc, named, declared)?;
-    let mut flat = TypeDeclaration {
-        kind: declared.kind,
-        name: declared.name.copy(alloc)?,
-        base: None,
-        interfaces: Items::new(alloc),
-        lines: class_lines(alloc, declared, &line)?,
-        gates: Items::new(alloc),
-        submodules: Items::new(alloc),
-    };
-    add_joined(alloc, &mut flat, line)?;
-    Ok(flat)
+    let flat = bare_heir(alloc, declared, &line);
+    let (line, flat) = behind(line, flat)?;
+    let mut flat = flat;
+    let done = add_joined(alloc, &mut flat, line);
+    changed(flat, done)
 }
 
 /// Adds the members of these types, those of the first one first.
@@ -235,15 +264,6 @@ fn bare(alloc: Global, declared: &TypeDeclaration) -> Result<TypeDeclaration, Al
         gates: Items::new(alloc),
         submodules: Items::new(alloc),
     })
-}
-
-/// What was changed, where that succeeded: in a function of its own each exit would open the drop of a type.
-fn changed<T: Drop>(value: T, done: Result<(), AllocError>) -> Result<T, AllocError>
-    ensures same { IfOk result (λ same. same ≡ value) }
-    ensures done { IfOk result (λ _. done ≡ Ok tt) }
-{
-    done?;
-    Ok(value)
 }
 
 /// The types that the lines of these names have, one line behind the other, each type once.
@@ -334,6 +354,23 @@ fn flat_type<'a>(
     Ok(flat)
 }
 
+/// Adds the flat type of each.
+fn add_flat_types<'a>(
+    alloc: Global,
+    flat: &mut Items<TypeDeclaration>,
+    named: &NamedTypes<'a>,
+    lines: &Lines<'a>,
+    types: &'a [TypeDeclaration],
+) -> Result<(), AllocError>
+    requires { HaveLines lines.now.entries (heirs_first named.now) }
+    ensures { OnOk result (flat.new ≡ flat.old ++ map (flat_type named.now) types.now) }
+{
+    for declared in types {
+        flat.push(flat_type(alloc, named, lines, declared)?)?;
+    }
+    Ok(())
+}
+
 /// The flat type of each, where these are the lines of the interfaces among the types.
 pub(crate) fn flat_types<'a>(
     alloc: Global,
@@ -345,8 +382,6 @@ pub(crate) fn flat_types<'a>(
     ensures { IfOk result (λ flat. flat ≡ map (flat_type named.now) types.now) }
 {
     let mut flat = Items::new(alloc);
-    for declared in types {
-        flat.push(flat_type(alloc, named, lines, declared)?)?;
-    }
-    Ok(flat)
+    let done = add_flat_types(alloc, &mut flat, named, lines, types);
+    changed(flat, done)
 }

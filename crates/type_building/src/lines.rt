@@ -9,6 +9,7 @@ use crate::named::NamedTypes;
 use crate::order::{is_interface_kind, take_all};
 use indexmap::IndexMap;
 use ned_trees::declarations::TypeDeclaration;
+use ned_types::made::changed;
 use sim_values::text::Text;
 use std::alloc::{AllocError, Global};
 
@@ -65,7 +66,7 @@ pub(crate) fn add_lines_of<'a>(
     ensures { OnOk result (line.new ≡ joined_behind line.old (map (line_at lines.now.entries) names.now)) }
 {
     let mut rest = names;
-    while let [name, after @ ..] = rest {
+    'names: while let Some((name, after)) = rest.split_first() {
         add_line(alloc, lines, line, name.as_bytes())?;
         rest = after;
     }
@@ -87,19 +88,32 @@ fn add_interface<'a>(
     Ok(())
 }
 
+/// Adds the lines of the interfaces among these types to none.
+fn add_interfaces<'a>(
+    alloc: Global,
+    lines: &mut Lines<'a>,
+    order: &[&'a TypeDeclaration],
+) -> Result<(), AllocError>
+    requires { lines.old.entries ≡ [] }
+    ensures { OnOk result (HaveLines lines.new.entries (turned_onto (types_in order.now) [])) }
+{
+    let mut rest = order;
+    while let [declared, after @ ..] = rest {
+        if is_interface_kind(declared.kind) {
+            add_interface(alloc, lines, declared)?;
+        }
+        rest = after;
+    }
+    Ok(())
+}
+
 /// The lines of the interfaces among these types, each of which stands behind all that it extends.
 fn lines_of<'a>(alloc: Global, order: &[&'a TypeDeclaration]) -> Result<Lines<'a>, AllocError>
     ensures { IfOk result (λ lines. HaveLines lines.entries (turned_onto (types_in order.now) [])) }
 {
     let mut lines = IndexMap::new(alloc);
-    let mut rest = order;
-    while let [declared, after @ ..] = rest {
-        if is_interface_kind(declared.kind) {
-            add_interface(alloc, &mut lines, declared)?;
-        }
-        rest = after;
-    }
-    Ok(lines)
+    let done = add_interfaces(alloc, &mut lines, order);
+    changed(lines, done)
 }
 
 #[tactic(auto, using(crate::proofs::LineLaws::lines_fit))]

@@ -13,9 +13,15 @@ use std::alloc::{AllocError, Global};
 use std::marker::Model;
 
 /// Types, which contracts see as their list. Each is found by its name at once, however many there are.
-#[derive(Drop)]
 pub(crate) struct NamedTypes<'a> {
     types: IndexMap<&'a [u8], &'a TypeDeclaration>,
+}
+
+// Written out, so that what drops some need not open what that does.
+impl<'a> Drop for NamedTypes<'a> {
+    fn drop(self) {
+        let NamedTypes { types: _ } = self;
+    }
 }
 
 impl<'a> Model for NamedTypes<'a> {
@@ -97,7 +103,7 @@ pub(crate) fn by_name<'a>(
 {
     let mut named = NamedTypes::new(alloc);
     let mut rest = types;
-    while let [declared, after @ ..] = rest {
+    'types: while let Some((declared, after)) = rest.split_first() {
         if is_built_in(declared.name.as_bytes()) {
             return Ok(None);
         }

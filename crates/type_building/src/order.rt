@@ -1,6 +1,6 @@
 //! The order in which types stand behind all that they extend.
 
-ghost use Rattle.std.specs.Prelude.{◌≡◌, ◌++◌, false, not, length, IfOk, OnOk};
+ghost use Rattle.std.specs.Prelude.{◌≡◌, ◌++◌, [], false, not, length, IfOk, OnOk};
 ghost use Rattle.std.specs.List.{filter};
 ghost use Rattle.type_building.specs.Inheritance.{extends_one, has_circle, heirs, is_base_among, is_one_among, roots, taken_within, types_in};
 ghost use Rattle.ned_types.specs.Types.{is_interface_kind};
@@ -8,6 +8,7 @@ ghost use Rattle.type_building.specs.Named.{HaveNamesOf};
 
 use crate::named::NamedTypes;
 use ned_trees::declarations::{TypeDeclaration, TypeKind};
+use ned_types::made::changed;
 use sim_values::text::Text;
 use std::alloc::{AllocError, Global};
 
@@ -43,15 +44,42 @@ fn extends_one(named: &NamedTypes<'_>, declared: &TypeDeclaration) -> bool
         || (is_interface_kind(declared.kind) && is_one_among(named, declared.interfaces.as_slice()))
 }
 
+/// Adds references to these.
+fn add_references<'a>(
+    refs: &mut Vec<&'a TypeDeclaration>,
+    types: &'a [TypeDeclaration],
+) -> Result<(), AllocError>
+    ensures { OnOk result (types_in refs.new.items ≡ types_in refs.old.items ++ types.now) }
+{
+    for declared in types {
+        refs.push(declared)?;
+    }
+    Ok(())
+}
+
 /// References to these.
 fn references(alloc: Global, types: &[TypeDeclaration]) -> Result<Vec<&TypeDeclaration>, AllocError>
     ensures { IfOk result (λ refs. types_in refs.items ≡ types.now) }
 {
     let mut refs = Vec::new(alloc);
-    for declared in types {
-        refs.push(declared)?;
+    let done = add_references(&mut refs, types);
+    changed(refs, done)
+}
+
+/// Adds types that have the names of these to none.
+fn add_names_of<'a>(
+    named: &mut NamedTypes<'a>,
+    types: &[&'a TypeDeclaration],
+) -> Result<(), AllocError>
+    requires { named.old ≡ [] }
+    ensures { OnOk result (HaveNamesOf named.new (types_in types.now)) }
+{
+    let mut rest = types;
+    while let [declared, after @ ..] = rest {
+        let _new = named.add(declared)?;
+        rest = after;
     }
-    Ok(refs)
+    Ok(())
 }
 
 /// Types that have the names of these.
@@ -59,26 +87,22 @@ fn names_of<'a>(alloc: Global, types: &[&'a TypeDeclaration]) -> Result<NamedTyp
     ensures { IfOk result (λ named. HaveNamesOf named (types_in types.now)) }
 {
     let mut named = NamedTypes::new(alloc);
-    let mut rest = types;
-    while let [declared, after @ ..] = rest {
-        let _new = named.add(declared)?;
-        rest = after;
-    }
-    Ok(named)
+    let done = add_names_of(&mut named, types);
+    changed(named, done)
 }
 
-/// Adds those of the types that extend none of the others to the order. Answers the others.
+/// Adds those of the types that extend one of these to the others, and the rest to the order.
 fn part<'a>(
-    alloc: Global,
     named: &NamedTypes<'_>,
     order: &mut Vec<&'a TypeDeclaration>,
+    others: &mut Vec<&'a TypeDeclaration>,
     types: &[&'a TypeDeclaration],
-) -> Result<Vec<&'a TypeDeclaration>, AllocError>
-    ensures others { IfOk result (λ others. types_in others.items ≡ filter (λ t. extends_one named.now t) (types_in types.now)) }
+) -> Result<(), AllocError>
+    ensures others { OnOk result (types_in others.new.items
+        ≡ types_in others.old.items ++ filter (λ t. extends_one named.now t) (types_in types.now)) }
     ensures taken { OnOk result (types_in order.new.items
         ≡ types_in order.old.items ++ filter (λ t. not (extends_one named.now t)) (types_in types.now)) }
 {
-    let mut others = Vec::new(alloc);
     let mut rest = types;
     while let [declared, after @ ..] = rest {
         if extends_one(named, declared) {
@@ -88,7 +112,21 @@ fn part<'a>(
         }
         rest = after;
     }
-    Ok(others)
+    Ok(())
+}
+
+/// Adds those of the types that extend one of them to the others, and the rest to the order.
+fn part_types<'a>(
+    alloc: Global,
+    order: &mut Vec<&'a TypeDeclaration>,
+    others: &mut Vec<&'a TypeDeclaration>,
+    types: &[&'a TypeDeclaration],
+) -> Result<(), AllocError>
+    ensures others { OnOk result (types_in others.new.items ≡ types_in others.old.items ++ heirs (types_in types.now)) }
+    ensures taken { OnOk result (types_in order.new.items ≡ types_in order.old.items ++ roots (types_in types.now)) }
+{
+    let named = names_of(alloc, types)?;
+    part(&named, order, others, types)
 }
 
 /// Adds those of the types that extend none of them to the order. Answers the others.
@@ -100,9 +138,9 @@ fn take_roots<'a>(
     ensures others { IfOk result (λ others. types_in others.items ≡ heirs (types_in types.now)) }
     ensures taken { OnOk result (types_in order.new.items ≡ types_in order.old.items ++ roots (types_in types.now)) }
 {
-    let named = names_of(alloc, types)?;
-    let others = part(alloc, &named, order, types)?;
-    Ok(others)
+    let mut others = Vec::new(alloc);
+    let done = part_types(alloc, order, &mut others, types);
+    changed(others, done)
 }
 
 /// Adds the types to the order, each behind all that it extends. Answers whether one extends itself, perhaps by way of others:

@@ -1,10 +1,10 @@
 //! Parameter sections: what is declared twice, and given without a declaration or behind a fixed value. The names that were seen
 //! stand in sets, so each line is compared with few.
 
-ghost use Rattle.std.specs.Prelude.{◌≡◌, ◌||◌, not, IfOk, OnOk};
+ghost use Rattle.std.specs.Prelude.{◌≡◌, ◌||◌, [], not, IfOk, OnOk};
 ghost use Rattle.std.specs.List.{list_any};
 ghost use Rattle.std.specs.Str.{bytes_eq};
-ghost use Rattle.ned_types.specs.Types.{section_clashes, is_declaration, declares, is_declared, redeclares, gives_fixed, is_fixed_in, gives_again};
+ghost use Rattle.ned_types.specs.Types.{section_clashes, is_declaration, declares, is_declared, redeclares, gives_fixed, is_fixed_in, gives_again, gives_undeclared};
 ghost use Rattle.type_building.specs.Seen.{names_in, is_in, AddsNames, redeclares_seen, gives_seen, gives_unseen};
 
 use indexmap::IndexSet;
@@ -16,14 +16,32 @@ use std::alloc::{AllocError, Global};
 pub(crate) fn section_clashes(alloc: Global, lines: &[SectionLine]) -> Result<bool, AllocError>
     ensures { IfOk result (λ clash. clash ≡ section_clashes lines.now) }
 {
-    let mut declared = IndexSet::new(alloc);
-    if see_declared(&mut declared, lines)? {
-        return Ok(true);
-    }
-    if one_gives_unseen(&declared, lines) {
+    if misdeclared(alloc, lines)? {
         return Ok(true);
     }
     gives_again(alloc, lines)
+}
+
+/// Whether a parameter is declared twice, or a value is given to one that isn't declared.
+fn misdeclared(alloc: Global, lines: &[SectionLine]) -> Result<bool, AllocError>
+    ensures { IfOk result (λ clash. clash ≡ (redeclares lines.now || gives_undeclared lines.now)) }
+{
+    let mut declared = IndexSet::new(alloc);
+    misdeclared_by(&mut declared, lines)
+}
+
+/// The same, where the names that are declared are added to an empty set.
+fn misdeclared_by<'a>(
+    declared: &mut IndexSet<&'a [u8]>,
+    lines: &'a [SectionLine],
+) -> Result<bool, AllocError>
+    requires { declared.old.keys ≡ [] }
+    ensures { IfOk result (λ clash. clash ≡ (redeclares lines.now || gives_undeclared lines.now)) }
+{
+    if see_declared(declared, lines)? {
+        return Ok(true);
+    }
+    Ok(one_gives_unseen(declared, lines))
 }
 
 /// Adds the names of the parameters that these lines declare. Answers whether one was seen before, or is declared twice.
@@ -37,7 +55,7 @@ pub(crate) fn see_declared<'a>(
 {
     let mut again = false;
     let mut rest = lines;
-    while let [line, after @ ..] = rest {
+    'lines: while let Some((line, after)) = rest.split_first() {
         let seen = see_declaration(declared, line)?;
         again = again || seen;
         rest = after;
@@ -68,7 +86,7 @@ pub(crate) fn see_fixed<'a>(
     ensures { OnOk result (AddsNames (names_in fixed.old.keys) (λ n. is_fixed_in n lines.now) (names_in fixed.new.keys)) }
 {
     let mut rest = lines;
-    while let [line, after @ ..] = rest {
+    'lines: while let Some((line, after)) = rest.split_first() {
         see_fixing(fixed, line)?;
         rest = after;
     }
@@ -98,8 +116,7 @@ pub(crate) fn gives_again(alloc: Global, lines: &[SectionLine]) -> Result<bool, 
     ensures { IfOk result (λ again. again ≡ gives_again lines.now) }
 {
     let mut fixed = IndexSet::new(alloc);
-    let again = one_gives_seen(&mut fixed, lines)?;
-    Ok(again)
+    one_gives_seen(&mut fixed, lines)
 }
 
 /// Whether one of these lines gives a value to a parameter that was seen, or is given a fixed value before it.
@@ -111,7 +128,7 @@ fn one_gives_seen<'a>(
         ≡ (list_any (gives_seen (names_in seen.old.keys)) lines.now || gives_again lines.now)) }
 {
     let mut rest = lines;
-    while let [line, after @ ..] = rest {
+    'lines: while let Some((line, after)) = rest.split_first() {
         if gives_seen(seen, line) {
             return Ok(true);
         }

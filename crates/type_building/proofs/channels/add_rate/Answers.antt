@@ -9,9 +9,8 @@ use Rattle.type_building.proofs.channels.add_rate.Goals as goal
 
 pub returns : goal.returns
 returns c =
-    let line = c.in_ok-built_in_line.field-0 in
-    let is = c.in_ok-built_in_line.ensures ∙ ap (λ (name : List _). built_in_line name word.Double (Some Rate) (values.Quantity Rate (pos 0))) c.as_slice-name.ensures in
+    let line = λ (name : List _). built_in_line name word.Double (Some Rate) (values.Quantity Rate (pos 0)) in
     c.in_ok-add_errors.ensures
-    ∙ ap (λ (ls : List SectionLine). ls ++ error_lines) c.in_ok-push.ensures.ok
-    ∙ append_assoc c.args.lines.now (line ∷ []) error_lines
-    ∙ ap (λ (l : SectionLine). c.args.lines.now ++ l ∷ error_lines) is
+    ∙ ap (λ (ls : List SectionLine). ls ++ error_lines) c.in_ok-add_line.ensures
+    ∙ append_assoc c.args.lines.now (line c.as_slice-name.result.now ∷ []) error_lines
+    ∙ ap (λ (name : List _). c.args.lines.now ++ line name ∷ error_lines) c.as_slice-name.ensures

@@ -3,8 +3,8 @@ use Rattle.type_building.specs.Seen.{is_one_gate_named, names_in}
 use Rattle.ned_types.specs.Types.{redeclares_gate}
 use Rattle.type_building.proofs.gates.declares_seen.Given as goal
 
-abbrev pub invariant-loop-rest : goal.invariant-loop-rest
-invariant-loop-rest l = (is_one_gate_named (names_in l.seen.keys) l.rest || redeclares_gate l.rest) ≡ (is_one_gate_named (names_in l.initial.seen.keys) l.gates || redeclares_gate l.gates)
+abbrev pub invariant-lines : goal.invariant-lines
+invariant-lines l = (is_one_gate_named (names_in l.seen.keys) l.rest || redeclares_gate l.rest) ≡ (is_one_gate_named (names_in l.initial.seen.keys) l.gates || redeclares_gate l.gates)
 
-abbrev pub decreases-loop-rest : goal.decreases-loop-rest
-decreases-loop-rest l = length l.rest
+abbrev pub decreases-lines : goal.decreases-lines
+decreases-lines l = length l.rest

@@ -3,8 +3,8 @@ use Rattle.type_building.specs.Named.{is_one_taken}
 use Rattle.ned_types.specs.Types.{has_duplicate}
 use Rattle.type_building.proofs.named.by_name.Given as goal
 
-abbrev pub invariant-loop-rest : goal.invariant-loop-rest
-invariant-loop-rest l = (l.named ++ l.rest ≡ l.types) × ((is_one_taken l.named l.rest || has_duplicate l.rest) ≡ has_duplicate l.types)
+abbrev pub invariant-types : goal.invariant-types
+invariant-types l = (l.named ++ l.rest ≡ l.types) × ((is_one_taken l.named l.rest || has_duplicate l.rest) ≡ has_duplicate l.types)
 
-abbrev pub decreases-loop-rest : goal.decreases-loop-rest
-decreases-loop-rest l = length l.rest
+abbrev pub decreases-types : goal.decreases-types
+decreases-types l = length l.rest

@@ -4,8 +4,8 @@ use Rattle.type_building.specs.Seen.{names_in, gives_seen}
 use Rattle.ned_types.specs.Types.{gives_again}
 use Rattle.type_building.proofs.sections.one_gives_seen.Given as goal
 
-abbrev pub invariant-loop-rest : goal.invariant-loop-rest
-invariant-loop-rest l = (list_any (gives_seen (names_in l.seen.keys)) l.rest || gives_again l.rest) ≡ (list_any (gives_seen (names_in l.initial.seen.keys)) l.lines || gives_again l.lines)
+abbrev pub invariant-lines : goal.invariant-lines
+invariant-lines l = (list_any (gives_seen (names_in l.seen.keys)) l.rest || gives_again l.rest) ≡ (list_any (gives_seen (names_in l.initial.seen.keys)) l.lines || gives_again l.lines)
 
-abbrev pub decreases-loop-rest : goal.decreases-loop-rest
-decreases-loop-rest l = length l.rest
+abbrev pub decreases-lines : goal.decreases-lines
+decreases-lines l = length l.rest

@@ -5,10 +5,10 @@ use Rattle.ned_types.specs.Types.{is_type_named}
 use Rattle.type_building.specs.Named.{AddsName}
 use Rattle.type_building.proofs.NamedLaws.{or_zero}
 use Rattle.type_building.proofs.OrderLaws.{name_moved, no_rest}
-use Rattle.type_building.proofs.order.names_of.Goals as goal
+use Rattle.type_building.proofs.order.add_names_of.Goals as goal
 
 pub loop-rest-init : goal.loop-rest-init
-loop-rest-init c = λ name. ap (λ ts. is_type_named name ts || is_type_named name (types_in c.args.types.now)) c.new-named.ensures
+loop-rest-init c = λ name. ap (λ ts. is_type_named name ts || is_type_named name (types_in c.args.types.now)) c.requires
 
 pub loop-rest-preserved : goal.loop-rest-preserved
 loop-rest-preserved c = λ name.

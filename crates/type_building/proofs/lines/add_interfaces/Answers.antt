@@ -4,10 +4,10 @@ use Rattle.type_building.specs.Inheritance.{turned_onto, types_in}
 use Rattle.type_building.specs.Named.{HaveLines, line_at}
 use Rattle.type_building.proofs.LineLaws.{line_left, turned_moved}
 use Rattle.type_building.proofs.OrderLaws.{no_rest}
-use Rattle.type_building.proofs.lines.lines_of.Goals as goal
+use Rattle.type_building.proofs.lines.add_interfaces.Goals as goal
 
 pub loop-rest-init : goal.loop-rest-init
-loop-rest-init c = ([], (λ name. ap (λ es. line_at es name) c.new-lines.ensures.empty), refl)
+loop-rest-init c = ([], (λ name. ap (λ es. line_at es name) c.requires), refl)
 
 pub loop-rest-preserved-in_ok-add_interface : goal.loop-rest-preserved-in_ok-add_interface
 loop-rest-preserved-in_ok-add_interface c =

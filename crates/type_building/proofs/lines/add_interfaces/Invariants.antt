@@ -2,7 +2,7 @@ use Rattle.std.proofs.Common.{◌≡◌, List, [], length}
 use Rattle.ned_trees.specs.declared.declarations.TypeDeclaration.{TypeDeclaration}
 use Rattle.type_building.specs.Inheritance.{turned_onto, types_in}
 use Rattle.type_building.specs.Named.{HaveLines}
-use Rattle.type_building.proofs.lines.lines_of.Given as goal
+use Rattle.type_building.proofs.lines.add_interfaces.Given as goal
 
 abbrev pub invariant-loop-rest : goal.invariant-loop-rest
 invariant-loop-rest l = (done : List TypeDeclaration) × HaveLines l.lines.entries done × (turned_onto (types_in l.rest) done ≡ turned_onto (types_in l.order) [])
