@@ -91,7 +91,12 @@ fn has_unfit_over<'a>(
 fn is_one_unfit(declared: &IndexSet<&[u8]>, fixed: &IndexSet<&[u8]>, body: &[SectionLine]) -> bool
     ensures { result ≡ list_any (is_unfit_over (names_in declared.now.keys) (names_in fixed.now.keys)) body.now }
 {
-    body.iter().any(|line| is_unfit(declared, fixed, line))
+    for line in body {
+        if is_unfit(declared, fixed, line) {
+            return true;
+        }
+    }
+    false
 }
 
 /// Whether a line can't stand in a body over such lines.

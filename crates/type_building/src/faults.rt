@@ -155,14 +155,24 @@ pub(crate) fn is_built_in(name: &[u8]) -> bool
 fn has_unknown(named: &NamedTypes<'_>, types: &[TypeDeclaration]) -> bool
     ensures { result ≡ list_any (λ t. names_unknown named.now t.submodules) types.now }
 {
-    types.iter().any(|declared| names_unknown(named, declared.submodules.as_slice()))
+    for declared in types {
+        if names_unknown(named, declared.submodules.as_slice()) {
+            return true;
+        }
+    }
+    false
 }
 
 /// Whether the type of one of these submodules isn't there.
 fn names_unknown(named: &NamedTypes<'_>, submodules: &[Submodule]) -> bool
     ensures { result ≡ names_unknown named.now submodules.now }
 {
-    submodules.iter().any(|s| !is_submodule_known(named, s))
+    for submodule in submodules {
+        if !is_submodule_known(named, submodule) {
+            return true;
+        }
+    }
+    false
 }
 
 /// Whether the submodule's type is there.
@@ -282,7 +292,12 @@ fn repeats_seen<'a>(
 fn has_other_kind(named: &NamedTypes<'_>, submodules: &[Submodule]) -> bool
     ensures { result ≡ has_other_kind named.now submodules.now }
 {
-    submodules.iter().any(|s| !is_submodule_simple(named, s))
+    for submodule in submodules {
+        if !is_submodule_simple(named, submodule) {
+            return true;
+        }
+    }
+    false
 }
 
 fn is_submodule_simple(named: &NamedTypes<'_>, submodule: &Submodule) -> bool

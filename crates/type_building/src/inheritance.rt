@@ -34,9 +34,12 @@ fn base_of<'a>(named: &NamedTypes<'a>, declared: &TypeDeclaration) -> Option<&'a
 pub(crate) fn has_unknown_base(named: &NamedTypes<'_>, types: &[TypeDeclaration]) -> bool
     ensures { result ≡ list_any (λ t. extends_unknown named.now t.base) types.now }
 {
-    types
-        .iter()
-        .any(|declared| extends_unknown(named, &declared.base))
+    for declared in types {
+        if extends_unknown(named, &declared.base) {
+            return true;
+        }
+    }
+    false
 }
 
 fn extends_unknown(named: &NamedTypes<'_>, base: &Option<Text>) -> bool
@@ -52,7 +55,12 @@ fn extends_unknown(named: &NamedTypes<'_>, base: &Option<Text>) -> bool
 pub(crate) fn has_other_base(named: &NamedTypes<'_>, types: &[TypeDeclaration]) -> bool
     ensures { result ≡ list_any (λ t. extends_other named.now t.kind t.base) types.now }
 {
-    types.iter().any(|declared| extends_other(named, declared.kind, &declared.base))
+    for declared in types {
+        if extends_other(named, declared.kind, &declared.base) {
+            return true;
+        }
+    }
+    false
 }
 
 fn extends_other(named: &NamedTypes<'_>, kind: TypeKind, base: &Option<Text>) -> bool

@@ -18,14 +18,24 @@ use sim_values::text::Text;
 fn names_no_type(named: &NamedTypes<'_>, names: &[Text]) -> bool
     ensures { result ≡ names_no_type named.now names.now }
 {
-    names.iter().any(|name| !is_taken(name.as_bytes(), named))
+    for name in names {
+        if !is_taken(name.as_bytes(), named) {
+            return true;
+        }
+    }
+    false
 }
 
 /// Whether one of the interfaces of the types isn't there.
 pub(crate) fn has_unknown_interface(named: &NamedTypes<'_>, types: &[TypeDeclaration]) -> bool
     ensures { result ≡ list_any (λ t. names_no_type named.now t.interfaces) types.now }
 {
-    types.iter().any(|declared| names_no_type(named, declared.interfaces.as_slice()))
+    for declared in types {
+        if names_no_type(named, declared.interfaces.as_slice()) {
+            return true;
+        }
+    }
+    false
 }
 
 /// Whether what stands among the interfaces of a type of the first kind may be of the second.
@@ -54,14 +64,24 @@ fn is_interface_for(kind: TypeKind, declared: Option<&TypeDeclaration>) -> bool
 fn keeps_other(named: &NamedTypes<'_>, kind: TypeKind, names: &[Text]) -> bool
     ensures { result ≡ keeps_other named.now kind names.now }
 {
-    names.iter().any(|name| !is_interface_for(kind, named.find(name.as_bytes())))
+    for name in names {
+        if !is_interface_for(kind, named.find(name.as_bytes())) {
+            return true;
+        }
+    }
+    false
 }
 
 /// Whether one of the interfaces of the types is none for its kind.
 pub(crate) fn has_other_interface(named: &NamedTypes<'_>, types: &[TypeDeclaration]) -> bool
     ensures { result ≡ list_any (λ t. keeps_other named.now t.kind t.interfaces) types.now }
 {
-    types.iter().any(|declared| keeps_other(named, declared.kind, declared.interfaces.as_slice()))
+    for declared in types {
+        if keeps_other(named, declared.kind, declared.interfaces.as_slice()) {
+            return true;
+        }
+    }
+    false
 }
 
 /// Whether two words are one.
@@ -215,7 +235,10 @@ fn breaks_interface(named: &NamedTypes<'_>, declared: &TypeDeclaration) -> bool
 pub(crate) fn has_broken(named: &NamedTypes<'_>, types: &[TypeDeclaration]) -> bool
     ensures { result ≡ list_any (λ t. breaks_interface named.now t) types.now }
 {
-    types
-        .iter()
-        .any(|declared| breaks_interface(named, declared))
+    for declared in types {
+        if breaks_interface(named, declared) {
+            return true;
+        }
+    }
+    false
 }

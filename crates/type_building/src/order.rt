@@ -33,7 +33,12 @@ fn is_base_among(named: &NamedTypes<'_>, base: &Option<Text>) -> bool
 fn is_one_among(named: &NamedTypes<'_>, names: &[Text]) -> bool
     ensures { result ≡ is_one_among named.now names.now }
 {
-    names.iter().any(|name| named.has(name.as_bytes()))
+    for name in names {
+        if named.has(name.as_bytes()) {
+            return true;
+        }
+    }
+    false
 }
 
 /// Whether a type extends one of these.

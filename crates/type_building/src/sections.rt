@@ -149,7 +149,12 @@ pub(crate) fn gives_seen(seen: &IndexSet<&[u8]>, line: &SectionLine) -> bool
 fn one_gives_unseen(seen: &IndexSet<&[u8]>, lines: &[SectionLine]) -> bool
     ensures { result ≡ list_any (gives_unseen (names_in seen.now.keys)) lines.now }
 {
-    lines.iter().any(|line| gives_unseen(seen, line))
+    for line in lines {
+        if gives_unseen(seen, line) {
+            return true;
+        }
+    }
+    false
 }
 
 /// Whether the line gives a value to a parameter that wasn't seen.
