@@ -3,7 +3,7 @@ use Rattle.std.proofs.Common.{◌≡◌, ℕ, zero, suc, ◌+◌, ◌-◌, ◌�
 use Rattle.std.proofs.Math.Seq.{drop-cons}
 use Rattle.std.proofs.lemmas.Bool.Decides.{nat_tests}
 use Rattle.std.proofs.lemmas.List.{drop_all}
-use Rattle.kernel.specs.declared.position.Position.{Position}
+use Rattle.kernel_actions.specs.declared.position.Position.{Position}
 use Rattle.checkpoints.specs.Stored.{counts_of, up_to, last_of, number_up_to, AreBelow, AreAbove, AreRising, AreStored}
 
 after : (m n : ℕ) → n < m → nat_le m n ≡ false

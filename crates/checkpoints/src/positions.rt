@@ -4,7 +4,7 @@ ghost use Rattle.std.specs.Prelude.{◌≡◌, [], ◌∷◌, ◌++◌, OnOk, On
 ghost use Rattle.std.specs.Option.{option_copied};
 ghost use Rattle.checkpoints.specs.Stored.{counts_of, up_to, last_of, number_up_to, AreBelow, AreRising};
 
-use kernel::position::Position;
+use kernel_actions::position::Position;
 use question_log::cutting::cut_items;
 use sim_values::NoMemory;
 use sqlite_items::Items;
@@ -27,7 +27,7 @@ impl Drop for Positions {
 
 impl Model for Positions {
     ghost use Rattle.std.specs.Prelude.{List};
-    ghost use Rattle.kernel.specs.declared.position.Position.{Position};
+    ghost use Rattle.kernel_actions.specs.declared.position.Position.{Position};
     ghost use Rattle.checkpoints.specs.Stored.{AreStored};
 
     ghost Value = { List Position };

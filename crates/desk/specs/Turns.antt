@@ -8,7 +8,7 @@ use Rattle.model_edits.specs.Edited.{number_given, IsEditOf, IsOnlyEditOf, Refus
 use Rattle.command_lines.specs.Commands.{command_of}
 use Rattle.command_lines.specs.declared.commands.Command.{Command}
 use Rattle.command_lines.specs.declared.commands.Command.TheVariants as command
-use Rattle.kernel.specs.Kernels.{Members}
+use Rattle.saved_boxes.specs.Seats.{Members}
 use Rattle.edit_session.specs.Editing.{Editing, boxes_left, completed, fresh_run, IsGivenUp, WaitsFor}
 use Rattle.edit_session.specs.Positions.{events_behind, positions_after, start_of, up_to_event}
 use Rattle.edit_session.specs.declared.running.Phase.TheVariants.{Idle}

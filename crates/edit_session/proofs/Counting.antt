@@ -5,8 +5,8 @@ use Rattle.std.proofs.Math.Nat.{zero-mod}
 use Rattle.std.proofs.lemmas.Bool.Decides.{nat_tests}
 use Rattle.std.proofs.lemmas.List.Elements.{filter-append}
 use Rattle.checkpoints.specs.Stored.{counts_of, up_to, last_of, last_from as last_position_from, AreBelow}
-use Rattle.kernel.specs.declared.position.Position.{Position}
-use Rattle.kernel.specs.Positions.{position_of}
+use Rattle.kernel_actions.specs.declared.position.Position.{Position}
+use Rattle.kernel_actions.specs.Positions.{position_of}
 use Rattle.module_api.specs.Behaviour.{Behaviour}
 use Rattle.model_answers.specs.declared.model.Model.{Model}
 use Rattle.run_semantics.specs.declared.outcome.Outcome.{Outcome}

@@ -20,9 +20,10 @@ use Rattle.run_semantics.specs.Run.{Part, part_of, standing, parts_from, parts_o
 use Rattle.run_semantics.specs.Ending.{ending}
 use Rattle.run_semantics.proofs.Ends.{run_over}
 use Rattle.checkpoints.specs.Stored.{counts_of}
-use Rattle.kernel.specs.declared.position.Position.{Position}
+use Rattle.kernel_actions.specs.declared.position.Position.{Position}
 use Rattle.kernel.specs.declared.request.Request.{Request}
-use Rattle.kernel.specs.Seats.{Seat, AreBelow, AreOfKinds, instance_of, request_for, missing_part, missing_of}
+use Rattle.saved_boxes.specs.Seats.{Seat, AreBelow, AreOfKinds, instance_of}
+use Rattle.kernel.specs.Seats.{request_for, missing_part, missing_of}
 use Rattle.edit_session.specs.declared.running.Phase.{Phase}
 use Rattle.edit_session.specs.declared.running.Phase.TheVariants.{Idle, Waiting, Declined}
 use Rattle.edit_session.proofs.Valid.{known_same}

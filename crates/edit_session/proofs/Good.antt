@@ -17,11 +17,12 @@ use Rattle.run_semantics.proofs.Reached.{reached_before}
 use Rattle.run_semantics.proofs.Reuse.{reached_same_up_to}
 use Rattle.run_semantics.proofs.States.{states_of_run}
 use Rattle.checkpoints.specs.Stored.{counts_of, up_to, last_of, last_from, AreBelow, AreRising}
-use Rattle.kernel.specs.declared.position.Position.{Position}
-use Rattle.kernel.specs.Positions.{cut_to, lengths_of, position_of, world_back, CanTake, IsGrownFrom, IsSameBesideModules}
-use Rattle.kernel.specs.Seats.{Seat, instance_of, AreKept, AreOfKinds}
-use Rattle.kernel.proofs.Growing.{growth_on, run_grows}
-use Rattle.kernel.proofs.Positions.{back_when_grown}
+use Rattle.kernel_actions.specs.declared.position.Position.{Position}
+use Rattle.saved_boxes.specs.Saved.{CanTake}
+use Rattle.kernel_actions.specs.Positions.{cut_to, lengths_of, position_of, world_back, IsGrownFrom, IsSameBesideModules}
+use Rattle.saved_boxes.specs.Seats.{Seat, instance_of, AreKept, AreOfKinds}
+use Rattle.kernel_actions.proofs.Growing.{growth_on, run_grows}
+use Rattle.kernel_actions.proofs.Positions.{back_when_grown}
 use Rattle.edit_session.specs.declared.running.Phase.TheVariants.{Idle}
 use Rattle.edit_session.specs.Editing.{IsKept}
 use Rattle.edit_session.specs.Positions.{last_count}

@@ -16,8 +16,8 @@ use Rattle.run_semantics.proofs.Closing.{ending_closed}
 use Rattle.run_semantics.proofs.Reached.{stands, reached_before}
 use Rattle.run_semantics.proofs.Reuse.{reached_same_up_to}
 use Rattle.result_files.specs.declared.files.ResultFiles.{ResultFiles}
-use Rattle.kernel.specs.declared.position.Position.{Position}
-use Rattle.kernel.specs.Seats.{Seat, AreOfKinds}
+use Rattle.kernel_actions.specs.declared.position.Position.{Position}
+use Rattle.saved_boxes.specs.Seats.{Seat, AreOfKinds}
 use Rattle.edit_session.specs.Kept.{AreGood}
 use Rattle.edit_session.specs.declared.running.Phase.TheVariants.{Idle}
 use Rattle.edit_session.specs.declared.session.Change.{Change}

@@ -14,9 +14,10 @@ use Rattle.model_edits.specs.declared.edit.Edit.{Edit}
 use Rattle.model_edits.specs.Edited.{number_given, IsEditOf, IsOnlyEditOf}
 use Rattle.result_files.specs.declared.files.ResultFiles.{ResultFiles}
 use Rattle.result_files.specs.Files.{files_of}
-use Rattle.kernel.specs.declared.position.Position.{Position}
+use Rattle.kernel_actions.specs.declared.position.Position.{Position}
 use Rattle.kernel.specs.declared.request.Request.{Request}
-use Rattle.kernel.specs.Seats.{Seat, AreFirst, AreOfKinds, request_for, missing_of}
+use Rattle.saved_boxes.specs.Seats.{Seat, AreOfKinds}
+use Rattle.kernel.specs.Seats.{AreFirst, request_for, missing_of}
 use Rattle.edit_session.specs.declared.running.Phase.{Phase}
 use Rattle.edit_session.specs.declared.running.Phase.TheVariants.{Idle, Waiting, Declined}
 use Rattle.edit_session.specs.declared.running.Advance.{Advance}

@@ -2,10 +2,11 @@
 use Rattle.std.specs.Prelude.{◌≡◌, ◌⊎◌, ◌≤◌, ℕ, suc, ◌-◌, ◌<◌, ◌&&◌, nat_lt, not, Bool, true, false, List, [], ◌∷◌, ◌++◌, Option, Some, None, map}
 use Rattle.std.specs.List.{filter}
 use Rattle.checkpoints.specs.Stored.{counts_of, up_to, AreBelow}
-use Rattle.kernel.specs.declared.position.Position.{Position}
-use Rattle.kernel.specs.Kernels.{Members, seats_in, world_in}
-use Rattle.kernel.specs.Positions.{cut_to, position_of, IsGrownFrom}
-use Rattle.kernel.specs.Seats.{Seat, instance_of}
+use Rattle.kernel_actions.specs.declared.position.Position.{Position}
+use Rattle.saved_boxes.specs.Seats.{Members}
+use Rattle.kernel.specs.Kernels.{seats_in, world_in}
+use Rattle.kernel_actions.specs.Positions.{cut_to, position_of, IsGrownFrom}
+use Rattle.saved_boxes.specs.Seats.{Seat, instance_of}
 use Rattle.module_api.specs.Behaviour.{Behaviour}
 use Rattle.model_answers.specs.declared.model.Model.{Model}
 use Rattle.run_semantics.specs.declared.outcome.Outcome.{Outcome}

@@ -2,7 +2,8 @@
 use Rattle.std.specs.Prelude.{◌≡◌, option_map, length}
 use Rattle.module_api.specs.Behaviour.{Behaviour}
 use Rattle.model_edits.specs.declared.edit.Edit.{Edit}
-use Rattle.kernel.specs.Kernels.{Members, seats_in, world_in}
+use Rattle.saved_boxes.specs.Seats.{Members}
+use Rattle.kernel.specs.Kernels.{seats_in, world_in}
 use Rattle.edit_session.specs.Editing.{Completed, Editing, IsChangeBy, IsKept}
 use Rattle.checkpoints.specs.Stored.{counts_of}
 use Rattle.edit_session.specs.Kept.{kept_up_to, AreGood}

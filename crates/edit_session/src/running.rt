@@ -3,7 +3,7 @@
 ghost use Rattle.std.specs.Prelude.{◌≡◌, ◌⊎◌, ◌++◌, ◌≤◌, true, None, [], OnOk, OnErr, IfOk, length};
 ghost use Rattle.run_semantics.specs.Perform.{On};
 ghost use Rattle.run_semantics.specs.Run.{ready, run_to};
-ghost use Rattle.kernel.specs.Positions.{position_of};
+ghost use Rattle.kernel_actions.specs.Positions.{position_of};
 ghost use Rattle.kernel.specs.Kernels.{seats_in, world_in, ran_in, HasKinds};
 ghost use Rattle.checkpoints.specs.Stored.{counts_of, last_of, AreBelow, AreRising};
 ghost use Rattle.edit_session.specs.Editing.{fresh_run, kept_boxes, Advances, IsDeclined, IsFilled, IsLive, IsStopped, IsUndeclined, Stands, Wants};

@@ -5,8 +5,8 @@ use Rattle.module_api.specs.Meaning.{Module}
 use Rattle.module_tree.specs.Boxes.{Seated, AreRising, last_after, last_id}
 use Rattle.model_answers.specs.declared.record.Record.{Record}
 use Rattle.run_semantics.specs.Run.{Part, standing, with_class, parts_from}
-use Rattle.kernel.specs.Seats.{instance_of}
-use Rattle.kernel.proofs.Seating.{seat}
+use Rattle.saved_boxes.specs.Seats.{instance_of}
+use Rattle.saved_boxes.proofs.Seating.{seat}
 use Rattle.kernel.proofs.Rising.{Rise}
 
 -- the first part of a greater id

@@ -6,16 +6,19 @@ use Rattle.module_api.specs.declared.call.Prompt.{Prompt}
 use Rattle.module_api.specs.declared.call.Prompt.TheVariants as prompt
 use Rattle.module_api.specs.declared.reply.Reply.{Reply}
 use Rattle.module_api.specs.Behaviour.{Behaviour, Replied}
-use Rattle.module_api.specs.Meaning.{Module, IsSameModule, IsOfKind}
+use Rattle.module_api.specs.Meaning.{Module, IsOfKind}
 use Rattle.model_answers.specs.declared.model.Model.{Model}
 use Rattle.run_semantics.specs.declared.outcome.Turn.{Turn}
 use Rattle.run_semantics.specs.declared.traces.Instance.{Instance}
 use Rattle.run_semantics.specs.World.{World}
 use Rattle.run_semantics.specs.Perform.{Flow, On, flow_of, answered}
 use Rattle.run_semantics.specs.Event.{call_of, instance_in, with_state, changed, replied, called, call_module}
-use Rattle.run_semantics.specs.Run.{Part, part_of, standing}
+use Rattle.run_semantics.specs.Run.{standing}
 use Rattle.run_semantics.specs.Ending.{answered_last, replied_last, called_last, call_last}
-use Rattle.kernel.specs.Seats.{Seat, instance_of, world_of, module_in, with_module, AreOfKinds, AreKept, IsCalled, IsServed}
+use Rattle.saved_boxes.specs.Seats.{Seat, instance_of, module_in, AreOfKinds, AreKept}
+use Rattle.saved_boxes.proofs.Keeping.{kind_same, kind_in, kinds_with, standing_with, states_with}
+use Rattle.kernel_actions.specs.Positions.{IsGrownFrom}
+use Rattle.kernel.specs.Seats.{world_of, IsCalled, IsServed}
 use Rattle.kernel.proofs.Apart.{with_modules, flow_with, flow_of_with, answered_apart, answered_last_apart}
 
 -- what holds of an answer, where there is one, by what another fact says of it
@@ -25,46 +28,6 @@ ok_step (Err e) p step = tt
 
 -- ---- what a call leaves
 
-pub kind_same : (b : Behaviour) (old new : Module) → IsSameModule old new → IsOfKind b old → IsOfKind b new
-kind_same b old new s k = record {
-  known = rw (s.kind) k.known;
-  named = s.naming ∙ k.named ∙ ap b.naming (sym s.kind);
-}
-
--- the box that is called is of its kind
-pub kind_in : (b : Behaviour) (id : ℕ) (ss : List Seat) (box : Module) → module_in id ss ≡ Some box → AreOfKinds b ss → IsOfKind b box
-kind_in b id [] box e h = cc
-kind_in b id (s ∷ ss) box e h = by (s.id == id) (kind_in b id ss box) e
-  where
-    by : (t : Bool) → (module_in id ss ≡ Some box → AreOfKinds b ss → IsOfKind b box) → cond t (Some s.box) (module_in id ss) ≡ Some box → IsOfKind b box
-    by true later e = let same : s.box ≡ box = cc in subst (IsOfKind b) same h.0
-    by false later e = later e h.1
-
--- another of its kind stands in its place
-pub kinds_with : (b : Behaviour) (id : ℕ) (box : Module) (ss : List Seat) → IsOfKind b box → AreOfKinds b ss → AreOfKinds b (with_module id box ss)
-kinds_with b id box [] k h = tt
-kinds_with b id box (s ∷ ss) k h = by (s.id == id) (kinds_with b id box ss k h.1)
-  where
-    by : (t : Bool) → AreOfKinds b (with_module id box ss) → AreOfKinds b (cond t (record { id = s.id; box = box } ∷ ss) (s ∷ with_module id box ss))
-    by true later = (k, h.1)
-    by false later = (h.0, later)
-
-abbrev part_of_seat : Seat → Part
-part_of_seat s = part_of (instance_of s)
-
--- the same modules stand
-pub standing_with : (id : ℕ) (ss : List Seat) (before after : Module) → module_in id ss ≡ Some before → after.kind ≡ before.kind → standing (map instance_of (with_module id after ss)) ≡ standing (map instance_of ss)
-standing_with id [] before after e k = refl
-standing_with id (s ∷ ss) before after e k = by (s.id == id) (λ h. standing_with id ss before after h k) e
-  where
-    by : (t : Bool) → (module_in id ss ≡ Some before → standing (map instance_of (with_module id after ss)) ≡ standing (map instance_of ss)) → cond t (Some s.box) (module_in id ss) ≡ Some before
-        → standing (map instance_of (cond t (record { id = s.id; box = after } ∷ ss) (s ∷ with_module id after ss))) ≡ standing (map instance_of (s ∷ ss))
-    by true later e =
-        let same : before ≡ s.box = cc in
-        let kind : after.kind ≡ s.box.kind = k ∙ ap (λ (x : Module). x.kind) same in
-        ap (λ kind. record { id = s.id; kind = kind } ∷ standing (map instance_of ss)) kind
-    by false later e = ap (λ (ps : List Part). part_of_seat s ∷ ps) (later e)
-
 -- WHAT A CALL LEAVES: boxes of their kinds, of the same modules
 pub served_kept : (b : Behaviour) (id : ℕ) (old new : List Seat) (call : Call) (result : Option (Result Reply NoMemory)) → IsServed id old new call result → AreOfKinds b old → AreKept b old new
 served_kept b id old new call None s h = rw s.1 (record { kinds = h; standing_is = refl })
@@ -73,25 +36,19 @@ served_kept b id old new call (Some result) s h = record {
   standing_is = ap (λ (ss : List Seat). standing (map instance_of ss)) s.seats ∙ standing_with id old s.before s.after s.found s.same.kind;
 }
 
--- two calls, one after the other
-pub still_kept : {b : Behaviour} {old mid new : List Seat} → AreKept b old mid → AreKept b mid new → AreKept b old new
-still_kept first second = record { kinds = second.kinds; standing_is = second.standing_is ∙ first.standing_is }
+-- whatever the modules are
+pub boxed_grows : (v w : World) (old new : List Seat) → IsGrownFrom v w → IsGrownFrom (world_of v old) (world_of w new)
+boxed_grows v w old new g = record {
+  records = g.records;
+  live = g.live;
+  started = g.started;
+  finished = g.finished;
+  emissions = g.emissions;
+  scalars = g.scalars;
+  questions = g.questions;
+}
 
 -- ---- what a call does
-
--- the state that is left stands where the old one stood
-pub states_with : (id : ℕ) (ss : List Seat) (before after : Module) (state : List ℕ) → module_in id ss ≡ Some before → after.kind ≡ before.kind → after.state ≡ state → map instance_of (with_module id after ss) ≡ with_state id state (map instance_of ss)
-states_with id [] before after state e k t = refl
-states_with id (s ∷ ss) before after state e k t = by (s.id == id) (λ h. states_with id ss before after state h k t) e
-  where
-    by : (c : Bool) → (module_in id ss ≡ Some before → map instance_of (with_module id after ss) ≡ with_state id state (map instance_of ss)) → cond c (Some s.box) (module_in id ss) ≡ Some before
-        → map instance_of (cond c (record { id = s.id; box = after } ∷ ss) (s ∷ with_module id after ss)) ≡ cond c (record (instance_of s) { state = state } ∷ map instance_of ss) (instance_of s ∷ with_state id state (map instance_of ss))
-    by true later e =
-        let same : before ≡ s.box = cc in
-        let kind : after.kind ≡ s.box.kind = k ∙ ap (λ (x : Module). x.kind) same in
-        ap (λ x. record { id = s.id; kind = x; state = after.state } ∷ map instance_of ss) kind
-        ∙ ap (λ x. record { id = s.id; kind = s.box.kind; state = x } ∷ map instance_of ss) t
-    by false later e = ap (λ (is : List Instance). instance_of s ∷ is) (later e)
 
 -- what a box says is what its module says in the definitions
 module _ (b : Behaviour) (m : Model) (id : ℕ) (p : Prompt) (w : World) where

@@ -7,7 +7,8 @@ use Rattle.run_semantics.specs.World.{World}
 use Rattle.run_semantics.specs.Perform.{Flow, On, ◌>>=◌}
 use Rattle.run_semantics.specs.Run.{Part, standing}
 use Rattle.run_semantics.specs.Ending.{call_last, marked, finish_all}
-use Rattle.kernel.specs.Seats.{Seat, instance_of, module_in, stages_of}
+use Rattle.saved_boxes.specs.Seats.{Seat, instance_of, module_in}
+use Rattle.kernel.specs.Seats.{stages_of}
 use Rattle.kernel.specs.Parts.{part_in, finish_at}
 use Rattle.kernel.proofs.Rising.{Rise, parts_left, all_left, none_left, left_none, left_some, part_for, part_standing}
 use Rattle.kernel.proofs.Starting.{no_part, told_none}

@@ -4,13 +4,7 @@ pub mod Calling
 pub mod Ending
 pub mod Lookups
 pub mod Rising
-pub mod Saving
-pub mod Seating
 pub mod Starting
 pub mod Targets
 pub mod Upcoming
-pub mod Positions
-pub mod Growing
-pub mod Lasting
-pub mod Loading
 pub mod Shown

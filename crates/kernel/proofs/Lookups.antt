@@ -9,7 +9,7 @@ use Rattle.model_answers.specs.declared.record.Record.{Record}
 use Rattle.model_answers.specs.Answering.{answer_for, answer_of, parameters_of}
 use Rattle.model_answers.proofs.AnswerLemmas.{told_value}
 use Rattle.run_semantics.specs.Perform.{fault_of_read, question_of}
-use Rattle.kernel.specs.Lookups.{was_told}
+use Rattle.kernel_actions.specs.Lookups.{was_told}
 
 told_none : (m : Model) (records : List Record) (id : ℕ) (name : List ℕ) (o : Option Value) → value_of name (parameters_of m records id) ≡ o → is_some o ≡ true
     → fault_of_read (read.Parameter name) (answer_for m records id name) ≡ None

@@ -14,7 +14,7 @@ use Rattle.shown_modules.specs.declared.ShownModules.{ShownModules}
 use Rattle.shown_modules.specs.Tables.{shown_of, AreShown, IsShown}
 use Rattle.shown_modules.proofs.Showing.{shown_on}
 use Rattle.kernel.specs.Calls.{call_with}
-use Rattle.kernel.specs.Positions.{IsGrownFrom}
+use Rattle.kernel_actions.specs.Positions.{IsGrownFrom}
 
 -- a call says itself of which module it is, and what for
 pub told_itself : (m : Model) (id : ℕ) (p : Prompt) (w : World) (call : Call) → call ≡ call_of m id p w → call ≡ call_of m call.id call.prompt w

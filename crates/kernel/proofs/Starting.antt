@@ -11,9 +11,10 @@ use Rattle.run_semantics.specs.World.{World}
 use Rattle.run_semantics.specs.Perform.{Flow, On, ◌>>=◌, flow_of}
 use Rattle.run_semantics.specs.Event.{call_module}
 use Rattle.run_semantics.specs.Run.{Part, standing, most_stages, initialize, one_stage, stages_from}
-use Rattle.kernel.specs.Seats.{Seat, instance_of, module_in, stages_of, AreOfKinds}
+use Rattle.saved_boxes.specs.Seats.{Seat, instance_of, module_in, AreOfKinds}
+use Rattle.kernel.specs.Seats.{stages_of}
 use Rattle.kernel.specs.Parts.{part_in, initialize_at}
-use Rattle.kernel.proofs.Calling.{kind_in}
+use Rattle.saved_boxes.proofs.Keeping.{kind_in}
 use Rattle.kernel.proofs.Rising.{Rise, parts_left, all_left, none_left, left_none, left_some, part_for, part_standing}
 
 -- ---- stages

@@ -6,7 +6,8 @@ use Rattle.model_answers.specs.Records.{path_of}
 use Rattle.run_semantics.specs.declared.traces.Instance.{Instance}
 use Rattle.run_semantics.specs.Run.{Part, standing}
 use Rattle.run_semantics.specs.Upcoming.{id_at}
-use Rattle.kernel.specs.Seats.{Seat, instance_of, module_in, stands_at}
+use Rattle.saved_boxes.specs.Seats.{Seat, instance_of, module_in}
+use Rattle.kernel.specs.Seats.{stands_at}
 use Rattle.kernel.specs.Parts.{part_in}
 use Rattle.kernel.proofs.Rising.{Rise, parts_left, all_left, none_left, left_none, left_some, part_for, part_standing}
 

@@ -12,10 +12,11 @@ use Rattle.model_answers.specs.declared.answer.Asked.{Asked}
 use Rattle.run_semantics.specs.Upcoming.{first_of, most_injections, upcoming, upcoming_in}
 use Rattle.run_semantics.proofs.Looking.{beside}
 use Rattle.run_semantics.specs.Run.{Stage, Running, Over, settled, is_after_limit, next_stage, went}
-use Rattle.kernel.specs.declared.core_part.Look.{Look}
-use Rattle.kernel.specs.declared.core_part.Next.{Next}
-use Rattle.kernel.specs.declared.core_part.Next.TheVariants as next
-use Rattle.kernel.specs.Upcoming.{looked, upcoming_of, BeginsWith, HasNone, IsTooLate, LooksOn}
+use Rattle.kernel_actions.specs.declared.looks.Look.{Look}
+use Rattle.kernel_actions.specs.declared.looks.Next.{Next}
+use Rattle.kernel_actions.specs.declared.looks.Next.TheVariants as next
+use Rattle.kernel_actions.specs.Upcoming.{looked, upcoming_of, BeginsWith, HasNone, IsTooLate}
+use Rattle.kernel.specs.Looks.{LooksOn}
 
 -- where a test fails, what stands behind it
 unless : (c : Bool) (s t : Stage) → c ≡ false → (if c then s else t) ≡ t

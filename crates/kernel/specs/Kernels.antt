@@ -1,24 +1,12 @@
 -- What a kernel is, by what its boxes mean.
 use Rattle.std.specs.Prelude.{ℕ, ◌+◌, ◌^◌, ◌<◌, List, map}
-use Rattle.std.proofs.Common.{Global}
-use Rattle.std.specs.declared.dyn_box.DynBox.{DynBox}
-use Rattle.module_api.specs.declared.simple_module.SimpleModule.{Ghosts}
 use Rattle.module_api.specs.Behaviour.{Behaviour}
-use Rattle.module_tree.specs.Boxes.{Seated}
 use Rattle.run_semantics.specs.World.{World}
 use Rattle.run_semantics.specs.declared.outcome.Outcome.{Outcome}
 use Rattle.run_semantics.specs.Run.{Ran}
-use Rattle.kernel.specs.Seats.{Seat, world_of, AreOfKinds, AreKept}
+use Rattle.saved_boxes.specs.Seats.{Seat, AreOfKinds, AreKept, Members, seat_of}
+use Rattle.kernel.specs.Seats.{world_of}
 use Rattle.kernel.specs.declared.kernel.Kernel.{Kernel}
-
--- what each box says of itself: the members of its trait, which a clause hands over as `SimpleModule-box`
-abbrev pub Members : (X : Type 0) → (X → Type 0) → Type 1
-Members X Y = (b : DynBox X Global Y) → Ghosts (Y b.vtable)
-
-module _ {X : Type 0} {Y : X → Type 0} where
-  -- the box, and the id of its module
-  abbrev pub seat_of : Members X Y → Seated (DynBox X Global Y) → Seat
-  seat_of members s = record { id = s.id; box = (members s.box).meaning s.box.value }
 
 module _ {C X : Type 0} {Y : X → Type 0} where
   -- what its boxes are, in the order of their ids

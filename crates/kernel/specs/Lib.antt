@@ -1,8 +1,5 @@
 pub mod Seats
 pub mod Parts
 pub mod Kernels
-pub mod Saved
 pub mod Calls
-pub mod Lookups
-pub mod Upcoming
-pub mod Positions
+pub mod Looks

@@ -7,35 +7,37 @@ ghost use Rattle.module_tree.specs.Boxes.{nothing};
 ghost use Rattle.question_log.specs.Entries.{noted_in};
 ghost use Rattle.run_semantics.specs.World.{empty, HasRoom};
 ghost use Rattle.run_semantics.specs.Perform.{flow_of, On};
-ghost use Rattle.run_semantics.specs.Event.{call_module, call_of, message_of, with_state};
-ghost use Rattle.run_semantics.specs.Upcoming.{arrival, target_of, upcoming};
+ghost use Rattle.run_semantics.specs.Event.{call_module, call_of, with_state};
+ghost use Rattle.run_semantics.specs.Upcoming.{target_of, upcoming};
 ghost use Rattle.shown_modules.specs.Tables.{AreShown};
-ghost use Rattle.kernel.specs.Upcoming.{looked, upcoming_of, LooksOn};
+ghost use Rattle.kernel_actions.specs.Upcoming.{looked, upcoming_of};
+ghost use Rattle.kernel.specs.Looks.{LooksOn};
 ghost use Rattle.run_semantics.specs.Run.{Running, Part, stage_of, settled, prepared, ready, placed, standing, parts_from, most_stages, one_stage, stages_from, initialize_all, start, next_stage, stopped};
 ghost use Rattle.run_semantics.specs.Ending.{call_last, finish_all, ending};
-ghost use Rattle.kernel.specs.Seats.{module_in, stages_of, stands_at, AreBelow, AreFirst, IsServed, missing_of, missing_part};
+ghost use Rattle.kernel.specs.Seats.{stages_of, stands_at, AreFirst, IsServed, missing_of, missing_part};
 ghost use Rattle.kernel.specs.Parts.{part_in, initialize_at, finish_at};
-ghost use Rattle.kernel.specs.Positions.{position_of, cut_to, world_back, CanTake, IsGrownFrom, IsSameBesideModules, with_states};
-ghost use Rattle.kernel.specs.Saved.{Takes};
+ghost use Rattle.kernel_actions.specs.Positions.{position_of, cut_to, world_back, IsGrownFrom, IsSameBesideModules};
+ghost use Rattle.saved_boxes.specs.Seats.{module_in, AreBelow};
+ghost use Rattle.saved_boxes.specs.Saved.{CanTake, Takes};
 ghost use Rattle.kernel.specs.Kernels.{seats_in, world_in, ran_in, HasKinds, IsCallable, KeepsBoxes};
 
-use crate::boxes_saved::{load_one, save_all};
-use crate::core_part::{Core, Look, Next};
-use crate::position::Position;
+use crate::from_model::{ask_injection, call, call_shown, follow, follow_last, set_up};
 use crate::request::Request;
-use event_set::pending::{Happening, Pending};
-use injection_order::injection::Injection;
+use kernel_actions::core_part::Core;
+use kernel_actions::events::{arrival, message_of};
+use kernel_actions::looks::{Look, Next};
+use kernel_actions::position::Position;
 use model_answers::model::Model;
 use model_answers::record::{Record, path_of};
 use module_api::call::{Call, Prompt};
 use module_api::catalogue::Catalogue;
-use module_api::message::{Message, Origin};
 use module_api::reply::Reply;
 use module_api::simple_module::SimpleModule;
 use module_tree::Tree;
 use question_log::entry::Entry;
 use run_semantics::outcome::{Fault, Outcome, Turn};
 use run_semantics::traces::{Emission, Instance, Scalar};
+use saved_boxes::boxes_saved::{load_one, save_all};
 use shown_modules::{Shown, ShownModules, lasts};
 use sim_values::NoMemory;
 use sim_values::text::Text;
@@ -152,7 +154,7 @@ impl<C: Catalogue> Kernel<C> {
     {
         self.boxes.clear();
         self.core.clear(alloc);
-        let turn = self.core.set_up(alloc, model)?;
+        let turn = set_up(&mut self.core, alloc, model)?;
         Ok(self.settle(turn))
     }
 
@@ -229,7 +231,7 @@ impl<C: Catalogue> Kernel<C> {
     }
 
     /// Calls the module that the call names, and does what its reply says. A call of what isn't there is passed over.
-    #[tactic(auto, using(crate::proofs::Lasting::growth_same))]
+    #[tactic(auto, using(kernel_actions::proofs::Lasting::growth_same))]
     fn carry_out(&mut self, alloc: Global, model: &Model, call: &Call) -> Result<Turn, NoMemory>
         requires callable { IsCallable C.behaviour SimpleModule-box 1000 self.old }
         requires told { call.now
@@ -245,11 +247,11 @@ impl<C: Catalogue> Kernel<C> {
             return Ok(Turn::GoOn);
         };
         let reply = reply?;
-        self.core.follow(alloc, model, call, &reply)
+        follow(&mut self.core, alloc, model, call, &reply)
     }
 
     /// One call of the module of that id.
-    #[tactic(auto, using(crate::proofs::Lasting::growth_same))]
+    #[tactic(auto, using(kernel_actions::proofs::Lasting::growth_same))]
     fn call_module(
         &mut self,
         alloc: Global,
@@ -264,12 +266,12 @@ impl<C: Catalogue> Kernel<C> {
         ensures grown { IsGrownFrom (world_in SimpleModule-box self.old)
             (world_in SimpleModule-box self.new) }
     {
-        let call = self.core.call(alloc, model, id, prompt)?;
+        let call = call(&self.core, alloc, model, id, prompt)?;
         self.carry_out(alloc, model, &call)
     }
 
     /// One call of the module of that id. What calls show of it is taken out of the table for the call, and put back behind it.
-    #[tactic(auto, using(crate::proofs::Lasting::growth_same))]
+    #[tactic(auto, using(kernel_actions::proofs::Lasting::growth_same))]
     fn call_shown(
         &mut self,
         alloc: Global,
@@ -289,7 +291,7 @@ impl<C: Catalogue> Kernel<C> {
     {
         let found = shown.take(alloc, model, self.core.records(), id)?;
         let lasts = lasts(self.core.records(), id);
-        let call = self.core.call_shown(alloc, id, prompt, found);
+        let call = call_shown(&self.core, alloc, id, prompt, found);
         let turn = self.carry_out(alloc, model, &call);
         shown.put_back(lasts, id, shown_in(call));
         turn
@@ -440,7 +442,7 @@ impl<C: Catalogue> Kernel<C> {
             IfOk result (λ next.
             LooksOn model.now (looked world look.old) next (looked world look.new)) }
     {
-        let Some(injection) = self.core.ask_injection(alloc, model, look)? else {
+        let Some(injection) = ask_injection(&self.core, alloc, model, look)? else {
             return Ok(Some(Next::First));
         };
         look.deliver(&injection);
@@ -467,7 +469,7 @@ impl<C: Catalogue> Kernel<C> {
 
     /// The next event, or how the run ends. The caller has looked up once what stays the same for all events: the model's time
     /// limit, in picoseconds, and what calls show of modules, which is taken from the table, or found and put in there.
-    #[tactic(auto, using(crate::proofs::Lasting::growth_same))]
+    #[tactic(auto, using(kernel_actions::proofs::Lasting::growth_same))]
     pub fn step(
         &mut self,
         alloc: Global,
@@ -519,7 +521,7 @@ impl<C: Catalogue> Kernel<C> {
     // ---- the end
 
     /// Tells the module of that id that the run is over, where it has a box.
-    #[tactic(auto, using(crate::proofs::Lasting::growth_same))]
+    #[tactic(auto, using(kernel_actions::proofs::Lasting::growth_same))]
     fn call_last(&mut self, alloc: Global, model: &Model, id: u32) -> Result<Turn, NoMemory>
         requires callable { IsCallable C.behaviour SimpleModule-box 1000 self.old }
         ensures kept { KeepsBoxes C.behaviour SimpleModule-box self.old self.new }
@@ -529,16 +531,16 @@ impl<C: Catalogue> Kernel<C> {
         ensures grown { IsGrownFrom (world_in SimpleModule-box self.old)
             (world_in SimpleModule-box self.new) }
     {
-        let call = self.core.call(alloc, model, id, Prompt::Finish)?;
+        let call = call(&self.core, alloc, model, id, Prompt::Finish)?;
         let Some(reply) = self.reply_of(alloc, &call) else {
             return Ok(Turn::GoOn);
         };
         let reply = reply?;
-        self.core.follow_last(alloc, model, &call, &reply)
+        follow_last(&mut self.core, alloc, model, &call, &reply)
     }
 
     /// Finishes the module of that id, where it has a box.
-    #[tactic(auto, using(crate::proofs::Lasting::growth_same))]
+    #[tactic(auto, using(kernel_actions::proofs::Lasting::growth_same))]
     fn finish_one(&mut self, alloc: Global, model: &Model, id: u32) -> Result<Turn, NoMemory>
         requires callable { IsCallable C.behaviour SimpleModule-box 1000 self.old }
         ensures kept { KeepsBoxes C.behaviour SimpleModule-box self.old self.new }
@@ -583,7 +585,7 @@ impl<C: Catalogue> Kernel<C> {
     }
 
     /// Finishes the modules of a run that ended so, and answers how it ends then.
-    #[tactic(auto, using(crate::proofs::Lasting::growth_same))]
+    #[tactic(auto, using(kernel_actions::proofs::Lasting::growth_same))]
     pub fn finish(
         &mut self,
         alloc: Global,
@@ -743,55 +745,5 @@ fn greater(most: u8, stages: Option<u8>) -> u8
     match stages {
         Some(stages) if stages > most => stages,
         _ => most,
-    }
-}
-
-/// The event that an injection becomes, of the module of that id.
-fn arrival(injection: Injection, id: u32) -> Pending
-    ensures { result ≡ arrival injection id }
-{
-    let Injection {
-        number: _,
-        path: _,
-        due,
-        kind,
-        bits,
-        payload,
-    } = injection;
-    Pending {
-        time: due.time,
-        priority: due.priority,
-        number: 0,
-        id,
-        what: Happening::Arrival(kind, bits, payload),
-    }
-}
-
-/// The message that arrives.
-fn message_of(alloc: Global, event: Pending) -> Message
-    ensures { result ≡ message_of event }
-{
-    let Pending {
-        time: _,
-        priority,
-        number: _,
-        id: _,
-        what,
-    } = event;
-    match what {
-        Happening::Timer(timer, kind) => Message {
-            kind,
-            priority,
-            bits: 0,
-            payload: Text::empty(alloc),
-            origin: Origin::Timer(timer),
-        },
-        Happening::Arrival(kind, bits, payload) => Message {
-            kind,
-            priority,
-            bits,
-            payload,
-            origin: Origin::Outside,
-        },
     }
 }

@@ -7,7 +7,7 @@ use Rattle.command_lines.specs.declared.commands.Command.TheVariants as command
 use Rattle.edit_session.specs.Editing.{Completed, Editing, IsUndone, fresh_editing, waited_for, wanted_of}
 use Rattle.edit_session.specs.Positions.{last_count, positions_begun, start_of}
 use Rattle.edit_session.specs.declared.running.Phase.{Phase}
-use Rattle.kernel.specs.declared.position.Position.{Position}
+use Rattle.kernel_actions.specs.declared.position.Position.{Position}
 use Rattle.model_answers.specs.declared.model.Model.{Model}
 use Rattle.stock_modules.specs.declared.modules.StockModule.{StockModule}
 use Rattle.edit_session.specs.declared.running.Phase.TheVariants.{Idle, Waiting, Declined}

@@ -1,7 +1,7 @@
 -- A step that ends with what its client is told.
 use Rattle.std.proofs.Common.{◌≡◌, ℕ, List, Option, sym, ◌∙◌, subst}
 use Rattle.module_api.specs.Behaviour.{Behaviour}
-use Rattle.kernel.specs.Kernels.{Members}
+use Rattle.saved_boxes.specs.Seats.{Members}
 use Rattle.desk.specs.Turns.{IsSettled}
 use Rattle.transcripts.specs.Heard.{Heard}
 use Rattle.transcripts.specs.declared.asked.Asked.{Asked}

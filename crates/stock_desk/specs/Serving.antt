@@ -9,7 +9,7 @@ use Rattle.stock_modules.specs.declared.modules.StockModule.{StockModule}
 use Rattle.edit_session.specs.Editing.{Completed, Editing, completed, wanted_of, IsFor}
 use Rattle.edit_session.specs.Files.{scalars_of_run, vectors_of_run}
 use Rattle.edit_session.specs.Positions.{start_of, up_to_event}
-use Rattle.kernel.specs.Kernels.{Members}
+use Rattle.saved_boxes.specs.Seats.{Members}
 use Rattle.desk.specs.Turns.{editing_at, IsSettled}
 use Rattle.edit_session.specs.declared.running.Phase.TheVariants.{Declined}
 use Rattle.stock_desk.specs.Boxes.{boxes_of, left_of, most_boxes}

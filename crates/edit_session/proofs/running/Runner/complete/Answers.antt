@@ -1,7 +1,7 @@
 use Rattle.std.proofs.Common.{◌≡◌, ◌⊎◌, ◌≤◌, ◌∷◌, [], true, zero, suc, refl, sym, ap, ◌∙◌, subst, arith}
 use Rattle.checkpoints.specs.Stored.{counts_of, AreBelow}
 use Rattle.kernel.specs.Kernels.{seats_in, world_in, ran_in}
-use Rattle.kernel.specs.Positions.{position_of}
+use Rattle.kernel_actions.specs.Positions.{position_of}
 use Rattle.run_semantics.specs.Ending.{ending}
 use Rattle.run_semantics.specs.Run.{Running, Over, after, run_to}
 use Rattle.run_semantics.specs.World.{HasRoom}

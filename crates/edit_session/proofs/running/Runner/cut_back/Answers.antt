@@ -1,5 +1,5 @@
 use Rattle.std.proofs.Common.{Some, option_map, sym, ap, ◌∙◌}
-use Rattle.kernel.specs.declared.position.Position.{Position}
+use Rattle.kernel_actions.specs.declared.position.Position.{Position}
 use Rattle.kernel.specs.Kernels.{world_in}
 use Rattle.edit_session.specs.Kept.{cut_to_last}
 use Rattle.edit_session.proofs.Counting.{last_count_is}

@@ -1,5 +1,5 @@
 use Rattle.std.proofs.Common.{Some, None, option_map, refl, sym, ap, ◌∙◌, subst}
-use Rattle.kernel.specs.declared.position.Position.{Position}
+use Rattle.kernel_actions.specs.declared.position.Position.{Position}
 use Rattle.kernel.specs.Kernels.{seats_in, world_in}
 use Rattle.checkpoints.specs.Stored.{counts_of}
 use Rattle.edit_session.specs.Kept.{AreGood}

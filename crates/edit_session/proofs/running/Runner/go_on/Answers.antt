@@ -2,7 +2,7 @@ use Rattle.std.proofs.Common.{◌≡◌, ◌++◌, ◌+◌, arith, rules, refl, 
 use Rattle.checkpoints.specs.Stored.{AreBelow}
 use Rattle.shown_modules.specs.Tables.{AreShown}
 use Rattle.kernel.specs.Kernels.{seats_in, world_in, HasKinds}
-use Rattle.kernel.specs.Positions.{position_of}
+use Rattle.kernel_actions.specs.Positions.{position_of}
 use Rattle.run_semantics.specs.Run.{Running, after}
 use Rattle.run_semantics.specs.World.{HasRoom}
 use Rattle.run_semantics.proofs.Ends.{count_going, count_over, run_over, next_after}

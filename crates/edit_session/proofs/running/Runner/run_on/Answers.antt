@@ -1,6 +1,6 @@
 use Rattle.std.proofs.Common.{◌≡◌, ◌++◌, inr, refl, sym, ap, ◌∙◌, subst}
 use Rattle.kernel.specs.Kernels.{seats_in, world_in, ran_in}
-use Rattle.kernel.specs.Positions.{position_of}
+use Rattle.kernel_actions.specs.Positions.{position_of}
 use Rattle.run_semantics.specs.Ending.{ending}
 use Rattle.run_semantics.specs.Run.{is_fault}
 use Rattle.edit_session.specs.Editing.{fresh_run}

@@ -1,5 +1,5 @@
 use Rattle.std.proofs.Common.{ℕ, List, length, map, ap, subst}
-use Rattle.kernel.specs.Seats.{Seat, instance_of}
+use Rattle.saved_boxes.specs.Seats.{Seat, instance_of}
 use Rattle.edit_session.specs.Editing.{Wants}
 use Rattle.edit_session.proofs.running.Runner.set_up.Goals as goal
 

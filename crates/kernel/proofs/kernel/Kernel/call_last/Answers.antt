@@ -6,9 +6,9 @@ use Rattle.run_semantics.specs.Perform.{On}
 use Rattle.run_semantics.specs.Ending.{answered_last}
 use Rattle.kernel.specs.Seats.{world_of, IsCalled, IsServed}
 use Rattle.kernel.specs.Kernels.{seats_in}
-use Rattle.kernel.specs.Positions.{IsGrownFrom}
-use Rattle.kernel.proofs.Lasting.{growth_is, boxed_grows}
-use Rattle.kernel.proofs.Calling.{ok_step, served_kept, passed_over_last, called_last_is}
+use Rattle.kernel_actions.specs.Positions.{IsGrownFrom}
+use Rattle.kernel_actions.proofs.Lasting.{growth_is}
+use Rattle.kernel.proofs.Calling.{boxed_grows, ok_step, served_kept, passed_over_last, called_last_is}
 use Rattle.kernel.proofs.kernel.Kernel.call_last.Goals as goal
 
 pub returns-in_default-clause-step : goal.returns-in_default-clause-step
@@ -32,7 +32,7 @@ returns-clause-kept g c =
 
 pub returns-clause-step : goal.returns-clause-step
 returns-clause-step g c = ok_step c.follow_last.result c.follow_last.ensures.flow (λ turn step.
-    called_last_is g.C.Catalogue.behaviour c.args.model.now c.args.id c.args.self.now.core c.follow_last.new.self (seats_in (λ b. (g.dyn-1.0.entry b.vtable).1) c.args.self.now) (seats_in (λ b. (g.dyn-1.0.entry b.vtable).1) c.reply_of.new.self)
+    called_last_is g.C.Catalogue.behaviour c.args.model.now c.args.id c.args.self.now.core c.follow_last.new.core (seats_in (λ b. (g.dyn-1.0.entry b.vtable).1) c.args.self.now) (seats_in (λ b. (g.dyn-1.0.entry b.vtable).1) c.reply_of.new.self)
     c.in_ok-reply.reply turn c.requires.callable.kinds
     (subst (λ (k : Call). IsCalled k.id (seats_in (λ b. (g.dyn-1.0.entry b.vtable).1) c.args.self.now) (seats_in (λ b. (g.dyn-1.0.entry b.vtable).1) c.reply_of.new.self) k (Ok c.in_ok-reply.reply)) c.in_ok-call.ensures (rw c.in_ok-reply.was at c.in-Some.ensures.served))
     (step
@@ -49,4 +49,4 @@ returns-in_err-reply-clause-grown g c =
 
 pub returns-clause-grown : goal.returns-clause-grown
 returns-clause-grown g c =
-    boxed_grows c.args.self.now.core c.follow_last.new.self (seats_in (λ b. (g.dyn-1.0.entry b.vtable).1) c.args.self.now) (seats_in (λ b. (g.dyn-1.0.entry b.vtable).1) c.reply_of.new.self) (subst (λ (w : World). IsGrownFrom w c.follow_last.new.self) c.reply_of.ensures.core c.follow_last.ensures.grown)
+    boxed_grows c.args.self.now.core c.follow_last.new.core (seats_in (λ b. (g.dyn-1.0.entry b.vtable).1) c.args.self.now) (seats_in (λ b. (g.dyn-1.0.entry b.vtable).1) c.reply_of.new.self) (subst (λ (w : World). IsGrownFrom w c.follow_last.new.core) c.reply_of.ensures.core c.follow_last.ensures.grown)

@@ -5,9 +5,9 @@ use Rattle.run_semantics.specs.World.{World}
 use Rattle.run_semantics.specs.Perform.{On, answered}
 use Rattle.kernel.specs.Seats.{world_of, IsCalled}
 use Rattle.kernel.specs.Kernels.{seats_in}
-use Rattle.kernel.specs.Positions.{IsGrownFrom}
-use Rattle.kernel.proofs.Lasting.{growth_is, boxed_grows}
-use Rattle.kernel.proofs.Calling.{ok_step, served_kept, passed_over, called_is}
+use Rattle.kernel_actions.specs.Positions.{IsGrownFrom}
+use Rattle.kernel_actions.proofs.Lasting.{growth_is}
+use Rattle.kernel.proofs.Calling.{boxed_grows, ok_step, served_kept, passed_over, called_is}
 use Rattle.kernel.proofs.kernel.Kernel.carry_out.Goals as goal
 
 pub returns-in_default-clause-step : goal.returns-in_default-clause-step
@@ -30,7 +30,7 @@ returns-clause-kept g c =
 
 pub returns-clause-step : goal.returns-clause-step
 returns-clause-step g c = ok_step c.follow.result c.follow.ensures.flow (λ turn step.
-    called_is g.C.Catalogue.behaviour c.args.model.now c.args.call.now.id c.args.call.now.prompt c.args.self.now.core c.follow.new.self (seats_in (λ b. (g.dyn-1.0.entry b.vtable).1) c.args.self.now) (seats_in (λ b. (g.dyn-1.0.entry b.vtable).1) c.reply_of.new.self)
+    called_is g.C.Catalogue.behaviour c.args.model.now c.args.call.now.id c.args.call.now.prompt c.args.self.now.core c.follow.new.core (seats_in (λ b. (g.dyn-1.0.entry b.vtable).1) c.args.self.now) (seats_in (λ b. (g.dyn-1.0.entry b.vtable).1) c.reply_of.new.self)
     c.in_ok-reply.reply turn c.requires.callable.kinds
     (subst (λ (k : Call). IsCalled c.args.call.now.id (seats_in (λ b. (g.dyn-1.0.entry b.vtable).1) c.args.self.now) (seats_in (λ b. (g.dyn-1.0.entry b.vtable).1) c.reply_of.new.self) k (Ok c.in_ok-reply.reply)) c.requires.told (rw c.in_ok-reply.was at c.in-Some.ensures.served))
     (step ∙ ap (answered c.args.model.now c.args.call.now.id c.in_ok-reply.reply) c.reply_of.ensures.core))
@@ -45,4 +45,4 @@ returns-in_err-reply-clause-grown g c =
 
 pub returns-clause-grown : goal.returns-clause-grown
 returns-clause-grown g c =
-    boxed_grows c.args.self.now.core c.follow.new.self (seats_in (λ b. (g.dyn-1.0.entry b.vtable).1) c.args.self.now) (seats_in (λ b. (g.dyn-1.0.entry b.vtable).1) c.reply_of.new.self) (subst (λ (w : World). IsGrownFrom w c.follow.new.self) c.reply_of.ensures.core c.follow.ensures.grown)
+    boxed_grows c.args.self.now.core c.follow.new.core (seats_in (λ b. (g.dyn-1.0.entry b.vtable).1) c.args.self.now) (seats_in (λ b. (g.dyn-1.0.entry b.vtable).1) c.reply_of.new.self) (subst (λ (w : World). IsGrownFrom w c.follow.new.core) c.reply_of.ensures.core c.follow.ensures.grown)

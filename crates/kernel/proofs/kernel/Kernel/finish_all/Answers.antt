@@ -5,9 +5,9 @@ use Rattle.run_semantics.specs.Run.{standing}
 use Rattle.run_semantics.specs.Ending.{finish_all}
 use Rattle.kernel.specs.Seats.{world_of}
 use Rattle.kernel.specs.Kernels.{seats_in, world_in}
-use Rattle.kernel.proofs.Calling.{still_kept}
-use Rattle.kernel.proofs.Growing.{growth_on}
-use Rattle.kernel.proofs.Lasting.{growth_same}
+use Rattle.saved_boxes.proofs.Keeping.{still_kept}
+use Rattle.kernel_actions.proofs.Growing.{growth_on}
+use Rattle.kernel_actions.proofs.Lasting.{growth_same}
 use Rattle.kernel.proofs.Rising.{parts_left, boxes_rise}
 use Rattle.kernel.proofs.Starting.{stops}
 use Rattle.kernel.proofs.Ending.{finish_step, finish_begins, finish_ends}

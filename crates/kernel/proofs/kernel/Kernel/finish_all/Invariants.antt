@@ -2,7 +2,7 @@ use Rattle.std.proofs.Common.{◌≡◌, ◌+◌, ◌*◌, ◌≤◌}
 use Rattle.run_semantics.specs.Run.{standing}
 use Rattle.run_semantics.specs.Ending.{finish_all}
 use Rattle.kernel.specs.Kernels.{world_in, KeepsBoxes}
-use Rattle.kernel.specs.Positions.{IsGrownFrom}
+use Rattle.kernel_actions.specs.Positions.{IsGrownFrom}
 use Rattle.kernel.proofs.Rising.{parts_left}
 use Rattle.kernel.proofs.kernel.Kernel.finish_all.Given as goal
 

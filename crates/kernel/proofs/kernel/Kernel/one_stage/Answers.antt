@@ -2,7 +2,7 @@ use Rattle.std.proofs.Common.{◌+◌, refl, sym, ◌∙◌, arith}
 use Rattle.run_semantics.specs.Perform.{On, flow_of}
 use Rattle.run_semantics.specs.Run.{standing, one_stage}
 use Rattle.kernel.specs.Kernels.{world_in}
-use Rattle.kernel.proofs.Calling.{still_kept}
+use Rattle.saved_boxes.proofs.Keeping.{still_kept}
 use Rattle.kernel.proofs.Rising.{parts_left, boxes_rise}
 use Rattle.kernel.proofs.Starting.{stops, stage_step, stage_begins, stage_ends}
 use Rattle.kernel.proofs.kernel.Kernel.one_stage.Goals as goal

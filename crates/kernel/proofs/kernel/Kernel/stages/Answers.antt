@@ -3,7 +3,7 @@ use Rattle.run_semantics.specs.Perform.{On, flow_of}
 use Rattle.run_semantics.specs.Run.{standing, stages_from}
 use Rattle.kernel.specs.Kernels.{world_in}
 use Rattle.kernel.proofs.Starting.{stops, stages_on}
-use Rattle.kernel.proofs.Calling.{still_kept}
+use Rattle.saved_boxes.proofs.Keeping.{still_kept}
 use Rattle.kernel.proofs.kernel.Kernel.stages.Goals as goal
 
 pub returns-in_default-clause-kept : goal.returns-in_default-clause-kept

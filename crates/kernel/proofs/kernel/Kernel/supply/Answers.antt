@@ -1,8 +1,8 @@
 use Rattle.std.proofs.Common.{List, ap, ◌∙◌, map}
 use Rattle.run_semantics.specs.declared.traces.Instance.{Instance}
 use Rattle.kernel.specs.Seats.{world_of}
-use Rattle.kernel.specs.Kernels.{seat_of}
-use Rattle.kernel.proofs.Seating.{none_below, on_ok, instances_supplied, kinds_placed}
+use Rattle.saved_boxes.specs.Seats.{seat_of}
+use Rattle.saved_boxes.proofs.Seating.{none_below, on_ok, instances_supplied, kinds_placed}
 use Rattle.kernel.proofs.Apart.{with_modules}
 use Rattle.kernel.proofs.kernel.Kernel.supply.Goals as goal
 

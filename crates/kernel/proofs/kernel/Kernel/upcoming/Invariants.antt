@@ -1,7 +1,7 @@
 use Rattle.std.proofs.Common.{◌≡◌, ◌+◌, ℕ}
 use Rattle.run_semantics.specs.World.{World}
 use Rattle.run_semantics.specs.Upcoming.{upcoming, upcoming_in}
-use Rattle.kernel.specs.Upcoming.{looked}
+use Rattle.kernel_actions.specs.Upcoming.{looked}
 use Rattle.kernel.specs.Kernels.{world_in}
 use Rattle.kernel.proofs.kernel.Kernel.upcoming.Given as goal
 

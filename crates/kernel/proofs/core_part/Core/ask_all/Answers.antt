@@ -1,6 +1,0 @@
-use Rattle.std.proofs.Common.{refl}
-use Rattle.kernel.proofs.Lasting.{growth_same}
-use Rattle.kernel.proofs.core_part.Core.ask_all.Goals as goal
-
-pub loop-read-init : goal.loop-read-init
-loop-read-init c = record { noted = refl; grown = growth_same c.args.self.now }

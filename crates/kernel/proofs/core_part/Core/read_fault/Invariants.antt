@@ -1,6 +1,0 @@
-use Rattle.std.proofs.Common.{◌≡◌, drop}
-use Rattle.run_semantics.specs.Perform.{read_fault}
-use Rattle.kernel.proofs.core_part.Core.read_fault.Given as goal
-
-abbrev pub invariant-loop-read : goal.invariant-loop-read
-invariant-loop-read l = read_fault l.model l.self.records l.call.id (drop l.read-index l.reads) ≡ read_fault l.model l.self.records l.call.id l.reads

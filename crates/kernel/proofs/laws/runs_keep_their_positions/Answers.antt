@@ -1,5 +1,0 @@
-use Rattle.kernel.proofs.Growing.{run_grows, ended_run_grows}
-use Rattle.kernel.proofs.laws.runs_keep_their_positions.Goals as goal
-
-pub returns : goal.returns
-returns c = record { events = run_grows; ended = ended_run_grows }

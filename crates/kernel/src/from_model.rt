@@ -1,0 +1,197 @@
+//! What a run asks its model, and what is done with the answers.
+
+ghost use Rattle.std.specs.Prelude.{◌≡◌, ◌+◌, ◌^◌, ◌<◌, ◌≤◌, OnOk, IfOk, length};
+ghost use Rattle.model_answers.specs.Answering.{answer_of, parameters_of};
+ghost use Rattle.model_answers.specs.declared.answer.Answer.TheVariants as answers;
+ghost use Rattle.run_semantics.specs.World.{empty};
+ghost use Rattle.run_semantics.specs.Perform.{flow_of, question_of, fault_of_read, read_fault, answered};
+ghost use Rattle.run_semantics.specs.Ending.{answered_last};
+ghost use Rattle.run_semantics.specs.Event.{call_of};
+ghost use Rattle.run_semantics.specs.Run.{root_asked, inside_asked, prepared};
+ghost use Rattle.kernel_actions.specs.Positions.{IsGrownFrom};
+ghost use Rattle.kernel_actions.specs.Upcoming.{looked, with_injection_asked};
+ghost use Rattle.kernel.specs.Calls.{call_with};
+ghost use Rattle.kernel.specs.Looks.{injection_asked};
+
+use injection_order::injection::Injection;
+use kernel_actions::core_part::Core;
+use kernel_actions::looks::Look;
+use kernel_actions::reads::{fault_of_read, question_of, was_told};
+use model_answers::answer::Question;
+use model_answers::answering::answer;
+use model_answers::model::Model;
+use model_answers::record::index_of;
+use module_api::call::{Call, Prompt};
+use module_api::reply::{Read, Reply};
+use run_semantics::outcome::{Fault, Turn};
+use shown_modules::{Shown, shown_of};
+use sim_values::NoMemory;
+use sqlite_items::Items;
+use std::alloc::Global;
+
+// ---- calls
+
+/// What a module is told.
+pub fn call(
+    core: &Core,
+    alloc: Global,
+    model: &Model,
+    id: u32,
+    prompt: Prompt,
+) -> Result<Call, NoMemory>
+    ensures { IfOk result (λ call. call ≡ call_of model.now id prompt core.now) }
+{
+    let shown = shown_of(alloc, model, core.records(), id)?;
+    Ok(call_shown(core, alloc, id, prompt, shown))
+}
+
+/// What a module is told, where this is what calls show of it.
+pub fn call_shown(core: &Core, alloc: Global, id: u32, prompt: Prompt, shown: Shown) -> Call
+    ensures { result ≡ call_with id prompt shown core.now }
+{
+    Call {
+        time: core.clock(),
+        event: core.count(),
+        id,
+        path: shown.path,
+        index: index_of(core.records(), id),
+        parameters: shown.parameters,
+        gates: Items::new(alloc),
+        prompt,
+    }
+}
+
+// ---- replies
+
+/// The fault of a read, if it has one. A parameter that the call had has none, and is not looked up again.
+fn fault_at(
+    core: &Core,
+    alloc: Global,
+    model: &Model,
+    call: &Call,
+    read: &Read,
+) -> Result<Option<Fault>, NoMemory>
+    requires { call.now.parameters ≡ parameters_of model.now core.now.records call.now.id }
+    ensures { let asks = question_of call.now.id read.now in
+        IfOk result (λ found.
+        found ≡ fault_of_read read.now (answer_of model.now core.now.records asks)) }
+{
+    if was_told(call.parameters.as_slice(), read) {
+        return Ok(None);
+    }
+    let question = question_of(alloc, call.id, read)?;
+    let answer = answer(alloc, model, core.records(), &question)?;
+    Ok(fault_of_read(read, &answer))
+}
+
+/// The fault of the first read that has one.
+fn read_fault(
+    core: &Core,
+    alloc: Global,
+    model: &Model,
+    call: &Call,
+    reads: &[Read],
+) -> Result<Option<Fault>, NoMemory>
+    requires { call.now.parameters ≡ parameters_of model.now core.now.records call.now.id }
+    ensures { IfOk result (λ found.
+        found ≡ read_fault model.now core.now.records call.now.id reads.now) }
+{
+    for read in reads {
+        if let Some(fault) = fault_at(core, alloc, model, call, read)? {
+            return Ok(Some(fault));
+        }
+    }
+    Ok(None)
+}
+
+/// Carries out the reply to a call.
+#[tactic(auto, using(kernel_actions::proofs::Lasting::growth_same))]
+pub fn follow(
+    core: &mut Core,
+    alloc: Global,
+    model: &Model,
+    call: &Call,
+    reply: &Reply,
+) -> Result<Turn, NoMemory>
+    requires next { core.old.next + 1000 < 2 ^ 128 }
+    requires told { call.now.parameters
+        ≡ parameters_of model.now core.old.records call.now.id }
+    ensures flow { IfOk result (λ turn. flow_of turn core.new
+        ≡ answered model.now call.now.id reply.now core.old) }
+    ensures grown { IsGrownFrom core.old core.new }
+{
+    let fault = read_fault(core, alloc, model, call, reply.reads.as_slice())?;
+    core.follow(alloc, call.id, fault, reply)
+}
+
+/// Carries out the reply to a call for the end.
+#[tactic(auto, using(kernel_actions::proofs::Lasting::growth_same))]
+pub fn follow_last(
+    core: &mut Core,
+    alloc: Global,
+    model: &Model,
+    call: &Call,
+    reply: &Reply,
+) -> Result<Turn, NoMemory>
+    requires next { core.old.next + 1000 < 2 ^ 128 }
+    requires told { call.now.parameters
+        ≡ parameters_of model.now core.old.records call.now.id }
+    ensures flow { IfOk result (λ turn. flow_of turn core.new
+        ≡ answered_last model.now call.now.id reply.now core.old) }
+    ensures grown { IsGrownFrom core.old core.new }
+{
+    let fault = read_fault(core, alloc, model, call, reply.reads.as_slice())?;
+    core.follow_last(alloc, call.id, fault, reply)
+}
+
+// ---- what comes next
+
+/// Asks for the injection that goes before the first event to come. The question is of the event behind.
+pub fn ask_injection(
+    core: &Core,
+    alloc: Global,
+    model: &Model,
+    look: &mut Look,
+) -> Result<Option<Injection>, NoMemory>
+    requires { core.now.count + 1 < 2 ^ 64 }
+    ensures found { let before = looked core.now look.old in
+        IfOk result (λ found. injection_asked model.now before ≡ answers.Injection found) }
+    ensures noted { let before = looked core.now look.old in
+        OnOk result (looked core.now look.new ≡ with_injection_asked before) }
+{
+    core.ask_injection(alloc, model.injections.as_slice(), look)
+}
+
+// ---- setup
+
+/// Asks which network is run, and creates it.
+fn ask_root(core: &mut Core, alloc: Global, model: &Model) -> Result<Turn, NoMemory>
+    requires { core.old ≡ empty }
+    ensures flow { IfOk result (λ turn. flow_of turn core.new ≡ root_asked model.now) }
+    ensures few { OnOk result (length core.new.records ≤ 1) }
+{
+    core.ask(alloc, Question::Root)?;
+    let found = answer(alloc, model, &[], &Question::Root)?;
+    core.root(alloc, found)
+}
+
+/// Asks what is inside of the network, and creates it.
+fn ask_inside(core: &mut Core, alloc: Global, model: &Model) -> Result<Turn, NoMemory>
+    requires { length core.old.records ≤ 1 }
+    ensures { IfOk result (λ turn. flow_of turn core.new ≡ inside_asked model.now core.old) }
+{
+    let found = answer(alloc, model, core.records(), &Question::Build(1))?;
+    core.ask(alloc, Question::Build(1))?;
+    core.build(alloc, 1, found)
+}
+
+/// Sets the network and its submodules up, as the model answers.
+pub fn set_up(core: &mut Core, alloc: Global, model: &Model) -> Result<Turn, NoMemory>
+    requires { core.old ≡ empty }
+    ensures { IfOk result (λ turn. flow_of turn core.new ≡ prepared model.now) }
+{
+    match ask_root(core, alloc, model)? {
+        Turn::GoOn => ask_inside(core, alloc, model),
+        turn => Ok(turn),
+    }
+}

@@ -1,0 +1,69 @@
+-- A run goes on: the lists of its world only grow.
+use Rattle.std.proofs.Common.{◌≡◌, ℕ, ◌≤◌, List, [], refl, sym, ◌∙◌, subst, append-nil}
+use Rattle.module_api.specs.Behaviour.{Behaviour}
+use Rattle.model_answers.specs.declared.model.Model.{Model}
+use Rattle.run_semantics.specs.Ending.{ending}
+use Rattle.run_semantics.specs.Laws.{GoesOn}
+use Rattle.run_semantics.specs.Run.{Stage, Running, Over, world_at, after, stopped, run_to}
+use Rattle.run_semantics.specs.World.{World}
+use Rattle.run_semantics.proofs.Closing.{IsClosed, ending_closed}
+use Rattle.run_semantics.proofs.Grown.{alike_after, grown_after}
+use Rattle.run_semantics.proofs.Orderly.{finished_after, on_more}
+use Rattle.kernel_actions.specs.Positions.{IsGrownFrom}
+
+-- a list that stayed as it was
+stays : {X : Type 0} (xs ys : List X) → ys ≡ xs → GoesOn xs ys
+stays xs ys e = ([], append-nil xs ∙ sym e)
+
+-- one growth and then another
+pub growth_on : (u v w : World) → IsGrownFrom u v → IsGrownFrom v w → IsGrownFrom u w
+growth_on u v w f g = record {
+  records = on_more u.records v.records w.records f.records g.records;
+  live = on_more u.live v.live w.live f.live g.live;
+  started = on_more u.started v.started w.started f.started g.started;
+  finished = on_more u.finished v.finished w.finished f.finished g.finished;
+  emissions = on_more u.emissions v.emissions w.emissions f.emissions g.emissions;
+  scalars = on_more u.scalars v.scalars w.scalars f.scalars g.scalars;
+  questions = on_more u.questions v.questions w.questions f.questions g.questions;
+}
+
+-- A RUN OF MORE EVENTS
+pub run_grows : (b : Behaviour) (m : Model) (n k : ℕ) → n ≤ k → IsGrownFrom (world_at (after b m n)) (world_at (after b m k))
+run_grows b m n k h =
+    let v : World = world_at (after b m n) in
+    let w : World = world_at (after b m k) in
+    let g = grown_after b m n k h in
+    let same = alike_after b m n k h in
+    record {
+      records = g.records;
+      live = stays v.live w.live same.0;
+      started = stays v.started w.started same.1;
+      finished = stays v.finished w.finished (finished_after b m k ∙ sym (finished_after b m n));
+      emissions = g.emissions;
+      scalars = g.scalars;
+      questions = g.questions;
+    }
+
+-- the end
+end_grows : (v w : World) → IsClosed v w → IsGrownFrom v w
+end_grows v w c = record {
+  records = stays v.records w.records c.records;
+  live = stays v.live w.live c.live;
+  started = stays v.started w.started c.started;
+  finished = c.finished;
+  emissions = c.emissions;
+  scalars = c.scalars;
+  questions = stays v.questions w.questions c.questions;
+}
+
+-- a run that is stopped stands where it stood
+stopped_at : (s : Stage) → (stopped s).world ≡ world_at s
+stopped_at (Running w) = refl
+stopped_at (Over w outcome) = refl
+
+-- A RUN OF MORE EVENTS, AND ITS END
+pub ended_run_grows : (b : Behaviour) (m : Model) (n k : ℕ) → n ≤ k → IsGrownFrom (world_at (after b m n)) (ending b m (run_to b m k)).world
+ended_run_grows b m n k h =
+    let last : World = (ending b m (run_to b m k)).world in
+    growth_on (world_at (after b m n)) (world_at (after b m k)) last (run_grows b m n k h)
+    (subst (λ (w : World). IsGrownFrom w last) (stopped_at (after b m k)) (end_grows (run_to b m k).world last (ending_closed b m (run_to b m k))))

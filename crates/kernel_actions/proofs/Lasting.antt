@@ -1,0 +1,155 @@
+-- What is in the lists of a world that only grow stays there, whatever an event or the end did before memory ran out.
+use Rattle.std.proofs.Common.{◌≡◌, append-nil, append_assoc, ℕ, suc, ◌+◌, ◌≤◌, ◌<◌, Bool, true, false, List, [], ◌∷◌, ◌++◌, Option, Some, None, refl, sym, ap, ◌∙◌, arith, subst, drop, get_or, length, if◌then◌else◌}
+use Rattle.std.proofs.Math.ListN.{drop_of_length-le}
+use Rattle.std.proofs.Math.Seq.{drop-cons}
+use Rattle.sim_time.specs.Time.{time_sum}
+use Rattle.module_api.specs.declared.reply.Action.{Action}
+use Rattle.module_api.specs.declared.reply.Action.TheVariants.{Emit, RecordScalar, ScheduleAfter, Fail}
+use Rattle.module_api.specs.declared.reply.Schedule.{Schedule}
+use Rattle.module_api.specs.Names.{is_scalar_name}
+use Rattle.event_set.specs.Timers.{has_timer}
+use Rattle.run_semantics.specs.declared.outcome.Fault.TheVariants as fault
+use Rattle.run_semantics.specs.declared.outcome.Turn.{Turn}
+use Rattle.run_semantics.specs.World.{World}
+use Rattle.run_semantics.specs.Perform.{Flow, On, flow_of, ◌>>=◌, broken, with_scalar, scheduled, perform, perform_all}
+use Rattle.run_semantics.specs.Ending.{is_last_action, perform_last, perform_last_all}
+use Rattle.run_semantics.proofs.Orderly.{on_same}
+use Rattle.run_semantics.proofs.Sound.{in_flow, in_flow-of, Keeps, keeps_same, either_keeps, perform_keeps}
+use Rattle.kernel_actions.specs.declared.looks.LookedAt.{LookedAt}
+use Rattle.kernel_actions.specs.Positions.{IsGrownFrom}
+use Rattle.kernel_actions.specs.Upcoming.{asked_in}
+use Rattle.model_answers.specs.declared.answer.Asked.{Asked}
+
+-- nothing happened
+pub growth_same : (w : World) → IsGrownFrom w w
+growth_same w = record {
+  records = on_same w.records;
+  live = on_same w.live;
+  started = on_same w.started;
+  finished = on_same w.finished;
+  emissions = on_same w.emissions;
+  scalars = on_same w.scalars;
+  questions = on_same w.questions;
+}
+
+-- it is the same world
+pub growth_is : (v w : World) → w ≡ v → IsGrownFrom v w
+growth_is v w e = subst (IsGrownFrom v) (sym e) (growth_same v)
+
+-- of two ways on, whichever is taken
+either_grows : (w : World) (c : Bool) (f g : Flow) → IsGrownFrom w (in_flow f) → IsGrownFrom w (in_flow g) → IsGrownFrom w (in_flow (if c then f else g))
+either_grows w true f g h k = h
+either_grows w false f g h k = k
+
+-- ---- actions: one line for each
+
+scheduled_grows : (id : ℕ) (s : Schedule) (w : World) (time : Option ℕ) → IsGrownFrom w (in_flow (scheduled id s w time))
+scheduled_grows id s w None = growth_same w
+scheduled_grows id s w (Some time) = either_grows w (has_timer id s.timer w.pending) _ _ (growth_same w) (record {
+  records = on_same w.records;
+  live = on_same w.live;
+  started = on_same w.started;
+  finished = on_same w.finished;
+  emissions = on_same w.emissions;
+  scalars = on_same w.scalars;
+  questions = on_same w.questions;
+})
+
+pub perform_grows : (id : ℕ) (action : Action) (w : World) → IsGrownFrom w (in_flow (perform id action w))
+perform_grows id (Emit signal value) w = record {
+  records = on_same w.records;
+  live = on_same w.live;
+  started = on_same w.started;
+  finished = on_same w.finished;
+  emissions = (_, refl);
+  scalars = on_same w.scalars;
+  questions = on_same w.questions;
+}
+perform_grows id (RecordScalar name value) w = either_grows w (is_scalar_name name) (On (with_scalar id name value w)) (broken id fault.BadName w) (record {
+  records = on_same w.records;
+  live = on_same w.live;
+  started = on_same w.started;
+  finished = on_same w.finished;
+  emissions = on_same w.emissions;
+  scalars = (_, refl);
+  questions = on_same w.questions;
+}) (growth_same w)
+perform_grows id (ScheduleAfter s) w = scheduled_grows id s w (time_sum w.clock s.delay)
+perform_grows id (Fail text) w = growth_same w
+
+pub perform_last_grows : (id : ℕ) (action : Action) (w : World) → IsGrownFrom w (in_flow (perform_last id action w))
+perform_last_grows id action w = either_grows w (is_last_action action) _ _ (perform_grows id action w) (growth_same w)
+
+-- what a flow leaves, by what the code says of it
+pub flow_grows : (turn : Turn) (w v : World) (fl : Flow) → IsGrownFrom w (in_flow fl) → flow_of turn v ≡ fl → IsGrownFrom w v
+flow_grows turn w v fl g e = subst (IsGrownFrom w) (ap in_flow (sym e) ∙ in_flow-of turn v) g
+
+-- an action, by what the code says of it
+pub performed_grows : (turn : Turn) (id : ℕ) (action : Action) (w v : World) → flow_of turn v ≡ perform id action w → IsGrownFrom w v
+performed_grows turn id action w v e = flow_grows turn w v (perform id action w) (perform_grows id action w) e
+
+pub performed_last_grows : (turn : Turn) (id : ℕ) (action : Action) (w v : World) → flow_of turn v ≡ perform_last id action w → IsGrownFrom w v
+performed_last_grows turn id action w v e = flow_grows turn w v (perform_last id action w) (perform_last_grows id action w) e
+
+-- it inserts one event at most
+performed_keeps : (turn : Turn) (w v : World) (fl : Flow) → Keeps 1 w (in_flow fl) → flow_of turn v ≡ fl → v.next ≤ w.next + 1
+performed_keeps turn w v fl k e = (subst (Keeps 1 w) (ap in_flow (sym e) ∙ in_flow-of turn v) k).next
+
+pub performed_next : (turn : Turn) (id : ℕ) (action : Action) (w v : World) → flow_of turn v ≡ perform id action w → v.next ≤ w.next + 1
+performed_next turn id action w v e = performed_keeps turn w v (perform id action w) (perform_keeps id action w) e
+
+pub performed_last_next : (turn : Turn) (id : ℕ) (action : Action) (w v : World) → flow_of turn v ≡ perform_last id action w → v.next ≤ w.next + 1
+performed_last_next turn id action w v e = performed_keeps turn w v (perform_last id action w) (either_keeps 1 (is_last_action action) _ _ w (perform_keeps id action w) (λ x. keeps_same 1 w)) e
+
+-- ---- loops: one more of a list
+
+-- the element that a loop reads, and those behind it
+split_at : {X : Type 0} (index : ℕ) (xs : List X) (x : X) → index < length xs → x ≡ get_or xs index x → drop index xs ≡ x ∷ drop (index + 1) xs
+split_at index xs x less e =
+    let next : suc index ≡ index + 1 = omega arith in
+    drop-cons xs index x less ∙ ap (λ y. y ∷ drop (suc index) xs) (sym e) ∙ ap (λ n. x ∷ drop n xs) next
+
+pub performed_on : (id index : ℕ) (actions : List Action) (action : Action) (w v : World) (whole : Flow) → index < length actions → action ≡ get_or actions index action → On v ≡ perform id action w
+    → perform_all id (drop index actions) w ≡ whole → perform_all id (drop (index + 1) actions) v ≡ whole
+performed_on id index actions action w v whole less e step done =
+    ap (λ (fl : Flow). fl >>= perform_all id (drop (index + 1) actions)) step
+    ∙ sym (ap (λ (xs : List Action). perform_all id xs w) (split_at index actions action less e))
+    ∙ done
+
+pub performed_last_on : (id index : ℕ) (actions : List Action) (action : Action) (w v : World) (whole : Flow) → index < length actions → action ≡ get_or actions index action → On v ≡ perform_last id action w
+    → perform_last_all id (drop index actions) w ≡ whole → perform_last_all id (drop (index + 1) actions) v ≡ whole
+performed_last_on id index actions action w v whole less e step done =
+    ap (λ (fl : Flow). fl >>= perform_last_all id (drop (index + 1) actions)) step
+    ∙ sym (ap (λ (xs : List Action). perform_last_all id xs w) (split_at index actions action less e))
+    ∙ done
+
+-- ---- an event that begins
+
+pub noted_grows : (qs : List Asked) (w v : World) → v ≡ record w { questions = w.questions ++ qs } → IsGrownFrom w v
+noted_grows qs w v e = subst (IsGrownFrom w) (sym e) (record {
+  records = on_same w.records;
+  live = on_same w.live;
+  started = on_same w.started;
+  finished = on_same w.finished;
+  emissions = on_same w.emissions;
+  scalars = on_same w.scalars;
+  questions = (qs, refl);
+})
+
+-- the question of one look more
+pub noted_on : (count index : ℕ) (looks : List LookedAt) (look : LookedAt) (w v whole : World) → index < length looks → look ≡ get_or looks index look → w.count ≡ count → v ≡ record w { questions = w.questions ++ asked_in (w.count + 1) (look ∷ []) }
+    → record w { questions = w.questions ++ asked_in (count + 1) (drop index looks) } ≡ whole → record v { questions = v.questions ++ asked_in (count + 1) (drop (index + 1) looks) } ≡ whole
+noted_on count index looks look w v whole less e same step done =
+    let rest : List Asked = asked_in (count + 1) (drop (index + 1) looks) in
+    ap (λ (u : World). record u { questions = u.questions ++ rest }) step
+    ∙ ap (λ n. record w { questions = (w.questions ++ asked_in (n + 1) (look ∷ [])) ++ rest }) same
+    ∙ ap (λ (qs : List Asked). record w { questions = qs }) (append_assoc w.questions (asked_in (count + 1) (look ∷ [])) rest)
+    ∙ ap (λ (ls : List LookedAt). record w { questions = w.questions ++ asked_in (count + 1) ls }) (sym (split_at index looks look less e))
+    ∙ done
+
+-- behind the last one
+pub noted_ends : (count index : ℕ) (looks : List LookedAt) (w whole : World) → length looks ≤ index → record w { questions = w.questions ++ asked_in (count + 1) (drop index looks) } ≡ whole → w ≡ whole
+noted_ends count index looks w whole past done =
+    ap (λ (qs : List Asked). record w { questions = qs }) (sym (append-nil w.questions))
+    ∙ ap (λ (ls : List LookedAt). record w { questions = w.questions ++ asked_in (count + 1) ls }) (sym (drop_of_length-le looks past))
+    ∙ done

@@ -1,0 +1,789 @@
+//! A world but for the modules and their states.
+
+ghost use Rattle.std.specs.Prelude.{◌≡◌, ◌+◌, ◌^◌, ◌<◌, OnOk, OnErr, IfOk, Some, true, [], ◌∷◌, ◌++◌, length, slice_get, ◌≤◌};
+ghost use Rattle.model_answers.specs.Questions.{is_of_modules};
+ghost use Rattle.question_log.specs.Entries.{noted_in};
+ghost use Rattle.run_semantics.specs.World.{empty, asked, timed};
+ghost use Rattle.run_semantics.specs.Perform.{flow_of, perform, perform_all, scheduled, scheduled_at, ask_all, question_of, acted, unless_fault, broken};
+ghost use Rattle.run_semantics.specs.Ending.{is_last_action, perform_last, perform_last_all, acted_last, with_finished};
+ghost use Rattle.kernel_actions.specs.Upcoming.{asked_in, first_is_beyond, looked, with_injection_asked, upcoming_of, Begins};
+ghost use Rattle.run_semantics.specs.Upcoming.{Comes, first_due, first_of};
+ghost use Rattle.injection_order.specs.Injections.{injection_before};
+ghost use Rattle.model_answers.specs.Answering.{is_beyond};
+ghost use Rattle.model_answers.specs.declared.answer.Question.TheVariants.{BeyondLimit};
+ghost use Rattle.run_semantics.specs.Run.{rooted, built, unless_many, with_submodules, with_started};
+ghost use Rattle.kernel_actions.specs.Positions.{lengths_of, position_of, cut_to, core_back, IsGrownFrom};
+
+use crate::looks::{Look, LookedAt, Next};
+use crate::position::{Lengths, Position};
+use crate::reads::question_of;
+use event_set::pending::{Happening, Pending};
+use event_set::set::EventSet;
+use injection_order::injection::{Due, Injection, Turn as InjectionTurn, injection_before};
+use model_answers::answer::{Answer, Built, Question};
+use model_answers::record::{Record, path_of, submodule_path};
+use module_api::names::is_scalar_name;
+use module_api::reply::{Action, Read, Reply, Schedule};
+use question_log::cutting::cut_items;
+use question_log::entry::Entry;
+use question_log::log::QuestionLog;
+use run_semantics::outcome::{Fault, Outcome, Turn, fault_of};
+use run_semantics::signals::SignalNames;
+use run_semantics::traces::{Emission, Instance, Scalar};
+use sim_time::SimTime;
+use sim_values::NoMemory;
+use sim_values::text::Text;
+use sqlite_items::Items;
+use std::alloc::{AllocError, Global};
+use std::marker::Model;
+
+/// How many actions a reply has at most.
+const MAX_ACTIONS: usize = 1000;
+
+/// A world but for the modules, which contracts see as a world with none.
+pub struct Core {
+    clock: SimTime,
+    count: u64,
+    records: Items<Record>,
+    live: Items<u32>,
+    started: Items<u32>,
+    finished: Items<u32>,
+    pending: EventSet,
+    ended: bool,
+    delivered: Option<InjectionTurn>,
+    emissions: Items<Emission>,
+    /// Names of signals that emissions share.
+    names: SignalNames,
+    scalars: Items<Scalar>,
+    questions: QuestionLog,
+}
+
+// Written out, so that a crate which drops one need not prove what that does.
+impl Drop for Core {
+    fn drop(self) {
+        let Core {
+            clock: _,
+            count: _,
+            records: _,
+            live: _,
+            started: _,
+            finished: _,
+            pending: _,
+            ended: _,
+            delivered: _,
+            emissions: _,
+            names: _,
+            scalars: _,
+            questions: _,
+        } = self;
+    }
+}
+
+impl Model for Core {
+    ghost use Rattle.std.specs.Prelude.{[], length, ◌<◌, ◌^◌};
+    ghost use Rattle.run_semantics.specs.World.{World};
+
+    ghost Value = { World };
+
+    ghost view = { λ k. record {
+      clock = k.clock;
+      count = k.count;
+      records = k.records;
+      live = k.live;
+      modules = [];
+      started = k.started;
+      finished = k.finished;
+      pending = k.pending.list;
+      next = k.pending.next;
+      ended = k.ended;
+      delivered = k.delivered;
+      emissions = k.emissions;
+      scalars = k.scalars;
+      questions = k.questions;
+    } };
+
+    // ids are numbers of 32 bits
+    ghost invariant = { λ k. length k.records < 2 ^ 32 };
+}
+
+impl Core {
+    /// Nothing stands, and nothing happened.
+    pub fn new(alloc: Global) -> Self
+        ensures { result ≡ empty }
+    {
+        Core {
+            clock: SimTime::zero(),
+            count: 0,
+            records: Items::new(alloc),
+            live: Items::new(alloc),
+            started: Items::new(alloc),
+            finished: Items::new(alloc),
+            pending: EventSet::new(alloc),
+            ended: false,
+            delivered: None,
+            emissions: Items::new(alloc),
+            names: SignalNames::new(alloc),
+            scalars: Items::new(alloc),
+            questions: QuestionLog::new(alloc),
+        }
+    }
+
+    /// Nothing stands any more, and nothing happened.
+    pub fn clear(&mut self, alloc: Global)
+        ensures { self.new ≡ empty }
+    {
+        *self = Core::new(alloc);
+    }
+
+    // ---- what callers read
+
+    pub fn clock(&self) -> SimTime
+        ensures { result ≡ self.now.clock }
+    {
+        self.clock
+    }
+
+    pub fn count(&self) -> u64
+        ensures { result ≡ self.now.count }
+    {
+        self.count
+    }
+
+    pub fn records(&self) -> &[Record]
+        ensures records { result.now ≡ self.now.records }
+        ensures few { length result.now < 2 ^ 32 }
+    {
+        self.records.as_slice()
+    }
+
+    /// What is noted of the questions.
+    pub fn questions(&self) -> &[Entry]
+        ensures { noted_in result.now ≡ self.now.questions }
+    {
+        self.questions.entries()
+    }
+
+    pub fn emissions(&self) -> &[Emission]
+        ensures { result.now ≡ self.now.emissions }
+    {
+        self.emissions.as_slice()
+    }
+
+    pub fn scalars(&self) -> &[Scalar]
+        ensures { result.now ≡ self.now.scalars }
+    {
+        self.scalars.as_slice()
+    }
+
+    pub fn finished(&self) -> &[u32]
+        ensures { result.now ≡ self.now.finished }
+    {
+        self.finished.as_slice()
+    }
+
+    pub fn is_ended(&self) -> bool
+        ensures { result ≡ self.now.ended }
+    {
+        self.ended
+    }
+
+    // ---- actions
+
+    /// A fault of the module of that id.
+    fn broken(&self, alloc: Global, id: u32, fault: Fault) -> Result<Turn, NoMemory>
+        ensures { IfOk result (λ turn. flow_of turn self.now ≡ broken id fault self.now) }
+    {
+        let path = path_of(alloc, self.records.as_slice(), id)?;
+        Ok(Turn::Break(path, fault))
+    }
+
+    /// Puts a timer among the events to come.
+    fn schedule_at(
+        &mut self,
+        alloc: Global,
+        id: u32,
+        schedule: &Schedule,
+        time: SimTime,
+    ) -> Result<Turn, NoMemory>
+        requires { self.old.next + 1 < 2 ^ 128 }
+        ensures flow { IfOk result (λ turn. flow_of turn self.new
+            ≡ scheduled_at id schedule.now self.old time) }
+        ensures err { OnErr result (self.new ≡ self.old) }
+    {
+        if self.pending.has_timer(id, schedule.timer) {
+            return self.broken(alloc, id, Fault::AlreadyScheduled);
+        }
+        let what = Happening::Timer(schedule.timer, schedule.kind);
+        self.pending.insert(time, schedule.priority, id, what)?;
+        Ok(Turn::GoOn)
+    }
+
+    /// Sets a timer.
+    fn schedule(&mut self, alloc: Global, id: u32, schedule: &Schedule) -> Result<Turn, NoMemory>
+        requires { self.old.next + 1 < 2 ^ 128 }
+        ensures flow { IfOk result (λ turn. flow_of turn self.new
+            ≡ perform id (Action.ScheduleAfter schedule.now) self.old) }
+        ensures err { OnErr result (self.new ≡ self.old) }
+    {
+        match self.clock.checked_add(schedule.delay) {
+            Ok(time) => self.schedule_at(alloc, id, schedule, time),
+            Err(_) => self.broken(alloc, id, Fault::TimeOverflow),
+        }
+    }
+
+    /// Notes an emission.
+    fn emit(&mut self, alloc: Global, id: u32, signal: &Text, value: i64) -> Result<Turn, NoMemory>
+        ensures flow { IfOk result (λ turn. flow_of turn self.new
+            ≡ perform id (Action.Emit signal.now value) self.old) }
+        ensures err { OnErr result (self.new ≡ self.old) }
+    {
+        let signal = self.names.shared(alloc, signal)?;
+        self.emissions.push(Emission {
+            id,
+            signal,
+            event: self.count,
+            time: self.clock,
+            value,
+        })?;
+        Ok(Turn::GoOn)
+    }
+
+    /// Notes a scalar, where it has a name.
+    fn record(&mut self, alloc: Global, id: u32, name: &Text, value: i64) -> Result<Turn, NoMemory>
+        ensures flow { IfOk result (λ turn. flow_of turn self.new
+            ≡ perform id (Action.RecordScalar name.now value) self.old) }
+        ensures err { OnErr result (self.new ≡ self.old) }
+    {
+        if !is_scalar_name(name.as_bytes()) {
+            return self.broken(alloc, id, Fault::BadName);
+        }
+        let name = name.copy(alloc)?;
+        self.scalars.push(Scalar { id, name, value })?;
+        Ok(Turn::GoOn)
+    }
+
+    /// One action of the module of that id.
+    fn perform(&mut self, alloc: Global, id: u32, action: &Action) -> Result<Turn, NoMemory>
+        requires { self.old.next + 1 < 2 ^ 128 }
+        ensures flow { IfOk result (λ turn.
+            flow_of turn self.new ≡ perform id action.now self.old) }
+        ensures err { OnErr result (self.new ≡ self.old) }
+    {
+        match action {
+            Action::Emit(signal, value) => self.emit(alloc, id, signal, *value),
+            Action::RecordScalar(name, value) => self.record(alloc, id, name, *value),
+            Action::ScheduleAfter(schedule) => self.schedule(alloc, id, schedule),
+            Action::Fail(text) => {
+                let text = text.copy(alloc)?;
+                self.broken(alloc, id, Fault::ModuleFailed(text))
+            }
+        }
+    }
+
+    /// The actions of a reply, in order.
+    fn perform_all(&mut self, alloc: Global, id: u32, actions: &[Action]) -> Result<Turn, NoMemory>
+        requires { self.old.next + length actions.now < 2 ^ 128 }
+        ensures flow { IfOk result (λ turn. flow_of turn self.new
+            ≡ perform_all id actions.now self.old) }
+        ensures grown { IsGrownFrom self.old self.new }
+    {
+        for action in actions {
+            match self.perform(alloc, id, action)? {
+                Turn::GoOn => {}
+                turn => return Ok(turn),
+            }
+        }
+        Ok(Turn::GoOn)
+    }
+
+    // ---- reads
+
+    /// Notes a question about modules, unless it was asked before.
+    pub fn ask(&mut self, alloc: Global, question: Question) -> Result<(), NoMemory>
+        requires { is_of_modules question ≡ true }
+        ensures noted { OnOk result (self.new ≡ asked question self.old) }
+        ensures err { OnErr result (self.new ≡ self.old) }
+    {
+        self.questions.note(alloc, self.count, question)
+    }
+
+    /// Notes the questions of all values that a reply used.
+    fn ask_all(&mut self, alloc: Global, id: u32, reads: &[Read]) -> Result<(), NoMemory>
+        ensures noted { OnOk result (self.new ≡ ask_all id reads.now self.old) }
+        ensures grown { IsGrownFrom self.old self.new }
+    {
+        for read in reads {
+            self.ask(alloc, question_of(alloc, id, read)?)?;
+        }
+        Ok(())
+    }
+
+    // ---- replies
+
+    /// The actions of a reply, where there are at most 1,000.
+    #[tactic(auto, using(crate::proofs::Lasting::growth_same))]
+    fn act(&mut self, alloc: Global, id: u32, actions: &[Action]) -> Result<Turn, NoMemory>
+        requires { self.old.next + 1000 < 2 ^ 128 }
+        ensures flow { IfOk result (λ turn. flow_of turn self.new ≡ acted id actions.now self.old) }
+        ensures grown { IsGrownFrom self.old self.new }
+    {
+        if actions.len() > MAX_ACTIONS {
+            return self.broken(alloc, id, Fault::TooManyActions);
+        }
+        self.perform_all(alloc, id, actions)
+    }
+
+    /// Carries out a reply, whose reads have this fault, or none: they are asked in any case.
+    #[tactic(auto, using(crate::proofs::Lasting::growth_same))]
+    pub fn follow(
+        &mut self,
+        alloc: Global,
+        id: u32,
+        fault: Option<Fault>,
+        reply: &Reply,
+    ) -> Result<Turn, NoMemory>
+        requires { self.old.next + 1000 < 2 ^ 128 }
+        ensures flow { IfOk result (λ turn. flow_of turn self.new
+            ≡ unless_fault id fault (acted id reply.now.actions)
+            (ask_all id reply.now.reads self.old)) }
+        ensures grown { IsGrownFrom self.old self.new }
+    {
+        self.ask_all(alloc, id, reply.reads.as_slice())?;
+        match fault {
+            Some(fault) => self.broken(alloc, id, fault),
+            None => self.act(alloc, id, reply.actions.as_slice()),
+        }
+    }
+
+    // ---- the end
+
+    /// One action of a reply to the end.
+    fn perform_last(&mut self, alloc: Global, id: u32, action: &Action) -> Result<Turn, NoMemory>
+        requires { self.old.next + 1 < 2 ^ 128 }
+        ensures flow { IfOk result (λ turn. flow_of turn self.new
+            ≡ perform_last id action.now self.old) }
+        ensures err { OnErr result (self.new ≡ self.old) }
+    {
+        if !is_last_action(action) {
+            return self.broken(alloc, id, Fault::NotInFinish);
+        }
+        self.perform(alloc, id, action)
+    }
+
+    /// The actions of a reply to the end, in order.
+    fn perform_last_all(
+        &mut self,
+        alloc: Global,
+        id: u32,
+        last_actions: &[Action],
+    ) -> Result<Turn, NoMemory>
+        requires { self.old.next + length last_actions.now < 2 ^ 128 }
+        ensures flow { IfOk result (λ turn. flow_of turn self.new
+            ≡ perform_last_all id last_actions.now self.old) }
+        ensures grown { IsGrownFrom self.old self.new }
+    {
+        for action in last_actions {
+            match self.perform_last(alloc, id, action)? {
+                Turn::GoOn => {}
+                turn => return Ok(turn),
+            }
+        }
+        Ok(Turn::GoOn)
+    }
+
+    #[tactic(auto, using(crate::proofs::Lasting::growth_same))]
+    fn act_last(&mut self, alloc: Global, id: u32, actions: &[Action]) -> Result<Turn, NoMemory>
+        requires { self.old.next + 1000 < 2 ^ 128 }
+        ensures flow { IfOk result (λ turn.
+            flow_of turn self.new ≡ acted_last id actions.now self.old) }
+        ensures grown { IsGrownFrom self.old self.new }
+    {
+        if actions.len() > MAX_ACTIONS {
+            return self.broken(alloc, id, Fault::TooManyActions);
+        }
+        self.perform_last_all(alloc, id, actions)
+    }
+
+    /// Carries out a reply to a call for the end, whose reads have this fault, or none.
+    #[tactic(auto, using(crate::proofs::Lasting::growth_same))]
+    pub fn follow_last(
+        &mut self,
+        alloc: Global,
+        id: u32,
+        fault: Option<Fault>,
+        reply: &Reply,
+    ) -> Result<Turn, NoMemory>
+        requires { self.old.next + 1000 < 2 ^ 128 }
+        ensures flow { IfOk result (λ turn. flow_of turn self.new
+            ≡ unless_fault id fault (acted_last id reply.now.actions) self.old) }
+        ensures grown { IsGrownFrom self.old self.new }
+    {
+        match fault {
+            Some(fault) => self.broken(alloc, id, fault),
+            None => self.act_last(alloc, id, reply.actions.as_slice()),
+        }
+    }
+
+    /// Notes that a module is finished.
+    pub fn mark_finished(&mut self, id: u32) -> Result<(), NoMemory>
+        ensures marked { OnOk result (self.new ≡ with_finished id self.old) }
+        ensures err { OnErr result (self.new ≡ self.old) }
+    {
+        self.finished.push(id)?;
+        Ok(())
+    }
+
+    // ---- events
+
+    /// When the first event to come is due.
+    fn first_due(&self) -> Option<Due>
+        ensures { result ≡ first_due self.now.pending }
+    {
+        match self.pending.first() {
+            Some(coming) => Some(Due {
+                time: coming.time,
+                priority: coming.priority,
+            }),
+            None => None,
+        }
+    }
+
+    /// Nothing was asked yet to know what comes next.
+    pub fn look(&self, alloc: Global) -> Look
+        ensures { result ≡ record { delivered = self.now.delivered; asked = [] } }
+    {
+        Look {
+            delivered: self.delivered,
+            asked: Items::new(alloc),
+        }
+    }
+
+    /// Asks for the injection, of these, that goes before the first event to come. The question is of the event behind.
+    pub fn ask_injection(
+        &self,
+        alloc: Global,
+        injections: &[Injection],
+        look: &mut Look,
+    ) -> Result<Option<Injection>, NoMemory>
+        requires { self.now.count + 1 < 2 ^ 64 }
+        ensures found { let due = first_due self.now.pending in
+            IfOk result (λ found. found
+            ≡ injection_before due look.old.delivered injections.now) }
+        ensures noted { let before = looked self.now look.old in
+            OnOk result (looked self.now look.new ≡ with_injection_asked before) }
+    {
+        let due = self.first_due();
+        let last = look.delivered;
+        look.asked.push(LookedAt { due, last })?;
+        match injection_before(injections, due, last) {
+            Some(injection) => Ok(Some(injection.copy(alloc)?)),
+            None => Ok(None),
+        }
+    }
+
+    /// An event begins that is due then: it is counted, and what was asked before is noted, with the question whether the time limit allows it.
+    fn begin_event(&mut self, alloc: Global, look: Look, time: SimTime) -> Result<(), NoMemory>
+        requires { self.old.count + 1 < 2 ^ 64 }
+        ensures begun { let world = looked self.old look in
+            OnOk result (self.new ≡ timed (BeyondLimit time)
+            (record world { clock = time; count = world.count + 1 })) }
+        ensures grown { IsGrownFrom self.old self.new }
+    {
+        let Look { delivered, asked } = look;
+        self.note_looks(alloc, asked.as_slice())?;
+        self.delivered = delivered;
+        self.clock = time;
+        self.count += 1;
+        self.questions
+            .note_time(alloc, self.count, Question::BeyondLimit(time.ps()))
+    }
+
+    /// Notes the questions of these looks, which are of the event behind.
+    fn note_looks(&mut self, alloc: Global, looks: &[LookedAt]) -> Result<(), NoMemory>
+        requires { self.old.count + 1 < 2 ^ 64 }
+        ensures noted { OnOk result (self.new
+            ≡ record self.old {
+              questions = self.old.questions
+                  ++ asked_in (self.old.count + 1) looks.now;
+            }) }
+        ensures grown { IsGrownFrom self.old self.new }
+    {
+        for look in looks {
+            self.note_look(alloc, look)?;
+        }
+        Ok(())
+    }
+
+    /// Notes the question of a look, which is of the event behind.
+    fn note_look(&mut self, alloc: Global, look: &LookedAt) -> Result<(), NoMemory>
+        requires { self.old.count + 1 < 2 ^ 64 }
+        ensures noted { OnOk result (self.new
+            ≡ record self.old {
+              questions = self.old.questions
+                  ++ asked_in (self.old.count + 1) (look.now ∷ []);
+            }) }
+        ensures err { OnErr result (self.new ≡ self.old) }
+    {
+        let question = Question::InjectionBefore(look.due, look.last);
+        self.questions.note_time(alloc, self.count + 1, question)
+    }
+
+    /// Begins an event that is none of those to come, or tells that it is later than the time limit.
+    #[tactic(auto, using(crate::proofs::Lasting::growth_same))]
+    fn begin_arrival(
+        &mut self,
+        alloc: Global,
+        limit: Option<u64>,
+        look: Look,
+        event: Pending,
+    ) -> Result<Result<Pending, Outcome>, NoMemory>
+        requires { self.old.count + 1 < 2 ^ 64 }
+        ensures begins { let world = looked self.old look in
+            IfOk result (λ begins.
+            Begins limit (Comes world event world.pending) self.old begins self.new) }
+        ensures grown { IsGrownFrom self.old self.new }
+    {
+        if is_beyond(limit, event.time.ps()) {
+            return Ok(Err(Outcome::TimeLimit));
+        }
+        self.begin_event(alloc, look, event.time)?;
+        Ok(Ok(event))
+    }
+
+    /// Begins the first of the events to come, or tells that it is later than the time limit, or that there is none.
+    #[tactic(auto, using(crate::proofs::Lasting::growth_same))]
+    fn begin_first(
+        &mut self,
+        alloc: Global,
+        limit: Option<u64>,
+        look: Look,
+    ) -> Result<Result<Pending, Outcome>, NoMemory>
+        requires { self.old.count + 1 < 2 ^ 64 }
+        ensures begins { let world = looked self.old look in
+            IfOk result (λ begins.
+            Begins limit (first_of world world.pending) self.old begins self.new) }
+        ensures grown { IsGrownFrom self.old self.new }
+    {
+        if self.is_first_beyond(limit) {
+            return Ok(Err(Outcome::TimeLimit));
+        }
+        let Some(event) = self.pending.take_first() else {
+            return Ok(Err(Outcome::NoMoreEvents));
+        };
+        self.begin_event(alloc, look, event.time)?;
+        Ok(Ok(event))
+    }
+
+    /// Whether the first event to come is later than the time limit.
+    fn is_first_beyond(&self, limit: Option<u64>) -> bool
+        ensures { result ≡ first_is_beyond limit self.now.pending }
+    {
+        match self.pending.first() {
+            Some(coming) => is_beyond(limit, coming.time.ps()),
+            None => false,
+        }
+    }
+
+    /// Begins what comes next, or tells how the run ends instead. The limit is that of times, in picoseconds.
+    #[tactic(auto, using(crate::proofs::Lasting::growth_same))]
+    pub fn begin(
+        &mut self,
+        alloc: Global,
+        limit: Option<u64>,
+        look: Look,
+        next: Next,
+    ) -> Result<Result<Pending, Outcome>, NoMemory>
+        requires { self.old.count + 1 < 2 ^ 64 }
+        ensures begins { let world = looked self.old look in
+            IfOk result (λ begins. Begins limit (upcoming_of next world) self.old begins self.new) }
+        ensures grown { IsGrownFrom self.old self.new }
+    {
+        match next {
+            Next::First => self.begin_first(alloc, limit, look),
+            Next::Arrival(event) => self.begin_arrival(alloc, limit, look, event),
+            Next::Nothing => Ok(Err(Outcome::NoMoreEvents)),
+        }
+    }
+
+    // ---- setup
+
+    /// Creates the network, as the model answered.
+    pub fn root(&mut self, alloc: Global, found: Answer) -> Result<Turn, NoMemory>
+        requires no_records { self.old.records ≡ [] }
+        requires none_live { self.old.live ≡ [] }
+        ensures flow { IfOk result (λ turn. flow_of turn self.new ≡ rooted found self.old) }
+        ensures few { length self.new.records ≤ 1 }
+    {
+        match found {
+            Answer::Root(name) => {
+                self.records.push(Record {
+                    parent: 0,
+                    name,
+                    index: None,
+                    class: None,
+                })?;
+                self.live.push(1)?;
+                Ok(Turn::GoOn)
+            }
+            Answer::Fault(network, fault) => Ok(Turn::Break(network, fault_of(fault))),
+            _ => Ok(Turn::Break(Text::empty(alloc), Fault::UnknownType)),
+        }
+    }
+
+    /// Creates one more module.
+    fn create(&mut self, alloc: Global, parent: u32, built: &Built) -> Result<(), NoMemory>
+        requires { length self.old.records + 1 < 2 ^ 32 }
+        ensures { OnOk result (self.new ≡ with_submodules parent (built.now ∷ []) self.old) }
+    {
+        let id = self.records.len() as u32 + 1;
+        let name = built.name.copy(alloc)?;
+        let class = copy_class(alloc, &built.class)?;
+        self.records.push(Record {
+            parent,
+            name,
+            index: built.index,
+            class,
+        })?;
+        self.live.push(id)?;
+        Ok(())
+    }
+
+    /// Creates the submodules of a module, in order.
+    fn create_all(&mut self, alloc: Global, parent: u32, inside: &[Built]) -> Result<(), NoMemory>
+        requires { length self.old.records + length inside.now < 2 ^ 32 }
+        ensures { OnOk result (self.new ≡ with_submodules parent inside.now self.old) }
+    {
+        for built in inside {
+            self.create(alloc, parent, built)?;
+        }
+        Ok(())
+    }
+
+    /// Creates the submodules of a module, where not too many would live.
+    fn create_few(&mut self, alloc: Global, parent: u32, inside: &[Built]) -> Result<Turn, NoMemory>
+        requires { length self.old.records + 65536 < 2 ^ 32 }
+        ensures { IfOk result (λ turn. flow_of turn self.new
+            ≡ unless_many parent inside.now self.old (slice_get inside.now 65535)) }
+    {
+        if let Some(built) = inside.get(MAX_SUBMODULES) {
+            let records = self.records.as_slice();
+            let path = submodule_path(alloc, records, parent, built.name.as_bytes(), built.index)?;
+            return Ok(Turn::Break(path, Fault::TooManyModules));
+        }
+        self.create_all(alloc, parent, inside)?;
+        Ok(Turn::GoOn)
+    }
+
+    /// Creates what the model answered to be inside of a module.
+    pub fn build(&mut self, alloc: Global, parent: u32, found: Answer) -> Result<Turn, NoMemory>
+        requires { length self.old.records + 65536 < 2 ^ 32 }
+        ensures { IfOk result (λ turn. flow_of turn self.new ≡ built parent found self.old) }
+    {
+        match found {
+            Answer::Inside(inside) => self.create_few(alloc, parent, inside.as_slice()),
+            Answer::Fault(path, fault) => Ok(Turn::Break(path, fault_of(fault))),
+            _ => self.broken(alloc, parent, Fault::UnknownType),
+        }
+    }
+
+    /// Notes that all modules that live are started.
+    pub fn mark_started(&mut self, alloc: Global) -> Result<(), NoMemory>
+        ensures { OnOk result (self.new ≡ with_started self.old) }
+    {
+        self.started = Items::from_slice(alloc, self.live.as_slice())?;
+        Ok(())
+    }
+
+    // ---- positions
+
+    /// How long the lists are that only grow while a run goes on.
+    fn lengths(&self) -> Lengths
+        ensures { result ≡ lengths_of self.now }
+    {
+        Lengths {
+            records: self.records.len(),
+            live: self.live.len(),
+            started: self.started.len(),
+            finished: self.finished.len(),
+            emissions: self.emissions.len(),
+            scalars: self.scalars.len(),
+            questions: self.questions.len(),
+        }
+    }
+
+    /// The position of the world that it makes with these modules.
+    pub fn position(&self, alloc: Global, modules: Items<Instance>) -> Result<Position, NoMemory>
+        ensures { IfOk result (λ position.
+            position ≡ position_of (record self.now { modules = modules })) }
+    {
+        let coming = self.pending.copy(alloc)?;
+        Ok(Position {
+            clock: self.clock,
+            count: self.count,
+            lengths: self.lengths(),
+            coming,
+            ended: self.ended,
+            delivered: self.delivered,
+            modules,
+        })
+    }
+
+    /// Cuts the lists that only grow while a run goes on.
+    pub fn cut_to(&mut self, lengths: Lengths)
+        ensures { self.new ≡ cut_to lengths self.old }
+    {
+        cut_items(&mut self.records, lengths.records);
+        cut_items(&mut self.live, lengths.live);
+        cut_items(&mut self.started, lengths.started);
+        cut_items(&mut self.finished, lengths.finished);
+        cut_items(&mut self.emissions, lengths.emissions);
+        cut_items(&mut self.scalars, lengths.scalars);
+        self.questions.cut(lengths.questions);
+    }
+
+    /// Goes back to a position, which has these events to come.
+    pub fn go_back(&mut self, position: &Position, coming: EventSet)
+        requires { coming ≡ position.now.coming }
+        ensures { self.new ≡ core_back position.now self.old }
+    {
+        self.cut_to(position.lengths);
+        self.clock = position.clock;
+        self.count = position.count;
+        self.pending = coming;
+        self.ended = position.ended;
+        self.delivered = position.delivered;
+    }
+}
+
+/// How many submodules the network has at most: 65,536 modules live.
+const MAX_SUBMODULES: usize = 65535;
+
+/// An equal class, where there is one.
+fn copy_class(alloc: Global, class: &Option<Text>) -> Result<Option<Text>, AllocError>
+    ensures { IfOk result (λ copy. copy ≡ class.now) }
+{
+    match class {
+        Some(name) => Ok(Some(name.copy(alloc)?)),
+        None => Ok(None),
+    }
+}
+
+/// Whether an action is for a reply to the end.
+fn is_last_action(action: &Action) -> bool
+    ensures { result ≡ is_last_action action.now }
+{
+    match action {
+        Action::Emit(_, _) | Action::RecordScalar(_, _) | Action::Fail(_) => true,
+        Action::ScheduleAfter(_) => false,
+    }
+}
+
+/// Whether a time is later than this limit, where there is one, both in picoseconds. A time equal to the limit is not.
+fn is_beyond(limit: Option<u64>, time: u64) -> bool
+    ensures { result ≡ is_beyond limit time }
+{
+    match limit {
+        Some(limit) => limit < time,
+        None => false,
+    }
+}

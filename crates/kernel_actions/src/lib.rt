@@ -1,0 +1,9 @@
+//! A world but for its modules: what actions, reads and setup do to it, what comes next in it, and positions to which it can go back.
+#![tactic(auto)]
+
+pub mod core_part;
+pub mod events;
+pub mod laws;
+pub mod looks;
+pub mod position;
+pub mod reads;

@@ -1,0 +1,4 @@
+pub mod Keeping
+pub mod Seating
+pub mod Saving
+pub mod Loading

@@ -1,0 +1,4 @@
+//! The boxes of modules as the kinds and states of these: saved, and loaded again.
+#![tactic(auto)]
+
+pub mod boxes_saved;
