@@ -8,10 +8,10 @@ use denote.Enum.Bare.{sameb, same_true, true_same}
 use Rattle.sim_values.specs.contracts.value.Dimension as dimension_kind
 use Rattle.sim_values.specs.declared.value.Value.{Value}
 use Rattle.sim_values.specs.declared.value.Value.TheVariants as value
-use Rattle.model_answers.specs.contracts.answer.ModelFault as fault_kind
-use Rattle.model_answers.specs.declared.answer.Answer.{Answer}
-use Rattle.model_answers.specs.declared.answer.Answer.TheVariants as answer
-use Rattle.model_answers.specs.declared.answer.Built.{Built}
+use Rattle.run_questions.specs.contracts.answer.ModelFault as fault_kind
+use Rattle.run_questions.specs.declared.answer.Answer.{Answer}
+use Rattle.run_questions.specs.declared.answer.Answer.TheVariants as answer
+use Rattle.run_questions.specs.declared.answer.Built.{Built}
 use Rattle.injection_order.specs.declared.injection.Injection.{Injection}
 use Rattle.agreement.specs.Same.{same_value, same_class, same_index, same_built, same_inside, same_due, same_message, same_injection, same_injections, same_next, same_answer}
 

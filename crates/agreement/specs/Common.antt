@@ -1,15 +1,14 @@
 -- What two models have in common.
 use Rattle.std.specs.Prelude.{◌≡◌, Bool, true, false, ◌&&◌, List, [], ◌∷◌}
-use Rattle.model_answers.specs.declared.answer.Asked.{Asked}
-use Rattle.model_answers.specs.declared.answer.Question.{Question}
-use Rattle.model_answers.specs.declared.answer.Question.TheVariants.{Root, Build, Param, GateSize, BeyondLimit, InjectionBefore}
-use Rattle.model_answers.specs.declared.model.Model.{Model}
-use Rattle.model_answers.specs.Models.{time_limit_of}
+use Rattle.run_questions.specs.declared.answer.Asked.{Asked}
+use Rattle.run_questions.specs.declared.answer.Question.{Question}
+use Rattle.run_questions.specs.declared.answer.Question.TheVariants.{Root, Build, Param, GateSize, BeyondLimit, InjectionBefore}
+use Rattle.run_questions.specs.Answers.{Answers}
 use Rattle.agreement.specs.declared.common.Common.{Common}
 
 -- What is said to be common to two models is.
-pub record IsCommon (m n : Model) (c : Common) : Type 0 where
-  pub limit_is : c.limit ≡ true → time_limit_of m ≡ time_limit_of n
+pub record IsCommon (m n : Answers) (c : Common) : Type 0 where
+  pub limit_is : c.limit ≡ true → m.time_limit ≡ n.time_limit
   pub injections_are : c.injections ≡ true → m.injections ≡ n.injections
 
 -- whether a question is about what is common alone

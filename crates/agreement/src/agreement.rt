@@ -2,8 +2,9 @@
 
 ghost use Rattle.std.specs.Prelude.{◌≡◌, IfOk, Some, None};
 ghost use Rattle.std.specs.Bool.{Decides};
-ghost use Rattle.model_answers.specs.Answering.{answer_of};
-ghost use Rattle.model_answers.specs.declared.answer.Question.TheVariants.{BeyondLimit, InjectionBefore};
+ghost use Rattle.model_answers.specs.Answering.{answers_of};
+ghost use Rattle.run_questions.specs.Answers.{answer_of};
+ghost use Rattle.run_questions.specs.declared.answer.Question.TheVariants.{BeyondLimit, InjectionBefore};
 ghost use Rattle.question_log.specs.Entries.{asked_in, noted_in};
 ghost use Rattle.run_semantics.specs.Agreement.{Agrees, IsAgreement};
 ghost use Rattle.agreement.specs.Common.{IsCommon};
@@ -12,11 +13,11 @@ ghost use Rattle.agreement.specs.Narrowing.{Narrows};
 use crate::common::{Common, common_of};
 use crate::same::same_answer;
 use injection_order::injection::Due;
-use model_answers::answer::Question;
 use model_answers::answering::answer;
 use model_answers::model::Model;
-use model_answers::record::Record;
 use question_log::entry::{Entry, first_injection};
+use run_questions::answer::Question;
+use run_questions::record::Record;
 use sim_values::NoMemory;
 use std::alloc::Global;
 
@@ -29,9 +30,9 @@ fn agrees(
     records: &[Record],
     question: &Question,
 ) -> Result<bool, NoMemory>
-    requires { IsCommon one.now other.now common }
+    requires { IsCommon (answers_of one.now) (answers_of other.now) common }
     ensures { IfOk result (λ same. Decides same
-        (answer_of one.now records.now question.now ≡ answer_of other.now records.now question.now)) }
+        (answer_of (answers_of one.now) records.now question.now ≡ answer_of (answers_of other.now) records.now question.now)) }
 {
     if common.is_about(question) {
         return Ok(true);
@@ -51,10 +52,10 @@ fn agrees_on_both(
     records: &[Record],
     due: Due,
 ) -> Result<bool, NoMemory>
-    requires { IsCommon one.now other.now common }
+    requires { IsCommon (answers_of one.now) (answers_of other.now) common }
     ensures { IfOk result (λ same. Decides same
-        ((answer_of one.now records.now (InjectionBefore (Some due) None) ≡ answer_of other.now records.now (InjectionBefore (Some due) None))
-        × (answer_of one.now records.now (BeyondLimit due.time) ≡ answer_of other.now records.now (BeyondLimit due.time)))) }
+        ((answer_of (answers_of one.now) records.now (InjectionBefore (Some due) None) ≡ answer_of (answers_of other.now) records.now (InjectionBefore (Some due) None))
+        × (answer_of (answers_of one.now) records.now (BeyondLimit due.time) ≡ answer_of (answers_of other.now) records.now (BeyondLimit due.time)))) }
 {
     let first = Question::InjectionBefore(Some(due), None);
     if !agrees(alloc, common, one, other, records, &first)? {
@@ -73,8 +74,8 @@ fn agrees_on(
     records: &[Record],
     entry: &Entry,
 ) -> Result<bool, NoMemory>
-    requires { IsCommon one.now other.now common }
-    ensures { IfOk result (λ same. Decides same (Agrees one.now other.now records.now (asked_in entry.now))) }
+    requires { IsCommon (answers_of one.now) (answers_of other.now) common }
+    ensures { IfOk result (λ same. Decides same (Agrees (answers_of one.now) (answers_of other.now) records.now (asked_in entry.now))) }
 {
     if common.is_about_all(entry) {
         return Ok(true);
@@ -112,8 +113,8 @@ fn narrowed(
     entry: &Entry,
     valid: u64,
 ) -> Result<Option<u64>, NoMemory>
-    requires { IsCommon one.now other.now common }
-    ensures { IfOk result (λ left. Narrows one.now other.now records.now (asked_in entry.now) valid left) }
+    requires { IsCommon (answers_of one.now) (answers_of other.now) common }
+    ensures { IfOk result (λ left. Narrows (answers_of one.now) (answers_of other.now) records.now (asked_in entry.now) valid left) }
 {
     let event = entry.event();
     if event > valid {
@@ -138,7 +139,7 @@ pub fn agreement(
     asked: &[Entry],
     last: u64,
 ) -> Result<Option<u64>, NoMemory>
-    ensures { IfOk result (λ valid. IsAgreement one.now other.now records.now last (noted_in asked.now) valid) }
+    ensures { IfOk result (λ valid. IsAgreement (answers_of one.now) (answers_of other.now) records.now last (noted_in asked.now) valid) }
 {
     let common = common_of(one, other);
     let mut valid = last;

@@ -1,13 +1,14 @@
 //! What two models have in common.
 
 ghost use Rattle.std.specs.Prelude.{◌≡◌, true};
+ghost use Rattle.model_answers.specs.Answering.{answers_of};
 ghost use Rattle.question_log.specs.Entries.{asked_in};
 ghost use Rattle.agreement.specs.Common.{is_about, are_about, IsCommon};
 
 use crate::same::same_injections;
-use model_answers::answer::Question;
 use model_answers::model::Model;
 use question_log::entry::Entry;
+use run_questions::answer::Question;
 
 /// What two models have in common. A run asks about it for each event, and such a question needs no look at the models.
 #[derive(Clone, Copy)]
@@ -54,9 +55,10 @@ fn same_limit(one: Option<u64>, other: Option<u64>) -> bool
     }
 }
 
+#[tactic(auto, unfolding(model_answers::specs::Answering::answers_of))]
 /// What two models have in common.
 pub fn common_of(one: &Model, other: &Model) -> Common
-    ensures { IsCommon one.now other.now result }
+    ensures { IsCommon (answers_of one.now) (answers_of other.now) result }
 {
     Common {
         limit: same_limit(one.time_limit(), other.time_limit()),

@@ -2,11 +2,10 @@
 
 ghost use Rattle.std.specs.Prelude.{◌≡◌, length, true};
 ghost use Rattle.std.specs.Bool.{Decides};
-ghost use Rattle.std.specs.Option.{option_copied};
 ghost use Rattle.agreement.specs.Same.{same_value, same_class, same_index, same_built, same_inside, same_due, same_message, same_injection, same_injections, same_next, same_answer};
 
 use injection_order::injection::Injection;
-use model_answers::answer::{Answer, Built};
+use run_questions::answer::{Answer, Built};
 use sim_values::text::Text;
 use sim_values::value::Value;
 

@@ -3,10 +3,8 @@
 use ini_entries::constants::is_constant;
 use ini_texts::entries::value_for;
 use ini_texts::entry::EntryValue;
-use model_answers::answer::ModelFault;
 use model_answers::model::Model;
 use model_answers::parameters::lone_value;
-use model_answers::record::path_under;
 use model_answers::scene::{Placed, Told};
 use model_texts::begin::model_of;
 use ned_trees::declarations::{
@@ -14,6 +12,8 @@ use ned_trees::declarations::{
 };
 use ned_trees::expressions::Expression;
 use ned_types::flat::{class_of, last_value, submodule_named};
+use run_questions::answer::ModelFault;
+use run_questions::record::path_under;
 use sim_values::NoMemory;
 use sim_values::value::Dimension;
 use std::alloc::Global;

@@ -7,12 +7,11 @@ use Rattle.module_api.specs.declared.reply.Action.TheVariants.{Emit, RecordScala
 use Rattle.module_api.specs.declared.reply.Read.{Read}
 use Rattle.module_api.specs.declared.reply.Reply.{Reply}
 use Rattle.module_api.specs.declared.reply.Schedule.{Schedule}
-use Rattle.model_answers.specs.declared.answer.Answer.{Answer}
-use Rattle.model_answers.specs.declared.answer.Answer.TheVariants as answer
-use Rattle.model_answers.specs.declared.answer.Built.{Built}
-use Rattle.model_answers.specs.declared.answer.Question.TheVariants.{Root, Build}
-use Rattle.model_answers.specs.declared.model.Model.{Model}
-use Rattle.model_answers.specs.Answering.{answer_of}
+use Rattle.run_questions.specs.declared.answer.Answer.{Answer}
+use Rattle.run_questions.specs.declared.answer.Answer.TheVariants as answer
+use Rattle.run_questions.specs.declared.answer.Built.{Built}
+use Rattle.run_questions.specs.declared.answer.Question.TheVariants.{Root, Build}
+use Rattle.run_questions.specs.Answers.{Answers, answer_of}
 use Rattle.run_semantics.specs.declared.outcome.Fault.{Fault}
 use Rattle.run_semantics.specs.declared.outcome.Turn.{Turn}
 use Rattle.run_semantics.specs.declared.outcome.Turn.TheVariants.{GoOn, Stop, Break}
@@ -77,7 +76,7 @@ unless_apart : (ms : List Instance) (id : ℕ) (found : Option Fault) (go : Worl
 unless_apart ms id (Some f) go w h = refl
 unless_apart ms id None go w h = h
 
-pub answered_apart : (ms : List Instance) (m : Model) (id : ℕ) (reply : Reply) (w : World) → answered m id reply (with_modules ms w) ≡ flow_with ms (answered m id reply w)
+pub answered_apart : (ms : List Instance) (m : Answers) (id : ℕ) (reply : Reply) (w : World) → answered m id reply (with_modules ms w) ≡ flow_with ms (answered m id reply w)
 answered_apart ms m id reply w =
     let v : World = ask_all id reply.reads w in
     let found : Option Fault = read_fault m w.records id reply.reads in
@@ -98,7 +97,7 @@ perform_last_all_apart ms id (action ∷ actions) w =
 acted_last_apart : (ms : List Instance) (id : ℕ) (actions : List Action) (w : World) → acted_last id actions (with_modules ms w) ≡ flow_with ms (acted_last id actions w)
 acted_last_apart ms id actions w = either_apart ms (nat_lt 1000 (length actions)) _ _ _ _ refl (perform_last_all_apart ms id actions w)
 
-pub answered_last_apart : (ms : List Instance) (m : Model) (id : ℕ) (reply : Reply) (w : World) → answered_last m id reply (with_modules ms w) ≡ flow_with ms (answered_last m id reply w)
+pub answered_last_apart : (ms : List Instance) (m : Answers) (id : ℕ) (reply : Reply) (w : World) → answered_last m id reply (with_modules ms w) ≡ flow_with ms (answered_last m id reply w)
 answered_last_apart ms m id reply w =
     unless_apart ms id (read_fault m w.records id reply.reads) (acted_last id reply.actions) w (acted_last_apart ms id reply.actions w)
 
@@ -127,7 +126,7 @@ built_apart ms parent (answer.Injection found) w = refl
 built_apart ms parent answer.Absent w = refl
 
 -- setup places no module
-pub prepared_apart : (m : Model) → flow_with [] (prepared m) ≡ prepared m
+pub prepared_apart : (m : Answers) → flow_with [] (prepared m) ≡ prepared m
 prepared_apart m =
     sym_then ∙ ap (λ (fl : Flow). fl >>= inside_asked m) (root_apart (answer_of m [] Root))
   where

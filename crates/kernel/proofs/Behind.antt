@@ -1,9 +1,9 @@
 -- The first module of a greater id than all that have boxes.
-use Rattle.std.proofs.Common.{◌≡◌, ℕ, zero, suc, ◌+◌, ◌≤◌, ◌<◌, nat_lt, Bool, true, false, List, [], ◌∷◌, Option, Some, None, refl, sym, ap, ◌∙◌, arith, map, length, slice_get, drop, take, unwrap_or, if◌then◌else◌}
+use Rattle.std.proofs.Common.{◌≡◌, ℕ, zero, suc, ◌+◌, ◌≤◌, ◌<◌, nat_lt, true, false, List, [], ◌∷◌, Option, Some, None, refl, sym, ap, ◌∙◌, arith, map, length, slice_get, drop, take, unwrap_or, if◌then◌else◌}
 use Rattle.std.proofs.lemmas.Bool.Decides.{nat_tests}
 use Rattle.module_api.specs.Meaning.{Module}
 use Rattle.module_tree.specs.Boxes.{Seated, AreRising, last_after, last_id}
-use Rattle.model_answers.specs.declared.record.Record.{Record}
+use Rattle.run_questions.specs.declared.record.Record.{Record}
 use Rattle.run_semantics.specs.Run.{Part, standing, with_class, parts_from}
 use Rattle.saved_boxes.specs.Seats.{instance_of}
 use Rattle.saved_boxes.proofs.Seating.{seat}

@@ -7,11 +7,11 @@ use Rattle.module_api.specs.declared.call.Prompt.TheVariants as prompt
 use Rattle.module_api.specs.declared.reply.Reply.{Reply}
 use Rattle.module_api.specs.Behaviour.{Behaviour, Replied}
 use Rattle.module_api.specs.Meaning.{Module, IsOfKind}
-use Rattle.model_answers.specs.declared.model.Model.{Model}
+use Rattle.run_questions.specs.Answers.{Answers}
 use Rattle.run_semantics.specs.declared.outcome.Turn.{Turn}
 use Rattle.run_semantics.specs.declared.traces.Instance.{Instance}
 use Rattle.run_semantics.specs.World.{World}
-use Rattle.run_semantics.specs.Perform.{Flow, On, flow_of, answered}
+use Rattle.run_semantics.specs.Perform.{On, flow_of, answered}
 use Rattle.run_semantics.specs.Event.{call_of, instance_in, with_state, changed, replied, called, call_module}
 use Rattle.run_semantics.specs.Run.{standing}
 use Rattle.run_semantics.specs.Ending.{answered_last, replied_last, called_last, call_last}
@@ -51,7 +51,7 @@ boxed_grows v w old new g = record {
 -- ---- what a call does
 
 -- what a box says is what its module says in the definitions
-module _ (b : Behaviour) (m : Model) (id : ℕ) (p : Prompt) (w : World) where
+module _ (b : Behaviour) (m : Answers) (id : ℕ) (p : Prompt) (w : World) where
   abbrev reply_by : Module → Replied
   reply_by box = (b.naming box.kind).reply box.state (call_of m id p w)
 
@@ -74,7 +74,7 @@ module _ (b : Behaviour) (m : Model) (id : ℕ) (p : Prompt) (w : World) where
       by false later e = later e
 
 -- the same at the end
-module _ (b : Behaviour) (m : Model) (id : ℕ) (w : World) where
+module _ (b : Behaviour) (m : Answers) (id : ℕ) (w : World) where
   found_called_last : (ss : List Seat) (before : Module) → module_in id ss ≡ Some before → called_last b m id w (instance_in id (map instance_of ss)) ≡ replied_last m id (reply_by b m id prompt.Finish w before) w
   found_called_last [] before e = cc
   found_called_last (s ∷ ss) before e = by (s.id == id) (found_called_last ss before) e
@@ -93,7 +93,7 @@ module _ (b : Behaviour) (m : Model) (id : ℕ) (w : World) where
       by true later e = cc
       by false later e = later e
 
-module _ (b : Behaviour) (m : Model) (id : ℕ) (p : Prompt) (core : World) (old new : List Seat) (reply : Reply) (kinds : AreOfKinds b old) (s : IsCalled id old new (call_of m id p core) (Ok reply)) where
+module _ (b : Behaviour) (m : Answers) (id : ℕ) (p : Prompt) (core : World) (old new : List Seat) (reply : Reply) (kinds : AreOfKinds b old) (s : IsCalled id old new (call_of m id p core) (Ok reply)) where
   abbrev said : Replied
   said = reply_by b m id p core s.before
 
@@ -120,7 +120,7 @@ module _ (b : Behaviour) (m : Model) (id : ℕ) (p : Prompt) (core : World) (old
       ∙ ap (λ (x : Reply). answered_last m id x (changed id said.state (world_of core old))) told_reply
 
 -- A CALL in code is a call of the definitions
-pub called_is : (b : Behaviour) (m : Model) (id : ℕ) (p : Prompt) (core core' : World) (old new : List Seat) (reply : Reply) (turn : Turn) → AreOfKinds b old → IsCalled id old new (call_of m id p core) (Ok reply) → flow_of turn core' ≡ answered m id reply core
+pub called_is : (b : Behaviour) (m : Answers) (id : ℕ) (p : Prompt) (core core' : World) (old new : List Seat) (reply : Reply) (turn : Turn) → AreOfKinds b old → IsCalled id old new (call_of m id p core) (Ok reply) → flow_of turn core' ≡ answered m id reply core
     → flow_of turn (world_of core' new) ≡ call_module b m id p (world_of core old)
 called_is b m id p core core' old new reply turn kinds s e =
     flow_of_with (map instance_of new) turn core'
@@ -129,10 +129,10 @@ called_is b m id p core core' old new reply turn kinds s e =
     ∙ called_is_step b m id p core old new reply kinds s
     ∙ sym (found_called b m id p (world_of core old) old s.before s.found)
 
-pub passed_over : (b : Behaviour) (m : Model) (id : ℕ) (p : Prompt) (core : World) (old new : List Seat) → (module_in id old ≡ None) × (new ≡ old) → On (world_of core new) ≡ call_module b m id p (world_of core old)
+pub passed_over : (b : Behaviour) (m : Answers) (id : ℕ) (p : Prompt) (core : World) (old new : List Seat) → (module_in id old ≡ None) × (new ≡ old) → On (world_of core new) ≡ call_module b m id p (world_of core old)
 passed_over b m id p core old new h = ap (λ (ss : List Seat). On (world_of core ss)) h.1 ∙ none_called b m id p (world_of core old) old h.0
 
-pub called_last_is : (b : Behaviour) (m : Model) (id : ℕ) (core core' : World) (old new : List Seat) (reply : Reply) (turn : Turn) → AreOfKinds b old → IsCalled id old new (call_of m id prompt.Finish core) (Ok reply) → flow_of turn core' ≡ answered_last m id reply core
+pub called_last_is : (b : Behaviour) (m : Answers) (id : ℕ) (core core' : World) (old new : List Seat) (reply : Reply) (turn : Turn) → AreOfKinds b old → IsCalled id old new (call_of m id prompt.Finish core) (Ok reply) → flow_of turn core' ≡ answered_last m id reply core
     → flow_of turn (world_of core' new) ≡ call_last b m id (world_of core old)
 called_last_is b m id core core' old new reply turn kinds s e =
     flow_of_with (map instance_of new) turn core'
@@ -141,5 +141,5 @@ called_last_is b m id core core' old new reply turn kinds s e =
     ∙ called_last_is_step b m id prompt.Finish core old new reply kinds s
     ∙ sym (found_called_last b m id (world_of core old) old s.before s.found)
 
-pub passed_over_last : (b : Behaviour) (m : Model) (id : ℕ) (core : World) (old new : List Seat) → (module_in id old ≡ None) × (new ≡ old) → On (world_of core new) ≡ call_last b m id (world_of core old)
+pub passed_over_last : (b : Behaviour) (m : Answers) (id : ℕ) (core : World) (old new : List Seat) → (module_in id old ≡ None) × (new ≡ old) → On (world_of core new) ≡ call_last b m id (world_of core old)
 passed_over_last b m id core old new h = ap (λ (ss : List Seat). On (world_of core ss)) h.1 ∙ none_called_last b m id (world_of core old) old h.0

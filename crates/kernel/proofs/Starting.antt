@@ -1,10 +1,10 @@
 -- The start of a run, in code and in the definitions.
-use Rattle.std.proofs.Common.{◌≡◌, ℕ, zero, suc, ◌+◌, ◌-◌, ◌<◌, ◌≤◌, nat_lt, max, true, false, List, [], ◌∷◌, Option, Some, None, option_map, refl, sym, ap, ◌∙◌, arith, map, unwrap_or}
+use Rattle.std.proofs.Common.{◌≡◌, ℕ, suc, ◌+◌, ◌-◌, ◌<◌, ◌≤◌, nat_lt, max, true, false, List, [], ◌∷◌, Option, Some, None, option_map, refl, sym, ap, ◌∙◌, arith, map, unwrap_or}
 use Rattle.std.proofs.lemmas.Bool.Decides.{nat_tests}
 use Rattle.module_api.specs.Behaviour.{Behaviour}
 use Rattle.module_api.specs.Meaning.{Module}
 use Rattle.module_api.specs.declared.call.Prompt.TheVariants as prompt
-use Rattle.model_answers.specs.declared.model.Model.{Model}
+use Rattle.run_questions.specs.Answers.{Answers}
 use Rattle.run_semantics.specs.declared.outcome.Turn.{Turn}
 use Rattle.run_semantics.specs.declared.outcome.Turn.TheVariants.{GoOn, Stop, Break}
 use Rattle.run_semantics.specs.World.{World}
@@ -45,11 +45,11 @@ before : (stage stages : ℕ) → stage < stages → nat_lt stage stages ≡ tru
 before stage stages h = grind (arith, nat_tests)
 
 -- a module that has no box
-pub initialize-none : (b : Behaviour) (m : Model) (stage id : ℕ) (ss : List Seat) (w : World) (stages : Option ℕ) → stages ≡ stages_of (module_in id ss) → stages ≡ None → On w ≡ initialize_at b m stage w (part_in id (standing (map instance_of ss)))
+pub initialize-none : (b : Behaviour) (m : Answers) (stage id : ℕ) (ss : List Seat) (w : World) (stages : Option ℕ) → stages ≡ stages_of (module_in id ss) → stages ≡ None → On w ≡ initialize_at b m stage w (part_in id (standing (map instance_of ss)))
 initialize-none b m stage id ss w stages told none = ap (initialize_at b m stage w) (sym (no_part id ss (told_none (module_in id ss) stages told none)))
 
 -- one that doesn't have the stage
-pub initialize-past : (b : Behaviour) (m : Model) (stage id : ℕ) (ss : List Seat) (w : World) (stages : Option ℕ) (n : ℕ) → AreOfKinds b ss → stages ≡ stages_of (module_in id ss) → stages ≡ Some n → n ≤ stage → On w ≡ initialize_at b m stage w (part_in id (standing (map instance_of ss)))
+pub initialize-past : (b : Behaviour) (m : Answers) (stage id : ℕ) (ss : List Seat) (w : World) (stages : Option ℕ) (n : ℕ) → AreOfKinds b ss → stages ≡ stages_of (module_in id ss) → stages ≡ Some n → n ≤ stage → On w ≡ initialize_at b m stage w (part_in id (standing (map instance_of ss)))
 initialize-past b m stage id ss w stages n kinds told some h =
     let box = told_box (module_in id ss) stages told n some in
     let e : (b.naming box.0.kind).stages ≡ n = sym (box.2 ∙ staged b id ss box.0 box.1 kinds) in
@@ -57,7 +57,7 @@ initialize-past b m stage id ss w stages n kinds told some h =
     rw (some_part id ss box.0 box.1, t) refl
 
 -- one that has it
-pub initialize-called : (b : Behaviour) (m : Model) (stage id : ℕ) (ss : List Seat) (w : World) (stages : Option ℕ) (n : ℕ) (fl : Flow) → AreOfKinds b ss → stages ≡ stages_of (module_in id ss) → stages ≡ Some n → stage < n → fl ≡ call_module b m id (prompt.Initialize stage) w → fl ≡ initialize_at b m stage w (part_in id (standing (map instance_of ss)))
+pub initialize-called : (b : Behaviour) (m : Answers) (stage id : ℕ) (ss : List Seat) (w : World) (stages : Option ℕ) (n : ℕ) (fl : Flow) → AreOfKinds b ss → stages ≡ stages_of (module_in id ss) → stages ≡ Some n → stage < n → fl ≡ call_module b m id (prompt.Initialize stage) w → fl ≡ initialize_at b m stage w (part_in id (standing (map instance_of ss)))
 initialize-called b m stage id ss w stages n fl kinds told some h f =
     let box = told_box (module_in id ss) stages told n some in
     let e : (b.naming box.0.kind).stages ≡ n = sym (box.2 ∙ staged b id ss box.0 box.1 kinds) in
@@ -73,7 +73,7 @@ stops Stop w k h = refl
 stops (Break path f) w k h = refl
 
 -- one id more
-stage_at : (b : Behaviour) (m : Model) (stage n below : ℕ) (ps : List Part) (w : World) (fl whole : Flow) (found : Option Part) → part_in n ps ≡ found → Rise 0 below ps → fl ≡ initialize_at b m stage w found → one_stage b m stage (parts_left n ps) w ≡ whole → (fl >>= one_stage b m stage (parts_left (n + 1) ps)) ≡ whole
+stage_at : (b : Behaviour) (m : Answers) (stage n below : ℕ) (ps : List Part) (w : World) (fl whole : Flow) (found : Option Part) → part_in n ps ≡ found → Rise 0 below ps → fl ≡ initialize_at b m stage w found → one_stage b m stage (parts_left n ps) w ≡ whole → (fl >>= one_stage b m stage (parts_left (n + 1) ps)) ≡ whole
 stage_at b m stage n below ps w fl whole None e r step done =
     ap (λ (f : Flow). f >>= one_stage b m stage (parts_left (n + 1) ps)) step
     ∙ ap (λ (xs : List Part). one_stage b m stage xs w) (sym (left_none n 0 below ps r e))
@@ -83,13 +83,13 @@ stage_at b m stage n below ps w fl whole (Some p) e r step done =
     ∙ ap (λ (xs : List Part). one_stage b m stage xs w) (sym (left_some n 0 below ps p r e))
     ∙ done
 
-pub stage_step : (b : Behaviour) (m : Model) (stage n below : ℕ) (ps now : List Part) (w : World) (fl whole : Flow) → now ≡ ps → Rise 0 below ps → fl ≡ initialize_at b m stage w (part_in n now) → one_stage b m stage (parts_left n ps) w ≡ whole → (fl >>= one_stage b m stage (parts_left (n + 1) ps)) ≡ whole
+pub stage_step : (b : Behaviour) (m : Answers) (stage n below : ℕ) (ps now : List Part) (w : World) (fl whole : Flow) → now ≡ ps → Rise 0 below ps → fl ≡ initialize_at b m stage w (part_in n now) → one_stage b m stage (parts_left n ps) w ≡ whole → (fl >>= one_stage b m stage (parts_left (n + 1) ps)) ≡ whole
 stage_step b m stage n below ps now w fl whole same r step done = stage_at b m stage n below ps w fl whole (part_in n ps) refl r (step ∙ ap (λ (qs : List Part). initialize_at b m stage w (part_in n qs)) same) done
 
-pub stage_begins : (b : Behaviour) (m : Model) (stage : ℕ) (ps : List Part) (w : World) → one_stage b m stage (parts_left 0 ps) w ≡ one_stage b m stage ps w
+pub stage_begins : (b : Behaviour) (m : Answers) (stage : ℕ) (ps : List Part) (w : World) → one_stage b m stage (parts_left 0 ps) w ≡ one_stage b m stage ps w
 stage_begins b m stage ps w = ap (λ (xs : List Part). one_stage b m stage xs w) (all_left ps)
 
-pub stage_ends : (b : Behaviour) (m : Model) (stage below n : ℕ) (ps : List Part) (w : World) → n ≡ below → Rise 0 below ps → one_stage b m stage (parts_left n ps) w ≡ On w
+pub stage_ends : (b : Behaviour) (m : Answers) (stage below n : ℕ) (ps : List Part) (w : World) → n ≡ below → Rise 0 below ps → one_stage b m stage (parts_left n ps) w ≡ On w
 stage_ends b m stage below n ps w e r = ap (λ (xs : List Part). one_stage b m stage xs w) (ap (λ i. parts_left i ps) e ∙ none_left 0 below ps r)
 
 -- ---- the greatest number of stages
@@ -129,19 +129,19 @@ most_ends b below n most ps whole e r done =
     max_zero ∙ sym (ap (λ (qs : List Part). max most (most_stages b qs)) (ap (λ i. parts_left i ps) e ∙ none_left 0 below ps r)) ∙ done
 
 -- one stage more
-pub stages_step : (b : Behaviour) (m : Model) (ps : List Part) (stage most : ℕ) (w : World) → stage < most → stages_from b m ps stage (most - stage) w ≡ (one_stage b m stage ps w >>= stages_from b m ps (stage + 1) (most - (stage + 1)))
+pub stages_step : (b : Behaviour) (m : Answers) (ps : List Part) (stage most : ℕ) (w : World) → stage < most → stages_from b m ps stage (most - stage) w ≡ (one_stage b m stage ps w >>= stages_from b m ps (stage + 1) (most - (stage + 1)))
 stages_step b m ps stage most w h =
     let left : most - stage ≡ suc (most - (stage + 1)) = omega arith in
     let next : suc stage ≡ stage + 1 = omega arith in
     ap (λ n. stages_from b m ps stage n w) left ∙ ap (λ s. one_stage b m stage ps w >>= stages_from b m ps s (most - (stage + 1))) next
 
-pub stages_end : (b : Behaviour) (m : Model) (ps : List Part) (stage most : ℕ) (w : World) → most ≤ stage → stages_from b m ps stage (most - stage) w ≡ On w
+pub stages_end : (b : Behaviour) (m : Answers) (ps : List Part) (stage most : ℕ) (w : World) → most ≤ stage → stages_from b m ps stage (most - stage) w ≡ On w
 stages_end b m ps stage most w h =
     let none : most - stage ≡ 0 = omega arith in
     ap (λ n. stages_from b m ps stage n w) none
 
 -- one stage more, in the loop
-pub stages_on : (b : Behaviour) (m : Model) (ps now : List Part) (stage most : ℕ) (w : World) (fl whole : Flow) → now ≡ ps → stage < most → fl ≡ one_stage b m stage now w → stages_from b m ps stage (most - stage) w ≡ whole → (fl >>= stages_from b m ps (stage + 1) (most - (stage + 1))) ≡ whole
+pub stages_on : (b : Behaviour) (m : Answers) (ps now : List Part) (stage most : ℕ) (w : World) (fl whole : Flow) → now ≡ ps → stage < most → fl ≡ one_stage b m stage now w → stages_from b m ps stage (most - stage) w ≡ whole → (fl >>= stages_from b m ps (stage + 1) (most - (stage + 1))) ≡ whole
 stages_on b m ps now stage most w fl whole same lt step done =
     ap (λ (f : Flow). f >>= stages_from b m ps (stage + 1) (most - (stage + 1))) (step ∙ ap (λ (xs : List Part). one_stage b m stage xs w) same)
     ∙ sym (stages_step b m ps stage most w lt)

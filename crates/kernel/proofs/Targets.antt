@@ -1,8 +1,8 @@
 -- The module that a message from outside is for.
-use Rattle.std.proofs.Common.{◌≡◌, ℕ, ◌+◌, true, false, cond, Bool, List, [], ◌∷◌, Option, Some, None, option_map, is_some, bytes_eq, refl, sym, ap, ◌∙◌, map, if◌then◌else◌}
+use Rattle.std.proofs.Common.{◌≡◌, ℕ, ◌+◌, cond, Bool, List, [], ◌∷◌, Option, Some, None, option_map, bytes_eq, refl, sym, ap, ◌∙◌, map, if◌then◌else◌}
 use Rattle.module_api.specs.Meaning.{Module}
-use Rattle.model_answers.specs.declared.record.Record.{Record}
-use Rattle.model_answers.specs.Records.{path_of}
+use Rattle.run_questions.specs.declared.record.Record.{Record}
+use Rattle.run_questions.specs.Records.{path_of}
 use Rattle.run_semantics.specs.declared.traces.Instance.{Instance}
 use Rattle.run_semantics.specs.Run.{Part, standing}
 use Rattle.run_semantics.specs.Upcoming.{id_at}

@@ -1,14 +1,12 @@
 -- What comes next in a run, step by step.
 use Rattle.std.proofs.Common.{◌≡◌, ℕ, suc, zero, ◌+◌, ◌<◌, true, false, Bool, List, [], ◌∷◌, Option, Some, None, refl, ap, ◌∙◌, sym, arith, append-nil, if◌then◌else◌}
-use Rattle.model_answers.specs.declared.model.Model.{Model}
-use Rattle.model_answers.specs.Answering.{is_beyond}
-use Rattle.model_answers.specs.Models.{time_limit_of}
+use Rattle.run_questions.specs.Answers.{Answers, is_beyond}
 use Rattle.module_api.specs.Behaviour.{Behaviour}
 use Rattle.run_semantics.specs.declared.outcome.Outcome.TheVariants.{Ended, NoMoreEvents, TimeLimit}
 use Rattle.event_set.specs.declared.pending.Pending.{Pending}
 use Rattle.run_semantics.specs.World.{World}
 use Rattle.run_semantics.specs.Event.{event}
-use Rattle.model_answers.specs.declared.answer.Asked.{Asked}
+use Rattle.run_questions.specs.declared.answer.Asked.{Asked}
 use Rattle.run_semantics.specs.Upcoming.{first_of, most_injections, upcoming, upcoming_in}
 use Rattle.run_semantics.proofs.Looking.{beside}
 use Rattle.run_semantics.specs.Run.{Stage, Running, Over, settled, is_after_limit, next_stage, went}
@@ -27,19 +25,19 @@ where_met : (c : Bool) (s t : Stage) → c ≡ true → (if c then s else t) ≡
 where_met c s t e = ap (λ (x : Bool). if x then s else t) e
 
 -- an event begins: it makes the next stage
-pub next_begins : (b : Behaviour) (m : Model) (limit : Option ℕ) (w after : World) (p : Pending) → limit ≡ time_limit_of m → w.ended ≡ false → (h : BeginsWith limit (upcoming m w) p after)
+pub next_begins : (b : Behaviour) (m : Answers) (limit : Option ℕ) (w after : World) (p : Pending) → limit ≡ m.time_limit → w.ended ≡ false → (h : BeginsWith limit (upcoming m w) p after)
     → next_stage b m (Running w) ≡ settled (event b m p h.rest h.world)
 next_begins b m limit w after p of_model going h =
     unless w.ended (Over w Ended) (went b m w (upcoming m w)) going
     ∙ ap (went b m w) h.comes ∙ unless (is_after_limit m h.world.records p) (Over w TimeLimit) (settled (event b m p h.rest h.world)) (ap (λ (l : Option ℕ). is_beyond l p.time) (sym of_model) ∙ h.in_time)
 
 -- nothing comes
-pub next_none : (b : Behaviour) (m : Model) (w after : World) → w.ended ≡ false → HasNone (upcoming m w) w after → next_stage b m (Running w) ≡ Over after NoMoreEvents
+pub next_none : (b : Behaviour) (m : Answers) (w after : World) → w.ended ≡ false → HasNone (upcoming m w) w after → next_stage b m (Running w) ≡ Over after NoMoreEvents
 next_none b m w after going h =
     unless w.ended (Over w Ended) (went b m w (upcoming m w)) going ∙ ap (went b m w) h.none ∙ ap (λ (u : World). Over u NoMoreEvents) (sym h.same)
 
 -- what comes is too late
-pub next_too_late : (b : Behaviour) (m : Model) (limit : Option ℕ) (w after : World) → limit ≡ time_limit_of m → w.ended ≡ false → IsTooLate limit (upcoming m w) w after
+pub next_too_late : (b : Behaviour) (m : Answers) (limit : Option ℕ) (w after : World) → limit ≡ m.time_limit → w.ended ≡ false → IsTooLate limit (upcoming m w) w after
     → next_stage b m (Running w) ≡ Over after TimeLimit
 next_too_late b m limit w after of_model going h =
     unless w.ended (Over w Ended) (went b m w (upcoming m w)) going
@@ -49,14 +47,14 @@ next_too_late b m limit w after of_model going h =
 -- ---- looks
 
 -- before the first look
-pub first_look : (m : Model) (w : World) (look : Look) → look ≡ record { delivered = w.delivered; asked = [] } → upcoming_in 10001 m w.pending (looked w look) ≡ upcoming m w
+pub first_look : (m : Answers) (w : World) (look : Look) → look ≡ record { delivered = w.delivered; asked = [] } → upcoming_in 10001 m w.pending (looked w look) ≡ upcoming m w
 unfolding upcoming most_injections
 first_look m w look e =
     ap (λ (l : Look). upcoming_in 10001 m w.pending (looked w l)) e
     ∙ ap (λ (qs : List Asked). upcoming_in 10001 m w.pending (record w { questions = qs })) (append-nil w.questions)
 
 -- an injection was discarded
-pub next_look : (m : Model) (w : World) (before after : Look) (n : Option Next) (counter left : ℕ) → counter < 10001 → left + counter ≡ 10001
+pub next_look : (m : Answers) (w : World) (before after : Look) (n : Option Next) (counter left : ℕ) → counter < 10001 → left + counter ≡ 10001
     → upcoming_in left m w.pending (looked w before) ≡ upcoming m w → n ≡ None → LooksOn m (looked w before) n (looked w after)
     → (x : ℕ) × (x + (counter + 1) ≡ 10001) × (upcoming_in x m w.pending (looked w after) ≡ upcoming m w)
 next_look m w before after (Some x) counter left few sum inv none looks = absurd cc

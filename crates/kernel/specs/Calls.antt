@@ -2,7 +2,7 @@
 use Rattle.std.specs.Prelude.{ℕ, []}
 use Rattle.module_api.specs.declared.call.Call.{Call}
 use Rattle.module_api.specs.declared.call.Prompt.{Prompt}
-use Rattle.model_answers.specs.Records.{record_at, index_of}
+use Rattle.run_questions.specs.Records.{record_at, index_of}
 use Rattle.run_semantics.specs.World.{World}
 use Rattle.shown_modules.specs.declared.Shown.{Shown}
 

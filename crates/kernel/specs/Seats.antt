@@ -4,8 +4,8 @@ use Rattle.sim_values.specs.declared.NoMemory.{NoMemory}
 use Rattle.module_api.specs.declared.call.Call.{Call}
 use Rattle.module_api.specs.declared.reply.Reply.{Reply}
 use Rattle.module_api.specs.Meaning.{Module, Answered, IsSameModule}
-use Rattle.model_answers.specs.declared.record.Record.{Record}
-use Rattle.model_answers.specs.Records.{path_of}
+use Rattle.run_questions.specs.declared.record.Record.{Record}
+use Rattle.run_questions.specs.Records.{path_of}
 use Rattle.run_semantics.specs.World.{World}
 use Rattle.run_semantics.specs.Run.{Part, parts_of, standing}
 use Rattle.saved_boxes.specs.Seats.{Seat, instance_of, module_in, with_module}

@@ -1,8 +1,9 @@
 //! What a run asks its model, and what is done with the answers.
 
+ghost use Rattle.model_answers.specs.Answering.{answers_of};
 ghost use Rattle.std.specs.Prelude.{◌≡◌, ◌+◌, ◌^◌, ◌<◌, ◌≤◌, OnOk, IfOk, length};
-ghost use Rattle.model_answers.specs.Answering.{answer_of, parameters_of};
-ghost use Rattle.model_answers.specs.declared.answer.Answer.TheVariants as answers;
+ghost use Rattle.run_questions.specs.Answers.{answer_of, parameters_of};
+ghost use Rattle.run_questions.specs.declared.answer.Answer.TheVariants as answers;
 ghost use Rattle.run_semantics.specs.World.{empty};
 ghost use Rattle.run_semantics.specs.Perform.{flow_of, question_of, fault_of_read, read_fault, answered};
 ghost use Rattle.run_semantics.specs.Ending.{answered_last};
@@ -17,12 +18,12 @@ use injection_order::injection::Injection;
 use kernel_actions::core_part::Core;
 use kernel_actions::looks::Look;
 use kernel_actions::reads::{fault_of_read, question_of, was_told};
-use model_answers::answer::Question;
 use model_answers::answering::answer;
 use model_answers::model::Model;
-use model_answers::record::index_of;
 use module_api::call::{Call, Prompt};
 use module_api::reply::{Read, Reply};
+use run_questions::answer::Question;
+use run_questions::record::index_of;
 use run_semantics::outcome::{Fault, Turn};
 use shown_modules::{Shown, shown_of};
 use sim_values::NoMemory;
@@ -39,7 +40,7 @@ pub fn call(
     id: u32,
     prompt: Prompt,
 ) -> Result<Call, NoMemory>
-    ensures { IfOk result (λ call. call ≡ call_of model.now id prompt core.now) }
+    ensures { IfOk result (λ call. call ≡ call_of (answers_of model.now) id prompt core.now) }
 {
     let shown = shown_of(alloc, model, core.records(), id)?;
     Ok(call_shown(core, alloc, id, prompt, shown))
@@ -71,10 +72,10 @@ fn fault_at(
     call: &Call,
     read: &Read,
 ) -> Result<Option<Fault>, NoMemory>
-    requires { call.now.parameters ≡ parameters_of model.now core.now.records call.now.id }
+    requires { call.now.parameters ≡ parameters_of (answers_of model.now) core.now.records call.now.id }
     ensures { let asks = question_of call.now.id read.now in
         IfOk result (λ found.
-        found ≡ fault_of_read read.now (answer_of model.now core.now.records asks)) }
+        found ≡ fault_of_read read.now (answer_of (answers_of model.now) core.now.records asks)) }
 {
     if was_told(call.parameters.as_slice(), read) {
         return Ok(None);
@@ -92,9 +93,9 @@ fn read_fault(
     call: &Call,
     reads: &[Read],
 ) -> Result<Option<Fault>, NoMemory>
-    requires { call.now.parameters ≡ parameters_of model.now core.now.records call.now.id }
+    requires { call.now.parameters ≡ parameters_of (answers_of model.now) core.now.records call.now.id }
     ensures { IfOk result (λ found.
-        found ≡ read_fault model.now core.now.records call.now.id reads.now) }
+        found ≡ read_fault (answers_of model.now) core.now.records call.now.id reads.now) }
 {
     for read in reads {
         if let Some(fault) = fault_at(core, alloc, model, call, read)? {
@@ -115,9 +116,9 @@ pub fn follow(
 ) -> Result<Turn, NoMemory>
     requires next { core.old.next + 1000 < 2 ^ 128 }
     requires told { call.now.parameters
-        ≡ parameters_of model.now core.old.records call.now.id }
+        ≡ parameters_of (answers_of model.now) core.old.records call.now.id }
     ensures flow { IfOk result (λ turn. flow_of turn core.new
-        ≡ answered model.now call.now.id reply.now core.old) }
+        ≡ answered (answers_of model.now) call.now.id reply.now core.old) }
     ensures grown { IsGrownFrom core.old core.new }
 {
     let fault = read_fault(core, alloc, model, call, reply.reads.as_slice())?;
@@ -135,9 +136,9 @@ pub fn follow_last(
 ) -> Result<Turn, NoMemory>
     requires next { core.old.next + 1000 < 2 ^ 128 }
     requires told { call.now.parameters
-        ≡ parameters_of model.now core.old.records call.now.id }
+        ≡ parameters_of (answers_of model.now) core.old.records call.now.id }
     ensures flow { IfOk result (λ turn. flow_of turn core.new
-        ≡ answered_last model.now call.now.id reply.now core.old) }
+        ≡ answered_last (answers_of model.now) call.now.id reply.now core.old) }
     ensures grown { IsGrownFrom core.old core.new }
 {
     let fault = read_fault(core, alloc, model, call, reply.reads.as_slice())?;
@@ -146,6 +147,7 @@ pub fn follow_last(
 
 // ---- what comes next
 
+#[tactic(auto, unfolding(model_answers::specs::Answering::answers_of))]
 /// Asks for the injection that goes before the first event to come. The question is of the event behind.
 pub fn ask_injection(
     core: &Core,
@@ -155,7 +157,7 @@ pub fn ask_injection(
 ) -> Result<Option<Injection>, NoMemory>
     requires { core.now.count + 1 < 2 ^ 64 }
     ensures found { let before = looked core.now look.old in
-        IfOk result (λ found. injection_asked model.now before ≡ answers.Injection found) }
+        IfOk result (λ found. injection_asked (answers_of model.now) before ≡ answers.Injection found) }
     ensures noted { let before = looked core.now look.old in
         OnOk result (looked core.now look.new ≡ with_injection_asked before) }
 {
@@ -167,7 +169,7 @@ pub fn ask_injection(
 /// Asks which network is run, and creates it.
 fn ask_root(core: &mut Core, alloc: Global, model: &Model) -> Result<Turn, NoMemory>
     requires { core.old ≡ empty }
-    ensures flow { IfOk result (λ turn. flow_of turn core.new ≡ root_asked model.now) }
+    ensures flow { IfOk result (λ turn. flow_of turn core.new ≡ root_asked (answers_of model.now)) }
     ensures few { OnOk result (length core.new.records ≤ 1) }
 {
     core.ask(alloc, Question::Root)?;
@@ -178,7 +180,7 @@ fn ask_root(core: &mut Core, alloc: Global, model: &Model) -> Result<Turn, NoMem
 /// Asks what is inside of the network, and creates it.
 fn ask_inside(core: &mut Core, alloc: Global, model: &Model) -> Result<Turn, NoMemory>
     requires { length core.old.records ≤ 1 }
-    ensures { IfOk result (λ turn. flow_of turn core.new ≡ inside_asked model.now core.old) }
+    ensures { IfOk result (λ turn. flow_of turn core.new ≡ inside_asked (answers_of model.now) core.old) }
 {
     let found = answer(alloc, model, core.records(), &Question::Build(1))?;
     core.ask(alloc, Question::Build(1))?;
@@ -188,7 +190,7 @@ fn ask_inside(core: &mut Core, alloc: Global, model: &Model) -> Result<Turn, NoM
 /// Sets the network and its submodules up, as the model answers.
 pub fn set_up(core: &mut Core, alloc: Global, model: &Model) -> Result<Turn, NoMemory>
     requires { core.old ≡ empty }
-    ensures { IfOk result (λ turn. flow_of turn core.new ≡ prepared model.now) }
+    ensures { IfOk result (λ turn. flow_of turn core.new ≡ prepared (answers_of model.now)) }
 {
     match ask_root(core, alloc, model)? {
         Turn::GoOn => ask_inside(core, alloc, model),

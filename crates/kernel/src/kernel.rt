@@ -1,8 +1,8 @@
 //! A world in code, one event at a time.
 
+ghost use Rattle.model_answers.specs.Answering.{answers_of};
 ghost use Rattle.std.specs.Prelude.{◌≡◌, ◌+◌, ◌^◌, ◌<◌, ◌≤◌, OnOk, OnErr, IfOk, IfErr, [], length, max, slice_get, drop, option_map, unwrap_or};
 ghost use Rattle.module_api.specs.Meaning.{IsOfKind, Answered, IsSameModule};
-ghost use Rattle.model_answers.specs.Models.{time_limit_of};
 ghost use Rattle.module_tree.specs.Boxes.{nothing};
 ghost use Rattle.question_log.specs.Entries.{noted_in};
 ghost use Rattle.run_semantics.specs.World.{empty, HasRoom};
@@ -12,7 +12,7 @@ ghost use Rattle.run_semantics.specs.Upcoming.{target_of, upcoming};
 ghost use Rattle.shown_modules.specs.Tables.{AreShown};
 ghost use Rattle.kernel_actions.specs.Upcoming.{looked, upcoming_of};
 ghost use Rattle.kernel.specs.Looks.{LooksOn};
-ghost use Rattle.run_semantics.specs.Run.{Running, Part, stage_of, settled, prepared, ready, placed, standing, parts_from, most_stages, one_stage, stages_from, initialize_all, start, next_stage, stopped};
+ghost use Rattle.run_semantics.specs.Run.{Running, Part, stage_of, settled, prepared, ready, placed, standing, parts_from, most_stages, one_stage, stages_from, start, next_stage, stopped};
 ghost use Rattle.run_semantics.specs.Ending.{call_last, finish_all, ending};
 ghost use Rattle.kernel.specs.Seats.{stages_of, stands_at, AreFirst, IsServed, missing_of, missing_part};
 ghost use Rattle.kernel.specs.Parts.{part_in, initialize_at, finish_at};
@@ -28,13 +28,13 @@ use kernel_actions::events::{arrival, message_of};
 use kernel_actions::looks::{Look, Next};
 use kernel_actions::position::Position;
 use model_answers::model::Model;
-use model_answers::record::{Record, path_of};
 use module_api::call::{Call, Prompt};
 use module_api::catalogue::Catalogue;
 use module_api::reply::Reply;
 use module_api::simple_module::SimpleModule;
 use module_tree::Tree;
 use question_log::entry::Entry;
+use run_questions::record::{Record, path_of};
 use run_semantics::outcome::{Fault, Outcome, Turn};
 use run_semantics::traces::{Emission, Instance, Scalar};
 use saved_boxes::boxes_saved::{load_one, save_all};
@@ -150,7 +150,7 @@ impl<C: Catalogue> Kernel<C> {
         ensures empty { seats_in SimpleModule-box self.new ≡ [] }
         ensures kinds { HasKinds C.behaviour SimpleModule-box self.new }
         ensures step { IfOk result (λ over.
-            stage_of over (world_in SimpleModule-box self.new) ≡ settled (prepared model.now)) }
+            stage_of over (world_in SimpleModule-box self.new) ≡ settled (prepared (answers_of model.now))) }
     {
         self.boxes.clear();
         self.core.clear(alloc);
@@ -235,10 +235,10 @@ impl<C: Catalogue> Kernel<C> {
     fn carry_out(&mut self, alloc: Global, model: &Model, call: &Call) -> Result<Turn, NoMemory>
         requires callable { IsCallable C.behaviour SimpleModule-box 1000 self.old }
         requires told { call.now
-            ≡ call_of model.now call.now.id call.now.prompt (world_in SimpleModule-box self.old) }
+            ≡ call_of (answers_of model.now) call.now.id call.now.prompt (world_in SimpleModule-box self.old) }
         ensures kept { KeepsBoxes C.behaviour SimpleModule-box self.old self.new }
         ensures step { IfOk result (λ turn. flow_of turn (world_in SimpleModule-box self.new)
-            ≡ call_module C.behaviour model.now call.now.id call.now.prompt
+            ≡ call_module C.behaviour (answers_of model.now) call.now.id call.now.prompt
             (world_in SimpleModule-box self.old)) }
         ensures grown { IsGrownFrom (world_in SimpleModule-box self.old)
             (world_in SimpleModule-box self.new) }
@@ -262,7 +262,7 @@ impl<C: Catalogue> Kernel<C> {
         requires callable { IsCallable C.behaviour SimpleModule-box 1000 self.old }
         ensures kept { KeepsBoxes C.behaviour SimpleModule-box self.old self.new }
         ensures step { IfOk result (λ turn. flow_of turn (world_in SimpleModule-box self.new)
-            ≡ call_module C.behaviour model.now id prompt (world_in SimpleModule-box self.old)) }
+            ≡ call_module C.behaviour (answers_of model.now) id prompt (world_in SimpleModule-box self.old)) }
         ensures grown { IsGrownFrom (world_in SimpleModule-box self.old)
             (world_in SimpleModule-box self.new) }
     {
@@ -281,13 +281,13 @@ impl<C: Catalogue> Kernel<C> {
         prompt: Prompt,
     ) -> Result<Turn, NoMemory>
         requires callable { IsCallable C.behaviour SimpleModule-box 1000 self.old }
-        requires shown { AreShown model.now (world_in SimpleModule-box self.old).records shown.old }
+        requires shown { AreShown (answers_of model.now) (world_in SimpleModule-box self.old).records shown.old }
         ensures kept { KeepsBoxes C.behaviour SimpleModule-box self.old self.new }
         ensures step { IfOk result (λ turn. flow_of turn (world_in SimpleModule-box self.new)
-            ≡ call_module C.behaviour model.now id prompt (world_in SimpleModule-box self.old)) }
+            ≡ call_module C.behaviour (answers_of model.now) id prompt (world_in SimpleModule-box self.old)) }
         ensures grown { IsGrownFrom (world_in SimpleModule-box self.old)
             (world_in SimpleModule-box self.new) }
-        ensures shown { AreShown model.now (world_in SimpleModule-box self.new).records shown.new }
+        ensures shown { AreShown (answers_of model.now) (world_in SimpleModule-box self.new).records shown.new }
     {
         let found = shown.take(alloc, model, self.core.records(), id)?;
         let lasts = lasts(self.core.records(), id);
@@ -323,7 +323,7 @@ impl<C: Catalogue> Kernel<C> {
             OnOk result ((world_in SimpleModule-box self.new).next ≤ before.next + 1000) }
         ensures step { let before = world_in SimpleModule-box self.old in
             IfOk result (λ turn. flow_of turn (world_in SimpleModule-box self.new)
-            ≡ initialize_at C.behaviour model.now stage before
+            ≡ initialize_at C.behaviour (answers_of model.now) stage before
             (part_in id (standing before.modules))) }
     {
         let Some(stages) = self.stages_at(id) else {
@@ -344,7 +344,7 @@ impl<C: Catalogue> Kernel<C> {
             OnOk result ((world_in SimpleModule-box self.new).next ≤ before.next + 2 ^ 74) }
         ensures step { let before = world_in SimpleModule-box self.old in
             IfOk result (λ turn. flow_of turn (world_in SimpleModule-box self.new)
-            ≡ one_stage C.behaviour model.now stage (standing before.modules) before) }
+            ≡ one_stage C.behaviour (answers_of model.now) stage (standing before.modules) before) }
     {
         for index in 0..self.boxes.room() {
             match self.initialize(alloc, model, stage, index as u32)? {
@@ -376,7 +376,7 @@ impl<C: Catalogue> Kernel<C> {
         ensures next { OnOk result ((world_in SimpleModule-box self.new).next ≤ 2 ^ 82) }
         ensures step { let before = world_in SimpleModule-box self.old in
             IfOk result (λ turn. flow_of turn (world_in SimpleModule-box self.new)
-            ≡ stages_from C.behaviour model.now (standing before.modules) 0 most before) }
+            ≡ stages_from C.behaviour (answers_of model.now) (standing before.modules) 0 most before) }
     {
         for stage in 0..most {
             match self.one_stage(alloc, model, stage)? {
@@ -389,14 +389,14 @@ impl<C: Catalogue> Kernel<C> {
 
     /// Initializes all modules, where each has its box: the end of event zero.
     pub fn start(&mut self, alloc: Global, model: &Model) -> Result<Option<Outcome>, NoMemory>
-        requires ready { On (world_in SimpleModule-box self.old) ≡ ready C.behaviour model.now }
+        requires ready { On (world_in SimpleModule-box self.old) ≡ ready C.behaviour (answers_of model.now) }
         requires next { (world_in SimpleModule-box self.old).next ≡ 0 }
         requires kinds { HasKinds C.behaviour SimpleModule-box self.old }
         ensures kinds { HasKinds C.behaviour SimpleModule-box self.new }
         ensures kept { KeepsBoxes C.behaviour SimpleModule-box self.old self.new }
         ensures next { OnOk result ((world_in SimpleModule-box self.new).next ≤ 2 ^ 82) }
         ensures step { IfOk result (λ over.
-            stage_of over (world_in SimpleModule-box self.new) ≡ start C.behaviour model.now) }
+            stage_of over (world_in SimpleModule-box self.new) ≡ start C.behaviour (answers_of model.now)) }
     {
         let most = self.most_stages();
         self.core.mark_started(alloc)?;
@@ -440,7 +440,7 @@ impl<C: Catalogue> Kernel<C> {
         requires count { (world_in SimpleModule-box self.now).count + 1 < 2 ^ 64 }
         ensures { let world = world_in SimpleModule-box self.now in
             IfOk result (λ next.
-            LooksOn model.now (looked world look.old) next (looked world look.new)) }
+            LooksOn (answers_of model.now) (looked world look.old) next (looked world look.new)) }
     {
         let Some(injection) = ask_injection(&self.core, alloc, model, look)? else {
             return Ok(Some(Next::First));
@@ -456,7 +456,7 @@ impl<C: Catalogue> Kernel<C> {
     fn upcoming(&self, alloc: Global, model: &Model) -> Result<(Look, Next), NoMemory>
         requires count { (world_in SimpleModule-box self.now).count + 1 < 2 ^ 64 }
         ensures { let world = world_in SimpleModule-box self.now in
-            IfOk result (λ r. upcoming model.now world ≡ upcoming_of r.1 (looked world r.0)) }
+            IfOk result (λ r. upcoming (answers_of model.now) world ≡ upcoming_of r.1 (looked world r.0)) }
     {
         let mut look = self.core.look(alloc);
         for _ in 0..MOST_LOOKS {
@@ -480,16 +480,16 @@ impl<C: Catalogue> Kernel<C> {
         requires room { HasRoom (world_in SimpleModule-box self.old) }
         requires count { (world_in SimpleModule-box self.old).count + 1 < 2 ^ 64 }
         requires kinds { HasKinds C.behaviour SimpleModule-box self.old }
-        requires limit { limit ≡ time_limit_of model.now }
-        requires shown { AreShown model.now (world_in SimpleModule-box self.old).records shown.old }
+        requires limit { limit ≡ (answers_of model.now).time_limit }
+        requires shown { AreShown (answers_of model.now) (world_in SimpleModule-box self.old).records shown.old }
         ensures kinds { HasKinds C.behaviour SimpleModule-box self.new }
         ensures kept { KeepsBoxes C.behaviour SimpleModule-box self.old self.new }
         ensures room { OnOk result (HasRoom (world_in SimpleModule-box self.new)) }
         ensures step { IfOk result (λ over. stage_of over (world_in SimpleModule-box self.new)
-            ≡ next_stage C.behaviour model.now (Running (world_in SimpleModule-box self.old))) }
+            ≡ next_stage C.behaviour (answers_of model.now) (Running (world_in SimpleModule-box self.old))) }
         ensures grown { IsGrownFrom (world_in SimpleModule-box self.old)
             (world_in SimpleModule-box self.new) }
-        ensures shown { AreShown model.now (world_in SimpleModule-box self.new).records shown.new }
+        ensures shown { AreShown (answers_of model.now) (world_in SimpleModule-box self.new).records shown.new }
     {
         if self.core.is_ended() {
             return Ok(Some(Outcome::Ended));
@@ -527,7 +527,7 @@ impl<C: Catalogue> Kernel<C> {
         ensures kept { KeepsBoxes C.behaviour SimpleModule-box self.old self.new }
         ensures step { let before = world_in SimpleModule-box self.old in
             IfOk result (λ turn. flow_of turn (world_in SimpleModule-box self.new)
-            ≡ call_last C.behaviour model.now id before) }
+            ≡ call_last C.behaviour (answers_of model.now) id before) }
         ensures grown { IsGrownFrom (world_in SimpleModule-box self.old)
             (world_in SimpleModule-box self.new) }
     {
@@ -548,7 +548,7 @@ impl<C: Catalogue> Kernel<C> {
             OnOk result ((world_in SimpleModule-box self.new).next ≤ before.next + 1000) }
         ensures step { let before = world_in SimpleModule-box self.old in
             IfOk result (λ turn. flow_of turn (world_in SimpleModule-box self.new)
-            ≡ finish_at C.behaviour model.now before (part_in id (standing before.modules))) }
+            ≡ finish_at C.behaviour (answers_of model.now) before (part_in id (standing before.modules))) }
         ensures grown { IsGrownFrom (world_in SimpleModule-box self.old)
             (world_in SimpleModule-box self.new) }
     {
@@ -570,7 +570,7 @@ impl<C: Catalogue> Kernel<C> {
         ensures kept { KeepsBoxes C.behaviour SimpleModule-box self.old self.new }
         ensures step { let before = world_in SimpleModule-box self.old in
             IfOk result (λ turn. flow_of turn (world_in SimpleModule-box self.new)
-            ≡ finish_all C.behaviour model.now (standing before.modules) before) }
+            ≡ finish_all C.behaviour (answers_of model.now) (standing before.modules) before) }
         ensures grown { IsGrownFrom (world_in SimpleModule-box self.old)
             (world_in SimpleModule-box self.new) }
     {
@@ -598,7 +598,7 @@ impl<C: Catalogue> Kernel<C> {
         ensures kinds { HasKinds C.behaviour SimpleModule-box self.new }
         ensures kept { KeepsBoxes C.behaviour SimpleModule-box self.old self.new }
         ensures step { IfOk result (λ last. ran_in SimpleModule-box last self.new
-            ≡ ending C.behaviour model.now (ran_in SimpleModule-box outcome self.old)) }
+            ≡ ending C.behaviour (answers_of model.now) (ran_in SimpleModule-box outcome self.old)) }
         ensures grown { IsGrownFrom (world_in SimpleModule-box self.old)
             (world_in SimpleModule-box self.new) }
     {

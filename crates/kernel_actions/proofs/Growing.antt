@@ -1,7 +1,7 @@
 -- A run goes on: the lists of its world only grow.
 use Rattle.std.proofs.Common.{◌≡◌, ℕ, ◌≤◌, List, [], refl, sym, ◌∙◌, subst, append-nil}
 use Rattle.module_api.specs.Behaviour.{Behaviour}
-use Rattle.model_answers.specs.declared.model.Model.{Model}
+use Rattle.run_questions.specs.Answers.{Answers}
 use Rattle.run_semantics.specs.Ending.{ending}
 use Rattle.run_semantics.specs.Laws.{GoesOn}
 use Rattle.run_semantics.specs.Run.{Stage, Running, Over, world_at, after, stopped, run_to}
@@ -28,7 +28,7 @@ growth_on u v w f g = record {
 }
 
 -- A RUN OF MORE EVENTS
-pub run_grows : (b : Behaviour) (m : Model) (n k : ℕ) → n ≤ k → IsGrownFrom (world_at (after b m n)) (world_at (after b m k))
+pub run_grows : (b : Behaviour) (m : Answers) (n k : ℕ) → n ≤ k → IsGrownFrom (world_at (after b m n)) (world_at (after b m k))
 run_grows b m n k h =
     let v : World = world_at (after b m n) in
     let w : World = world_at (after b m k) in
@@ -62,7 +62,7 @@ stopped_at (Running w) = refl
 stopped_at (Over w outcome) = refl
 
 -- A RUN OF MORE EVENTS, AND ITS END
-pub ended_run_grows : (b : Behaviour) (m : Model) (n k : ℕ) → n ≤ k → IsGrownFrom (world_at (after b m n)) (ending b m (run_to b m k)).world
+pub ended_run_grows : (b : Behaviour) (m : Answers) (n k : ℕ) → n ≤ k → IsGrownFrom (world_at (after b m n)) (ending b m (run_to b m k)).world
 ended_run_grows b m n k h =
     let last : World = (ending b m (run_to b m k)).world in
     growth_on (world_at (after b m n)) (world_at (after b m k)) last (run_grows b m n k h)

@@ -1,16 +1,15 @@
 //! A world but for the modules and their states.
 
 ghost use Rattle.std.specs.Prelude.{◌≡◌, ◌+◌, ◌^◌, ◌<◌, OnOk, OnErr, IfOk, Some, true, [], ◌∷◌, ◌++◌, length, slice_get, ◌≤◌};
-ghost use Rattle.model_answers.specs.Questions.{is_of_modules};
+ghost use Rattle.run_questions.specs.Questions.{is_of_modules};
 ghost use Rattle.question_log.specs.Entries.{noted_in};
 ghost use Rattle.run_semantics.specs.World.{empty, asked, timed};
-ghost use Rattle.run_semantics.specs.Perform.{flow_of, perform, perform_all, scheduled, scheduled_at, ask_all, question_of, acted, unless_fault, broken};
+ghost use Rattle.run_semantics.specs.Perform.{flow_of, perform, perform_all, scheduled_at, ask_all, question_of, acted, unless_fault, broken};
 ghost use Rattle.run_semantics.specs.Ending.{is_last_action, perform_last, perform_last_all, acted_last, with_finished};
 ghost use Rattle.kernel_actions.specs.Upcoming.{asked_in, first_is_beyond, looked, with_injection_asked, upcoming_of, Begins};
 ghost use Rattle.run_semantics.specs.Upcoming.{Comes, first_due, first_of};
 ghost use Rattle.injection_order.specs.Injections.{injection_before};
-ghost use Rattle.model_answers.specs.Answering.{is_beyond};
-ghost use Rattle.model_answers.specs.declared.answer.Question.TheVariants.{BeyondLimit};
+ghost use Rattle.run_questions.specs.declared.answer.Question.TheVariants.{BeyondLimit};
 ghost use Rattle.run_semantics.specs.Run.{rooted, built, unless_many, with_submodules, with_started};
 ghost use Rattle.kernel_actions.specs.Positions.{lengths_of, position_of, cut_to, core_back, IsGrownFrom};
 
@@ -20,13 +19,13 @@ use crate::reads::question_of;
 use event_set::pending::{Happening, Pending};
 use event_set::set::EventSet;
 use injection_order::injection::{Due, Injection, Turn as InjectionTurn, injection_before};
-use model_answers::answer::{Answer, Built, Question};
-use model_answers::record::{Record, path_of, submodule_path};
 use module_api::names::is_scalar_name;
 use module_api::reply::{Action, Read, Reply, Schedule};
 use question_log::cutting::cut_items;
 use question_log::entry::Entry;
 use question_log::log::QuestionLog;
+use run_questions::answer::{Answer, Built, Question, is_beyond};
+use run_questions::record::{Record, path_of, submodule_path};
 use run_semantics::outcome::{Fault, Outcome, Turn, fault_of};
 use run_semantics::signals::SignalNames;
 use run_semantics::traces::{Emission, Instance, Scalar};
@@ -775,15 +774,5 @@ fn is_last_action(action: &Action) -> bool
     match action {
         Action::Emit(_, _) | Action::RecordScalar(_, _) | Action::Fail(_) => true,
         Action::ScheduleAfter(_) => false,
-    }
-}
-
-/// Whether a time is later than this limit, where there is one, both in picoseconds. A time equal to the limit is not.
-fn is_beyond(limit: Option<u64>, time: u64) -> bool
-    ensures { result ≡ is_beyond limit time }
-{
-    match limit {
-        Some(limit) => limit < time,
-        None => false,
     }
 }

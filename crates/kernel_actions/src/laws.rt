@@ -2,7 +2,7 @@
 
 ghost use Rattle.std.specs.Prelude.{◌≡◌, ℕ, ◌≤◌};
 ghost use Rattle.module_api.specs.Behaviour.{Behaviour};
-ghost use Rattle.model_answers.specs.declared.model.Model.{Model};
+ghost use Rattle.run_questions.specs.Answers.{Answers};
 ghost use Rattle.run_semantics.specs.Ending.{ending};
 ghost use Rattle.run_semantics.specs.Run.{after, run_to, world_at};
 ghost use Rattle.run_semantics.specs.World.{World};
@@ -29,8 +29,8 @@ pub fn positions_before_stay_good()
 /// In a run the lists only grow of which a position has the lengths, with more events and at the end too. So a position of a run
 /// stays good as long as that run goes on.
 pub fn runs_keep_their_positions()
-    ensures events { (b : Behaviour) (m : Model) (n k : ℕ) → n ≤ k
+    ensures events { (b : Behaviour) (m : Answers) (n k : ℕ) → n ≤ k
         → IsGrownFrom (world_at (after b m n)) (world_at (after b m k)) }
-    ensures ended { (b : Behaviour) (m : Model) (n k : ℕ) → n ≤ k
+    ensures ended { (b : Behaviour) (m : Answers) (n k : ℕ) → n ≤ k
         → IsGrownFrom (world_at (after b m n)) (ending b m (run_to b m k)).world }
 {}

@@ -1,13 +1,13 @@
 //! What replies read of the model: the questions that they ask, and the faults of their answers.
 
 ghost use Rattle.std.specs.Prelude.{◌≡◌, IfOk, true};
-ghost use Rattle.model_answers.specs.Questions.{is_of_modules};
-ghost use Rattle.run_semantics.specs.Perform.{question_of, fault_of_read, parameter_fault};
+ghost use Rattle.run_questions.specs.Questions.{is_of_modules};
+ghost use Rattle.run_semantics.specs.Perform.{question_of, fault_of_read};
 ghost use Rattle.kernel_actions.specs.Lookups.{was_told};
 
-use model_answers::answer::{Answer, Question};
 use module_api::call::{Parameter, find_value};
 use module_api::reply::Read;
+use run_questions::answer::{Answer, Question};
 use run_semantics::outcome::{Fault, fault_of};
 use std::alloc::{AllocError, Global};
 

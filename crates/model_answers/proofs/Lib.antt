@@ -1,5 +1,3 @@
-pub mod AnswerLemmas
 pub mod Around
+pub mod Names
 pub mod Networks
-pub mod RecordLemmas
-pub mod QuestionLemmas

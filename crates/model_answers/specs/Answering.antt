@@ -1,30 +1,24 @@
 -- The answers of a model.
-use Rattle.std.specs.Prelude.{ℕ, nat_lt, Bool, false, List, [], ◌∷◌, Option, Some, None, Result, Ok, Err}
-use Rattle.module_api.specs.declared.call.Parameter.{Parameter}
-use Rattle.ned_trees.specs.declared.declarations.Declaration.{Declaration}
+use Rattle.std.specs.Prelude.{ℕ, List, [], ◌∷◌, Option, Some, None, Result, Ok, Err, if◌then◌else◌}
+use Rattle.std.specs.Option.{option_and_then}
 use Rattle.ned_trees.specs.declared.declarations.SectionLine.{SectionLine}
 use Rattle.ned_trees.specs.declared.declarations.SectionLine.TheVariants as line
 use Rattle.ned_trees.specs.declared.declarations.TypeDeclaration.{TypeDeclaration}
 use Rattle.ned_trees.specs.declared.declarations.TypeKind.{TypeKind}
 use Rattle.ned_trees.specs.declared.declarations.TypeKind.TheVariants.{Network}
-use Rattle.ned_types.specs.Flat.{declaration_named}
 use Rattle.sim_values.specs.declared.value.Value.{Value}
-use Rattle.model_answers.specs.declared.answer.Answer.{Answer}
-use Rattle.model_answers.specs.declared.answer.Answer.TheVariants as answer
-use Rattle.model_answers.specs.declared.answer.Built.{Built}
-use Rattle.model_answers.specs.declared.answer.ModelFault.{ModelFault}
-use Rattle.model_answers.specs.declared.answer.Question.{Question}
-use Rattle.model_answers.specs.declared.answer.Question.TheVariants as question
+use Rattle.run_questions.specs.declared.answer.Answer.{Answer}
+use Rattle.run_questions.specs.declared.answer.Answer.TheVariants as answer
+use Rattle.run_questions.specs.declared.answer.Built.{Built}
+use Rattle.run_questions.specs.declared.answer.ModelFault.{ModelFault}
 use Rattle.model_answers.specs.declared.inside.PlacedFault.{PlacedFault}
 use Rattle.model_answers.specs.declared.model.Model.{Model}
-use Rattle.model_answers.specs.declared.record.Record.{Record}
 use Rattle.model_answers.specs.Inside.{built_all, fault_of_site}
-use Rattle.injection_order.specs.Injections.{injection_before}
-use Rattle.model_answers.specs.Models.{network_of, type_at, time_limit_of}
+use Rattle.run_questions.specs.Answers.{Answers, Place, is_declared}
+use Rattle.model_answers.specs.Models.{network_of, type_of_record, time_limit_of}
 use Rattle.model_answers.specs.Parameters.{parameter_value}
-use Rattle.model_answers.specs.Records.{path_of}
 use Rattle.model_answers.specs.Scenes.{Site}
-use Rattle.model_answers.specs.Sites.{network_site, site_at, told_by_type}
+use Rattle.model_answers.specs.Sites.{network_site, site_in, told_by_type}
 
 abbrev pub root_without : TypeDeclaration → Option ModelFault → Answer
 root_without t (Some fault) = answer.Fault t.name fault
@@ -55,60 +49,50 @@ abbrev pub value_answer : List ℕ → Result Value ModelFault → Answer
 value_answer path (Ok v) = answer.Value v
 value_answer path (Err fault) = answer.Fault path fault
 
-abbrev pub declared_answer : Site → Option Declaration → Answer
-declared_answer site None = answer.Absent
-declared_answer site (Some d) = value_answer site.own.path (parameter_value site d.name)
+-- the value of a parameter of a module that stands there, where it is declared
+abbrev pub value_in : Site → List ℕ → Answer
+value_in site name = value_answer site.own.path (parameter_value site name)
 
--- the value of a parameter of a module that stands there
+-- the names of the parameters that these lines declare, in their order
+abbrev pub names_in : List SectionLine → List (List ℕ)
+names_in [] = []
+names_in (line.Declaration d ∷ ls) = d.name ∷ names_in ls
+names_in (_ ∷ ls) = names_in ls
+
+-- the value of a parameter of the module that stands there
 abbrev pub answer_in : Site → List ℕ → Answer
-answer_in site name = declared_answer site (declaration_named name site.own.lines)
+answer_in site name = if is_declared name (names_in site.own.lines) then value_in site name else answer.Absent
 
--- the value of a parameter of a module
+-- ---- by the place of a module
+
+-- the type of the module of a place
+abbrev pub type_in : Model → Place → Option TypeDeclaration
+type_in m p = option_and_then (type_of_record m) p.record_there
+
+abbrev pub names_by : Option Site → List (List ℕ)
+names_by None = []
+names_by (Some site) = names_in site.own.lines
+
+abbrev pub value_by : Option Site → List ℕ → Answer
+value_by None = λ name. answer.Absent
+value_by (Some site) = value_in site
+
+-- the value of a parameter of a module, where it stands
 abbrev pub param_answer : Option Site → List ℕ → Answer
-param_answer None name = answer.Absent
-param_answer (Some site) name = answer_in site name
+param_answer site name = if is_declared name (names_by site) then value_by site name else answer.Absent
 
--- whether a time is later than the limit, where there is one: a time equal to it is not
-abbrev pub is_beyond : Option ℕ → ℕ → Bool
-is_beyond None time = false
-is_beyond (Some limit) time = nat_lt limit time
-
--- THE ANSWER of a model to a question, with the modules of these records; modules have no gates yet
-abbrev pub answer_of : Model → List Record → Question → Answer
-answer_of m records question.Root = root_answer m (network_of m)
-answer_of m records (question.Build id) = inside_answer m (path_of records id) (type_at m records id)
-answer_of m records (question.Param id name) = param_answer (site_at m records id) name
-answer_of m records (question.GateSize id name) = answer.Absent
-answer_of m records (question.BeyondLimit time) = answer.Beyond (is_beyond (time_limit_of m) time)
-answer_of m records (question.InjectionBefore due last) = answer.Injection (injection_before due last m.injections)
-
--- ---- the parameters of a module, as a call shows them
-
-abbrev pub with_value : List ℕ → Answer → List Parameter → List Parameter
-with_value name (answer.Value v) rest = record { name = name; value = v } ∷ rest
-with_value name _ rest = rest
-
-abbrev pub with_line : (List ℕ → Answer) → SectionLine → List Parameter → List Parameter
-with_line answers (line.Declaration d) rest = with_value d.name (answers d.name) rest
-with_line answers _ rest = rest
-
-abbrev pub with_lines : (List ℕ → Answer) → List SectionLine → List Parameter
-with_lines answers [] = []
-with_lines answers (l ∷ ls) = with_line answers l (with_lines answers ls)
-
+-- the lines of a type, where there is one
 abbrev pub lines_of : Option TypeDeclaration → List SectionLine
 lines_of None = []
 lines_of (Some t) = t.lines
 
--- the lines of the type of a module
-abbrev pub lines_at : Option Site → List SectionLine
-lines_at None = []
-lines_at (Some site) = site.own.lines
-
--- the answers about the parameters of a module
-abbrev pub answer_for : Model → List Record → ℕ → List ℕ → Answer
-answer_for m records id name = answer_of m records (question.Param id name)
-
--- all parameters of a module, in the order of their declaration, each with the value that the model answers
-abbrev pub parameters_of : Model → List Record → ℕ → List Parameter
-parameters_of m records id = with_lines (answer_for m records id) (lines_at (site_at m records id))
+-- THE ANSWERS of a model: all that a run takes from it
+unfoldable pub answers_of : Model → Answers
+answers_of m = record {
+  root = root_answer m (network_of m);
+  inside = λ p. inside_answer m p.path (type_in m p);
+  names = λ p. names_by (site_in m p);
+  value = λ p. value_by (site_in m p);
+  time_limit = time_limit_of m;
+  injections = m.injections;
+}

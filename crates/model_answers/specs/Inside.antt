@@ -8,14 +8,14 @@ use Rattle.ned_trees.specs.declared.declarations.TypeKind.{TypeKind}
 use Rattle.ned_trees.specs.declared.declarations.TypeKind.TheVariants.{Simple}
 use Rattle.sim_values.specs.declared.value.Value.{Value}
 use Rattle.ned_types.specs.Flat.{class_of}
-use Rattle.model_answers.specs.declared.answer.Built.{Built}
-use Rattle.model_answers.specs.declared.answer.ModelFault.{ModelFault}
-use Rattle.model_answers.specs.declared.answer.ModelFault.TheVariants.{UnknownType}
+use Rattle.run_questions.specs.declared.answer.Built.{Built}
+use Rattle.run_questions.specs.declared.answer.ModelFault.{ModelFault}
+use Rattle.run_questions.specs.declared.answer.ModelFault.TheVariants.{UnknownType}
 use Rattle.model_answers.specs.declared.inside.PlacedFault.{PlacedFault}
 use Rattle.model_answers.specs.declared.model.Model.{Model}
 use Rattle.model_answers.specs.Models.{named_type}
 use Rattle.model_answers.specs.Parameters.{parameter_value}
-use Rattle.model_answers.specs.Records.{path_under}
+use Rattle.run_questions.specs.Records.{path_under}
 use Rattle.model_answers.specs.Scenes.{Site, Told}
 use Rattle.model_answers.specs.Sites.{submodule_site}
 

@@ -1,8 +1,6 @@
-pub mod Records
 pub mod Models
 pub mod Scenes
 pub mod Sites
 pub mod Parameters
 pub mod Inside
 pub mod Answering
-pub mod Questions

@@ -11,8 +11,8 @@ use Rattle.ned_trees.specs.declared.declarations.TypeKind.TheVariants.{Network}
 use Rattle.ned_types.specs.Types.{type_named}
 use Rattle.ned_types.specs.Flat.{submodule_named}
 use Rattle.model_answers.specs.declared.model.Model.{Model}
-use Rattle.model_answers.specs.declared.record.Record.{Record}
-use Rattle.model_answers.specs.Records.{record_at}
+use Rattle.run_questions.specs.declared.record.Record.{Record}
+use Rattle.run_questions.specs.Records.{record_at}
 
 -- the entries that count, in their order: those of the sections of the configuration's chain
 abbrev pub entries_in : Model → List Entry

@@ -6,8 +6,8 @@ use Rattle.param_eval.specs.declared.fault.Fault.{Fault}
 use Rattle.param_eval.specs.declared.fault.Fault.TheVariants as eval_fault
 use Rattle.param_eval.specs.Operators.{Evaluated}
 use Rattle.parameter_values.specs.Values.{found_at, value_at}
-use Rattle.model_answers.specs.declared.answer.ModelFault.{ModelFault}
-use Rattle.model_answers.specs.declared.answer.ModelFault.TheVariants.{Unassigned, Overflow, Inexact, Mismatch, Circle}
+use Rattle.run_questions.specs.declared.answer.ModelFault.{ModelFault}
+use Rattle.run_questions.specs.declared.answer.ModelFault.TheVariants.{Unassigned, Overflow, Inexact, Mismatch, Circle}
 use Rattle.model_answers.specs.Scenes.{Site, Told, around_key, own_key, setting_in}
 
 -- why a parameter has no value, as the model tells it

@@ -21,7 +21,7 @@ use Rattle.parameter_values.specs.Settings.{Given, Fixed, Default, Declared, Set
 use Rattle.model_answers.specs.declared.scene.Placed.{Placed}
 use Rattle.model_answers.specs.declared.scene.Told as told_type
 use Rattle.model_answers.specs.Models.{entries_in}
-use Rattle.model_answers.specs.Records.{path_under}
+use Rattle.run_questions.specs.Records.{path_under}
 
 abbrev pub kind_by : ParameterWord → Option Dimension → Kind
 kind_by word.Bool unit = kind.Truth

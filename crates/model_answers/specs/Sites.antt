@@ -5,9 +5,9 @@ use Rattle.ned_trees.specs.declared.declarations.Submodule.{Submodule}
 use Rattle.ned_trees.specs.declared.declarations.TypeDeclaration.{TypeDeclaration}
 use Rattle.ned_types.specs.Flat.{submodule_named}
 use Rattle.model_answers.specs.declared.model.Model.{Model}
-use Rattle.model_answers.specs.declared.record.Record.{Record}
+use Rattle.run_questions.specs.declared.record.Record.{Record}
 use Rattle.model_answers.specs.Models.{entries_in, named_type, network_of}
-use Rattle.model_answers.specs.Records.{path_around, path_of, record_at}
+use Rattle.run_questions.specs.Answers.{Place}
 use Rattle.model_answers.specs.Scenes.{Site, Told}
 
 -- a module of that path and type that has no body
@@ -44,6 +44,6 @@ site_inside m path above name (Some t) = inner_site m (told_by_type above t) pat
 abbrev pub site_by : Model → List ℕ → List ℕ → Record → Option Site
 site_by m path above r = if r.parent == 0 then network_site_by m path (network_of m) else site_inside m path above r.name (network_of m)
 
--- where the module of that id stands
-abbrev pub site_at : Model → List Record → ℕ → Option Site
-site_at m records id = option_and_then (site_by m (path_of records id) (path_around records id)) (record_at records id)
+-- where the module of a place stands in the model
+abbrev pub site_in : Model → Place → Option Site
+site_in m p = option_and_then (site_by m p.path p.around) p.record_there

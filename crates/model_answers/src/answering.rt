@@ -1,22 +1,20 @@
 //! The answers of a model.
 
-ghost use Rattle.std.specs.Prelude.{◌≡◌, ◌++◌, [], Some, IfOk, OnOk};
+ghost use Rattle.std.specs.Prelude.{◌≡◌, ◌++◌, [], ◌∷◌, Some, IfOk, OnOk};
 ghost use Rattle.answer_engine.specs.Tables.{IsKept};
-ghost use Rattle.model_answers.specs.Answering.{answer_in, answer_of, is_beyond, root_answer, inside_answer, inside_of, param_answer, parameters_of, with_line, with_lines};
+ghost use Rattle.model_answers.specs.Answering.{answer_in, answers_of, root_answer, inside_answer, inside_of, names_in, param_answer, value_in};
+ghost use Rattle.run_questions.specs.Answers.{answer_of, is_declared, parameters_of, place_of, with_values};
 ghost use Rattle.injection_order.specs.Injections.{injection_before};
-ghost use Rattle.model_answers.specs.declared.answer.Answer.TheVariants as answer;
-ghost use Rattle.model_answers.specs.Models.{network_of, type_at, time_limit_of};
-ghost use Rattle.model_answers.specs.Records.{path_of};
+ghost use Rattle.run_questions.specs.declared.answer.Answer.TheVariants as answer;
+ghost use Rattle.model_answers.specs.Models.{network_of, type_at};
+ghost use Rattle.run_questions.specs.Records.{path_of};
 ghost use Rattle.model_answers.specs.Scenes.{setting_at, site_of};
-ghost use Rattle.model_answers.specs.Sites.{site_at};
+ghost use Rattle.model_answers.specs.Sites.{site_in};
 ghost use Rattle.parameter_values.specs.Values.{rules_of};
-ghost use Rattle.std.specs.Option.{option_copied};
 
-use crate::answer::{Answer, Question};
 use crate::inside::{built_all, first_fault};
 use crate::model::Model;
 use crate::parameters::{no_values, parameter_value};
-use crate::record::{Record, module_path, path_of};
 use crate::scene::{Placed, Told};
 use answer_engine::table::Table;
 use injection_order::injection::{Due, Turn, injection_before};
@@ -24,12 +22,15 @@ use module_api::call::Parameter;
 use ned_trees::declarations::{SectionLine, TypeDeclaration, TypeKind};
 use ned_types::flat::declaration_named;
 use parameter_values::key::Key;
+use run_questions::answer::{Answer, Question, is_beyond};
+use run_questions::record::{Record, module_path, path_of};
 use sim_values::NoMemory;
 use sim_values::text::Text;
 use sim_values::value::Value;
 use sqlite_items::Items;
 use std::alloc::Global;
 
+#[tactic(auto, unfolding(crate::specs::Answering::answers_of))]
 /// The model's answer to a question, with the modules of these records.
 pub fn answer(
     alloc: Global,
@@ -37,7 +38,7 @@ pub fn answer(
     records: &[Record],
     question: &Question,
 ) -> Result<Answer, NoMemory>
-    ensures { IfOk result (λ found. found ≡ answer_of model.now records.now question.now) }
+    ensures { IfOk result (λ found. found ≡ answer_of (answers_of model.now) records.now question.now) }
 {
     match question {
         Question::Root => root_answer(alloc, model),
@@ -46,16 +47,6 @@ pub fn answer(
         Question::GateSize(_, _) => Ok(Answer::Absent),
         Question::BeyondLimit(time) => Ok(Answer::Beyond(is_beyond(model.time_limit(), *time))),
         Question::InjectionBefore(due, last) => injection_answer(alloc, model, *due, *last),
-    }
-}
-
-/// Whether a time is later than this limit, where there is one, both in picoseconds. A time equal to the limit is not.
-pub fn is_beyond(limit: Option<u64>, time: u64) -> bool
-    ensures { result ≡ is_beyond limit time }
-{
-    match limit {
-        Some(limit) => limit < time,
-        None => false,
     }
 }
 
@@ -136,7 +127,7 @@ fn param_answer(
     id: u32,
     name: &[u8],
 ) -> Result<Answer, NoMemory>
-    ensures { IfOk result (λ found. found ≡ param_answer (site_at model.now records.now id) name.now) }
+    ensures { IfOk result (λ found. found ≡ param_answer (site_in model.now (place_of records.now id)) name.now) }
 {
     let path = module_path(alloc, records, id)?;
     let Some(placed) = Placed::at(model, records, id, &path) else {
@@ -157,15 +148,26 @@ fn answer_in(
     ensures value { IfOk result (λ found. found ≡ answer_in (site_of placed.now) name.now) }
     ensures kept { IsKept (rules_of (setting_at placed.now)) values.new.entries }
 {
-    let Some(declaration) = declaration_named(name, placed.own.lines) else {
+    if !is_declared(name, placed.own.lines) {
         return Ok(Answer::Absent);
-    };
-    match parameter_value(alloc, placed, values, declaration.name.as_bytes())? {
+    }
+    match parameter_value(alloc, placed, values, name)? {
         Ok(value) => Ok(Answer::Value(value)),
         Err(fault) => Ok(Answer::Fault(Text::from_bytes(alloc, placed.own.path)?, fault)),
     }
 }
 
+/// Whether these lines declare a parameter of that name.
+fn is_declared(name: &[u8], lines: &[SectionLine]) -> bool
+    ensures { result ≡ is_declared name.now (names_in lines.now) }
+{
+    match declaration_named(name, lines) {
+        Some(_) => true,
+        None => false,
+    }
+}
+
+#[tactic(auto, unfolding(crate::specs::Answering::answers_of))]
 /// All parameters of the module of that id and their values, in the order of their declaration.
 pub fn parameters_of(
     alloc: Global,
@@ -173,7 +175,7 @@ pub fn parameters_of(
     records: &[Record],
     id: u32,
 ) -> Result<Items<Parameter>, NoMemory>
-    ensures { IfOk result (λ parameters. parameters ≡ parameters_of model.now records.now id) }
+    ensures { IfOk result (λ parameters. parameters ≡ parameters_of (answers_of model.now) records.now id) }
 {
     let mut parameters = Items::new(alloc);
     let path = module_path(alloc, records, id)?;
@@ -190,7 +192,7 @@ fn push_lines(
     alloc: Global,
     placed: &Placed<'_>,
 ) -> Result<(), NoMemory>
-    ensures { OnOk result (parameters.new ≡ parameters.old ++ with_lines (answer_in (site_of placed.now)) placed.now.own.lines.now) }
+    ensures { OnOk result (parameters.new ≡ parameters.old ++ with_values (value_in (site_of placed.now)) (names_in placed.now.own.lines.now)) }
 {
     let mut values = no_values(alloc, placed);
     for line in placed.own.lines {
@@ -208,14 +210,14 @@ fn push_line(
     line: &SectionLine,
 ) -> Result<(), NoMemory>
     requires { IsKept (rules_of (setting_at placed.now)) values.old.entries }
-    ensures pushed { OnOk result (parameters.new ≡ parameters.old ++ with_line (answer_in (site_of placed.now)) line.now []) }
+    ensures pushed { OnOk result (parameters.new ≡ parameters.old ++ with_values (value_in (site_of placed.now)) (names_in (line.now ∷ []))) }
     ensures kept { IsKept (rules_of (setting_at placed.now)) values.new.entries }
 {
     let SectionLine::Declaration(declaration) = line else {
         return Ok(());
     };
     let name = declaration.name.as_bytes();
-    if let Answer::Value(value) = answer_in(alloc, placed, values, name)? {
+    if let Ok(value) = parameter_value(alloc, placed, values, name)? {
         parameters.push(Parameter {
             name: Text::from_bytes(alloc, name)?,
             value,

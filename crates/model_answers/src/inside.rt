@@ -6,15 +6,15 @@ ghost use Rattle.answer_engine.specs.Tables.{IsKept};
 ghost use Rattle.model_answers.specs.Scenes.{setting_at, site_of, told_of};
 ghost use Rattle.parameter_values.specs.Values.{rules_of};
 
-use crate::answer::{Built, ModelFault};
 use crate::model::Model;
 use crate::parameters::{no_values, parameter_value};
-use crate::record::path_under;
 use crate::scene::{Placed, Told};
 use answer_engine::table::Table;
 use ned_trees::declarations::{SectionLine, Submodule, TypeDeclaration, TypeKind};
 use ned_types::flat::class_of;
 use parameter_values::key::Key;
+use run_questions::answer::{Built, ModelFault};
+use run_questions::record::path_under;
 use sim_values::NoMemory;
 use sim_values::text::Text;
 use sim_values::value::Value;

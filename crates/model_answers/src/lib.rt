@@ -1,11 +1,9 @@
 //! The model, and its answers to what a run asks of it.
 #![tactic(auto)]
 
-pub mod answer;
 pub mod answering;
 pub mod inside;
 pub mod laws;
 pub mod model;
 pub mod parameters;
-pub mod record;
 pub mod scene;

@@ -2,11 +2,11 @@
 
 ghost use Rattle.std.specs.Prelude.{◌≡◌, IfOk, Some};
 ghost use Rattle.std.specs.Option.{option_copied};
-ghost use Rattle.model_answers.specs.Models.{network_of, type_at, type_of_record, inner_type, as_network, type_by_last_name, time_limit_of};
-ghost use Rattle.model_answers.specs.Records.{record_at};
+ghost use Rattle.model_answers.specs.Models.{network_of, type_at, inner_type, as_network};
+ghost use Rattle.model_answers.specs.Answering.{answers_of};
+ghost use Rattle.run_questions.specs.Records.{record_at};
 ghost use Rattle.ned_types.specs.Flat.{submodule_named};
 
-use crate::record::{Record, record_at};
 use ini_texts::copies::copy_names;
 use ini_texts::entries::{network_entry, time_limit_entry};
 use ini_texts::lines::IniText;
@@ -14,6 +14,7 @@ use ini_texts::speaks::last_name;
 use injection_order::injection::Injection;
 use ned_trees::declarations::{Submodule, TypeDeclaration, TypeKind};
 use ned_types::table::TypeTable;
+use run_questions::record::{Record, record_at};
 use sim_values::NoMemory;
 use sim_values::text::Text;
 use sqlite_items::Items;
@@ -73,10 +74,10 @@ impl Model {
         as_network(declared)
     }
 
-    #[tactic(auto, unfolding(crate::specs::Models::time_limit_of))]
+    #[tactic(auto, unfolding(crate::specs::Answering::answers_of, crate::specs::Models::time_limit_of))]
     /// The time after which no event is executed, in picoseconds: the option sim-time-limit.
     pub fn time_limit(&self) -> Option<u64>
-        ensures { result ≡ time_limit_of self.now }
+        ensures { result ≡ (answers_of self.now).time_limit }
     {
         time_limit_entry(self.ini.lines(), self.chain.as_slice())
     }

@@ -6,12 +6,12 @@ ghost use Rattle.model_answers.specs.Parameters.{fault_of, parameter_value, told
 ghost use Rattle.model_answers.specs.Scenes.{own_key, setting_at, site_of};
 ghost use Rattle.parameter_values.specs.Values.{rules_of, value_at};
 
-use crate::answer::ModelFault;
 use crate::scene::{OWN, Placed};
 use answer_engine::table::Table;
 use param_eval::fault::Fault;
 use parameter_values::key::Key;
 use parameter_values::values::{copied_value, empty_table, literal_value};
+use run_questions::answer::ModelFault;
 use sim_values::NoMemory;
 use sim_values::text::Text;
 use sim_values::value::Value;

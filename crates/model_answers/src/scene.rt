@@ -3,13 +3,12 @@
 ghost use Rattle.std.specs.Prelude.{◌≡◌, IfOk, take};
 ghost use Rattle.std.specs.Option.{option_copied, option_and_then};
 ghost use Rattle.model_answers.specs.Models.{entries_in};
-ghost use Rattle.model_answers.specs.Records.{record_at};
+ghost use Rattle.run_questions.specs.Records.{record_at};
 ghost use Rattle.model_answers.specs.Scenes.{declared_in, entry_in, given_in, given_to, kind_of, maybe_site, maybe_told, module_of, parent_of, setting_at, site_of, told_of};
 ghost use Rattle.model_answers.specs.Sites.{network_site, site_by, submodule_site, told_by_type};
 ghost use Rattle.parameter_values.specs.Scenes.{declared_by, given_by};
 
 use crate::model::Model;
-use crate::record::{ModulePath, Record, path_under, record_at};
 use ini_texts::entries::value_for;
 use ini_texts::entry::EntryValue;
 use ned_trees::declarations::{
@@ -19,6 +18,7 @@ use ned_types::flat::{declaration_named, last_value};
 use parameter_values::key::Key;
 use parameter_values::kind::Kind;
 use parameter_values::scene::{Given, Parameter, Scene, Section, Written};
+use run_questions::record::{ModulePath, Record, path_under, record_at};
 use sim_values::NoMemory;
 use std::alloc::Global;
 

@@ -1,11 +1,11 @@
 -- A question that is in the set was asked before, and the reverse.
 use Rattle.std.proofs.Common.{◌≡◌, ℕ, Bool, true, false, ◌||◌, List, [], ◌∷◌, ◌++◌, refl, sym, ap, ◌∙◌, if◌then◌else◌, append-nil}
 use Rattle.std.specs.List.{list_any}
-use Rattle.model_answers.specs.contracts.answer.QuestionPartialEq as equality
-use Rattle.model_answers.specs.declared.answer.Asked.{Asked}
-use Rattle.model_answers.specs.declared.answer.Question.{Question}
-use Rattle.model_answers.specs.declared.answer.Question.TheVariants.{Root, Build, Param, GateSize, BeyondLimit, InjectionBefore}
-use Rattle.model_answers.specs.Questions.{same_question, is_of_modules}
+use Rattle.run_questions.specs.contracts.answer.QuestionPartialEq as equality
+use Rattle.run_questions.specs.declared.answer.Asked.{Asked}
+use Rattle.run_questions.specs.declared.answer.Question.{Question}
+use Rattle.run_questions.specs.declared.answer.Question.TheVariants.{Root, Build, Param, GateSize, BeyondLimit, InjectionBefore}
+use Rattle.run_questions.specs.Questions.{same_question, is_of_modules}
 use Rattle.run_semantics.specs.World.{is_asked, noted}
 use Rattle.question_log.specs.Keys.{about_modules}
 

@@ -3,7 +3,7 @@ use Rattle.std.proofs.Common.{◌≡◌, ℕ, ◌+◌, ◌-◌, ◌*◌, ◌≤�
 use Rattle.std.specs.List.{slice_get}
 use Rattle.std.proofs.lemmas.List.{take_all, take_more, take_more_set, length-set, length_push}
 use Rattle.std.proofs.lemmas.Option.{get_or_from_slice_get, slice_get_within}
-use Rattle.model_answers.specs.declared.answer.Asked.{Asked}
+use Rattle.run_questions.specs.declared.answer.Asked.{Asked}
 use Rattle.question_log.specs.declared.entry.Entry.{Entry}
 use Rattle.question_log.specs.declared.entry.Entry.TheVariants.{BeyondLimit, FirstInjection, Both, Other}
 use Rattle.question_log.specs.Entries.{asked_in, asked_in_any, noted_in}

@@ -1,7 +1,7 @@
 -- What is noted of questions, and the questions that it stands for.
 use Rattle.std.specs.Prelude.{◌≡◌, ℕ, List, [], ◌∷◌, ◌++◌, Option, Some, None}
-use Rattle.model_answers.specs.declared.answer.Asked.{Asked}
-use Rattle.model_answers.specs.declared.answer.Question.TheVariants as question
+use Rattle.run_questions.specs.declared.answer.Asked.{Asked}
+use Rattle.run_questions.specs.declared.answer.Question.TheVariants as question
 use Rattle.question_log.specs.declared.entry.Entry.{Entry}
 use Rattle.question_log.specs.declared.entry.Entry.TheVariants.{BeyondLimit, FirstInjection, Both, Other}
 

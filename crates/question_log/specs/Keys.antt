@@ -1,8 +1,8 @@
 -- The questions about modules among those that were asked.
 use Rattle.std.specs.Prelude.{◌≡◌, List, [], ◌∷◌, if◌then◌else◌}
-use Rattle.model_answers.specs.declared.answer.Asked.{Asked}
-use Rattle.model_answers.specs.declared.answer.Question.{Question}
-use Rattle.model_answers.specs.Questions.{is_of_modules}
+use Rattle.run_questions.specs.declared.answer.Asked.{Asked}
+use Rattle.run_questions.specs.declared.answer.Question.{Question}
+use Rattle.run_questions.specs.Questions.{is_of_modules}
 
 -- those that are asked of the model's modules, in order
 abbrev pub about_modules : List Asked → List Question

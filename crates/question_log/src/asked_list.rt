@@ -4,7 +4,7 @@ ghost use Rattle.std.specs.Prelude.{◌≡◌, [], ◌∷◌, ◌++◌, length, 
 ghost use Rattle.question_log.specs.Entries.{asked_in, noted_in};
 
 use crate::entry::{Entry, joined, noted, parted};
-use model_answers::answer::{Asked, Question};
+use run_questions::answer::{Asked, Question};
 use sim_values::NoMemory;
 use std::alloc::Global;
 use std::marker::Model;
@@ -20,7 +20,7 @@ pub struct AskedList {
 
 impl Model for AskedList {
     ghost use Rattle.std.specs.Prelude.{◌≡◌, List, length};
-    ghost use Rattle.model_answers.specs.declared.answer.Asked.{Asked};
+    ghost use Rattle.run_questions.specs.declared.answer.Asked.{Asked};
     ghost use Rattle.question_log.specs.Entries.{noted_in};
 
     ghost Value = { List Asked };

@@ -1,11 +1,11 @@
 //! What is noted of questions.
 
 ghost use Rattle.std.specs.Prelude.{◌≡◌, [], ◌∷◌, ◌++◌, IfOk, IfSome};
-ghost use Rattle.model_answers.specs.declared.answer.Question.TheVariants.{InjectionBefore};
+ghost use Rattle.run_questions.specs.declared.answer.Question.TheVariants.{InjectionBefore};
 ghost use Rattle.question_log.specs.Entries.{asked_in, asked_in_any, AreOf};
 
 use injection_order::injection::{Due, Turn};
-use model_answers::answer::{Asked, Question};
+use run_questions::answer::{Asked, Question};
 use sim_time::SimTime;
 use sim_values::NoMemory;
 use sqlite_items::Boxed;

@@ -1,14 +1,14 @@
 //! The questions of a run, in the order in which they were asked.
 
 ghost use Rattle.std.specs.Prelude.{◌≡◌, [], ◌∷◌, ◌++◌, true, false, OnOk, OnErr, MatchOption, length, take};
-ghost use Rattle.model_answers.specs.Questions.{is_of_modules};
+ghost use Rattle.run_questions.specs.Questions.{is_of_modules};
 ghost use Rattle.run_semantics.specs.World.{noted};
 ghost use Rattle.question_log.specs.Entries.{noted_in};
 
 use crate::asked_list::AskedList;
 use crate::entry::Entry;
 use indexmap::IndexSet;
-use model_answers::answer::{Asked, Question};
+use run_questions::answer::{Asked, Question};
 use sim_values::NoMemory;
 use std::alloc::Global;
 use std::marker::Model;
@@ -33,7 +33,7 @@ impl Drop for QuestionLog {
 
 impl Model for QuestionLog {
     ghost use Rattle.std.specs.Prelude.{List};
-    ghost use Rattle.model_answers.specs.declared.answer.Asked.{Asked};
+    ghost use Rattle.run_questions.specs.declared.answer.Asked.{Asked};
     ghost use Rattle.question_log.specs.Keys.{AreKeysOf};
 
     ghost Value = { List Asked };

@@ -8,7 +8,7 @@ use Rattle.ini_texts.specs.declared.entry.ModeItem.TheVariants as item
 use Rattle.ini_texts.specs.declared.entry.ObjectOption.{ObjectOption}
 use Rattle.ini_texts.specs.declared.entry.ObjectOption.TheVariants as object
 use Rattle.ini_texts.specs.Entries.{object_for}
-use Rattle.model_answers.specs.Records.{path_under}
+use Rattle.run_questions.specs.Records.{path_under}
 use Rattle.ned_trees.specs.Modes.{mode_name}
 use Rattle.ned_trees.specs.declared.modes.Mode.{Mode}
 use Rattle.ned_trees.specs.declared.modes.Mode.TheVariants as mode

@@ -6,9 +6,9 @@ ghost use Rattle.model_answers.specs.Models.{type_at};
 ghost use Rattle.ned_types.specs.Flat.{statistics_of};
 
 use model_answers::model::Model;
-use model_answers::record::Record;
 use ned_trees::declarations::Statistic;
 use ned_types::flat::statistics_of;
+use run_questions::record::Record;
 use run_semantics::traces::Emission;
 use sqlite_items::Items;
 use std::alloc::{AllocError, Global};

@@ -6,7 +6,7 @@ ghost use Rattle.recorders.specs.Wanted.{is_wanted};
 ghost use Rattle.recorders.specs.Places.{places_at, noted, noted_if, wanted_places, recorded_places, finished_places, AreHeard, AreRecorded, AreFinished, AreOfRun};
 
 use crate::wanted::is_wanted;
-use model_answers::record::{MAX_NESTING, Record, record_at};
+use run_questions::record::{MAX_NESTING, Record, record_at};
 use run_semantics::traces::{Emission, Scalar};
 use std::alloc::{AllocError, Global};
 

@@ -12,9 +12,9 @@ use crate::modes::{
 use ini_texts::entries::object_for;
 use ini_texts::entry::{ModeItem, ObjectOption};
 use model_answers::model::Model;
-use model_answers::record::path_under;
 use ned_trees::declarations::{RecordedMode, Statistic};
 use ned_trees::modes::Mode;
+use run_questions::record::path_under;
 use sim_values::NoMemory;
 use sim_values::text::Text;
 use sqlite_items::Items;

@@ -6,9 +6,9 @@ ghost use Rattle.recorders.specs.Wanted.{is_wanted, has_output, has_output_among
 
 use crate::selection::{records_scalars, records_vector};
 use model_answers::model::Model;
-use model_answers::record::{Record, path_of};
 use ned_trees::declarations::Statistic;
 use ned_types::flat::statistics_of;
+use run_questions::record::{Record, path_of};
 use sim_values::NoMemory;
 use std::alloc::Global;
 

@@ -1,6 +1,6 @@
 //! The lines of result files.
 
-ghost use Rattle.std.specs.Prelude.{◌≡◌, ◌+◌, ◌*◌, ◌^◌, ◌≤◌, ◌<◌, IsTrue, length};
+ghost use Rattle.std.specs.Prelude.{◌≡◌, ◌+◌, ◌*◌, ◌^◌, ◌≤◌, ◌<◌, IsTrue};
 ghost use Rattle.result_files.specs.Rising.{AreByModule};
 ghost use Rattle.result_files.specs.Written.{Adds, written_in};
 ghost use Rattle.result_files.specs.ScalarText.{scalar_line, scalar_lines};
@@ -9,10 +9,10 @@ ghost use Rattle.result_files.specs.VectorText.{vector_line, vector_lines, data_
 use crate::next_vector::{are_by_module, next_place};
 use crate::progress::{Progress, put, put_field, put_number, put_signed, put_time, put_wide};
 use crate::writer::Out;
-use model_answers::record::Record;
 use recorders::hearing::hears;
 use recorders::scalar_line::ScalarLine;
 use recorders::vector_line::VectorLine;
+use run_questions::record::Record;
 use run_semantics::traces::Emission;
 
 /// Writes the line of a scalar.

@@ -1,10 +1,9 @@
 -- Two models agree on the first events of a run by its own questions exactly where they do by those of a longer run.
-use Rattle.std.proofs.Common.{◌≡◌, ⊎_elim, ℕ, zero, suc, ◌≤◌, ◌<◌, List, [], ◌∷◌, ◌++◌, refl, sym, ap, ◌∙◌, arith, subst, append-nil, append_assoc, length, eq-or-lt_of_le}
+use Rattle.std.proofs.Common.{◌≡◌, ⊎_elim, ℕ, zero, suc, ◌≤◌, ◌<◌, List, [], ◌∷◌, ◌++◌, sym, ap, ◌∙◌, arith, subst, append-nil, append_assoc, eq-or-lt_of_le}
 use Rattle.module_api.specs.Behaviour.{Behaviour}
-use Rattle.model_answers.specs.declared.answer.Asked.{Asked}
-use Rattle.model_answers.specs.declared.model.Model.{Model}
-use Rattle.model_answers.specs.declared.record.Record.{Record}
-use Rattle.model_answers.specs.Answering.{answer_of}
+use Rattle.run_questions.specs.declared.answer.Asked.{Asked}
+use Rattle.run_questions.specs.Answers.{Answers, answer_of}
+use Rattle.run_questions.specs.declared.record.Record.{Record}
 use Rattle.run_semantics.specs.Agreement.{AgreesUpTo}
 use Rattle.run_semantics.specs.Laws.{Each}
 use Rattle.run_semantics.specs.Run.{after, world_at}
@@ -46,7 +45,7 @@ behind_later v event u w x l f g = record {
   records = sym (append_assoc u.records f.more g.more) ∙ (ap (λ ys. ys ++ g.more) f.records ∙ g.records);
 }
 
-behind_after : (b : Behaviour) (m : Model) (v k : ℕ) → v ≤ k → IsBehind v (world_at (after b m v)) (world_at (after b m k))
+behind_after : (b : Behaviour) (m : Answers) (v k : ℕ) → v ≤ k → IsBehind v (world_at (after b m v)) (world_at (after b m k))
 behind_after b m v zero h = let e : v ≡ zero = omega arith in subst (λ n. IsBehind v (world_at (after b m v)) (world_at (after b m n))) e (behind_same v (world_at (after b m v)))
 behind_after b m v (suc k) h =
     ⊎_elim
@@ -55,13 +54,13 @@ behind_after b m v (suc k) h =
     (eq-or-lt_of_le h)
 
 -- later questions are none of the first events
-agrees_later : (u v : ℕ) (p q : Model) (rs : List Record) (xs ys : List Asked) → u ≤ v → AllAfter v ys → AgreesUpTo u p q rs xs → AgreesUpTo u p q rs (xs ++ ys)
+agrees_later : (u v : ℕ) (p q : Answers) (rs : List Record) (xs ys : List Asked) → u ≤ v → AllAfter v ys → AgreesUpTo u p q rs xs → AgreesUpTo u p q rs (xs ++ ys)
 agrees_later u v p q rs [] [] l f h = tt
 agrees_later u v p q rs [] (y ∷ ys) l f h = (λ (e : y.event ≤ u). absurd (omega (arith, l, f.0, e)), agrees_later u v p q rs [] ys l f.1 tt)
 agrees_later u v p q rs (x ∷ xs) ys l f h = (h.0, agrees_later u v p q rs xs ys l f h.1)
 
 -- where the answers are the same with other modules, so is the agreement
-agrees_with : (u : ℕ) (p q : Model) (rs ss : List Record) (xs : List Asked)
+agrees_with : (u : ℕ) (p q : Answers) (rs ss : List Record) (xs : List Asked)
     → Each (λ a. answer_of p ss a.question ≡ answer_of p rs a.question) xs → Each (λ a. answer_of q ss a.question ≡ answer_of q rs a.question) xs
     → AgreesUpTo u p q rs xs → AgreesUpTo u p q ss xs
 agrees_with u p q rs ss [] f g h = tt
@@ -71,7 +70,7 @@ each_back : {A B : Type 0} (f g : A → B) (xs : List A) → Each (λ a. f a ≡
 each_back f g [] h = tt
 each_back f g (x ∷ xs) h = (sym h.0, each_back f g xs h.1)
 
-pub shorter_agrees : (b : Behaviour) (m p q : Model) (u v k : ℕ) → u ≤ v → v ≤ k
+pub shorter_agrees : (b : Behaviour) (m p q : Answers) (u v k : ℕ) → u ≤ v → v ≤ k
     → AgreesUpTo u p q (world_at (after b m k)).records (world_at (after b m k)).questions
     → AgreesUpTo u p q (world_at (after b m v)).records (world_at (after b m v)).questions
 shorter_agrees b m p q u v k l h a =
@@ -85,7 +84,7 @@ shorter_agrees b m p q u v k l h a =
     (each_back (λ (y : Asked). answer_of q (x.records ++ g.more) y.question) (λ (y : Asked). answer_of q x.records y.question) x.questions (noted_stay q x.records g.more f.nested x.questions f.questions))
     (subst (λ rs. AgreesUpTo u p q rs x.questions) (sym g.records) own)
 
-pub longer_agrees : (b : Behaviour) (m p q : Model) (u v k : ℕ) → u ≤ v → v ≤ k
+pub longer_agrees : (b : Behaviour) (m p q : Answers) (u v k : ℕ) → u ≤ v → v ≤ k
     → AgreesUpTo u p q (world_at (after b m v)).records (world_at (after b m v)).questions
     → AgreesUpTo u p q (world_at (after b m k)).records (world_at (after b m k)).questions
 longer_agrees b m p q u v k l h a =

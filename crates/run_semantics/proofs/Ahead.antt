@@ -1,12 +1,12 @@
 -- The order of injections: none that is not delivered is due before the clock, and none before what comes next.
 use Rattle.std.proofs.Common.{◌≡◌, ◌⊎◌, inl, inr, ℕ, zero, suc, ◌≤◌, ◌==◌, nat_lt, int_lt, Bool, true, false, true≢false, List, [], ◌∷◌, Option, Some, None, refl, sym, ◌∙◌, arith, subst, if◌then◌else◌, ltb-true, eqb-true}
 use Rattle.std.proofs.lemmas.Bool.Decides.{nat_tests}
-use Rattle.model_answers.specs.declared.answer.Answer.TheVariants as answer
-use Rattle.model_answers.specs.declared.answer.Question.TheVariants.{InjectionBefore}
+use Rattle.run_questions.specs.declared.answer.Answer.TheVariants as answer
+use Rattle.run_questions.specs.declared.answer.Question.TheVariants.{InjectionBefore}
 use Rattle.injection_order.specs.declared.injection.Due.{Due}
 use Rattle.injection_order.specs.declared.injection.Injection.{Injection}
 use Rattle.injection_order.specs.declared.injection.Turn.{Turn}
-use Rattle.model_answers.specs.declared.model.Model.{Model}
+use Rattle.run_questions.specs.Answers.{Answers}
 use Rattle.injection_order.specs.Injections.{due_before, goes_before, turn_of, is_undelivered, sooner, first_undelivered, goes_first, if_first}
 use Rattle.event_set.specs.declared.pending.Pending.{Pending}
 use Rattle.run_semantics.specs.Laws.{Each, AreInOrder}
@@ -120,14 +120,14 @@ ahead_at_zero last (i ∷ is) = ((λ x. omega arith), ahead_at_zero last is)
 
 -- An event may come next, where the clock is at that time and these events are to come: it is not late, and neither the events that
 -- are left nor the injections are due before it; it is one of the events to come, or none of them.
-pub record MayCome (m : Model) (time : ℕ) (ps : List Pending) (u : World) (p : Pending) (rest : List Pending) : Type 0 where
+pub record MayCome (m : Answers) (time : ℕ) (ps : List Pending) (u : World) (p : Pending) (rest : List Pending) : Type 0 where
   pub due : time ≤ p.time
   pub later : Each (λ g. p.time ≤ g.time) rest
   pub ahead : IsAhead p.time u.delivered m.injections
   pub left : (rest ≡ ps) ⊎ (ps ≡ p ∷ rest)
 
 -- where an event comes, it may
-abbrev pub ComesWell : Model → ℕ → List Pending → Upcoming → Type 0
+abbrev pub ComesWell : Answers → ℕ → List Pending → Upcoming → Type 0
 ComesWell m time ps (Comes u p rest) = MayCome m time ps u p rest
 ComesWell m time ps (Nothing u) = Unit {0}
 
@@ -136,7 +136,7 @@ after_first : (p : Pending) (rest : List Pending) → AreInOrder (p ∷ rest) �
 after_first p rest order = each_map _ (λ g. p.time ≤ g.time) rest (λ g b. before_time p g b) order.0
 
 -- the first of the events to come, where no injection is due before it
-first_well : (m : Model) (time : ℕ) (ps : List Pending) (u : World) → AreInOrder ps → Each (λ g. time ≤ g.time) ps → ((p : Pending) (rest : List Pending) → ps ≡ p ∷ rest → IsAhead p.time u.delivered m.injections) → ComesWell m time ps (first_of u ps)
+first_well : (m : Answers) (time : ℕ) (ps : List Pending) (u : World) → AreInOrder ps → Each (λ g. time ≤ g.time) ps → ((p : Pending) (rest : List Pending) → ps ≡ p ∷ rest → IsAhead p.time u.delivered m.injections) → ComesWell m time ps (first_of u ps)
 first_well m time [] u order due ahead = tt
 first_well m time (p ∷ rest) u order due ahead = record { due = due.0; later = after_first p rest order; ahead = ahead p rest refl; left = inr refl }
 
@@ -152,12 +152,12 @@ stays_later : (i : Injection) (p : Pending) → goes_first (Some (record { time 
 stays_later i p h = behind_due i.due (record { time = p.time; priority = p.priority }) h
 
 -- an injection goes first
-aimed_well : (m : Model) (time : ℕ) (ps : List Pending) (u : World) (go_on : World → Upcoming) (i : Injection) (target : Option ℕ) → ComesWell m time ps (go_on (delivered i u)) → time ≤ i.due.time → Each (λ g. i.due.time ≤ g.time) ps → ComesWell m time ps (aimed go_on (delivered i u) ps i target)
+aimed_well : (m : Answers) (time : ℕ) (ps : List Pending) (u : World) (go_on : World → Upcoming) (i : Injection) (target : Option ℕ) → ComesWell m time ps (go_on (delivered i u)) → time ≤ i.due.time → Each (λ g. i.due.time ≤ g.time) ps → ComesWell m time ps (aimed go_on (delivered i u) ps i target)
 aimed_well m time ps u go_on i None f h later = f
 aimed_well m time ps u go_on i (Some id) f h later = record { due = h; later = later; ahead = ahead_of_delivered i.due.time i m.injections (omega arith); left = inl refl }
 
 -- the first injection that is left, where there is one
-chosen_well : (m : Model) (time : ℕ) (ps : List Pending) (u : World) (go_on : World → Upcoming) (found : Option Injection) → AreInOrder ps → Each (λ g. time ≤ g.time) ps → first_undelivered u.delivered m.injections ≡ found → NotSooner time found → ((i : Injection) → time ≤ i.due.time → ComesWell m time ps (go_on (delivered i u))) → ComesWell m time ps (chosen go_on u ps (answer.Injection (if_first (first_due ps) found)))
+chosen_well : (m : Answers) (time : ℕ) (ps : List Pending) (u : World) (go_on : World → Upcoming) (found : Option Injection) → AreInOrder ps → Each (λ g. time ≤ g.time) ps → first_undelivered u.delivered m.injections ≡ found → NotSooner time found → ((i : Injection) → time ≤ i.due.time → ComesWell m time ps (go_on (delivered i u))) → ComesWell m time ps (chosen go_on u ps (answer.Injection (if_first (first_due ps) found)))
 chosen_well m time ps u go_on None order due e h f =
     first_well m time ps u order due (λ p rest s. ahead_of_first p.time u.delivered m.injections (subst (NotSooner p.time) (sym e) tt))
 chosen_well m time ps u go_on (Some i) order due e h f = by (goes_first (first_due ps) i) refl
@@ -168,13 +168,13 @@ chosen_well m time ps u go_on (Some i) order due e h f = by (goes_first (first_d
         first_well m time ps u order due (λ p rest s. ahead_of_first p.time u.delivered m.injections (subst (NotSooner p.time) (sym e) (stays_later i p (subst (λ (qs : List Pending). goes_first (first_due qs) i ≡ false) s g))))
 
 -- where so many injections may be discarded
-coming_well : (left : ℕ) (m : Model) (time : ℕ) (ps : List Pending) (v : World) → AreInOrder ps → Each (λ g. time ≤ g.time) ps → IsAhead time v.delivered m.injections → ComesWell m time ps (upcoming_in left m ps v)
+coming_well : (left : ℕ) (m : Answers) (time : ℕ) (ps : List Pending) (v : World) → AreInOrder ps → Each (λ g. time ≤ g.time) ps → IsAhead time v.delivered m.injections → ComesWell m time ps (upcoming_in left m ps v)
 coming_well zero m time ps v order due ahead = tt
 coming_well (suc left) m time ps v order due ahead =
     chosen_well m time ps (asked_next (InjectionBefore (first_due ps) v.delivered) v) (upcoming_in left m ps) (first_undelivered v.delivered m.injections) order due refl (first_ahead time v.delivered m.injections ahead)
     (λ i h. coming_well left m time ps _ order due (ahead_of_delivered time i m.injections h))
 
 -- what comes next
-pub upcoming_well : (m : Model) (w : World) → AreInOrder w.pending → Each (λ g. w.clock ≤ g.time) w.pending → IsAhead w.clock w.delivered m.injections → ComesWell m w.clock w.pending (upcoming m w)
+pub upcoming_well : (m : Answers) (w : World) → AreInOrder w.pending → Each (λ g. w.clock ≤ g.time) w.pending → IsAhead w.clock w.delivered m.injections → ComesWell m w.clock w.pending (upcoming m w)
 unfolding upcoming
 upcoming_well m w order due ahead = coming_well (suc most_injections) m w.clock w.pending w order due ahead

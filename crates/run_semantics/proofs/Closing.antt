@@ -6,7 +6,7 @@ use Rattle.module_api.specs.declared.reply.Reply.{Reply}
 use Rattle.module_api.specs.declared.call.Prompt.TheVariants as prompt
 use Rattle.module_api.specs.Behaviour.{Behaviour}
 use Rattle.module_api.specs.Names.{is_scalar_name}
-use Rattle.model_answers.specs.declared.model.Model.{Model}
+use Rattle.run_questions.specs.Answers.{Answers}
 use Rattle.run_semantics.specs.declared.outcome.Fault.{Fault}
 use Rattle.run_semantics.specs.declared.outcome.Fault.TheVariants as fault
 use Rattle.run_semantics.specs.declared.outcome.Outcome.{Outcome}
@@ -78,10 +78,10 @@ unless_closed : (id : ℕ) (found : Option Fault) (go : World → Flow) (w : Wor
 unless_closed id (Some f) go w h = closed_same w
 unless_closed id None go w h = h
 
-answered_closed : (m : Model) (id : ℕ) (reply : Reply) (w : World) → IsClosed w (in_flow (answered_last m id reply w))
+answered_closed : (m : Answers) (id : ℕ) (reply : Reply) (w : World) → IsClosed w (in_flow (answered_last m id reply w))
 answered_closed m id reply w = unless_closed id (read_fault m w.records id reply.reads) (acted_last id reply.actions) w (acted_closed id reply.actions w)
 
-called_closed : (b : Behaviour) (m : Model) (id : ℕ) (w : World) (found : Option Instance) → IsClosed w (in_flow (called_last b m id w found))
+called_closed : (b : Behaviour) (m : Answers) (id : ℕ) (w : World) (found : Option Instance) → IsClosed w (in_flow (called_last b m id w found))
 called_closed b m id w None = closed_same w
 called_closed b m id w (Some i) =
     let r = (b.naming i.kind).reply i.state (call_of m id prompt.Finish w) in
@@ -89,10 +89,10 @@ called_closed b m id w (Some i) =
     (record { questions = refl; records = refl; count = refl; live = refl; started = refl; finished = on_same w.finished; emissions = on_same w.emissions; scalars = on_same w.scalars })
     (answered_closed m id r.reply (changed id r.state w))
 
-finish_closed : (b : Behaviour) (m : Model) (p : Part) (w : World) → IsClosed w (in_flow (finish b m p w))
+finish_closed : (b : Behaviour) (m : Answers) (p : Part) (w : World) → IsClosed w (in_flow (finish b m p w))
 finish_closed b m p w = closed_then w (call_last b m p.id w) _ (called_closed b m p.id w (instance_in p.id w.modules)) (closed_marked p.id)
 
-finish_all_closed : (b : Behaviour) (m : Model) (ps : List Part) (w : World) → IsClosed w (in_flow (finish_all b m ps w))
+finish_all_closed : (b : Behaviour) (m : Answers) (ps : List Part) (w : World) → IsClosed w (in_flow (finish_all b m ps w))
 finish_all_closed b m [] w = closed_marked 1 w
 finish_all_closed b m (p ∷ ps) w = closed_then w (finish b m p w) (finish_all b m ps) (finish_closed b m p w) (finish_all_closed b m ps)
 
@@ -105,7 +105,7 @@ either_ran : (c : Bool) (x y : Ran) (w : World) → IsClosed w x.world → IsClo
 either_ran true x y w f g = f
 either_ran false x y w f g = g
 
-pub ending_closed : (b : Behaviour) (m : Model) (ran : Ran) → IsClosed ran.world (ending b m ran).world
+pub ending_closed : (b : Behaviour) (m : Answers) (ran : Ran) → IsClosed ran.world (ending b m ran).world
 ending_closed b m ran =
     either_ran (is_fault ran.outcome) ran (concluded ran.outcome (finish_all b m (standing ran.world.modules) ran.world)) ran.world (closed_same ran.world)
     (concluded_closed ran.outcome (finish_all b m (standing ran.world.modules) ran.world) ran.world (finish_all_closed b m (standing ran.world.modules) ran.world))

@@ -2,12 +2,11 @@
 use Rattle.std.proofs.Common.{◌≡◌, ℕ, zero, suc, ◌+◌, ◌≤◌, nat_lt, Bool, true, false, List, [], ◌∷◌, Option, Some, None, refl, sym, ◌∙◌, ap, arith, slice_get, if◌then◌else◌}
 use Rattle.module_api.specs.Behaviour.{Behaviour}
 use Rattle.module_api.specs.declared.call.Prompt.TheVariants as prompt
-use Rattle.model_answers.specs.declared.answer.Answer.{Answer}
-use Rattle.model_answers.specs.declared.answer.Answer.TheVariants as answer
-use Rattle.model_answers.specs.declared.answer.Built.{Built}
-use Rattle.model_answers.specs.declared.answer.Question.TheVariants.{Root, Build}
-use Rattle.model_answers.specs.declared.model.Model.{Model}
-use Rattle.model_answers.specs.Answering.{answer_of}
+use Rattle.run_questions.specs.declared.answer.Answer.{Answer}
+use Rattle.run_questions.specs.declared.answer.Answer.TheVariants as answer
+use Rattle.run_questions.specs.declared.answer.Built.{Built}
+use Rattle.run_questions.specs.declared.answer.Question.TheVariants.{Root, Build}
+use Rattle.run_questions.specs.Answers.{Answers, answer_of}
 use Rattle.run_semantics.specs.declared.outcome.Outcome.{Outcome}
 use Rattle.run_semantics.specs.declared.outcome.Outcome.TheVariants.{Ended, TimeLimit}
 use Rattle.event_set.specs.declared.pending.Pending.{Pending}
@@ -52,7 +51,7 @@ built_count parent (answer.Beyond beyond) w = refl
 built_count parent (answer.Injection next) w = refl
 built_count parent answer.Absent w = refl
 
-pub prepared_count : (m : Model) → (in_flow (prepared m)).count ≡ 0
+pub prepared_count : (m : Answers) → (in_flow (prepared m)).count ≡ 0
 prepared_count m =
     then_count 0 (root_asked m) (inside_asked m) (root_count (answer_of m [] Root) (asked Root empty))
     (λ w e. built_count 1 (answer_of m w.records (Build 1)) (asked (Build 1) w) ∙ e)
@@ -66,24 +65,24 @@ place_all_count : (b : Behaviour) (n : ℕ) (ps : List Part) (w : World) → w.c
 place_all_count b n [] w e = e
 place_all_count b n (p ∷ ps) w e = then_count n (place b p w) (place_all b ps) (place_count b p w ∙ e) (place_all_count b n ps)
 
-pub ready_count : (b : Behaviour) (m : Model) → (in_flow (ready b m)).count ≡ 0
+pub ready_count : (b : Behaviour) (m : Answers) → (in_flow (ready b m)).count ≡ 0
 ready_count b m = then_count 0 (prepared m) (place_parts b) (prepared_count m) (λ w e. place_all_count b 0 (parts_of w) w e)
 
-initialize_count : (b : Behaviour) (m : Model) (stage : ℕ) (p : Part) (w : World) → (in_flow (initialize b m stage p w)).count ≡ w.count
+initialize_count : (b : Behaviour) (m : Answers) (stage : ℕ) (p : Part) (w : World) → (in_flow (initialize b m stage p w)).count ≡ w.count
 initialize_count b m stage p w =
     either_count w.count (nat_lt stage (b.naming p.kind).stages) _ _ (call_keeps b m p.id (prompt.Initialize stage) w).count refl
 
-one_stage_count : (b : Behaviour) (m : Model) (stage n : ℕ) (ps : List Part) (w : World) → w.count ≡ n → (in_flow (one_stage b m stage ps w)).count ≡ n
+one_stage_count : (b : Behaviour) (m : Answers) (stage n : ℕ) (ps : List Part) (w : World) → w.count ≡ n → (in_flow (one_stage b m stage ps w)).count ≡ n
 one_stage_count b m stage n [] w e = e
 one_stage_count b m stage n (p ∷ ps) w e =
     then_count n (initialize b m stage p w) (one_stage b m stage ps) (initialize_count b m stage p w ∙ e) (one_stage_count b m stage n ps)
 
-stages_count : (b : Behaviour) (m : Model) (ps : List Part) (n stage left : ℕ) (w : World) → w.count ≡ n → (in_flow (stages_from b m ps stage left w)).count ≡ n
+stages_count : (b : Behaviour) (m : Answers) (ps : List Part) (n stage left : ℕ) (w : World) → w.count ≡ n → (in_flow (stages_from b m ps stage left w)).count ≡ n
 stages_count b m ps n stage zero w e = e
 stages_count b m ps n stage (suc left) w e =
     then_count n (one_stage b m stage ps w) (stages_from b m ps (suc stage) left) (one_stage_count b m stage n ps w e) (stages_count b m ps n (suc stage) left)
 
-initialize_all_count : (b : Behaviour) (m : Model) (w : World) → w.count ≡ 0 → (in_flow (initialize_all b m w)).count ≡ 0
+initialize_all_count : (b : Behaviour) (m : Answers) (w : World) → w.count ≡ 0 → (in_flow (initialize_all b m w)).count ≡ 0
 initialize_all_count b m w e = stages_count b m (standing w.modules) 0 0 (most_stages b (standing w.modules)) (with_started w) e
 
 pub settled_count : (fl : Flow) → (world_at (settled fl)).count ≡ (in_flow fl).count
@@ -91,13 +90,13 @@ settled_count (On w) = refl
 settled_count (Stopped w) = refl
 settled_count (Broken w path f) = refl
 
-pub start_count : (b : Behaviour) (m : Model) → (world_at (start b m)).count ≡ 0
+pub start_count : (b : Behaviour) (m : Answers) → (world_at (start b m)).count ≡ 0
 start_count b m =
     settled_count (ready b m >>= initialize_all b m) ∙ then_count 0 (ready b m) (initialize_all b m) (ready_count b m) (initialize_all_count b m)
 
 -- ---- events
 
-pub event_count : (b : Behaviour) (m : Model) (p : Pending) (rest : List Pending) (w : World) → (in_flow (event b m p rest w)).count ≡ w.count + 1
+pub event_count : (b : Behaviour) (m : Answers) (p : Pending) (rest : List Pending) (w : World) → (in_flow (event b m p rest w)).count ≡ w.count + 1
 event_count b m p rest w = (call_keeps b m p.id (prompt.Message (message_of p)) (begun p rest w)).count
 
 either_at_most : (n : ℕ) (c : Bool) (s t : Stage) → (world_at s).count ≤ n → (world_at t).count ≤ n → (world_at (if c then s else t)).count ≤ n
@@ -105,20 +104,20 @@ either_at_most n true s t h k = h
 either_at_most n false s t h k = k
 
 -- what comes next finds the count as it was
-pub upcoming_count : (m : Model) (w : World) → (beside (upcoming m w)).count ≡ w.count
+pub upcoming_count : (m : Answers) (w : World) → (beside (upcoming m w)).count ≡ w.count
 upcoming_count m w = looked_count w (beside (upcoming m w)) (upcoming_looks m w)
 
-went_count : (b : Behaviour) (m : Model) (w : World) (up : Upcoming) → (beside up).count ≡ w.count → (world_at (went b m w up)).count ≤ w.count + 1
+went_count : (b : Behaviour) (m : Answers) (w : World) (up : Upcoming) → (beside up).count ≡ w.count → (world_at (went b m w up)).count ≤ w.count + 1
 went_count b m w (Nothing u) e = omega arith
 went_count b m w (Comes u p rest) e =
     either_at_most (w.count + 1) (is_after_limit m u.records p) (Over w TimeLimit) (settled (event b m p rest u)) (omega arith) (omega (arith, e, settled_count (event b m p rest u), event_count b m p rest u))
 
-pub next_count : (b : Behaviour) (m : Model) (s : Stage) → (world_at (next_stage b m s)).count ≤ (world_at s).count + 1
+pub next_count : (b : Behaviour) (m : Answers) (s : Stage) → (world_at (next_stage b m s)).count ≤ (world_at s).count + 1
 next_count b m (Running w) = either_at_most (w.count + 1) w.ended _ _ (omega arith) (went_count b m w (upcoming m w) (upcoming_count m w))
 next_count b m (Over w outcome) = omega arith
 
 -- after n turns at most n events were executed
-pub count_at_most : (b : Behaviour) (m : Model) (n : ℕ) → (world_at (after b m n)).count ≤ n
+pub count_at_most : (b : Behaviour) (m : Answers) (n : ℕ) → (world_at (after b m n)).count ≤ n
 count_at_most b m zero = omega (arith, start_count b m)
 count_at_most b m (suc n) = omega (arith, next_count b m (after b m n), count_at_most b m n)
 
@@ -140,14 +139,14 @@ either_runs true n w outcome s f u e = cc
 either_runs false n w outcome s f u e = f u e
 
 -- the next event is counted
-went_runs : (b : Behaviour) (m : Model) (w : World) (up : Upcoming) → (beside up).count ≡ w.count → RunsOn (w.count + 1) (went b m w up)
+went_runs : (b : Behaviour) (m : Answers) (w : World) (up : Upcoming) → (beside up).count ≡ w.count → RunsOn (w.count + 1) (went b m w up)
 went_runs b m w (Nothing v) same u e = cc
 went_runs b m w (Comes v p rest) same u e =
     let more = either_runs (is_after_limit m v.records p) (v.count + 1) w TimeLimit (settled (event b m p rest v)) (settled_runs (v.count + 1) (event b m p rest v) (event_count b m p rest v)) u e in
     omega (arith, same, more)
 
 -- one turn of a run
-next_runs : (b : Behaviour) (m : Model) (n : ℕ) (s : Stage) → RunsOn n s → RunsOn (suc n) (next_stage b m s)
+next_runs : (b : Behaviour) (m : Answers) (n : ℕ) (s : Stage) → RunsOn n s → RunsOn (suc n) (next_stage b m s)
 next_runs b m n (Running w) f u e =
     let at = f w refl in
     let more = either_runs w.ended (w.count + 1) w Ended (went b m w (upcoming m w)) (went_runs b m w (upcoming m w) (upcoming_count m w)) u e in
@@ -155,10 +154,10 @@ next_runs b m n (Running w) f u e =
 next_runs b m n (Over w outcome) f u e = cc
 
 -- after n turns a run that goes on has executed n events
-pub runs_on : (b : Behaviour) (m : Model) (n : ℕ) → RunsOn n (after b m n)
+pub runs_on : (b : Behaviour) (m : Answers) (n : ℕ) → RunsOn n (after b m n)
 runs_on b m zero u e = ap (λ (s : Stage). (world_at s).count) (sym e) ∙ start_count b m
 runs_on b m (suc n) u e = next_runs b m n (after b m n) (runs_on b m n) u e
 
 -- it got as far as event n
-pub reached_after : (b : Behaviour) (m : Model) (n : ℕ) (w : World) → after b m n ≡ Running w → IsReached (after b m n) n
+pub reached_after : (b : Behaviour) (m : Answers) (n : ℕ) (w : World) → after b m n ≡ Running w → IsReached (after b m n) n
 reached_after b m n w e = ap (λ (s : Stage). (world_at s).count) e ∙ runs_on b m n w e

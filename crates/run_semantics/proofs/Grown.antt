@@ -1,13 +1,12 @@
 -- Runs grow, and call only modules that were started.
 use Rattle.std.proofs.Common.{◌≡◌, inl, inr, ⊎_elim, ℕ, zero, suc, ◌+◌, ◌≤◌, ◌<◌, ◌==◌, cond, Bool, true, false, List, [], ◌∷◌, ◌++◌, Option, Some, None, IsSome, refl, sym, ap, ◌∙◌, arith, subst, append-nil, slice_get, length, map, if◌then◌else◌, true≢false, eq-eqb, eq-or-lt_of_le}
 use Rattle.module_api.specs.Behaviour.{Behaviour}
-use Rattle.model_answers.specs.declared.answer.Answer.{Answer}
-use Rattle.model_answers.specs.declared.answer.Answer.TheVariants as answer
-use Rattle.model_answers.specs.declared.answer.Built.{Built}
-use Rattle.model_answers.specs.declared.answer.Question.TheVariants.{Root, Build}
-use Rattle.model_answers.specs.declared.model.Model.{Model}
-use Rattle.model_answers.specs.declared.record.Record.{Record}
-use Rattle.model_answers.specs.Answering.{answer_of}
+use Rattle.run_questions.specs.declared.answer.Answer.{Answer}
+use Rattle.run_questions.specs.declared.answer.Answer.TheVariants as answer
+use Rattle.run_questions.specs.declared.answer.Built.{Built}
+use Rattle.run_questions.specs.declared.answer.Question.TheVariants.{Root, Build}
+use Rattle.run_questions.specs.Answers.{Answers, answer_of}
+use Rattle.run_questions.specs.declared.record.Record.{Record}
 use Rattle.run_semantics.specs.declared.outcome.Outcome.{Outcome}
 use Rattle.run_semantics.specs.declared.traces.Instance.{Instance}
 use Rattle.run_semantics.specs.World.{World, empty, asked}
@@ -39,14 +38,14 @@ grown_on u v w f g = record {
 }
 
 -- one turn of a run
-grown_next : (b : Behaviour) (m : Model) (n : ℕ) → HasGrown (world_at (after b m n)) (world_at (after b m (suc n)))
+grown_next : (b : Behaviour) (m : Answers) (n : ℕ) → HasGrown (world_at (after b m n)) (world_at (after b m (suc n)))
 grown_next b m n =
     let f = after_follows b m n in
     let l = after_later b m n in
     record { clock = f.clock; count = f.count; next = f.next; records = (l.more, l.records); emissions = f.emissions; scalars = f.scalars; questions = (l.rest, l.joined) }
 
 -- a run of more events has grown
-pub grown_after : (b : Behaviour) (m : Model) (n k : ℕ) → n ≤ k → HasGrown (world_at (after b m n)) (world_at (after b m k))
+pub grown_after : (b : Behaviour) (m : Answers) (n k : ℕ) → n ≤ k → HasGrown (world_at (after b m n)) (world_at (after b m k))
 grown_after b m n zero h = let e : n ≡ zero = omega arith in subst (λ i. HasGrown (world_at (after b m n)) (world_at (after b m i))) e (grown_same (world_at (after b m n)))
 grown_after b m n (suc k) h =
     ⊎_elim
@@ -65,11 +64,11 @@ alike_on : (u v w : World) → LiveAlike u v → LiveAlike v w → LiveAlike u w
 alike_on u v w f g = (g.0 ∙ f.0, g.1 ∙ f.1)
 
 -- one turn of a run
-alike_next : (b : Behaviour) (m : Model) (n : ℕ) → LiveAlike (world_at (after b m n)) (world_at (after b m (suc n)))
+alike_next : (b : Behaviour) (m : Answers) (n : ℕ) → LiveAlike (world_at (after b m n)) (world_at (after b m (suc n)))
 alike_next b m n = let f = after_follows b m n in (f.live, f.started)
 
 -- so it is in a run of more events
-pub alike_after : (b : Behaviour) (m : Model) (n k : ℕ) → n ≤ k → LiveAlike (world_at (after b m n)) (world_at (after b m k))
+pub alike_after : (b : Behaviour) (m : Answers) (n k : ℕ) → n ≤ k → LiveAlike (world_at (after b m n)) (world_at (after b m k))
 alike_after b m n zero h = let e : n ≡ zero = omega arith in subst (λ i. LiveAlike (world_at (after b m n)) (world_at (after b m i))) e (alike_same (world_at (after b m n)))
 alike_after b m n (suc k) h =
     ⊎_elim
@@ -138,11 +137,11 @@ built_built parent (answer.Injection next) w f = tt
 built_built parent answer.Absent w f = tt
 
 -- the second question, and what follows it
-inside_built : (m : Model) (w : World) → IsBuilt w → OnlyOn IsBuilt (inside_asked m w)
+inside_built : (m : Answers) (w : World) → IsBuilt w → OnlyOn IsBuilt (inside_asked m w)
 inside_built m w f = built_built 1 (answer_of m w.records (Build 1)) (asked (Build 1) w) (record { live = f.live; modules = f.modules })
 
 -- so it is after setup
-prepared_built : (m : Model) → OnlyOn IsBuilt (prepared m)
+prepared_built : (m : Answers) → OnlyOn IsBuilt (prepared m)
 prepared_built m = only_then IsBuilt IsBuilt (root_asked m) (inside_asked m) (root_built (answer_of m [] Root)) (inside_built m)
 
 -- exactly the simple modules that were created stand, and all that were created live
@@ -183,7 +182,7 @@ place_parts_ready b w f = by (place_parts b w) (place_all_stands b (parts_of w) 
     by (Broken v path fault) h = tt
 
 -- so it is when all boxes are there
-ready_ready : (b : Behaviour) (m : Model) → OnlyOn IsReady (ready b m)
+ready_ready : (b : Behaviour) (m : Answers) → OnlyOn IsReady (ready b m)
 ready_ready b m = only_then IsBuilt IsReady (prepared m) (place_parts b) (prepared_built m) (place_parts_ready b)
 
 -- the ids of parts are those of records
@@ -232,7 +231,7 @@ settled_started (Stopped w) f = f
 settled_started (Broken w path fault) f = tt
 
 -- the modules are started before the first of them is called
-begin_started : (b : Behaviour) (m : Model) (fl : Flow) → IsOrderly (in_flow fl) → OnlyOn IsReady fl → IfRunning AreStarted (settled (fl >>= initialize_all b m))
+begin_started : (b : Behaviour) (m : Answers) (fl : Flow) → IsOrderly (in_flow fl) → OnlyOn IsReady fl → IfRunning AreStarted (settled (fl >>= initialize_all b m))
 begin_started b m (On w) f h =
     let g = initialize_all_leads b m w f in
     let at_first : AreStarted (with_started w) = record { parts = h.parts; modules = ready_lives w h; live = refl } in
@@ -241,13 +240,13 @@ begin_started b m (Stopped w) f h = absurd h
 begin_started b m (Broken w path fault) f h = tt
 
 -- one turn of a run leaves it
-next_started : (m : Model) (s t : Stage) → Follows m (world_at s) (world_at t) → ((w : World) (outcome : Outcome) → s ≡ Over w outcome → IfRunning AreStarted t) → IfRunning AreStarted s → IfRunning AreStarted t
+next_started : (m : Answers) (s t : Stage) → Follows m (world_at s) (world_at t) → ((w : World) (outcome : Outcome) → s ≡ Over w outcome → IfRunning AreStarted t) → IfRunning AreStarted s → IfRunning AreStarted t
 next_started m (Running v) (Running w) g k f = started_kept v w g.records g.same g.started g.live f
 next_started m (Running v) (Over w outcome) g k f = tt
 next_started m (Over v outcome) t g k f = k v outcome refl
 
 -- so it is in each run that goes on
-started_after : (b : Behaviour) (m : Model) (n : ℕ) → IfRunning AreStarted (after b m n)
+started_after : (b : Behaviour) (m : Answers) (n : ℕ) → IfRunning AreStarted (after b m n)
 started_after b m zero = begin_started b m (ready b m) (orderly_none (in_flow (ready b m)) (ready_none b m).0) (ready_ready b m)
 started_after b m (suc n) = next_started m (after b m n) (after b m (suc n)) (after_follows b m n) (λ w outcome e. rw e tt) (started_after b m n)
 
@@ -276,18 +275,18 @@ can_be_called w id f h =
     record { found = found_in id w.modules h; started = started; live = subst (IsAmong id) f.live started }
 
 -- in a run that goes on exactly the simple modules that were created stand
-pub parts_after : (b : Behaviour) (m : Model) (n : ℕ) (w : World) → after b m n ≡ Running w → standing w.modules ≡ parts_of w
+pub parts_after : (b : Behaviour) (m : Answers) (n : ℕ) (w : World) → after b m n ≡ Running w → standing w.modules ≡ parts_of w
 parts_after b m n w e = let g : AreStarted w = subst (IfRunning AreStarted) e (started_after b m n) in g.parts
 
 -- in a run that goes on each event to come is for a module that can be called
-pub called_after : (b : Behaviour) (m : Model) (n : ℕ) (w : World) → after b m n ≡ Running w → Each (λ e. CanBeCalled w e.id) w.pending
+pub called_after : (b : Behaviour) (m : Answers) (n : ℕ) (w : World) → after b m n ≡ Running w → Each (λ e. CanBeCalled w e.id) w.pending
 called_after b m n w e =
     let f : IsOrderly w = subst (λ s. IsOrderly (world_at s)) e (orderly_after b m n) in
     let g : AreStarted w = subst (IfRunning AreStarted) e (started_after b m n) in
     each_map (λ x. IsAmong x.id (ids_of w.modules)) (λ x. CanBeCalled w x.id) w.pending (λ x h. can_be_called w x.id g h) f.modules
 
 -- and each event to come in any world is for a module that a call finds
-pub found_after : (b : Behaviour) (m : Model) (n : ℕ) → Each (λ e. IsSome (instance_in e.id (world_at (after b m n)).modules)) (world_at (after b m n)).pending
+pub found_after : (b : Behaviour) (m : Answers) (n : ℕ) → Each (λ e. IsSome (instance_in e.id (world_at (after b m n)).modules)) (world_at (after b m n)).pending
 found_after b m n =
     let w : World = world_at (after b m n) in
     each_map (λ x. IsAmong x.id (ids_of w.modules)) (λ x. IsSome (instance_in x.id w.modules)) w.pending (λ x h. found_in x.id w.modules h) (orderly_after b m n).modules

@@ -1,5 +1,5 @@
 -- What parts of an event add to a world: questions, and modules.
-use Rattle.std.proofs.Common.{◌≡◌, ℕ, zero, suc, ◌+◌, ◌≤◌, ◌==◌, cond, Bool, true, false, List, [], ◌∷◌, ◌++◌, Option, Some, None, refl, sym, ap, ◌∙◌, arith, subst, append_assoc, append-nil, length-append, slice_get, slice_set, length, map, if◌then◌else◌, nat_lt, eqb-true}
+use Rattle.std.proofs.Common.{◌≡◌, ℕ, zero, suc, ◌+◌, ◌≤◌, ◌==◌, cond, Bool, true, false, List, [], ◌∷◌, ◌++◌, Option, Some, None, refl, sym, ap, ◌∙◌, arith, subst, append_assoc, append-nil, length-append, slice_get, length, map, if◌then◌else◌, nat_lt, eqb-true}
 use Rattle.sim_time.specs.Time.{time_sum}
 use Rattle.module_api.specs.Behaviour.{Behaviour, Replied}
 use Rattle.module_api.specs.declared.call.Prompt.{Prompt}
@@ -10,15 +10,14 @@ use Rattle.module_api.specs.declared.reply.Action.TheVariants.{Emit, RecordScala
 use Rattle.module_api.specs.declared.reply.Read.{Read}
 use Rattle.module_api.specs.declared.reply.Read.TheVariants as read
 use Rattle.module_api.specs.declared.reply.Schedule.{Schedule}
-use Rattle.model_answers.specs.declared.answer.Answer.{Answer}
-use Rattle.model_answers.specs.declared.answer.Answer.TheVariants as answer
-use Rattle.model_answers.specs.declared.answer.Asked.{Asked}
-use Rattle.model_answers.specs.declared.answer.Built.{Built}
-use Rattle.model_answers.specs.declared.answer.Question.{Question}
-use Rattle.model_answers.specs.declared.answer.Question.TheVariants.{Root, Build}
-use Rattle.model_answers.specs.declared.model.Model.{Model}
-use Rattle.model_answers.specs.declared.record.Record.{Record}
-use Rattle.model_answers.specs.Answering.{answer_of}
+use Rattle.run_questions.specs.declared.answer.Answer.{Answer}
+use Rattle.run_questions.specs.declared.answer.Answer.TheVariants as answer
+use Rattle.run_questions.specs.declared.answer.Asked.{Asked}
+use Rattle.run_questions.specs.declared.answer.Built.{Built}
+use Rattle.run_questions.specs.declared.answer.Question.{Question}
+use Rattle.run_questions.specs.declared.answer.Question.TheVariants.{Root}
+use Rattle.run_questions.specs.Answers.{Answers, answer_of}
+use Rattle.run_questions.specs.declared.record.Record.{Record}
 use Rattle.run_semantics.specs.declared.outcome.Fault.{Fault}
 use Rattle.run_semantics.specs.declared.traces.Instance.{Instance}
 use Rattle.run_semantics.specs.World.{World, empty, asked, is_asked, timed}
@@ -27,7 +26,7 @@ use Rattle.run_semantics.specs.Perform.{Flow, On, Stopped, Broken, ◌>>=◌, as
 use Rattle.run_semantics.specs.Event.{call_of, instance_in, with_state, changed, replied, called, call_module, event}
 use Rattle.run_semantics.specs.Run.{rooted, record_under, built, unless_many, Part, with_class, parts_from, parts_of, place, place_all, place_parts, standing, most_stages, initialize, one_stage, stages_from, initialize_all, with_started}
 use Rattle.run_semantics.proofs.Sound.{in_flow}
-use Rattle.model_answers.proofs.AnswerLemmas.{AreNested, about}
+use Rattle.run_questions.proofs.AnswerLemmas.{AreNested, about}
 
 -- ---- worlds whose ids are those of records
 
@@ -214,7 +213,7 @@ asked_grows q w f l = by (is_asked q w.questions)
     by false = more_grows q w f l
 
 -- a question, and what follows it
-pub asking_grows : (m : Model) (q : Question) (next : Answer → World → Flow) (w : World) → Fits w → about q ≤ length w.records → ((a : Answer) → Fits (asked q w) → IsGrown (asked q w) (in_flow (next a (asked q w)))) → IsGrown w (in_flow (asking m q next w))
+pub asking_grows : (m : Answers) (q : Question) (next : Answer → World → Flow) (w : World) → Fits w → about q ≤ length w.records → ((a : Answer) → Fits (asked q w) → IsGrown (asked q w) (in_flow (next a (asked q w)))) → IsGrown w (in_flow (asking m q next w))
 asking_grows m q next w f l h = let g = asked_grows q w f l in grown_on g (h (answer_of m w.records q) g.fits)
 
 -- a read is about the module that replied
@@ -253,7 +252,7 @@ fits_changed id state w f = record {
 }
 
 -- what follows a reply asks for its reads
-pub replied_grows : (m : Model) (id : ℕ) (r : Replied) (w : World) → Fits w → id ≤ length w.records → IsGrown w (in_flow (replied m id r w))
+pub replied_grows : (m : Answers) (id : ℕ) (r : Replied) (w : World) → Fits w → id ≤ length w.records → IsGrown w (in_flow (replied m id r w))
 replied_grows m id r w f l =
     let v : World = changed id r.state w in
     let asks = ask_all_grows id r.reply.reads v (fits_changed id r.state w f) l in
@@ -265,12 +264,12 @@ pub within_of_found : (id : ℕ) (i : Instance) (w : World) → Fits w → insta
 within_of_found id i w f e = found_within (length w.records) id w.modules i f.modules e
 
 -- so does a call of a module that may stand
-called_grows : (b : Behaviour) (m : Model) (id : ℕ) (p : Prompt) (w : World) (found : Option Instance) → Fits w → instance_in id w.modules ≡ found → IsGrown w (in_flow (called b m id p w found))
+called_grows : (b : Behaviour) (m : Answers) (id : ℕ) (p : Prompt) (w : World) (found : Option Instance) → Fits w → instance_in id w.modules ≡ found → IsGrown w (in_flow (called b m id p w found))
 called_grows b m id p w None f e = grown_same w f
 called_grows b m id p w (Some i) f e = replied_grows m id ((b.naming i.kind).reply i.state (call_of m id p w)) w f (within_of_found id i w f e)
 
 -- one call
-pub call_grows : (b : Behaviour) (m : Model) (id : ℕ) (p : Prompt) (w : World) → Fits w → IsGrown w (in_flow (call_module b m id p w))
+pub call_grows : (b : Behaviour) (m : Answers) (id : ℕ) (p : Prompt) (w : World) → Fits w → IsGrown w (in_flow (call_module b m id p w))
 call_grows b m id p w f = called_grows b m id p w (instance_in id w.modules) f refl
 
 -- ---- boxes and initialization
@@ -323,21 +322,21 @@ pub place_parts_grows : (b : Behaviour) (w : World) → Fits w → IsGrown w (in
 place_parts_grows b w f = place_all_grows b (length w.records) (parts_of w) w (parts_within 1 w.records (length w.records) (omega arith)) f (omega arith)
 
 -- one module is initialized, where it has the stage
-initialize_grows : (b : Behaviour) (m : Model) (stage : ℕ) (p : Part) (w : World) → Fits w → IsGrown w (in_flow (initialize b m stage p w))
+initialize_grows : (b : Behaviour) (m : Answers) (stage : ℕ) (p : Part) (w : World) → Fits w → IsGrown w (in_flow (initialize b m stage p w))
 initialize_grows b m stage p w f = either_grows w (nat_lt stage (b.naming p.kind).stages) _ _ (call_grows b m p.id (prompt.Initialize stage) w f) (grown_same w f)
 
 -- one stage of all modules
-one_stage_grows : (b : Behaviour) (m : Model) (stage : ℕ) (ps : List Part) (w : World) → Fits w → IsGrown w (in_flow (one_stage b m stage ps w))
+one_stage_grows : (b : Behaviour) (m : Answers) (stage : ℕ) (ps : List Part) (w : World) → Fits w → IsGrown w (in_flow (one_stage b m stage ps w))
 one_stage_grows b m stage [] w f = grown_same w f
 one_stage_grows b m stage (p ∷ ps) w f = grown_then w (initialize b m stage p w) (one_stage b m stage ps) (initialize_grows b m stage p w f) (one_stage_grows b m stage ps)
 
 -- the stages that are left
-stages_grow : (b : Behaviour) (m : Model) (ps : List Part) (stage left : ℕ) (w : World) → Fits w → IsGrown w (in_flow (stages_from b m ps stage left w))
+stages_grow : (b : Behaviour) (m : Answers) (ps : List Part) (stage left : ℕ) (w : World) → Fits w → IsGrown w (in_flow (stages_from b m ps stage left w))
 stages_grow b m ps stage zero w f = grown_same w f
 stages_grow b m ps stage (suc left) w f = grown_then w (one_stage b m stage ps w) (stages_from b m ps (suc stage) left) (one_stage_grows b m stage ps w f) (stages_grow b m ps (suc stage) left)
 
 -- all stages
-pub initialize_all_grows : (b : Behaviour) (m : Model) (w : World) → Fits w → IsGrown w (in_flow (initialize_all b m w))
+pub initialize_all_grows : (b : Behaviour) (m : Answers) (w : World) → Fits w → IsGrown w (in_flow (initialize_all b m w))
 initialize_all_grows b m w f =
     let fits : Fits (with_started w) = record { nested = f.nested; modules = f.modules; questions = f.questions } in
     let g = stages_grow b m (standing w.modules) 0 (most_stages b (standing w.modules)) (with_started w) fits in

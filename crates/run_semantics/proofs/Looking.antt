@@ -1,16 +1,15 @@
 -- In the world beside what comes next all that is new is what was asked to know it, and which injection was delivered last.
 use Rattle.std.proofs.Common.{◌≡◌, ℕ, zero, suc, ◌+◌, List, [], ◌∷◌, ◌++◌, Option, Some, None, refl, sym, ap, arith, subst, append_assoc, append-nil}
-use Rattle.model_answers.specs.declared.answer.Answer.{Answer}
-use Rattle.model_answers.specs.declared.answer.Answer.TheVariants as answer
-use Rattle.model_answers.specs.declared.answer.Asked.{Asked}
-use Rattle.model_answers.specs.declared.answer.Question.{Question}
-use Rattle.model_answers.specs.declared.answer.Question.TheVariants.{BeyondLimit, InjectionBefore}
+use Rattle.run_questions.specs.declared.answer.Answer.{Answer}
+use Rattle.run_questions.specs.declared.answer.Answer.TheVariants as answer
+use Rattle.run_questions.specs.declared.answer.Asked.{Asked}
+use Rattle.run_questions.specs.declared.answer.Question.{Question}
+use Rattle.run_questions.specs.declared.answer.Question.TheVariants.{BeyondLimit, InjectionBefore}
 use Rattle.injection_order.specs.declared.injection.Injection.{Injection}
 use Rattle.injection_order.specs.declared.injection.Turn.{Turn}
-use Rattle.model_answers.specs.declared.model.Model.{Model}
-use Rattle.model_answers.specs.Answering.{answer_of}
+use Rattle.run_questions.specs.Answers.{Answers, answer_of}
 use Rattle.injection_order.specs.Injections.{turn_of}
-use Rattle.model_answers.proofs.AnswerLemmas.{about}
+use Rattle.run_questions.proofs.AnswerLemmas.{about}
 use Rattle.event_set.specs.declared.pending.Pending.{Pending}
 use Rattle.run_semantics.specs.Agreement.{tried}
 use Rattle.run_semantics.specs.Laws.{GoesOn}
@@ -86,7 +85,7 @@ chosen_looks w u go_on ps (answer.Injection (Some i)) f h = aimed_looks w (deliv
 chosen_looks w u go_on ps _ f h = first_looks w u ps h
 
 -- where so many injections may be discarded
-pub coming_looks : (left : ℕ) (m : Model) (ps : List Pending) (w v : World) → HasLooked w v → HasLooked w (beside (upcoming_in left m ps v))
+pub coming_looks : (left : ℕ) (m : Answers) (ps : List Pending) (w v : World) → HasLooked w v → HasLooked w (beside (upcoming_in left m ps v))
 coming_looks zero m ps w v h = h
 coming_looks (suc left) m ps w v h =
     chosen_looks w (asked_next (InjectionBefore (first_due ps) v.delivered) v) (upcoming_in left m ps) ps (answer_of m v.records (InjectionBefore (first_due ps) v.delivered))
@@ -94,7 +93,7 @@ coming_looks (suc left) m ps w v h =
     (looked_asked w v (InjectionBefore (first_due ps) v.delivered) refl h)
 
 -- what comes next
-pub upcoming_looks : (m : Model) (w : World) → HasLooked w (beside (upcoming m w))
+pub upcoming_looks : (m : Answers) (w : World) → HasLooked w (beside (upcoming m w))
 unfolding upcoming
 upcoming_looks m w = coming_looks (suc most_injections) m w.pending w w (looked_same w)
 
@@ -123,7 +122,7 @@ pub record HasTried (w : World) (qs : List Asked) : Type 0 where
   pub of_none : AllAbout 0 rest
 
 -- the same, of what comes next
-pub upcoming_tried : (m : Model) (w : World) → HasTried w (tried (upcoming m w))
+pub upcoming_tried : (m : Answers) (w : World) → HasTried w (tried (upcoming m w))
 upcoming_tried m w =
     let h = trying_looks w (upcoming m w) (upcoming_looks m w) in
     subst (HasTried w) (tried_in (upcoming m w)) (record { rest = h.rest; joined = looked_joined w (trying (upcoming m w)) h; of_next = h.of_next; of_none = h.of_none })
@@ -133,7 +132,7 @@ abbrev pub first_asked : World → Asked
 first_asked w = record { event = w.count + 1; question = InjectionBefore (first_due w.pending) w.delivered }
 
 -- it is asked in any case
-pub upcoming_asks : (m : Model) (w : World) → GoesOn (w.questions ++ first_asked w ∷ []) (beside (upcoming m w)).questions
+pub upcoming_asks : (m : Answers) (w : World) → GoesOn (w.questions ++ first_asked w ∷ []) (beside (upcoming m w)).questions
 unfolding upcoming
 upcoming_asks m w =
     let q : Question = InjectionBefore (first_due w.pending) w.delivered in

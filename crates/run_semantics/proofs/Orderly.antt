@@ -1,6 +1,6 @@
 -- In every world of a run the events to come are in order, none is late, each has a number of its own, and each is for a
 -- module that stands; and what was emitted stands in the order of events.
-use Rattle.std.proofs.Common.{◌≡◌, ◌≢◌, ◌⊎◌, inl, inr, ℕ, zero, suc, ◌+◌, ◌≤◌, ◌<◌, ◌==◌, cond, Bool, true, false, List, [], ◌∷◌, ◌++◌, Option, Some, None, refl, sym, ap, ◌∙◌, arith, subst, append_assoc, append-nil, slice_get, slice_set, length, map, if◌then◌else◌, nat_lt, nat_le, eqb-true}
+use Rattle.std.proofs.Common.{◌≡◌, ◌≢◌, ◌⊎◌, inl, inr, ℕ, zero, suc, ◌+◌, ◌≤◌, ◌<◌, ◌==◌, cond, Bool, true, false, List, [], ◌∷◌, ◌++◌, Option, Some, None, refl, sym, ap, ◌∙◌, arith, subst, append_assoc, append-nil, slice_get, length, map, if◌then◌else◌, nat_lt, nat_le, eqb-true}
 use Rattle.sim_time.specs.Time.{time_sum}
 use Rattle.module_api.specs.Behaviour.{Behaviour, Replied}
 use Rattle.module_api.specs.declared.call.Prompt.{Prompt}
@@ -11,12 +11,11 @@ use Rattle.module_api.specs.declared.reply.Action.TheVariants.{Emit, RecordScala
 use Rattle.module_api.specs.declared.reply.Read.{Read}
 use Rattle.module_api.specs.declared.reply.Reply.{Reply}
 use Rattle.module_api.specs.declared.reply.Schedule.{Schedule}
-use Rattle.model_answers.specs.declared.answer.Answer.{Answer}
-use Rattle.model_answers.specs.declared.answer.Answer.TheVariants as answer
-use Rattle.model_answers.specs.declared.answer.Built.{Built}
-use Rattle.model_answers.specs.declared.answer.Question.TheVariants.{Root, Build}
-use Rattle.model_answers.specs.declared.model.Model.{Model}
-use Rattle.model_answers.specs.Answering.{answer_of}
+use Rattle.run_questions.specs.declared.answer.Answer.{Answer}
+use Rattle.run_questions.specs.declared.answer.Answer.TheVariants as answer
+use Rattle.run_questions.specs.declared.answer.Built.{Built}
+use Rattle.run_questions.specs.declared.answer.Question.TheVariants.{Root, Build}
+use Rattle.run_questions.specs.Answers.{Answers, answer_of}
 use Rattle.run_semantics.specs.declared.outcome.Fault.{Fault}
 use Rattle.run_semantics.specs.declared.outcome.Fault.TheVariants as fault
 use Rattle.run_semantics.specs.declared.outcome.Outcome.{Outcome}
@@ -261,7 +260,7 @@ unless_leads w id (Some fault) go f h = leads_same w f
 unless_leads w id None go f h = h
 
 -- what follows a reply
-answered_leads : (m : Model) (id : ℕ) (reply : Reply) (w : World) → IsOrderly w → StandsIn id w → Leads w (in_flow (answered m id reply w))
+answered_leads : (m : Answers) (id : ℕ) (reply : Reply) (w : World) → IsOrderly w → StandsIn id w → Leads w (in_flow (answered m id reply w))
 answered_leads m id reply w f h =
     let v : World = ask_all id reply.reads w in
     let g = ask_all_leads id reply.reads w f in
@@ -286,7 +285,7 @@ found_stands id (j ∷ js) i e = by (j.id == id) refl (found_stands id js i) e
     by false t later e = inr (later e)
 
 -- a call of a module that may stand
-called_leads : (b : Behaviour) (m : Model) (id : ℕ) (p : Prompt) (w : World) (found : Option Instance) → instance_in id w.modules ≡ found → IsOrderly w → Leads w (in_flow (called b m id p w found))
+called_leads : (b : Behaviour) (m : Answers) (id : ℕ) (p : Prompt) (w : World) (found : Option Instance) → instance_in id w.modules ≡ found → IsOrderly w → Leads w (in_flow (called b m id p w found))
 called_leads b m id p w None e f = leads_same w f
 called_leads b m id p w (Some i) e f =
     let r : Replied = (b.naming i.kind).reply i.state (call_of m id p w) in
@@ -295,23 +294,23 @@ called_leads b m id p w (Some i) e f =
     leads_on g (answered_leads m id r.reply v g.orderly (stands_on id w v g (found_stands id w.modules i e)))
 
 -- one call
-pub call_leads : (b : Behaviour) (m : Model) (id : ℕ) (p : Prompt) (w : World) → IsOrderly w → Leads w (in_flow (call_module b m id p w))
+pub call_leads : (b : Behaviour) (m : Answers) (id : ℕ) (p : Prompt) (w : World) → IsOrderly w → Leads w (in_flow (call_module b m id p w))
 call_leads b m id p w f = called_leads b m id p w (instance_in id w.modules) refl f
 
 -- ---- initialization
 
 -- one module is initialized, where it has the stage
-initialize_leads : (b : Behaviour) (m : Model) (stage : ℕ) (p : Part) (w : World) → IsOrderly w → Leads w (in_flow (initialize b m stage p w))
+initialize_leads : (b : Behaviour) (m : Answers) (stage : ℕ) (p : Part) (w : World) → IsOrderly w → Leads w (in_flow (initialize b m stage p w))
 initialize_leads b m stage p w f = either_leads w (nat_lt stage (b.naming p.kind).stages) _ _ (call_leads b m p.id (prompt.Initialize stage) w f) (leads_same w f)
 
 -- one stage of all modules
-one_stage_leads : (b : Behaviour) (m : Model) (stage : ℕ) (ps : List Part) (w : World) → IsOrderly w → Leads w (in_flow (one_stage b m stage ps w))
+one_stage_leads : (b : Behaviour) (m : Answers) (stage : ℕ) (ps : List Part) (w : World) → IsOrderly w → Leads w (in_flow (one_stage b m stage ps w))
 one_stage_leads b m stage [] w f = leads_same w f
 one_stage_leads b m stage (p ∷ ps) w f =
     leads_then (λ v. Unit {0}) w (initialize b m stage p w) (one_stage b m stage ps) (initialize_leads b m stage p w f) tt (λ v g u. one_stage_leads b m stage ps v g)
 
 -- the stages that are left
-stages_lead : (b : Behaviour) (m : Model) (ps : List Part) (stage left : ℕ) (w : World) → IsOrderly w → Leads w (in_flow (stages_from b m ps stage left w))
+stages_lead : (b : Behaviour) (m : Answers) (ps : List Part) (stage left : ℕ) (w : World) → IsOrderly w → Leads w (in_flow (stages_from b m ps stage left w))
 stages_lead b m ps stage zero w f = leads_same w f
 stages_lead b m ps stage (suc left) w f =
     leads_then (λ v. Unit {0}) w (one_stage b m stage ps w) (stages_from b m ps (suc stage) left) (one_stage_leads b m stage ps w f) tt (λ v g u. stages_lead b m ps (suc stage) left v g)
@@ -321,7 +320,7 @@ orderly_started : (w : World) → IsOrderly w → IsOrderly (with_started w)
 orderly_started w f = record { order = f.order; own = f.own; below = f.below; due = f.due; modules = f.modules }
 
 -- all stages
-pub initialize_all_leads : (b : Behaviour) (m : Model) (w : World) → IsOrderly w → Leads (with_started w) (in_flow (initialize_all b m w))
+pub initialize_all_leads : (b : Behaviour) (m : Answers) (w : World) → IsOrderly w → Leads (with_started w) (in_flow (initialize_all b m w))
 initialize_all_leads b m w f = stages_lead b m (standing w.modules) 0 (most_stages b (standing w.modules)) (with_started w) (orderly_started w f)
 
 -- ---- setup: no event is to come, nothing was emitted, and no module is finished
@@ -372,7 +371,7 @@ place_all_none b [] w e = e
 place_all_none b (p ∷ ps) w e = then_none (place b p w) (place_all b ps) (either_none (b.known p.kind) _ _ e e) (place_all_none b ps)
 
 -- so it is when all boxes are there
-pub ready_none : (b : Behaviour) (m : Model) → IsQuiet (in_flow (ready b m))
+pub ready_none : (b : Behaviour) (m : Answers) → IsQuiet (in_flow (ready b m))
 ready_none b m =
     then_none (prepared m) (place_parts b)
     (then_none (root_asked m) (inside_asked m) (root_none (answer_of m [] Root)) (λ w e. built_none 1 (answer_of m w.records (Build 1)) (asked (Build 1) w) e))
@@ -385,11 +384,11 @@ orderly_none w e = record { order = rw e tt; own = rw e tt; below = rw e tt; due
 -- ---- runs
 
 -- no injection that is left is due before the clock
-abbrev IsInTime : Model → World → Type 0
+abbrev IsInTime : Answers → World → Type 0
 IsInTime m w = IsAhead w.clock w.delivered m.injections
 
 -- from the first world to the second, over one event at most
-pub record Follows (m : Model) (old new : World) : Type 0 where
+pub record Follows (m : Answers) (old new : World) : Type 0 where
   pub clock : old.clock ≤ new.clock
   pub count : old.count ≤ new.count
   pub next : old.next ≤ new.next
@@ -405,7 +404,7 @@ pub record Follows (m : Model) (old new : World) : Type 0 where
   pub in_time : IsInTime m new
 
 -- no event was executed
-follows_same : (m : Model) (w : World) → IsOrderly w → IsInTime m w → Follows m w w
+follows_same : (m : Answers) (w : World) → IsOrderly w → IsInTime m w → Follows m w w
 follows_same m w f t = record {
   present = tt;
   clock = omega arith;
@@ -445,7 +444,7 @@ settled_at (Stopped w) = refl
 settled_at (Broken w path f) = refl
 
 -- one event, from a world in which only questions were asked and injections delivered
-event_follows : (b : Behaviour) (m : Model) (p : Pending) (rest : List Pending) (w u : World) → HasLooked w u → MayCome m w.clock w.pending u p rest → IsOrderly w → Follows m w (world_at (settled (event b m p rest u)))
+event_follows : (b : Behaviour) (m : Answers) (p : Pending) (rest : List Pending) (w u : World) → HasLooked w u → MayCome m w.clock w.pending u p rest → IsOrderly w → Follows m w (world_at (settled (event b m p rest u)))
 event_follows b m p rest w u looked may f =
     subst (λ v. MayCome m w.clock w.pending v p rest → Follows m w (world_at (settled (event b m p rest v)))) looked.same (by (looking w looked.last looked.rest) refl refl refl refl refl refl refl refl refl refl (record { order = f.order; own = f.own; below = f.below; due = f.due; modules = f.modules })) may
   where
@@ -471,29 +470,29 @@ event_follows b m p rest w u looked may f =
         })
 
 -- where the run is over nothing happens
-either_follows : (m : Model) (c : Bool) (w : World) (outcome : Outcome) (s : Stage) → Follows m w w → Follows m w (world_at s) → Follows m w (world_at (if c then Over w outcome else s))
+either_follows : (m : Answers) (c : Bool) (w : World) (outcome : Outcome) (s : Stage) → Follows m w w → Follows m w (world_at s) → Follows m w (world_at (if c then Over w outcome else s))
 either_follows m true w outcome s f g = f
 either_follows m false w outcome s f g = g
 
 -- the next event, where there is one
-went_follows : (b : Behaviour) (m : Model) (w : World) (up : Upcoming) → HasLooked w (beside up) → ComesWell m w.clock w.pending up → IsOrderly w → IsInTime m w → Follows m w (world_at (went b m w up))
+went_follows : (b : Behaviour) (m : Answers) (w : World) (up : Upcoming) → HasLooked w (beside up) → ComesWell m w.clock w.pending up → IsOrderly w → IsInTime m w → Follows m w (world_at (went b m w up))
 went_follows b m w (Nothing u) looked may f t = follows_same m w f t
 went_follows b m w (Comes u p rest) looked may f t =
     either_follows m (is_after_limit m u.records p) w TimeLimit (settled (event b m p rest u)) (follows_same m w f t) (event_follows b m p rest w u looked may f)
 
 -- one turn of a run
-next_follows : (b : Behaviour) (m : Model) (s : Stage) → IsOrderly (world_at s) → IsInTime m (world_at s) → Follows m (world_at s) (world_at (next_stage b m s))
+next_follows : (b : Behaviour) (m : Answers) (s : Stage) → IsOrderly (world_at s) → IsInTime m (world_at s) → Follows m (world_at s) (world_at (next_stage b m s))
 next_follows b m (Running w) f t =
     either_follows m w.ended w Ended (went b m w (upcoming m w)) (follows_same m w f t) (went_follows b m w (upcoming m w) (upcoming_looks m w) (upcoming_well m w f.order f.due t) f t)
 next_follows b m (Over w outcome) f t = follows_same m w f t
 
 -- what holds in every world of a run
-record IsSound (m : Model) (w : World) : Type 0 where
+record IsSound (m : Answers) (w : World) : Type 0 where
   orderly : IsOrderly w
   in_time : IsInTime m w
 
 -- initialization, where the flow goes on
-sound_then : (b : Behaviour) (m : Model) (fl : Flow) → IsQuiet (in_flow fl) → IsSound m (in_flow (fl >>= initialize_all b m))
+sound_then : (b : Behaviour) (m : Answers) (fl : Flow) → IsQuiet (in_flow fl) → IsSound m (in_flow (fl >>= initialize_all b m))
 sound_then b m (On w) q =
     let g = initialize_all_leads b m w (orderly_none w q.0) in
     let v : World = in_flow (initialize_all b m w) in
@@ -544,7 +543,7 @@ told_none : (w : World) → w.emissions ≡ [] → ToldIn w
 told_none w e = record { past = rw e tt; turn = rw e tt }
 
 -- initialization, where the flow goes on
-told_then : (b : Behaviour) (m : Model) (fl : Flow) → IsOrderly (in_flow fl) → ToldIn (in_flow fl) → ToldIn (in_flow (fl >>= initialize_all b m))
+told_then : (b : Behaviour) (m : Answers) (fl : Flow) → IsOrderly (in_flow fl) → ToldIn (in_flow fl) → ToldIn (in_flow (fl >>= initialize_all b m))
 told_then b m (On w) f h =
     let v : World = in_flow (initialize_all b m w) in
     let g = initialize_all_leads b m w f in
@@ -555,7 +554,7 @@ told_then b m (Broken w path fault) f h = h
 -- ---- every world
 
 -- every world of a run is sound
-sound_after : (b : Behaviour) (m : Model) (n : ℕ) → IsSound m (world_at (after b m n))
+sound_after : (b : Behaviour) (m : Answers) (n : ℕ) → IsSound m (world_at (after b m n))
 sound_after b m zero = subst (IsSound m) (sym (settled_at (ready b m >>= initialize_all b m))) (sound_then b m (ready b m) (ready_none b m))
 sound_after b m (suc n) =
     let f = sound_after b m n in
@@ -563,19 +562,19 @@ sound_after b m (suc n) =
     record { orderly = g.orderly; in_time = g.in_time }
 
 -- every world of a run is orderly
-pub orderly_after : (b : Behaviour) (m : Model) (n : ℕ) → IsOrderly (world_at (after b m n))
+pub orderly_after : (b : Behaviour) (m : Answers) (n : ℕ) → IsOrderly (world_at (after b m n))
 orderly_after b m n = (sound_after b m n).orderly
 
 -- in every world of a run no injection that is left is due before the clock
-pub in_time_after : (b : Behaviour) (m : Model) (n : ℕ) → IsAhead (world_at (after b m n)).clock (world_at (after b m n)).delivered m.injections
+pub in_time_after : (b : Behaviour) (m : Answers) (n : ℕ) → IsAhead (world_at (after b m n)).clock (world_at (after b m n)).delivered m.injections
 in_time_after b m n = (sound_after b m n).in_time
 
 -- from each world of a run to the next
-pub after_follows : (b : Behaviour) (m : Model) (n : ℕ) → Follows m (world_at (after b m n)) (world_at (after b m (suc n)))
+pub after_follows : (b : Behaviour) (m : Answers) (n : ℕ) → Follows m (world_at (after b m n)) (world_at (after b m (suc n)))
 after_follows b m n = let f = sound_after b m n in next_follows b m (after b m n) f.orderly f.in_time
 
 -- and its emissions are in their turn
-told_after : (b : Behaviour) (m : Model) (n : ℕ) → ToldIn (world_at (after b m n))
+told_after : (b : Behaviour) (m : Answers) (n : ℕ) → ToldIn (world_at (after b m n))
 told_after b m zero =
     let quiet = ready_none b m in
     subst ToldIn (sym (settled_at (ready b m >>= initialize_all b m))) (told_then b m (ready b m) (orderly_none (in_flow (ready b m)) quiet.0) (told_none (in_flow (ready b m)) quiet.1))
@@ -586,22 +585,22 @@ told_after b m (suc n) =
     subst (AreTold v.count v.clock) g.emissions.1 (told_more u.count v.count u.clock v.clock u.emissions g.emissions.0 g.count g.clock (told_after b m n) g.present)
 
 -- initialization finishes no module
-unfinished_then : (b : Behaviour) (m : Model) (fl : Flow) → IsOrderly (in_flow fl) → (in_flow fl).finished ≡ [] → (in_flow (fl >>= initialize_all b m)).finished ≡ []
+unfinished_then : (b : Behaviour) (m : Answers) (fl : Flow) → IsOrderly (in_flow fl) → (in_flow fl).finished ≡ [] → (in_flow (fl >>= initialize_all b m)).finished ≡ []
 unfinished_then b m (On w) f h = (initialize_all_leads b m w f).finished ∙ h
 unfinished_then b m (Stopped w) f h = h
 unfinished_then b m (Broken w path fault) f h = h
 
 -- before its end no module of a run is finished
-pub finished_after : (b : Behaviour) (m : Model) (n : ℕ) → (world_at (after b m n)).finished ≡ []
+pub finished_after : (b : Behaviour) (m : Answers) (n : ℕ) → (world_at (after b m n)).finished ≡ []
 finished_after b m zero =
     let quiet = ready_none b m in
     ap (λ (w : World). w.finished) (settled_at (ready b m >>= initialize_all b m)) ∙ unfinished_then b m (ready b m) (orderly_none (in_flow (ready b m)) quiet.0) quiet.3
 finished_after b m (suc n) = (after_follows b m n).finished ∙ finished_after b m n
 
 -- in each world of a run emissions stand in the order of events
-pub turn_after : (b : Behaviour) (m : Model) (n : ℕ) → AreInTurn (world_at (after b m n)).emissions
+pub turn_after : (b : Behaviour) (m : Answers) (n : ℕ) → AreInTurn (world_at (after b m n)).emissions
 turn_after b m n = (told_after b m n).turn
 
 -- and none is above the count or the clock
-pub past_after : (b : Behaviour) (m : Model) (n : ℕ) → Each (λ e. (e.event ≤ (world_at (after b m n)).count) × (e.time ≤ (world_at (after b m n)).clock)) (world_at (after b m n)).emissions
+pub past_after : (b : Behaviour) (m : Answers) (n : ℕ) → Each (λ e. (e.event ≤ (world_at (after b m n)).count) × (e.time ≤ (world_at (after b m n)).clock)) (world_at (after b m n)).emissions
 past_after b m n = (told_after b m n).past

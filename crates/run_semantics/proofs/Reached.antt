@@ -1,7 +1,7 @@
 -- Which events a run got as far as.
 use Rattle.std.proofs.Common.{◌≡◌, ◌⊎◌, inl, inr, ⊎_elim, ℕ, zero, suc, ◌+◌, ◌≤◌, ◌<◌, Bool, true, false, refl, sym, ap, ◌∙◌, arith, subst, eq-or-lt_of_le, if◌then◌else◌}
 use Rattle.module_api.specs.Behaviour.{Behaviour}
-use Rattle.model_answers.specs.declared.model.Model.{Model}
+use Rattle.run_questions.specs.Answers.{Answers}
 use Rattle.run_semantics.specs.declared.outcome.Outcome.{Outcome}
 use Rattle.run_semantics.specs.declared.outcome.Outcome.TheVariants.{Ended, TimeLimit}
 use Rattle.run_semantics.specs.World.{World}
@@ -19,12 +19,12 @@ either_is : (c : Bool) (w : World) (n : ℕ) (outcome : Outcome) (s : Stage) →
 either_is true w n outcome s h = inl refl
 either_is false w n outcome s h = h
 
-went_is : (b : Behaviour) (m : Model) (w : World) (up : Upcoming) → (beside up).count ≡ w.count → IsOrCounts w (w.count + 1) (went b m w up)
+went_is : (b : Behaviour) (m : Answers) (w : World) (up : Upcoming) → (beside up).count ≡ w.count → IsOrCounts w (w.count + 1) (went b m w up)
 went_is b m w (Nothing u) e = inl refl
 went_is b m w (Comes u p rest) e =
     either_is (is_after_limit m u.records p) w (w.count + 1) TimeLimit (settled (event b m p rest u)) (inr (omega (arith, e, settled_count (event b m p rest u), event_count b m p rest u)))
 
-next_is : (b : Behaviour) (m : Model) (n : ℕ) (s : Stage) → RunsOn n s → IsOrCounts (world_at s) (suc n) (next_stage b m s)
+next_is : (b : Behaviour) (m : Answers) (n : ℕ) (s : Stage) → RunsOn n s → IsOrCounts (world_at s) (suc n) (next_stage b m s)
 next_is b m n (Running w) f =
     let at : w.count ≡ n = f w refl in
     let one : w.count + 1 ≡ suc n = omega (arith, at) in
@@ -32,7 +32,7 @@ next_is b m n (Running w) f =
 next_is b m n (Over w outcome) f = inl refl
 
 -- a run stands where it stood after the last event that it executed
-pub stands : (b : Behaviour) (m : Model) (n : ℕ) → world_at (after b m (world_at (after b m n)).count) ≡ world_at (after b m n)
+pub stands : (b : Behaviour) (m : Answers) (n : ℕ) → world_at (after b m (world_at (after b m n)).count) ≡ world_at (after b m n)
 stands b m zero = ap (λ k. world_at (after b m k)) (start_count b m)
 stands b m (suc n) =
     ⊎_elim
@@ -41,7 +41,7 @@ stands b m (suc n) =
     (next_is b m n (after b m n) (runs_on b m n))
 
 -- a run that got as far as an event got as far as each one before
-pub reached_before : (b : Behaviour) (m : Model) (v k : ℕ) → v ≤ k → IsReached (after b m k) k → IsReached (after b m v) v
+pub reached_before : (b : Behaviour) (m : Answers) (v k : ℕ) → v ≤ k → IsReached (after b m k) k → IsReached (after b m v) v
 reached_before b m v zero l h = let e : v ≡ zero = omega (arith, l) in subst (λ n. IsReached (after b m n) n) (sym e) h
 reached_before b m v (suc k) l h =
     ⊎_elim

@@ -1,6 +1,6 @@
 -- A run takes nothing from its model but answers to the questions that it notes: models that answer them alike have the
 -- same run.
-use Rattle.std.proofs.Common.{◌≡◌, ℕ, zero, suc, ◌+◌, ◌≤◌, ◌<◌, Bool, true, false, List, [], ◌∷◌, ◌++◌, ◌||◌, Option, Some, None, refl, sym, ap, ◌∙◌, arith, subst, append_assoc, append-nil, slice_get, length, if◌then◌else◌, nat_lt, ⊎_elim}
+use Rattle.std.proofs.Common.{◌≡◌, ℕ, zero, suc, ◌+◌, ◌≤◌, ◌<◌, Bool, true, false, List, [], ◌∷◌, ◌++◌, ◌||◌, Option, Some, None, refl, sym, ap, ◌∙◌, arith, subst, append_assoc, append-nil, length, if◌then◌else◌, nat_lt, ⊎_elim}
 use Rattle.std.proofs.Math.Nat.{eq-or-lt_of_le}
 use Rattle.module_api.specs.Behaviour.{Behaviour, Replied}
 use Rattle.module_api.specs.Laws.{AgreesOn, IsLawful}
@@ -8,18 +8,17 @@ use Rattle.module_api.specs.declared.call.Prompt.{Prompt}
 use Rattle.module_api.specs.declared.call.Prompt.TheVariants as prompt
 use Rattle.module_api.specs.declared.reply.Read.{Read}
 use Rattle.module_api.specs.declared.reply.Read.TheVariants as read
-use Rattle.model_answers.specs.declared.answer.Answer.{Answer}
-use Rattle.model_answers.specs.declared.answer.Answer.TheVariants as answer
-use Rattle.model_answers.specs.declared.answer.Asked.{Asked}
-use Rattle.model_answers.specs.declared.answer.Question.{Question}
-use Rattle.model_answers.specs.declared.answer.Question.TheVariants.{Root, Build, BeyondLimit, InjectionBefore}
+use Rattle.run_questions.specs.declared.answer.Answer.{Answer}
+use Rattle.run_questions.specs.declared.answer.Answer.TheVariants as answer
+use Rattle.run_questions.specs.declared.answer.Asked.{Asked}
+use Rattle.run_questions.specs.declared.answer.Question.{Question}
+use Rattle.run_questions.specs.declared.answer.Question.TheVariants.{Root, Build, BeyondLimit, InjectionBefore}
 use Rattle.injection_order.specs.declared.injection.Injection.{Injection}
-use Rattle.model_answers.specs.declared.model.Model.{Model}
-use Rattle.model_answers.specs.declared.record.Record.{Record}
-use Rattle.model_answers.specs.Answering.{answer_of, parameters_of}
-use Rattle.model_answers.specs.Questions.{same_question}
-use Rattle.model_answers.proofs.AnswerLemmas.{AreNested, about, answer_more, same_value}
-use Rattle.model_answers.proofs.QuestionLemmas.{same_is}
+use Rattle.run_questions.specs.Answers.{Answers, answer_of, parameters_of}
+use Rattle.run_questions.specs.declared.record.Record.{Record}
+use Rattle.run_questions.specs.Questions.{same_question}
+use Rattle.run_questions.proofs.AnswerLemmas.{AreNested, about, answer_more, same_value}
+use Rattle.run_questions.proofs.QuestionLemmas.{same_is}
 use Rattle.run_semantics.specs.declared.outcome.Outcome.{Outcome}
 use Rattle.run_semantics.specs.declared.outcome.Outcome.TheVariants.{Ended, EventLimit, NoMoreEvents, TimeLimit, Fault}
 use Rattle.event_set.specs.declared.pending.Pending.{Pending}
@@ -40,21 +39,21 @@ use Rattle.run_semantics.proofs.Growth.{AllOfEvent, AllAbout, AllOfEvent-append,
 -- ---- agreement on fewer questions
 
 -- the models agree on all that was asked in that world
-abbrev pub AgreesIn : Model → Model → World → Type 0
+abbrev pub AgreesIn : Answers → Answers → World → Type 0
 AgreesIn m n w = Agrees m n w.records w.questions
 
 -- on the first questions of a list
-Agrees-front : (m n : Model) (rs : List Record) (xs ys : List Asked) → Agrees m n rs (xs ++ ys) → Agrees m n rs xs
+Agrees-front : (m n : Answers) (rs : List Record) (xs ys : List Asked) → Agrees m n rs (xs ++ ys) → Agrees m n rs xs
 Agrees-front m n rs [] ys h = tt
 Agrees-front m n rs (x ∷ xs) ys h = (h.0, Agrees-front m n rs xs ys h.1)
 
 -- on its last question
-Agrees-last : (m n : Model) (rs : List Record) (xs : List Asked) (a : Asked) → Agrees m n rs (xs ++ a ∷ []) → answer_of m rs a.question ≡ answer_of n rs a.question
+Agrees-last : (m n : Answers) (rs : List Record) (xs : List Asked) (a : Asked) → Agrees m n rs (xs ++ a ∷ []) → answer_of m rs a.question ≡ answer_of n rs a.question
 Agrees-last m n rs [] a h = h.0
 Agrees-last m n rs (x ∷ xs) a h = Agrees-last m n rs xs a h.1
 
 -- on one of them
-Agrees-asked : (m n : Model) (rs : List Record) (q : Question) (xs : List Asked) → is_asked q xs ≡ true → Agrees m n rs xs → answer_of m rs q ≡ answer_of n rs q
+Agrees-asked : (m n : Answers) (rs : List Record) (q : Question) (xs : List Asked) → is_asked q xs ≡ true → Agrees m n rs xs → answer_of m rs q ≡ answer_of n rs q
 Agrees-asked m n rs q [] e h = cc
 Agrees-asked m n rs q (x ∷ xs) e h = by (same_question q x.question) refl e (λ later. Agrees-asked m n rs q xs later h.1)
   where
@@ -63,7 +62,7 @@ Agrees-asked m n rs q (x ∷ xs) e h = by (same_question q x.question) refl e (�
     by false t e later = later e
 
 -- on one more, whether it was asked before or not
-Agrees-noted : (m n : Model) (rs : List Record) (event : ℕ) (q : Question) (xs : List Asked) → Agrees m n rs (noted event q xs) → answer_of m rs q ≡ answer_of n rs q
+Agrees-noted : (m n : Answers) (rs : List Record) (event : ℕ) (q : Question) (xs : List Asked) → Agrees m n rs (noted event q xs) → answer_of m rs q ≡ answer_of n rs q
 Agrees-noted m n rs event q xs h = by (is_asked q xs) refl h
   where
     by : (t : Bool) → is_asked q xs ≡ t → Agrees m n rs (if t then xs else xs ++ record { event = event; question = q } ∷ []) → answer_of m rs q ≡ answer_of n rs q
@@ -71,31 +70,31 @@ Agrees-noted m n rs event q xs h = by (is_asked q xs) refl h
     by false t h = Agrees-last m n rs xs (record { event = event; question = q }) h
 
 -- with the modules that were there before
-Agrees-fewer : (m n : Model) (rs more : List Record) → AreNested 0 rs → (xs : List Asked) → AllAbout (length rs) xs → Agrees m n (rs ++ more) xs → Agrees m n rs xs
+Agrees-fewer : (m n : Answers) (rs more : List Record) → AreNested 0 rs → (xs : List Asked) → AllAbout (length rs) xs → Agrees m n (rs ++ more) xs → Agrees m n rs xs
 Agrees-fewer m n rs more h [] f a = tt
 Agrees-fewer m n rs more h (x ∷ xs) f a =
     (sym (answer_more m rs more h x.question f.0) ∙ (a.0 ∙ answer_more n rs more h x.question f.0), Agrees-fewer m n rs more h xs f.1 a.1)
 
 -- on what was asked before more was asked and created
-Agrees-grown : (m n : Model) (u : World) (rest : List Asked) (more rs : List Record) (qs : List Asked) → Fits u → u.questions ++ rest ≡ qs → u.records ++ more ≡ rs → Agrees m n rs qs → AgreesIn m n u
+Agrees-grown : (m n : Answers) (u : World) (rest : List Asked) (more rs : List Record) (qs : List Asked) → Fits u → u.questions ++ rest ≡ qs → u.records ++ more ≡ rs → Agrees m n rs qs → AgreesIn m n u
 Agrees-grown m n u rest more rs qs f joined records h =
     let all : Agrees m n (u.records ++ more) (u.questions ++ rest) = subst (λ xs. Agrees m n xs (u.questions ++ rest)) (sym records) (subst (Agrees m n rs) (sym joined) h) in
     Agrees-fewer m n u.records more f.nested u.questions f.questions (Agrees-front m n (u.records ++ more) u.questions rest all)
 
 -- the same, of a world that has grown
-Agrees-before : (m n : Model) (u w : World) → Fits u → IsGrown u w → AgreesIn m n w → AgreesIn m n u
+Agrees-before : (m n : Answers) (u w : World) → Fits u → IsGrown u w → AgreesIn m n w → AgreesIn m n u
 Agrees-before m n u w f g h = Agrees-grown m n u g.rest g.more w.records w.questions f g.joined g.records h
 
 -- ---- parts of an event in two models
 
 -- a part of an event, from that world on, in the first model and in the second: it only asks, and where the models agree
 -- on all that was asked it is the same
-pub record DoesSame (m n : Model) (w : World) (f g : Flow) : Type 0 where
+pub record DoesSame (m n : Answers) (w : World) (f g : Flow) : Type 0 where
   pub grows : IsGrown w (in_flow f)
   pub same : AgreesIn m n (in_flow f) → f ≡ g
 
 -- a part that takes nothing from the model
-does_itself : (m n : Model) (w : World) (f : Flow) → IsGrown w (in_flow f) → DoesSame m n w f f
+does_itself : (m n : Answers) (w : World) (f : Flow) → IsGrown w (in_flow f) → DoesSame m n w f f
 does_itself m n w f g = record { grows = g; same = λ h. refl }
 
 -- a world in which the part goes on has the property
@@ -105,19 +104,19 @@ IfOn P (Stopped w) = Unit {0}
 IfOn P (Broken w path f) = Unit {0}
 
 -- the next part adds, where the flow goes on
-on_grows : (m n : Model) (P : World → Type 0) (fl : Flow) (k l : World → Flow) → Fits (in_flow fl) → IfOn P fl → ((v : World) → Fits v → P v → DoesSame m n v (k v) (l v)) → IsGrown (in_flow fl) (in_flow (fl >>= k))
+on_grows : (m n : Answers) (P : World → Type 0) (fl : Flow) (k l : World → Flow) → Fits (in_flow fl) → IfOn P fl → ((v : World) → Fits v → P v → DoesSame m n v (k v) (l v)) → IsGrown (in_flow fl) (in_flow (fl >>= k))
 on_grows m n P (On w) k l f p h = (h w f p).grows
 on_grows m n P (Stopped w) k l f p h = grown_same w f
 on_grows m n P (Broken w path fault) k l f p h = grown_same w f
 
 -- the next part is the same, where the flow goes on
-on_same : (m n : Model) (P : World → Type 0) (fl : Flow) (k l : World → Flow) → Fits (in_flow fl) → IfOn P fl → ((v : World) → Fits v → P v → DoesSame m n v (k v) (l v)) → AgreesIn m n (in_flow (fl >>= k)) → (fl >>= k) ≡ (fl >>= l)
+on_same : (m n : Answers) (P : World → Type 0) (fl : Flow) (k l : World → Flow) → Fits (in_flow fl) → IfOn P fl → ((v : World) → Fits v → P v → DoesSame m n v (k v) (l v)) → AgreesIn m n (in_flow (fl >>= k)) → (fl >>= k) ≡ (fl >>= l)
 on_same m n P (On w) k l f p h a = (h w f p).same a
 on_same m n P (Stopped w) k l f p h a = refl
 on_same m n P (Broken w path fault) k l f p h a = refl
 
 -- one part and the next, which may rely on what the first leaves
-does_then_where : (m n : Model) (P : World → Type 0) (w : World) (f g : Flow) (k l : World → Flow) → DoesSame m n w f g → IfOn P f → ((v : World) → Fits v → P v → DoesSame m n v (k v) (l v)) → DoesSame m n w (f >>= k) (g >>= l)
+does_then_where : (m n : Answers) (P : World → Type 0) (w : World) (f g : Flow) (k l : World → Flow) → DoesSame m n w f g → IfOn P f → ((v : World) → Fits v → P v → DoesSame m n v (k v) (l v)) → DoesSame m n w (f >>= k) (g >>= l)
 does_then_where m n P w f g k l d p h =
     let more = on_grows m n P f k l d.grows.fits p h in
     record {
@@ -132,16 +131,16 @@ any_world (Stopped w) = tt
 any_world (Broken w path f) = tt
 
 -- one part and then the next
-does_then : (m n : Model) (w : World) (f g : Flow) (k l : World → Flow) → DoesSame m n w f g → ((v : World) → Fits v → DoesSame m n v (k v) (l v)) → DoesSame m n w (f >>= k) (g >>= l)
+does_then : (m n : Answers) (w : World) (f g : Flow) (k l : World → Flow) → DoesSame m n w f g → ((v : World) → Fits v → DoesSame m n v (k v) (l v)) → DoesSame m n w (f >>= k) (g >>= l)
 does_then m n w f g k l d h = does_then_where m n (λ w. Unit {0}) w f g k l d (any_world f) (λ v fits p. h v fits)
 
 -- of two ways on, whichever is taken
-either_does : (m n : Model) (w : World) (c : Bool) (f g h k : Flow) → DoesSame m n w f g → DoesSame m n w h k → DoesSame m n w (if c then f else h) (if c then g else k)
+either_does : (m n : Answers) (w : World) (c : Bool) (f g h k : Flow) → DoesSame m n w f g → DoesSame m n w h k → DoesSame m n w (if c then f else h) (if c then g else k)
 either_does m n w true f g h k d e = d
 either_does m n w false f g h k d e = e
 
 -- A QUESTION, and what follows it: where that is the same for every answer, it is the same in models that answer alike
-asking_same : (m n : Model) (q : Question) (next other : Answer → World → Flow) (w : World) → Fits w → about q ≤ length w.records → ((a : Answer) → Fits (asked q w) → DoesSame m n (asked q w) (next a (asked q w)) (other a (asked q w))) → DoesSame m n w (asking m q next w) (asking n q other w)
+asking_same : (m n : Answers) (q : Question) (next other : Answer → World → Flow) (w : World) → Fits w → about q ≤ length w.records → ((a : Answer) → Fits (asked q w) → DoesSame m n (asked q w) (next a (asked q w)) (other a (asked q w))) → DoesSame m n w (asking m q next w) (asking n q other w)
 asking_same m n q next other w f l h =
     let v : World = asked q w in
     let g = asked_grows q w f l in
@@ -156,12 +155,12 @@ asking_same m n q next other w f l h =
 -- ---- replies and calls
 
 -- the models answer these reads alike
-abbrev AnswerAlike : Model → Model → List Record → ℕ → List Read → Type 0
+abbrev AnswerAlike : Answers → Answers → List Record → ℕ → List Read → Type 0
 AnswerAlike m n records id [] = Unit {0}
 AnswerAlike m n records id (r ∷ rs) = (answer_of m records (question_of id r) ≡ answer_of n records (question_of id r)) × AnswerAlike m n records id rs
 
 -- what was asked of the reads
-alike_asked : (m n : Model) (id : ℕ) (reads : List Read) (w : World) → Fits w → id ≤ length w.records → AgreesIn m n (ask_all id reads w) → AnswerAlike m n w.records id reads
+alike_asked : (m n : Answers) (id : ℕ) (reads : List Read) (w : World) → Fits w → id ≤ length w.records → AgreesIn m n (ask_all id reads w) → AnswerAlike m n w.records id reads
 alike_asked m n id [] w f l h = tt
 alike_asked m n id (r ∷ rs) w f l h =
     let v : World = asked (question_of id r) w in
@@ -170,20 +169,20 @@ alike_asked m n id (r ∷ rs) w f l h =
     (Agrees-noted m n w.records w.count (question_of id r) w.questions here, alike_asked m n id rs v g.fits l h)
 
 -- so they have the same fault of a read
-fault_alike : (m n : Model) (records : List Record) (id : ℕ) (reads : List Read) → AnswerAlike m n records id reads → read_fault m records id reads ≡ read_fault n records id reads
+fault_alike : (m n : Answers) (records : List Record) (id : ℕ) (reads : List Read) → AnswerAlike m n records id reads → read_fault m records id reads ≡ read_fault n records id reads
 fault_alike m n records id [] h = refl
 fault_alike m n records id (r ∷ rs) h =
     ap (λ (a : Answer). first_fault (fault_of_read r a) (read_fault m records id rs)) h.0
     ∙ ap (first_fault (fault_of_read r (answer_of n records (question_of id r)))) (fault_alike m n records id rs h.1)
 
 -- a call shows the same there
-shown_alike : (m n : Model) (id : ℕ) (p : Prompt) (w : World) (reads : List Read) → AnswerAlike m n w.records id reads → AgreesOn reads (call_of m id p w) (parameters_of n w.records id) []
+shown_alike : (m n : Answers) (id : ℕ) (p : Prompt) (w : World) (reads : List Read) → AnswerAlike m n w.records id reads → AgreesOn reads (call_of m id p w) (parameters_of n w.records id) []
 shown_alike m n id p w [] h = tt
 shown_alike m n id p w (read.Parameter name ∷ rs) h = (same_value m n w.records id name h.0, shown_alike m n id p w rs h.1)
 shown_alike m n id p w (read.Gate name ∷ rs) h = (refl, shown_alike m n id p w rs h.1)
 
 -- a call has the same reply, since the law of reads holds, and the same follows
-called_same : (b : Behaviour) → IsLawful b → (m n : Model) (id : ℕ) (p : Prompt) (w : World) (found : Option Instance) → Fits w → instance_in id w.modules ≡ found → DoesSame m n w (called b m id p w found) (called b n id p w found)
+called_same : (b : Behaviour) → IsLawful b → (m n : Answers) (id : ℕ) (p : Prompt) (w : World) (found : Option Instance) → Fits w → instance_in id w.modules ≡ found → DoesSame m n w (called b m id p w found) (called b n id p w found)
 called_same b law m n id p w None f e = does_itself m n w (On w) (grown_same w f)
 called_same b law m n id p w (Some i) f e =
     let r : Replied = (b.naming i.kind).reply i.state (call_of m id p w) in
@@ -202,13 +201,13 @@ called_same b law m n id p w (Some i) f e =
     }
 
 -- one call
-call_same : (b : Behaviour) → IsLawful b → (m n : Model) (id : ℕ) (p : Prompt) (w : World) → Fits w → DoesSame m n w (call_module b m id p w) (call_module b n id p w)
+call_same : (b : Behaviour) → IsLawful b → (m n : Answers) (id : ℕ) (p : Prompt) (w : World) → Fits w → DoesSame m n w (call_module b m id p w) (call_module b n id p w)
 call_same b law m n id p w f = called_same b law m n id p w (instance_in id w.modules) f refl
 
 -- ---- setup, boxes and initialization
 
 -- the first question, and what follows it
-root_same : (m n : Model) → DoesSame m n empty (root_asked m) (root_asked n)
+root_same : (m n : Answers) → DoesSame m n empty (root_asked m) (root_asked n)
 root_same m n = asking_same m n Root rooted rooted empty fits_empty (omega arith) (λ a fits. does_itself m n (asked Root empty) (rooted a (asked Root empty)) (rooted_grows a))
 
 -- where a network is there, it has a record
@@ -226,37 +225,37 @@ rooted_on (answer.Injection next) = tt
 rooted_on answer.Absent = tt
 
 -- the second question, and what follows it
-inside_same : (m n : Model) (w : World) → Fits w → HasRecord w → DoesSame m n w (inside_asked m w) (inside_asked n w)
+inside_same : (m n : Answers) (w : World) → Fits w → HasRecord w → DoesSame m n w (inside_asked m w) (inside_asked n w)
 inside_same m n w f l = asking_same m n (Build 1) (built 1) (built 1) w f l (λ a fits. does_itself m n (asked (Build 1) w) (built 1 a (asked (Build 1) w)) (built_grows 1 a (asked (Build 1) w) fits l))
 
 -- setup
-prepared_same : (m n : Model) → DoesSame m n empty (prepared m) (prepared n)
+prepared_same : (m n : Answers) → DoesSame m n empty (prepared m) (prepared n)
 prepared_same m n = does_then_where m n HasRecord empty (root_asked m) (root_asked n) (inside_asked m) (inside_asked n) (root_same m n) (rooted_on (answer_of m [] Root)) (inside_same m n)
 
 -- setup and the boxes
-ready_same : (b : Behaviour) (m n : Model) → DoesSame m n empty (ready b m) (ready b n)
+ready_same : (b : Behaviour) (m n : Answers) → DoesSame m n empty (ready b m) (ready b n)
 ready_same b m n =
     does_then m n empty (prepared m) (prepared n) (place_parts b) (place_parts b) (prepared_same m n) (λ w f. does_itself m n w (place_parts b w) (place_parts_grows b w f))
 
 -- one module is initialized, where it has the stage
-initialize_same : (b : Behaviour) → IsLawful b → (m n : Model) (stage : ℕ) (p : Part) (w : World) → Fits w → DoesSame m n w (initialize b m stage p w) (initialize b n stage p w)
+initialize_same : (b : Behaviour) → IsLawful b → (m n : Answers) (stage : ℕ) (p : Part) (w : World) → Fits w → DoesSame m n w (initialize b m stage p w) (initialize b n stage p w)
 initialize_same b law m n stage p w f =
     either_does m n w (nat_lt stage (b.naming p.kind).stages) _ _ (On w) (On w) (call_same b law m n p.id (prompt.Initialize stage) w f) (does_itself m n w (On w) (grown_same w f))
 
 -- one stage of all modules
-one_stage_same : (b : Behaviour) → IsLawful b → (m n : Model) (stage : ℕ) (ps : List Part) (w : World) → Fits w → DoesSame m n w (one_stage b m stage ps w) (one_stage b n stage ps w)
+one_stage_same : (b : Behaviour) → IsLawful b → (m n : Answers) (stage : ℕ) (ps : List Part) (w : World) → Fits w → DoesSame m n w (one_stage b m stage ps w) (one_stage b n stage ps w)
 one_stage_same b law m n stage [] w f = does_itself m n w (On w) (grown_same w f)
 one_stage_same b law m n stage (p ∷ ps) w f =
     does_then m n w (initialize b m stage p w) (initialize b n stage p w) (one_stage b m stage ps) (one_stage b n stage ps) (initialize_same b law m n stage p w f) (one_stage_same b law m n stage ps)
 
 -- the stages that are left
-stages_same : (b : Behaviour) → IsLawful b → (m n : Model) (ps : List Part) (stage left : ℕ) (w : World) → Fits w → DoesSame m n w (stages_from b m ps stage left w) (stages_from b n ps stage left w)
+stages_same : (b : Behaviour) → IsLawful b → (m n : Answers) (ps : List Part) (stage left : ℕ) (w : World) → Fits w → DoesSame m n w (stages_from b m ps stage left w) (stages_from b n ps stage left w)
 stages_same b law m n ps stage zero w f = does_itself m n w (On w) (grown_same w f)
 stages_same b law m n ps stage (suc left) w f =
     does_then m n w (one_stage b m stage ps w) (one_stage b n stage ps w) (stages_from b m ps (suc stage) left) (stages_from b n ps (suc stage) left) (one_stage_same b law m n stage ps w f) (stages_same b law m n ps (suc stage) left)
 
 -- all stages
-initialize_all_same : (b : Behaviour) → IsLawful b → (m n : Model) (w : World) → Fits w → DoesSame m n w (initialize_all b m w) (initialize_all b n w)
+initialize_all_same : (b : Behaviour) → IsLawful b → (m n : Answers) (w : World) → Fits w → DoesSame m n w (initialize_all b m w) (initialize_all b n w)
 initialize_all_same b law m n w f =
     let fits : Fits (with_started w) = record { nested = f.nested; modules = f.modules; questions = f.questions } in
     record {
@@ -265,15 +264,15 @@ initialize_all_same b law m n w f =
     }
 
 -- event zero, before it is settled
-abbrev pub begins : Behaviour → Model → Flow
+abbrev pub begins : Behaviour → Answers → Flow
 begins b m = ready b m >>= initialize_all b m
 
 -- event zero is the same
-pub begins_same : (b : Behaviour) → IsLawful b → (m n : Model) → DoesSame m n empty (begins b m) (begins b n)
+pub begins_same : (b : Behaviour) → IsLawful b → (m n : Answers) → DoesSame m n empty (begins b m) (begins b n)
 begins_same b law m n = does_then m n empty (ready b m) (ready b n) (initialize_all b m) (initialize_all b n) (ready_same b m n) (initialize_all_same b law m n)
 
 -- and it only asks and creates, in every catalogue
-pub begins_grows : (b : Behaviour) (m : Model) → IsGrown empty (in_flow (begins b m))
+pub begins_grows : (b : Behaviour) (m : Answers) → IsGrown empty (in_flow (begins b m))
 begins_grows b m = let g = (ready_same b m m).grows in grown_on g (then_grows (ready b m) (initialize_all b m) g.fits (initialize_all_grows b m))
 
 -- the end of an event changes nothing of the world
@@ -285,7 +284,7 @@ settled_world (Broken w path f) = refl
 -- ---- all that was asked
 
 -- what is noted stands first of it
-noted_first : (P : List Asked → Type 0) → ((xs ys : List Asked) → P (xs ++ ys) → P xs) → (m : Model) (s : Stage) → P (questions_of m s) → P (world_at s).questions
+noted_first : (P : List Asked → Type 0) → ((xs ys : List Asked) → P (xs ++ ys) → P xs) → (m : Answers) (s : Stage) → P (questions_of m s) → P (world_at s).questions
 noted_first P front m (Running w) h = h
 noted_first P front m (Over w Ended) h = h
 noted_first P front m (Over w EventLimit) h = h
@@ -294,15 +293,15 @@ noted_first P front m (Over w TimeLimit) h = let t = upcoming_tried m w in front
 noted_first P front m (Over w (Fault event path f)) h = h
 
 -- the models agree on all that was asked up to that stage
-abbrev pub AgreesAt : Model → Model → Stage → Type 0
+abbrev pub AgreesAt : Answers → Answers → Stage → Type 0
 AgreesAt m n s = Agrees m n (world_at s).records (questions_of m s)
 
 -- so they agree on what is noted
-AgreesAt-noted : (m n : Model) (s : Stage) → AgreesAt m n s → AgreesIn m n (world_at s)
+AgreesAt-noted : (m n : Answers) (s : Stage) → AgreesAt m n s → AgreesIn m n (world_at s)
 AgreesAt-noted m n s h = noted_first (Agrees m n (world_at s).records) (Agrees-front m n (world_at s).records) m s h
 
 -- event zero, settled
-start_same : (b : Behaviour) → IsLawful b → (m n : Model) → AgreesAt m n (start b m) → start b m ≡ start b n
+start_same : (b : Behaviour) → IsLawful b → (m n : Answers) → AgreesAt m n (start b m) → start b m ≡ start b n
 start_same b law m n h = ap settled ((begins_same b law m n).same (subst (AgreesIn m n) (settled_world (begins b m)) (AgreesAt-noted m n (start b m) h)))
 
 -- ---- events
@@ -325,7 +324,7 @@ begun_grows : (p : Pending) (rest : List Pending) (w : World) → Fits w → IsG
 begun_grows p rest w f = timed_grows (BeyondLimit p.time) (counted p rest w) (record { nested = f.nested; modules = f.modules; questions = f.questions }) (omega arith)
 
 -- one event asks questions of its own number
-event_later : (b : Behaviour) (m : Model) (p : Pending) (rest : List Pending) (w : World) → Fits w → IsLater (w.count + 1) w (world_at (settled (event b m p rest w)))
+event_later : (b : Behaviour) (m : Answers) (p : Pending) (rest : List Pending) (w : World) → Fits w → IsLater (w.count + 1) w (world_at (settled (event b m p rest w)))
 event_later b m p rest w f =
     let first = begun_grows p rest w f in
     let g = grown_on first (call_grows b m p.id (prompt.Message (message_of p)) (begun p rest w) first.fits) in
@@ -361,14 +360,14 @@ later_looked w u v h g = record {
 }
 
 -- so does the next event, where there is one
-went_later : (b : Behaviour) (m : Model) (w : World) (up : Upcoming) → HasLooked w (beside up) → Fits w → IsLater (w.count + 1) w (world_at (went b m w up))
+went_later : (b : Behaviour) (m : Answers) (w : World) (up : Upcoming) → HasLooked w (beside up) → Fits w → IsLater (w.count + 1) w (world_at (went b m w up))
 went_later b m w (Nothing u) looked f = later_same (w.count + 1) w f
 went_later b m w (Comes u p rest) looked f =
     either_later (w.count + 1) (is_after_limit m u.records p) w TimeLimit (settled (event b m p rest u)) f
     (later_looked w u (world_at (settled (event b m p rest u))) looked (event_later b m p rest u (fits_looked w u looked f)))
 
 -- one turn of a run
-next_later : (b : Behaviour) (m : Model) (n : ℕ) (s : Stage) → RunsOn n s → Fits (world_at s) → IsLater (suc n) (world_at s) (world_at (next_stage b m s))
+next_later : (b : Behaviour) (m : Answers) (n : ℕ) (s : Stage) → RunsOn n s → Fits (world_at s) → IsLater (suc n) (world_at s) (world_at (next_stage b m s))
 next_later b m n (Running w) at f =
     let e : w.count + 1 ≡ suc n = omega (arith, at w refl) in
     subst (λ event. IsLater event w (world_at (next_stage b m (Running w)))) e (either_later (w.count + 1) w.ended w Ended (went b m w (upcoming m w)) f (went_later b m w (upcoming m w) (upcoming_looks m w) f))
@@ -377,17 +376,17 @@ next_later b m n (Over w outcome) at f = later_same (suc n) w f
 -- ---- what comes next in two models
 
 -- an injection, for the module that stands at its path
-aimed_same : (m n : Model) (go_on other : World → Upcoming) (u : World) (ps : List Pending) (i : Injection) (target : Option ℕ) → (Agrees m n u.records (beside (go_on u)).questions → go_on u ≡ other u) → Agrees m n u.records (beside (aimed go_on u ps i target)).questions → aimed go_on u ps i target ≡ aimed other u ps i target
+aimed_same : (m n : Answers) (go_on other : World → Upcoming) (u : World) (ps : List Pending) (i : Injection) (target : Option ℕ) → (Agrees m n u.records (beside (go_on u)).questions → go_on u ≡ other u) → Agrees m n u.records (beside (aimed go_on u ps i target)).questions → aimed go_on u ps i target ≡ aimed other u ps i target
 aimed_same m n go_on other u ps i None f h = f h
 aimed_same m n go_on other u ps i (Some id) f h = refl
 
 -- what was answered
-chosen_same : (m n : Model) (go_on other : World → Upcoming) (u : World) (ps : List Pending) (found : Answer) → ((i : Injection) → Agrees m n u.records (beside (go_on (delivered i u))).questions → go_on (delivered i u) ≡ other (delivered i u)) → Agrees m n u.records (beside (chosen go_on u ps found)).questions → chosen go_on u ps found ≡ chosen other u ps found
+chosen_same : (m n : Answers) (go_on other : World → Upcoming) (u : World) (ps : List Pending) (found : Answer) → ((i : Injection) → Agrees m n u.records (beside (go_on (delivered i u))).questions → go_on (delivered i u) ≡ other (delivered i u)) → Agrees m n u.records (beside (chosen go_on u ps found)).questions → chosen go_on u ps found ≡ chosen other u ps found
 chosen_same m n go_on other u ps (answer.Injection (Some i)) f h = aimed_same m n go_on other (delivered i u) ps i (target_of i.path u) (f i) h
 chosen_same m n go_on other u ps _ f h = refl
 
 -- models that agree on all that was asked to know what comes next have the same next
-coming_same : (left : ℕ) (m n : Model) (ps : List Pending) (v : World) → Agrees m n v.records (beside (upcoming_in left m ps v)).questions → upcoming_in left m ps v ≡ upcoming_in left n ps v
+coming_same : (left : ℕ) (m n : Answers) (ps : List Pending) (v : World) → Agrees m n v.records (beside (upcoming_in left m ps v)).questions → upcoming_in left m ps v ≡ upcoming_in left n ps v
 coming_same zero m n ps v h = refl
 coming_same (suc left) m n ps v h =
     let q : Question = InjectionBefore (first_due ps) v.delivered in
@@ -406,26 +405,26 @@ tried_first (Comes u p rest) = (record { event = u.count + 1; question = BeyondL
 tried_first (Nothing u) = ([], append-nil u.questions)
 
 -- so it is of all that was tried
-upcoming_same : (m n : Model) (w : World) → Agrees m n w.records (tried (upcoming m w)) → upcoming m w ≡ upcoming n w
+upcoming_same : (m n : Answers) (w : World) → Agrees m n w.records (tried (upcoming m w)) → upcoming m w ≡ upcoming n w
 unfolding upcoming
 upcoming_same m n w h =
     let t = tried_first (upcoming m w) in
     coming_same (suc most_injections) m n w.pending w (Agrees-front m n w.records (beside (upcoming m w)).questions t.0 (subst (Agrees m n w.records) (sym t.1) h))
 
 -- an event that begins has asked all that was tried
-begun_agreed : (b : Behaviour) (m n : Model) (p : Pending) (rest : List Pending) (u : World) → Fits u → AgreesAt m n (settled (event b m p rest u)) → AgreesIn m n (begun p rest u)
+begun_agreed : (b : Behaviour) (m n : Answers) (p : Pending) (rest : List Pending) (u : World) → Fits u → AgreesAt m n (settled (event b m p rest u)) → AgreesIn m n (begun p rest u)
 begun_agreed b m n p rest u f h =
     let fits = (begun_grows p rest u f).fits in
     Agrees-before m n (begun p rest u) (in_flow (event b m p rest u)) fits (call_grows b m p.id (prompt.Message (message_of p)) (begun p rest u) fits)
     (subst (AgreesIn m n) (settled_world (event b m p rest u)) (AgreesAt-noted m n (settled (event b m p rest u)) h))
 
 -- by whether the event is after the limit
-tried_by : (m n : Model) (w : World) (up : Upcoming) (c : Bool) (s : Stage) → up ≡ upcoming m w → (AgreesAt m n s → Agrees m n w.records (tried up)) → AgreesAt m n (if c then Over w TimeLimit else s) → Agrees m n w.records (tried up)
+tried_by : (m n : Answers) (w : World) (up : Upcoming) (c : Bool) (s : Stage) → up ≡ upcoming m w → (AgreesAt m n s → Agrees m n w.records (tried up)) → AgreesAt m n (if c then Over w TimeLimit else s) → Agrees m n w.records (tried up)
 tried_by m n w up true s e k h = subst (λ x. Agrees m n w.records (tried x)) (sym e) h
 tried_by m n w up false s e k h = k h
 
 -- models that agree on all that was asked up to the next event agree on all that was tried
-tried_agreed : (b : Behaviour) (m n : Model) (w : World) (up : Upcoming) → up ≡ upcoming m w → HasLooked w (beside up) → Fits w → AgreesAt m n (went b m w up) → Agrees m n w.records (tried up)
+tried_agreed : (b : Behaviour) (m n : Answers) (w : World) (up : Upcoming) → up ≡ upcoming m w → HasLooked w (beside up) → Fits w → AgreesAt m n (went b m w up) → Agrees m n w.records (tried up)
 tried_agreed b m n w (Nothing u) e looked f h = subst (λ x. Agrees m n w.records (tried x)) (sym e) h
 tried_agreed b m n w (Comes u p rest) e looked f h =
     tried_by m n w (Comes u p rest) (is_after_limit m u.records p) (settled (event b m p rest u)) e
@@ -433,12 +432,12 @@ tried_agreed b m n w (Comes u p rest) e looked f h =
     h
 
 -- by whether the event is after the limit: in the first model and in the second
-went_by : (m n : Model) (w : World) (c d : Bool) (s t : Stage) → c ≡ d → (AgreesAt m n s → s ≡ t) → AgreesAt m n (if c then Over w TimeLimit else s) → (if c then Over w TimeLimit else s) ≡ (if d then Over w TimeLimit else t)
+went_by : (m n : Answers) (w : World) (c d : Bool) (s t : Stage) → c ≡ d → (AgreesAt m n s → s ≡ t) → AgreesAt m n (if c then Over w TimeLimit else s) → (if c then Over w TimeLimit else s) ≡ (if d then Over w TimeLimit else t)
 went_by m n w true d s t e same h = ap (λ (x : Bool). if x then Over w TimeLimit else t) e
 went_by m n w false d s t e same h = same h ∙ ap (λ (x : Bool). if x then Over w TimeLimit else t) e
 
 -- the next event is the same
-went_same : (b : Behaviour) → IsLawful b → (m n : Model) (w : World) (up : Upcoming) → HasLooked w (beside up) → Fits w → Agrees m n w.records (tried up) → AgreesAt m n (went b m w up) → went b m w up ≡ went b n w up
+went_same : (b : Behaviour) → IsLawful b → (m n : Answers) (w : World) (up : Upcoming) → HasLooked w (beside up) → Fits w → Agrees m n w.records (tried up) → AgreesAt m n (went b m w up) → went b m w up ≡ went b n w up
 went_same b law m n w (Nothing u) looked f a h = refl
 went_same b law m n w (Comes u p rest) looked f a h =
     let fits = (begun_grows p rest u (fits_looked w u looked f)).fits in
@@ -449,12 +448,12 @@ went_same b law m n w (Comes u p rest) looked f a h =
     h
 
 -- where the run is over it is so in both
-either_same : (m n : Model) (c : Bool) (w : World) (outcome : Outcome) (s t : Stage) → (AgreesAt m n s → s ≡ t) → AgreesAt m n (if c then Over w outcome else s) → (if c then Over w outcome else s) ≡ (if c then Over w outcome else t)
+either_same : (m n : Answers) (c : Bool) (w : World) (outcome : Outcome) (s t : Stage) → (AgreesAt m n s → s ≡ t) → AgreesAt m n (if c then Over w outcome else s) → (if c then Over w outcome else s) ≡ (if c then Over w outcome else t)
 either_same m n true w outcome s t k h = refl
 either_same m n false w outcome s t k h = k h
 
 -- one turn is the same
-next_same : (b : Behaviour) → IsLawful b → (m n : Model) (s : Stage) → Fits (world_at s) → AgreesAt m n (next_stage b m s) → next_stage b m s ≡ next_stage b n s
+next_same : (b : Behaviour) → IsLawful b → (m n : Answers) (s : Stage) → Fits (world_at s) → AgreesAt m n (next_stage b m s) → next_stage b m s ≡ next_stage b n s
 next_same b law m n (Running w) f h =
     either_same m n w.ended w Ended (went b m w (upcoming m w)) (went b n w (upcoming n w)) (λ a.
     let all : Agrees m n w.records (tried (upcoming m w)) = tried_agreed b m n w (upcoming m w) refl (upcoming_looks m w) f a in
@@ -462,7 +461,7 @@ next_same b law m n (Running w) f h =
 next_same b law m n (Over w outcome) f h = refl
 
 -- models that agree on all that was asked up to the next turn agree on all that was asked before
-AgreesAt-before : (b : Behaviour) (m n : Model) (k : ℕ) (s : Stage) → RunsOn k s → Fits (world_at s) → AgreesAt m n (next_stage b m s) → AgreesAt m n s
+AgreesAt-before : (b : Behaviour) (m n : Answers) (k : ℕ) (s : Stage) → RunsOn k s → Fits (world_at s) → AgreesAt m n (next_stage b m s) → AgreesAt m n s
 AgreesAt-before b m n k (Running w) at f h =
     let g = next_later b m k (Running w) at f in
     let t : Stage = next_stage b m (Running w) in
@@ -472,16 +471,16 @@ AgreesAt-before b m n k (Over w outcome) at f h = h
 -- ---- runs
 
 -- in each world of a run ids are those of records
-pub fits_after : (b : Behaviour) (m : Model) (n : ℕ) → Fits (world_at (after b m n))
+pub fits_after : (b : Behaviour) (m : Answers) (n : ℕ) → Fits (world_at (after b m n))
 fits_after b m zero = subst Fits (sym (settled_world (begins b m))) (begins_grows b m).fits
 fits_after b m (suc n) = (next_later b m n (after b m n) (runs_on b m n) (fits_after b m n)).fits
 
 -- from each world of a run to the next
-pub after_later : (b : Behaviour) (m : Model) (n : ℕ) → IsLater (suc n) (world_at (after b m n)) (world_at (after b m (suc n)))
+pub after_later : (b : Behaviour) (m : Answers) (n : ℕ) → IsLater (suc n) (world_at (after b m n)) (world_at (after b m (suc n)))
 after_later b m n = next_later b m n (after b m n) (runs_on b m n) (fits_after b m n)
 
 -- models that agree on all that was asked in the run of the first up to an event have the same run up to there
-pub after_same : (b : Behaviour) → IsLawful b → (m n : Model) (v : ℕ) → AgreesAt m n (after b m v) → after b m v ≡ after b n v
+pub after_same : (b : Behaviour) → IsLawful b → (m n : Answers) (v : ℕ) → AgreesAt m n (after b m v) → after b m v ≡ after b n v
 after_same b law m n zero h = start_same b law m n h
 after_same b law m n (suc v) h =
     next_same b law m n (after b m v) (fits_after b m v) h
@@ -510,44 +509,44 @@ AllUpTo-of v event [] h f = tt
 AllUpTo-of v event (x ∷ xs) h f = (omega (arith, f.0), AllUpTo-of v event xs h f.1)
 
 -- from a world that goes on to the stage after the next turn, questions of that event were asked
-record HasAsked (m : Model) (event : ℕ) (w : World) (s : Stage) : Type 0 where
+record HasAsked (m : Answers) (event : ℕ) (w : World) (s : Stage) : Type 0 where
   rest : List Asked
   joined : w.questions ++ rest ≡ questions_of m s
   of_event : AllOfEvent event rest
 
 -- nothing more was asked at the end of an event
-settled_questions : (m : Model) (fl : Flow) → questions_of m (settled fl) ≡ (in_flow fl).questions
+settled_questions : (m : Answers) (fl : Flow) → questions_of m (settled fl) ≡ (in_flow fl).questions
 settled_questions m (On w) = refl
 settled_questions m (Stopped w) = refl
 settled_questions m (Broken w path f) = refl
 
 -- the next event that did not begin is of the next number
-over_asked : (m : Model) (w : World) (s : Stage) → tried (upcoming m w) ≡ questions_of m s → HasAsked m (w.count + 1) w s
+over_asked : (m : Answers) (w : World) (s : Stage) → tried (upcoming m w) ≡ questions_of m s → HasAsked m (w.count + 1) w s
 over_asked m w s e = let t = upcoming_tried m w in record { rest = t.rest; joined = t.joined ∙ e; of_event = t.of_next }
 
 -- by whether the event is after the limit
-either_asked : (m : Model) (c : Bool) (w : World) (s : Stage) → HasAsked m (w.count + 1) w s → HasAsked m (w.count + 1) w (if c then Over w TimeLimit else s)
+either_asked : (m : Answers) (c : Bool) (w : World) (s : Stage) → HasAsked m (w.count + 1) w s → HasAsked m (w.count + 1) w (if c then Over w TimeLimit else s)
 either_asked m true w s h = over_asked m w (Over w TimeLimit) refl
 either_asked m false w s h = h
 
 -- one event
-event_asked : (b : Behaviour) (m : Model) (p : Pending) (rest : List Pending) (w u : World) → HasLooked w u → Fits w → HasAsked m (w.count + 1) w (settled (event b m p rest u))
+event_asked : (b : Behaviour) (m : Answers) (p : Pending) (rest : List Pending) (w u : World) → HasLooked w u → Fits w → HasAsked m (w.count + 1) w (settled (event b m p rest u))
 event_asked b m p rest w u looked f =
     let g = later_looked w u (world_at (settled (event b m p rest u))) looked (event_later b m p rest u (fits_looked w u looked f)) in
     record { rest = g.rest; joined = g.joined ∙ (ap (λ (v : World). v.questions) (settled_world (event b m p rest u)) ∙ sym (settled_questions m (event b m p rest u))); of_event = g.later }
 
 -- the next event, where there is one
-went_asked : (b : Behaviour) (m : Model) (w : World) (up : Upcoming) → HasLooked w (beside up) → Fits w → HasAsked m (w.count + 1) w (went b m w up)
+went_asked : (b : Behaviour) (m : Answers) (w : World) (up : Upcoming) → HasLooked w (beside up) → Fits w → HasAsked m (w.count + 1) w (went b m w up)
 went_asked b m w (Nothing u) looked f = over_asked m w (Over w NoMoreEvents) refl
 went_asked b m w (Comes u p rest) looked f = either_asked m (is_after_limit m u.records p) w (settled (event b m p rest u)) (event_asked b m p rest w u looked f)
 
 -- unless the end was asked for
-ended_asked : (m : Model) (c : Bool) (event : ℕ) (w : World) (s : Stage) → HasAsked m event w s → HasAsked m event w (if c then Over w Ended else s)
+ended_asked : (m : Answers) (c : Bool) (event : ℕ) (w : World) (s : Stage) → HasAsked m event w s → HasAsked m event w (if c then Over w Ended else s)
 ended_asked m true event w s h = record { rest = []; joined = append-nil w.questions; of_event = tt }
 ended_asked m false event w s h = h
 
 -- one turn asks questions of the next event alone
-next_up_to : (b : Behaviour) (m : Model) (v : ℕ) (s : Stage) → RunsOn v s → Fits (world_at s) → AllUpTo v (questions_of m s) → AllUpTo (suc v) (questions_of m (next_stage b m s))
+next_up_to : (b : Behaviour) (m : Answers) (v : ℕ) (s : Stage) → RunsOn v s → Fits (world_at s) → AllUpTo v (questions_of m s) → AllUpTo (suc v) (questions_of m (next_stage b m s))
 next_up_to b m v (Running w) at f h =
     let g = ended_asked m w.ended (w.count + 1) w (went b m w (upcoming m w)) (went_asked b m w (upcoming m w) (upcoming_looks m w) f) in
     let count = at w refl in
@@ -555,7 +554,7 @@ next_up_to b m v (Running w) at f h =
 next_up_to b m v (Over w outcome) at f h = AllUpTo-more v (suc v) (questions_of m (Over w outcome)) (omega arith) h
 
 -- all that was asked in a run up to an event is of the events up to it
-up_to_after : (b : Behaviour) (m : Model) (v : ℕ) → AllUpTo v (questions_of m (after b m v))
+up_to_after : (b : Behaviour) (m : Answers) (v : ℕ) → AllUpTo v (questions_of m (after b m v))
 up_to_after b m zero =
     let g = begins_grows b m in
     subst (AllUpTo 0) (sym (settled_questions m (begins b m))) (subst (AllUpTo 0) g.joined (AllUpTo-of 0 0 g.rest (omega arith) g.present))
@@ -572,12 +571,12 @@ AllUpTo-back v [] ys h = h
 AllUpTo-back v (x ∷ xs) ys h = AllUpTo-back v xs ys h.1
 
 -- where all questions are of the events up to v, the models agree on all
-Agrees-up_to : (v : ℕ) (m n : Model) (rs : List Record) (xs : List Asked) → AllUpTo v xs → AgreesUpTo v m n rs xs → Agrees m n rs xs
+Agrees-up_to : (v : ℕ) (m n : Answers) (rs : List Record) (xs : List Asked) → AllUpTo v xs → AgreesUpTo v m n rs xs → Agrees m n rs xs
 Agrees-up_to v m n rs [] f a = tt
 Agrees-up_to v m n rs (x ∷ xs) f a = (a.0 f.0, Agrees-up_to v m n rs xs f.1 a.1)
 
 -- on the first questions of a list
-pub AgreesUpTo-front : (v : ℕ) (m n : Model) (rs : List Record) (xs ys : List Asked) → AgreesUpTo v m n rs (xs ++ ys) → AgreesUpTo v m n rs xs
+pub AgreesUpTo-front : (v : ℕ) (m n : Answers) (rs : List Record) (xs ys : List Asked) → AgreesUpTo v m n rs (xs ++ ys) → AgreesUpTo v m n rs xs
 AgreesUpTo-front v m n rs [] ys h = tt
 AgreesUpTo-front v m n rs (x ∷ xs) ys h = (h.0, AgreesUpTo-front v m n rs xs ys h.1)
 
@@ -602,7 +601,7 @@ past_later event u v w f g = record {
 }
 
 -- a run of more events is no earlier
-past_after : (b : Behaviour) (m : Model) (v k : ℕ) → v ≤ k → IsPast (world_at (after b m v)) (world_at (after b m k))
+past_after : (b : Behaviour) (m : Answers) (v k : ℕ) → v ≤ k → IsPast (world_at (after b m v)) (world_at (after b m k))
 past_after b m v zero h = let e : v ≡ zero = omega arith in subst (λ n. IsPast (world_at (after b m v)) (world_at (after b m n))) e (past_same (world_at (after b m v)))
 past_after b m v (suc k) h =
     ⊎_elim
@@ -611,18 +610,18 @@ past_after b m v (suc k) h =
     (eq-or-lt_of_le h)
 
 -- more modules change no answer about those that were there
-pub noted_stay : (m : Model) (rs more : List Record) → AreNested 0 rs → (qs : List Asked) → AllAbout (length rs) qs → Each (λ a. answer_of m (rs ++ more) a.question ≡ answer_of m rs a.question) qs
+pub noted_stay : (m : Answers) (rs more : List Record) → AreNested 0 rs → (qs : List Asked) → AllAbout (length rs) qs → Each (λ a. answer_of m (rs ++ more) a.question ≡ answer_of m rs a.question) qs
 noted_stay m rs more h [] f = tt
 noted_stay m rs more h (a ∷ qs) f = (answer_more m rs more h a.question f.0, noted_stay m rs more h qs f.1)
 
 -- all that was asked is about modules that are there
-tried_about : (m : Model) (w : World) → Fits w → AllAbout (length w.records) (tried (upcoming m w))
+tried_about : (m : Answers) (w : World) → Fits w → AllAbout (length w.records) (tried (upcoming m w))
 tried_about m w f =
     let t = upcoming_tried m w in
     subst (AllAbout (length w.records)) t.joined (AllAbout-append (length w.records) w.questions t.rest f.questions (AllAbout-more 0 (length w.records) t.rest (omega arith) t.of_none))
 
 -- the same, in a run up to that stage
-asked_about : (m : Model) (s : Stage) → Fits (world_at s) → AllAbout (length (world_at s).records) (questions_of m s)
+asked_about : (m : Answers) (s : Stage) → Fits (world_at s) → AllAbout (length (world_at s).records) (questions_of m s)
 asked_about m (Running w) f = f.questions
 asked_about m (Over w Ended) f = f.questions
 asked_about m (Over w EventLimit) f = f.questions
@@ -631,7 +630,7 @@ asked_about m (Over w TimeLimit) f = tried_about m w f
 asked_about m (Over w (Fault event path fault)) f = f.questions
 
 -- what was asked has the same answers with the modules of a later world
-pub noted_after : (b : Behaviour) (m other : Model) (n k : ℕ) → n ≤ k → Each (λ a. answer_of other (world_at (after b m k)).records a.question ≡ answer_of other (world_at (after b m n)).records a.question) (questions_of m (after b m n))
+pub noted_after : (b : Behaviour) (m other : Answers) (n k : ℕ) → n ≤ k → Each (λ a. answer_of other (world_at (after b m k)).records a.question ≡ answer_of other (world_at (after b m n)).records a.question) (questions_of m (after b m n))
 noted_after b m other n k h =
     let u : World = world_at (after b m n) in
     let p = past_after b m n k h in
@@ -640,7 +639,7 @@ noted_after b m other n k h =
     subst (λ rs. Each (λ (a : Asked). answer_of other rs a.question ≡ answer_of other u.records a.question) qs) p.records (noted_stay other u.records p.more f.nested qs (asked_about m (after b m n) f))
 
 -- by the first events of a longer run the models agree on what is noted
-noted_same : (b : Behaviour) (m n : Model) (v k : ℕ) → v ≤ k → AgreesUpTo v m n (world_at (after b m k)).records (world_at (after b m k)).questions → AgreesIn m n (world_at (after b m v))
+noted_same : (b : Behaviour) (m n : Answers) (v k : ℕ) → v ≤ k → AgreesUpTo v m n (world_at (after b m k)).records (world_at (after b m k)).questions → AgreesIn m n (world_at (after b m v))
 noted_same b m n v k h a =
     let u : World = world_at (after b m v) in
     let w : World = world_at (after b m k) in
@@ -652,14 +651,14 @@ noted_same b m n v k h a =
     Agrees-fewer m n u.records p.more f.nested u.questions f.questions (subst (λ rs. Agrees m n rs u.questions) (sym p.records) all)
 
 -- and on all that was asked, where the longer run is over the same way
-all_same : (v : ℕ) (m n : Model) (s t : Stage) → AllUpTo v (questions_of m s) → ((w : World) (outcome : Outcome) → s ≡ Over w outcome → t ≡ Over w outcome) → AgreesUpTo v m n (world_at t).records (questions_of m t) → AgreesIn m n (world_at s) → AgreesAt m n s
+all_same : (v : ℕ) (m n : Answers) (s t : Stage) → AllUpTo v (questions_of m s) → ((w : World) (outcome : Outcome) → s ≡ Over w outcome → t ≡ Over w outcome) → AgreesUpTo v m n (world_at t).records (questions_of m t) → AgreesIn m n (world_at s) → AgreesAt m n s
 all_same v m n (Running w) t up_to over a h = h
 all_same v m n (Over w outcome) t up_to over a h =
     let own : AgreesUpTo v m n w.records (questions_of m (Over w outcome)) = subst (λ x. AgreesUpTo v m n (world_at x).records (questions_of m x)) (over w outcome refl) a in
     Agrees-up_to v m n w.records (questions_of m (Over w outcome)) up_to own
 
 -- the same, by the questions of the first events of a longer run
-pub after_same_up_to : (b : Behaviour) → IsLawful b → (m n : Model) (v k : ℕ) → v ≤ k → AgreesUpTo v m n (world_at (after b m k)).records (questions_of m (after b m k)) → after b m v ≡ after b n v
+pub after_same_up_to : (b : Behaviour) → IsLawful b → (m n : Answers) (v k : ℕ) → v ≤ k → AgreesUpTo v m n (world_at (after b m k)).records (questions_of m (after b m k)) → after b m v ≡ after b n v
 after_same_up_to b law m n v k h a =
     let noted : AgreesUpTo v m n (world_at (after b m k)).records (world_at (after b m k)).questions = noted_first (AgreesUpTo v m n (world_at (after b m k)).records) (AgreesUpTo-front v m n (world_at (after b m k)).records) m (after b m k) a in
     after_same b law m n v (all_same v m n (after b m v) (after b m k) (up_to_after b m v) (λ w outcome e. over_stays b m w outcome v k h e) a (noted_same b m n v k h noted))
@@ -667,7 +666,7 @@ after_same_up_to b law m n v k h a =
 -- ---- runs that got as far
 
 -- a run that got as far did not end before
-none_stopped : (v : ℕ) (m : Model) (w : World) → w.count ≡ v → AllUpTo v (tried (upcoming m w)) → ⊥
+none_stopped : (v : ℕ) (m : Answers) (w : World) → w.count ≡ v → AllUpTo v (tried (upcoming m w)) → ⊥
 none_stopped v m w e h =
     let up : Upcoming = upcoming m w in
     let t = tried_first up in
@@ -678,7 +677,7 @@ none_stopped v m w e h =
     absurd (omega (arith, e, l))
 
 -- so all that it asked is noted
-all_noted : (v : ℕ) (m : Model) (s : Stage) → IsReached s v → AllUpTo v (questions_of m s) → questions_of m s ≡ (world_at s).questions
+all_noted : (v : ℕ) (m : Answers) (s : Stage) → IsReached s v → AllUpTo v (questions_of m s) → questions_of m s ≡ (world_at s).questions
 all_noted v m (Running w) e h = refl
 all_noted v m (Over w Ended) e h = refl
 all_noted v m (Over w EventLimit) e h = refl
@@ -687,9 +686,9 @@ all_noted v m (Over w TimeLimit) e h = absurd (none_stopped v m w e h)
 all_noted v m (Over w (Fault event path f)) e h = refl
 
 -- in a run that got as far the questions that are noted decide
-pub reached_same : (b : Behaviour) → IsLawful b → (m n : Model) (v : ℕ) → IsReached (after b m v) v → AgreesIn m n (world_at (after b m v)) → after b m v ≡ after b n v
+pub reached_same : (b : Behaviour) → IsLawful b → (m n : Answers) (v : ℕ) → IsReached (after b m v) v → AgreesIn m n (world_at (after b m v)) → after b m v ≡ after b n v
 reached_same b law m n v e h = after_same b law m n v (subst (Agrees m n (world_at (after b m v)).records) (sym (all_noted v m (after b m v) e (up_to_after b m v))) h)
 
 -- and those of a longer run
-pub reached_same_up_to : (b : Behaviour) → IsLawful b → (m n : Model) (v k : ℕ) → v ≤ k → IsReached (after b m v) v → AgreesUpTo v m n (world_at (after b m k)).records (world_at (after b m k)).questions → after b m v ≡ after b n v
+pub reached_same_up_to : (b : Behaviour) → IsLawful b → (m n : Answers) (v k : ℕ) → v ≤ k → IsReached (after b m v) v → AgreesUpTo v m n (world_at (after b m k)).records (world_at (after b m k)).questions → after b m v ≡ after b n v
 reached_same_up_to b law m n v k h e a = reached_same b law m n v e (noted_same b m n v k h a)

@@ -1,5 +1,5 @@
 -- The worlds of a run have room for more: an action inserts one event at most.
-use Rattle.std.proofs.Common.{◌≡◌, ℕ, suc, ◌+◌, ◌≤◌, Bool, true, false, List, [], ◌∷◌, Option, Some, None, refl, sym, ◌∙◌, ap, arith, subst, slice_get, length, nat_lt, if◌then◌else◌}
+use Rattle.std.proofs.Common.{◌≡◌, ℕ, suc, ◌+◌, ◌≤◌, Bool, true, false, List, [], ◌∷◌, Option, Some, None, refl, sym, ◌∙◌, ap, arith, subst, length, nat_lt, if◌then◌else◌}
 use Rattle.std.proofs.lemmas.Bool.Decides.{nat_tests}
 use Rattle.sim_time.specs.Time.{time_sum}
 use Rattle.module_api.specs.Behaviour.{Behaviour, Replied}
@@ -11,7 +11,7 @@ use Rattle.module_api.specs.declared.reply.Action.TheVariants.{Emit, RecordScala
 use Rattle.module_api.specs.declared.reply.Read.{Read}
 use Rattle.module_api.specs.declared.reply.Reply.{Reply}
 use Rattle.module_api.specs.declared.reply.Schedule.{Schedule}
-use Rattle.model_answers.specs.declared.model.Model.{Model}
+use Rattle.run_questions.specs.Answers.{Answers}
 use Rattle.run_semantics.specs.declared.outcome.Fault.{Fault}
 use Rattle.run_semantics.specs.declared.outcome.Turn.{Turn}
 use Rattle.run_semantics.specs.declared.outcome.Turn.TheVariants.{GoOn, Stop, Break}
@@ -101,23 +101,23 @@ unless_keeps : (n id : ℕ) (found : Option Fault) (go : World → Flow) (w : Wo
 unless_keeps n id (Some f) go w h = keeps_same n w
 unless_keeps n id None go w h = h
 
-pub answered_keeps : (m : Model) (id : ℕ) (reply : Reply) (w : World) → Keeps 1000 w (in_flow (answered m id reply w))
+pub answered_keeps : (m : Answers) (id : ℕ) (reply : Reply) (w : World) → Keeps 1000 w (in_flow (answered m id reply w))
 answered_keeps m id reply w =
     let v : World = ask_all id reply.reads w in
     keeps_on 0 1000 w v _ (ask_all_keeps id reply.reads w) (unless_keeps 1000 id (read_fault m w.records id reply.reads) (acted id reply.actions) v (acted_keeps id reply.actions v))
 
-called_keeps : (b : Behaviour) (m : Model) (id : ℕ) (p : Prompt) (w : World) (i : Option Instance) → Keeps 1000 w (in_flow (called b m id p w i))
+called_keeps : (b : Behaviour) (m : Answers) (id : ℕ) (p : Prompt) (w : World) (i : Option Instance) → Keeps 1000 w (in_flow (called b m id p w i))
 called_keeps b m id p w None = keeps_same 1000 w
 called_keeps b m id p w (Some i) =
     let r : Replied = (b.naming i.kind).reply i.state (call_of m id p w) in
     let f = answered_keeps m id r.reply (changed id r.state w) in
     record { count = f.count; next = f.next }
 
-pub call_keeps : (b : Behaviour) (m : Model) (id : ℕ) (p : Prompt) (w : World) → Keeps 1000 w (in_flow (call_module b m id p w))
+pub call_keeps : (b : Behaviour) (m : Answers) (id : ℕ) (p : Prompt) (w : World) → Keeps 1000 w (in_flow (call_module b m id p w))
 call_keeps b m id p w = called_keeps b m id p w (instance_in id w.modules)
 
 -- what a call leaves, by what the code says of it
-pub call_leaves : (b : Behaviour) (m : Model) (id : ℕ) (p : Prompt) (turn : Turn) (w v : World) → flow_of turn v ≡ call_module b m id p w → Keeps 1000 w v
+pub call_leaves : (b : Behaviour) (m : Answers) (id : ℕ) (p : Prompt) (turn : Turn) (w v : World) → flow_of turn v ≡ call_module b m id p w → Keeps 1000 w v
 call_leaves b m id p turn w v e =
     let same : in_flow (call_module b m id p w) ≡ v = ap in_flow (sym e) ∙ in_flow-of turn v in
     subst (λ (u : World). Keeps 1000 w u) same (call_keeps b m id p w)
@@ -138,20 +138,20 @@ acted_last_keeps id actions w =
     either_keeps 1000 (nat_lt 1000 (length actions)) _ _ w (keeps_same 1000 w)
     (λ e. keeps_more (length actions) 1000 w _ (few 1000 (length actions) e) (perform_last_all_keeps id actions w))
 
-answered_last_keeps : (m : Model) (id : ℕ) (reply : Reply) (w : World) → Keeps 1000 w (in_flow (answered_last m id reply w))
+answered_last_keeps : (m : Answers) (id : ℕ) (reply : Reply) (w : World) → Keeps 1000 w (in_flow (answered_last m id reply w))
 answered_last_keeps m id reply w = unless_keeps 1000 id (read_fault m w.records id reply.reads) (acted_last id reply.actions) w (acted_last_keeps id reply.actions w)
 
-called_last_keeps : (b : Behaviour) (m : Model) (id : ℕ) (w : World) (i : Option Instance) → Keeps 1000 w (in_flow (called_last b m id w i))
+called_last_keeps : (b : Behaviour) (m : Answers) (id : ℕ) (w : World) (i : Option Instance) → Keeps 1000 w (in_flow (called_last b m id w i))
 called_last_keeps b m id w None = keeps_same 1000 w
 called_last_keeps b m id w (Some i) =
     let r : Replied = (b.naming i.kind).reply i.state (call_of m id prompt.Finish w) in
     let f = answered_last_keeps m id r.reply (changed id r.state w) in
     record { count = f.count; next = f.next }
 
-call_last_keeps : (b : Behaviour) (m : Model) (id : ℕ) (w : World) → Keeps 1000 w (in_flow (call_last b m id w))
+call_last_keeps : (b : Behaviour) (m : Answers) (id : ℕ) (w : World) → Keeps 1000 w (in_flow (call_last b m id w))
 call_last_keeps b m id w = called_last_keeps b m id w (instance_in id w.modules)
 
-pub call_last_leaves : (b : Behaviour) (m : Model) (id : ℕ) (turn : Turn) (w v : World) → flow_of turn v ≡ call_last b m id w → Keeps 1000 w v
+pub call_last_leaves : (b : Behaviour) (m : Answers) (id : ℕ) (turn : Turn) (w v : World) → flow_of turn v ≡ call_last b m id w → Keeps 1000 w v
 call_last_leaves b m id turn w v e =
     let same : in_flow (call_last b m id w) ≡ v = ap in_flow (sym e) ∙ in_flow-of turn v in
     subst (λ (u : World). Keeps 1000 w u) same (call_last_keeps b m id w)

@@ -1,5 +1,5 @@
 -- In every world of a run each module's state is one of its kind.
-use Rattle.std.proofs.Common.{◌≡◌, ℕ, zero, suc, ◌==◌, cond, Bool, true, false, List, [], ◌∷◌, Option, Some, None, IsTrue, refl, sym, ap, subst, slice_get, length, if◌then◌else◌, nat_lt}
+use Rattle.std.proofs.Common.{◌≡◌, ℕ, zero, suc, ◌==◌, cond, Bool, true, false, List, [], ◌∷◌, Option, Some, None, IsTrue, refl, subst, slice_get, length, if◌then◌else◌, nat_lt}
 use Rattle.sim_time.specs.Time.{time_sum}
 use Rattle.module_api.specs.Behaviour.{Behaviour, Replied}
 use Rattle.module_api.specs.Laws.{IsLawful}
@@ -11,12 +11,11 @@ use Rattle.module_api.specs.declared.reply.Read.{Read}
 use Rattle.module_api.specs.declared.reply.Reply.{Reply}
 use Rattle.module_api.specs.declared.reply.Schedule.{Schedule}
 use Rattle.module_api.specs.Names.{is_scalar_name}
-use Rattle.model_answers.specs.declared.answer.Answer.{Answer}
-use Rattle.model_answers.specs.declared.answer.Answer.TheVariants as answer
-use Rattle.model_answers.specs.declared.answer.Built.{Built}
-use Rattle.model_answers.specs.declared.answer.Question.TheVariants.{Root, Build}
-use Rattle.model_answers.specs.declared.model.Model.{Model}
-use Rattle.model_answers.specs.Answering.{answer_of}
+use Rattle.run_questions.specs.declared.answer.Answer.{Answer}
+use Rattle.run_questions.specs.declared.answer.Answer.TheVariants as answer
+use Rattle.run_questions.specs.declared.answer.Built.{Built}
+use Rattle.run_questions.specs.declared.answer.Question.TheVariants.{Root, Build}
+use Rattle.run_questions.specs.Answers.{Answers, answer_of}
 use Rattle.event_set.specs.declared.pending.Pending.{Pending}
 use Rattle.event_set.specs.Timers.{has_timer}
 use Rattle.event_set.proofs.Order.{each_append}
@@ -81,7 +80,7 @@ unless_in : (b : Behaviour) (id : ℕ) (found : Option Fault) (go : World → Fl
 unless_in b id (Some f) go w h k = h
 unless_in b id None go w h k = k
 
-answered_in : (b : Behaviour) (m : Model) (id : ℕ) (reply : Reply) (w : World) → AllIn b w → AllIn b (in_flow (answered m id reply w))
+answered_in : (b : Behaviour) (m : Answers) (id : ℕ) (reply : Reply) (w : World) → AllIn b w → AllIn b (in_flow (answered m id reply w))
 answered_in b m id reply w h =
     let v : World = ask_all id reply.reads w in
     let k : AllIn b v = ask_all_in b id reply.reads w h in
@@ -108,7 +107,7 @@ changed_in b id state (j ∷ js) i e s h = by (j.id == id) (λ x. changed_in b i
     by false later e = (h.0, later e)
 
 -- a call of a module that may stand
-called_in : (b : Behaviour) → IsLawful b → (m : Model) (id : ℕ) (p : Prompt) (w : World) (found : Option Instance) → instance_in id w.modules ≡ found → AllIn b w → AllIn b (in_flow (called b m id p w found))
+called_in : (b : Behaviour) → IsLawful b → (m : Answers) (id : ℕ) (p : Prompt) (w : World) (found : Option Instance) → instance_in id w.modules ≡ found → AllIn b w → AllIn b (in_flow (called b m id p w found))
 called_in b l m id p w None e h = h
 called_in b l m id p w (Some i) e h =
     let f = found_in b id w.modules i e h in
@@ -117,7 +116,7 @@ called_in b l m id p w (Some i) e h =
     (changed_in b id r.state w.modules i e ((l.states i.kind f.known).goes_on i.state (call_of m id p w) f.state) h)
 
 -- one call
-call_in : (b : Behaviour) → IsLawful b → (m : Model) (id : ℕ) (p : Prompt) (w : World) → AllIn b w → AllIn b (in_flow (call_module b m id p w))
+call_in : (b : Behaviour) → IsLawful b → (m : Answers) (id : ℕ) (p : Prompt) (w : World) → AllIn b w → AllIn b (in_flow (call_module b m id p w))
 call_in b l m id p w h = called_in b l m id p w (instance_in id w.modules) refl h
 
 -- ---- setup: no module stands, and then each is placed in its state at first
@@ -144,7 +143,7 @@ built_in b parent (answer.Beyond beyond) w h = h
 built_in b parent (answer.Injection next) w h = h
 built_in b parent answer.Absent w h = h
 
-prepared_in : (b : Behaviour) (m : Model) → AllIn b (in_flow (prepared m))
+prepared_in : (b : Behaviour) (m : Answers) → AllIn b (in_flow (prepared m))
 prepared_in b m = then_in b (root_asked m) (inside_asked m) (root_in b (answer_of m [] Root)) (λ w h. built_in b 1 (answer_of m w.records (Build 1)) (asked (Build 1) w) h)
 
 -- only a module of a known kind is placed
@@ -159,23 +158,23 @@ place_all_in : (b : Behaviour) → IsLawful b → (ps : List Part) (w : World) �
 place_all_in b l [] w h = h
 place_all_in b l (p ∷ ps) w h = then_in b (place b p w) (place_all b ps) (place_in b l p w h) (place_all_in b l ps)
 
-ready_in : (b : Behaviour) → IsLawful b → (m : Model) → AllIn b (in_flow (ready b m))
+ready_in : (b : Behaviour) → IsLawful b → (m : Answers) → AllIn b (in_flow (ready b m))
 ready_in b l m = then_in b (prepared m) (place_parts b) (prepared_in b m) (λ w h. place_all_in b l (parts_of w) w h)
 
 -- ---- initialization
 
-initialize_in : (b : Behaviour) → IsLawful b → (m : Model) (stage : ℕ) (p : Part) (w : World) → AllIn b w → AllIn b (in_flow (initialize b m stage p w))
+initialize_in : (b : Behaviour) → IsLawful b → (m : Answers) (stage : ℕ) (p : Part) (w : World) → AllIn b w → AllIn b (in_flow (initialize b m stage p w))
 initialize_in b l m stage p w h = either_in b (nat_lt stage (b.naming p.kind).stages) _ _ (call_in b l m p.id (prompt.Initialize stage) w h) h
 
-one_stage_in : (b : Behaviour) → IsLawful b → (m : Model) (stage : ℕ) (ps : List Part) (w : World) → AllIn b w → AllIn b (in_flow (one_stage b m stage ps w))
+one_stage_in : (b : Behaviour) → IsLawful b → (m : Answers) (stage : ℕ) (ps : List Part) (w : World) → AllIn b w → AllIn b (in_flow (one_stage b m stage ps w))
 one_stage_in b l m stage [] w h = h
 one_stage_in b l m stage (p ∷ ps) w h = then_in b (initialize b m stage p w) (one_stage b m stage ps) (initialize_in b l m stage p w h) (one_stage_in b l m stage ps)
 
-stages_in : (b : Behaviour) → IsLawful b → (m : Model) (ps : List Part) (stage left : ℕ) (w : World) → AllIn b w → AllIn b (in_flow (stages_from b m ps stage left w))
+stages_in : (b : Behaviour) → IsLawful b → (m : Answers) (ps : List Part) (stage left : ℕ) (w : World) → AllIn b w → AllIn b (in_flow (stages_from b m ps stage left w))
 stages_in b l m ps stage zero w h = h
 stages_in b l m ps stage (suc left) w h = then_in b (one_stage b m stage ps w) (stages_from b m ps (suc stage) left) (one_stage_in b l m stage ps w h) (stages_in b l m ps (suc stage) left)
 
-initialize_all_in : (b : Behaviour) → IsLawful b → (m : Model) (w : World) → AllIn b w → AllIn b (in_flow (initialize_all b m w))
+initialize_all_in : (b : Behaviour) → IsLawful b → (m : Answers) (w : World) → AllIn b w → AllIn b (in_flow (initialize_all b m w))
 initialize_all_in b l m w h = stages_in b l m (standing w.modules) 0 (most_stages b (standing w.modules)) (with_started w) h
 
 -- ---- runs
@@ -186,7 +185,7 @@ settled_in b (On w) h = h
 settled_in b (Stopped w) h = h
 settled_in b (Broken w path fault) h = h
 
-start_in : (b : Behaviour) → IsLawful b → (m : Model) → AllIn b (world_at (after b m 0))
+start_in : (b : Behaviour) → IsLawful b → (m : Answers) → AllIn b (world_at (after b m 0))
 start_in b l m = settled_in b (ready b m >>= initialize_all b m) (then_in b (ready b m) (initialize_all b m) (ready_in b l m) (initialize_all_in b l m))
 
 -- where the run is over nothing happens
@@ -195,19 +194,19 @@ over_in b true w outcome s h k = h
 over_in b false w outcome s h k = k
 
 -- one event
-event_in : (b : Behaviour) → IsLawful b → (m : Model) (p : Pending) (rest : List Pending) (w : World) → AllIn b w → AllIn b (world_at (settled (event b m p rest w)))
+event_in : (b : Behaviour) → IsLawful b → (m : Answers) (p : Pending) (rest : List Pending) (w : World) → AllIn b w → AllIn b (world_at (settled (event b m p rest w)))
 event_in b l m p rest w h = settled_in b (event b m p rest w) (call_in b l m p.id (prompt.Message (message_of p)) (begun p rest w) h)
 
 -- the next event, where there is one; what is asked to know it leaves modules alone
-went_in : (b : Behaviour) → IsLawful b → (m : Model) (w : World) (up : Upcoming) → HasLooked w (beside up) → AllIn b w → AllIn b (world_at (went b m w up))
+went_in : (b : Behaviour) → IsLawful b → (m : Answers) (w : World) (up : Upcoming) → HasLooked w (beside up) → AllIn b w → AllIn b (world_at (went b m w up))
 went_in b l m w (Nothing u) looked h = h
 went_in b l m w (Comes u p rest) looked h = over_in b (is_after_limit m u.records p) w TimeLimit (settled (event b m p rest u)) h (event_in b l m p rest u (subst (AllIn b) looked.same h))
 
-next_in : (b : Behaviour) → IsLawful b → (m : Model) (s : Stage) → AllIn b (world_at s) → AllIn b (world_at (next_stage b m s))
+next_in : (b : Behaviour) → IsLawful b → (m : Answers) (s : Stage) → AllIn b (world_at s) → AllIn b (world_at (next_stage b m s))
 next_in b l m (Running w) h = over_in b w.ended w Ended (went b m w (upcoming m w)) h (went_in b l m w (upcoming m w) (upcoming_looks m w) h)
 next_in b l m (Over w outcome) h = h
 
-run_in : (b : Behaviour) → IsLawful b → (m : Model) (n : ℕ) → AllIn b (world_at (after b m n))
+run_in : (b : Behaviour) → IsLawful b → (m : Answers) (n : ℕ) → AllIn b (world_at (after b m n))
 run_in b l m zero = start_in b l m
 run_in b l m (suc n) = next_in b l m (after b m n) (run_in b l m n)
 
@@ -217,5 +216,5 @@ states_in b [] h = tt
 states_in b (i ∷ is) h = (h.0.state, states_in b is h.1)
 
 -- in every world of a run of a lawful catalogue each state is one of its kind
-pub states_of_run : (b : Behaviour) → IsLawful b → (m : Model) (n : ℕ) → AreStates b (world_at (after b m n)).modules
+pub states_of_run : (b : Behaviour) → IsLawful b → (m : Answers) (n : ℕ) → AreStates b (world_at (after b m n)).modules
 states_of_run b l m n = states_in b (world_at (after b m n)).modules (run_in b l m n)

@@ -5,7 +5,7 @@ use Rattle.module_api.specs.declared.reply.Action.{Action}
 use Rattle.module_api.specs.declared.reply.Action.TheVariants.{Emit, RecordScalar, ScheduleAfter, Fail}
 use Rattle.module_api.specs.declared.reply.Reply.{Reply}
 use Rattle.module_api.specs.Behaviour.{Behaviour, Replied}
-use Rattle.model_answers.specs.declared.model.Model.{Model}
+use Rattle.run_questions.specs.Answers.{Answers}
 use Rattle.run_semantics.specs.declared.outcome.Fault.TheVariants as fault
 use Rattle.run_semantics.specs.declared.outcome.Outcome.{Outcome}
 use Rattle.run_semantics.specs.declared.outcome.Outcome.TheVariants.{Fault}
@@ -33,18 +33,18 @@ abbrev pub acted_last : ℕ → List Action → World → Flow
 acted_last id actions w = if nat_lt 1000 (length actions) then broken id fault.TooManyActions w else perform_last_all id actions w
 
 -- what follows a reply to the end: its questions belong to no event, so they are not noted
-abbrev pub answered_last : Model → ℕ → Reply → World → Flow
+abbrev pub answered_last : Answers → ℕ → Reply → World → Flow
 answered_last m id reply w = unless_fault id (read_fault m w.records id reply.reads) (acted_last id reply.actions) w
 
-abbrev pub replied_last : Model → ℕ → Replied → World → Flow
+abbrev pub replied_last : Answers → ℕ → Replied → World → Flow
 replied_last m id r w = answered_last m id r.reply (changed id r.state w)
 
-abbrev pub called_last : Behaviour → Model → ℕ → World → Option Instance → Flow
+abbrev pub called_last : Behaviour → Answers → ℕ → World → Option Instance → Flow
 called_last b m id w None = On w
 called_last b m id w (Some i) = replied_last m id ((b.naming i.kind).reply i.state (call_of m id prompt.Finish w)) w
 
 -- ONE CALL for the end
-abbrev pub call_last : Behaviour → Model → ℕ → World → Flow
+abbrev pub call_last : Behaviour → Answers → ℕ → World → Flow
 call_last b m id w = called_last b m id w (instance_in id w.modules)
 
 -- a module counts as finished when its reply is done without a fault
@@ -54,11 +54,11 @@ with_finished id w = record w { finished = w.finished ++ id ∷ [] }
 abbrev pub marked : ℕ → World → Flow
 marked id w = On (with_finished id w)
 
-abbrev pub finish : Behaviour → Model → Part → World → Flow
+abbrev pub finish : Behaviour → Answers → Part → World → Flow
 finish b m p w = call_last b m p.id w >>= marked p.id
 
 -- the submodules by id, and then the network
-abbrev pub finish_all : Behaviour → Model → List Part → World → Flow
+abbrev pub finish_all : Behaviour → Answers → List Part → World → Flow
 finish_all b m [] w = On (with_finished 1 w)
 finish_all b m (p ∷ ps) w = finish b m p w >>= finish_all b m ps
 
@@ -69,7 +69,7 @@ concluded outcome (Stopped w) = record { world = w; outcome = outcome }
 concluded outcome (Broken w path f) = record { world = w; outcome = Fault w.count path f }
 
 -- THE ENDING of a run; after a fault no module is finished
-abbrev pub ending : Behaviour → Model → Ran → Ran
+abbrev pub ending : Behaviour → Answers → Ran → Ran
 ending b m ran =
     if is_fault ran.outcome then ran
     else concluded ran.outcome (finish_all b m (standing ran.world.modules) ran.world)

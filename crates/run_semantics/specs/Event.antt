@@ -6,10 +6,9 @@ use Rattle.module_api.specs.declared.call.Prompt.TheVariants as prompt
 use Rattle.module_api.specs.declared.message.Message.{Message}
 use Rattle.module_api.specs.declared.message.Origin.TheVariants as origin
 use Rattle.module_api.specs.Behaviour.{Behaviour, Replied}
-use Rattle.model_answers.specs.declared.answer.Question.TheVariants.{BeyondLimit}
-use Rattle.model_answers.specs.declared.model.Model.{Model}
-use Rattle.model_answers.specs.Answering.{parameters_of}
-use Rattle.model_answers.specs.Records.{path_of, record_at, index_of}
+use Rattle.run_questions.specs.declared.answer.Question.TheVariants.{BeyondLimit}
+use Rattle.run_questions.specs.Answers.{Answers, parameters_of}
+use Rattle.run_questions.specs.Records.{path_of, record_at, index_of}
 use Rattle.event_set.specs.declared.pending.Happening.{Happening}
 use Rattle.event_set.specs.declared.pending.Happening.TheVariants.{Arrival, Timer}
 use Rattle.event_set.specs.declared.pending.Pending.{Pending}
@@ -20,7 +19,7 @@ use Rattle.run_semantics.specs.Perform.{Flow, On, answered}
 -- ---- calls
 
 -- what a module is told
-abbrev pub call_of : Model → ℕ → Prompt → World → Call
+abbrev pub call_of : Answers → ℕ → Prompt → World → Call
 call_of m id prompt w = record {
   time = w.clock;
   event = w.count;
@@ -45,16 +44,16 @@ with_state id state (i ∷ is) = if i.id == id then record i { state = state } �
 abbrev pub changed : ℕ → List ℕ → World → World
 changed id state w = record w { modules = with_state id state w.modules }
 
-abbrev pub replied : Model → ℕ → Replied → World → Flow
+abbrev pub replied : Answers → ℕ → Replied → World → Flow
 replied m id r w = answered m id r.reply (changed id r.state w)
 
 -- the module of that id, where it stands, is called
-abbrev pub called : Behaviour → Model → ℕ → Prompt → World → Option Instance → Flow
+abbrev pub called : Behaviour → Answers → ℕ → Prompt → World → Option Instance → Flow
 called b m id prompt w None = On w
 called b m id prompt w (Some i) = replied m id ((b.naming i.kind).reply i.state (call_of m id prompt w)) w
 
 -- ONE CALL of the module of that id; a call of what isn't there is passed over
-abbrev pub call_module : Behaviour → Model → ℕ → Prompt → World → Flow
+abbrev pub call_module : Behaviour → Answers → ℕ → Prompt → World → Flow
 call_module b m id prompt w = called b m id prompt w (instance_in id w.modules)
 
 -- ---- events
@@ -76,5 +75,5 @@ abbrev pub begun : Pending → List Pending → World → World
 begun p rest w = timed (BeyondLimit p.time) (counted p rest w)
 
 -- ONE EVENT, with those that are left to come behind it
-abbrev pub event : Behaviour → Model → Pending → List Pending → World → Flow
+abbrev pub event : Behaviour → Answers → Pending → List Pending → World → Flow
 event b m p rest w = call_module b m p.id (prompt.Message (message_of p)) (begun p rest w)

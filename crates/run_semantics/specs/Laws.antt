@@ -2,7 +2,7 @@
 pub use Rattle.event_set.specs.Order.{Each, AreInOrder, HaveOwnNumbers}
 use Rattle.std.specs.Prelude.{◌≡◌, ◌⊎◌, ℕ, zero, suc, ◌≤◌, List, [], ◌∷◌, ◌++◌, IsSome, IsTrue, map}
 use Rattle.module_api.specs.Behaviour.{Behaviour}
-use Rattle.model_answers.specs.declared.model.Model.{Model}
+use Rattle.run_questions.specs.Answers.{Answers}
 use Rattle.run_semantics.specs.declared.traces.Emission.{Emission}
 use Rattle.run_semantics.specs.declared.traces.Instance.{Instance}
 use Rattle.run_semantics.specs.World.{World}
@@ -50,6 +50,6 @@ AreStates b [] = Unit {0}
 AreStates b (i ∷ is) = IsTrue ((b.naming i.kind).is_state i.state) × AreStates b is
 
 -- so many more events from a stage on
-abbrev pub gone_on : Behaviour → Model → ℕ → Stage → Stage
+abbrev pub gone_on : Behaviour → Answers → ℕ → Stage → Stage
 gone_on b m zero s = s
 gone_on b m (suc k) s = next_stage b m (gone_on b m k s)

@@ -8,16 +8,15 @@ use Rattle.module_api.specs.declared.reply.Read.TheVariants as read
 use Rattle.module_api.specs.declared.reply.Reply.{Reply}
 use Rattle.module_api.specs.declared.reply.Schedule.{Schedule}
 use Rattle.module_api.specs.Names.{is_scalar_name}
-use Rattle.model_answers.specs.declared.answer.Answer.{Answer}
-use Rattle.model_answers.specs.declared.answer.Answer.TheVariants as answer
-use Rattle.model_answers.specs.declared.answer.ModelFault.{ModelFault}
-use Rattle.model_answers.specs.declared.answer.ModelFault.TheVariants as model_fault_kind
-use Rattle.model_answers.specs.declared.answer.Question.{Question}
-use Rattle.model_answers.specs.declared.answer.Question.TheVariants.{Param, GateSize}
-use Rattle.model_answers.specs.declared.model.Model.{Model}
-use Rattle.model_answers.specs.declared.record.Record.{Record}
-use Rattle.model_answers.specs.Answering.{answer_of}
-use Rattle.model_answers.specs.Records.{path_of}
+use Rattle.run_questions.specs.declared.answer.Answer.{Answer}
+use Rattle.run_questions.specs.declared.answer.Answer.TheVariants as answer
+use Rattle.run_questions.specs.declared.answer.ModelFault.{ModelFault}
+use Rattle.run_questions.specs.declared.answer.ModelFault.TheVariants as model_fault_kind
+use Rattle.run_questions.specs.declared.answer.Question.{Question}
+use Rattle.run_questions.specs.declared.answer.Question.TheVariants.{Param, GateSize}
+use Rattle.run_questions.specs.Answers.{Answers, answer_of}
+use Rattle.run_questions.specs.declared.record.Record.{Record}
+use Rattle.run_questions.specs.Records.{path_of}
 use Rattle.run_semantics.specs.declared.outcome.Fault.{Fault}
 use Rattle.run_semantics.specs.declared.outcome.Fault.TheVariants as fault
 use Rattle.run_semantics.specs.declared.outcome.Turn.{Turn}
@@ -47,7 +46,7 @@ Stopped w >>= f = Stopped w
 Broken w path fault >>= f = Broken w path fault
 
 -- A QUESTION that a run asks of its model: it is noted, and what goes on is told the answer
-abbrev pub asking : Model → Question → (Answer → World → Flow) → World → Flow
+abbrev pub asking : Answers → Question → (Answer → World → Flow) → World → Flow
 asking m q next w = next (answer_of m w.records q) (asked q w)
 
 -- a fault of the module of that id
@@ -122,7 +121,7 @@ first_fault (Some f) other = Some f
 first_fault None other = other
 
 -- the fault of the first read that has one
-abbrev pub read_fault : Model → List Record → ℕ → List Read → Option Fault
+abbrev pub read_fault : Answers → List Record → ℕ → List Read → Option Fault
 read_fault m records id [] = None
 read_fault m records id (r ∷ rs) =
     first_fault (fault_of_read r (answer_of m records (question_of id r))) (read_fault m records id rs)
@@ -139,6 +138,6 @@ unless_fault id None go w = go w
 
 -- WHAT FOLLOWS A REPLY: all its reads are asked, then the first that has no value is the fault, then its actions are
 -- performed in order
-abbrev pub answered : Model → ℕ → Reply → World → Flow
+abbrev pub answered : Answers → ℕ → Reply → World → Flow
 answered m id reply w =
     unless_fault id (read_fault m w.records id reply.reads) (acted id reply.actions) (ask_all id reply.reads w)

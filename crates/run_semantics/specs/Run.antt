@@ -2,14 +2,13 @@
 use Rattle.std.specs.Prelude.{◌≡◌, ℕ, suc, zero, nat_lt, max, Bool, true, false, List, [], ◌∷◌, ◌++◌, Option, Some, None, map, length, slice_get, if◌then◌else◌}
 use Rattle.module_api.specs.declared.call.Prompt.TheVariants as prompt
 use Rattle.module_api.specs.Behaviour.{Behaviour}
-use Rattle.model_answers.specs.declared.answer.Answer.{Answer}
-use Rattle.model_answers.specs.declared.answer.Answer.TheVariants as answer
-use Rattle.model_answers.specs.declared.answer.Built.{Built}
-use Rattle.model_answers.specs.declared.answer.Question.TheVariants.{Root, Build, BeyondLimit}
-use Rattle.model_answers.specs.declared.model.Model.{Model}
-use Rattle.model_answers.specs.declared.record.Record.{Record}
-use Rattle.model_answers.specs.Answering.{answer_of}
-use Rattle.model_answers.specs.Records.{path_of, path_under, own_name}
+use Rattle.run_questions.specs.declared.answer.Answer.{Answer}
+use Rattle.run_questions.specs.declared.answer.Answer.TheVariants as answer
+use Rattle.run_questions.specs.declared.answer.Built.{Built}
+use Rattle.run_questions.specs.declared.answer.Question.TheVariants.{Root, Build, BeyondLimit}
+use Rattle.run_questions.specs.Answers.{Answers, answer_of}
+use Rattle.run_questions.specs.declared.record.Record.{Record}
+use Rattle.run_questions.specs.Records.{path_of, path_under, own_name}
 use Rattle.run_semantics.specs.declared.outcome.Fault.TheVariants as fault
 use Rattle.run_semantics.specs.declared.outcome.Outcome.{Outcome}
 use Rattle.run_semantics.specs.declared.outcome.Outcome.TheVariants.{Ended, EventLimit, NoMoreEvents, TimeLimit, Fault}
@@ -55,13 +54,13 @@ built parent (answer.Fault path f) w = Broken w path (model_fault f)
 built parent _ w = broken parent fault.UnknownType w
 
 -- the network and its submodules are created, as the model answers
-abbrev pub root_asked : Model → Flow
+abbrev pub root_asked : Answers → Flow
 root_asked m = asking m Root rooted empty
 
-abbrev pub inside_asked : Model → World → Flow
+abbrev pub inside_asked : Answers → World → Flow
 inside_asked m w = asking m (Build 1) (built 1) w
 
-abbrev pub prepared : Model → Flow
+abbrev pub prepared : Answers → Flow
 prepared m = root_asked m >>= inside_asked m
 
 -- ---- the start: every simple module has a box in its state at first, and is initialized
@@ -107,16 +106,16 @@ most_stages b [] = 0
 most_stages b (p ∷ ps) = max (b.naming p.kind).stages (most_stages b ps)
 
 -- a module is called for the stages below its own number
-abbrev pub initialize : Behaviour → Model → ℕ → Part → World → Flow
+abbrev pub initialize : Behaviour → Answers → ℕ → Part → World → Flow
 initialize b m stage p w = if nat_lt stage (b.naming p.kind).stages then call_module b m p.id (prompt.Initialize stage) w else On w
 
 -- one stage of all modules, siblings by id
-abbrev pub one_stage : Behaviour → Model → ℕ → List Part → World → Flow
+abbrev pub one_stage : Behaviour → Answers → ℕ → List Part → World → Flow
 one_stage b m stage [] w = On w
 one_stage b m stage (p ∷ ps) w = initialize b m stage p w >>= one_stage b m stage ps
 
 -- as many stages, from this one on
-abbrev pub stages_from : Behaviour → Model → List Part → ℕ → ℕ → World → Flow
+abbrev pub stages_from : Behaviour → Answers → List Part → ℕ → ℕ → World → Flow
 stages_from b m ps stage zero w = On w
 stages_from b m ps stage (suc left) w = one_stage b m stage ps w >>= stages_from b m ps (suc stage) left
 
@@ -125,7 +124,7 @@ abbrev pub with_started : World → World
 with_started w = record w { started = w.live }
 
 -- stage 0 of all modules, stage 1, and so on (OMNeT++ Simulation Manual, "Multi-Stage Initialization")
-abbrev pub initialize_all : Behaviour → Model → World → Flow
+abbrev pub initialize_all : Behaviour → Answers → World → Flow
 initialize_all b m w = stages_from b m (standing w.modules) 0 (most_stages b (standing w.modules)) (with_started w)
 
 abbrev pub place_parts : Behaviour → World → Flow
@@ -155,11 +154,11 @@ settled (Stopped w) = Running w
 settled (Broken w path f) = Over w (Fault w.count path f)
 
 -- all that is set up, and the boxes
-abbrev pub ready : Behaviour → Model → Flow
+abbrev pub ready : Behaviour → Answers → Flow
 ready b m = prepared m >>= place_parts b
 
 -- EVENT ZERO: setup, the boxes, and initialization
-abbrev pub start : Behaviour → Model → Stage
+abbrev pub start : Behaviour → Answers → Stage
 start b m = settled (ready b m >>= initialize_all b m)
 
 -- whether the answer says that a time is later than the limit
@@ -168,20 +167,20 @@ says_beyond (answer.Beyond beyond) = beyond
 says_beyond _ = false
 
 -- whether an event to come is later than the option sim-time-limit allows
-abbrev pub is_after_limit : Model → List Record → Pending → Bool
+abbrev pub is_after_limit : Answers → List Record → Pending → Bool
 is_after_limit m records p = says_beyond (answer_of m records (BeyondLimit p.time))
 
 -- THE NEXT EVENT; where there is none, or it is too late, nothing is noted, and no injection counts as delivered
-abbrev pub went : Behaviour → Model → World → Upcoming → Stage
+abbrev pub went : Behaviour → Answers → World → Upcoming → Stage
 went b m w (Nothing asked) = Over w NoMoreEvents
 went b m w (Comes asked p rest) = if is_after_limit m asked.records p then Over w TimeLimit else settled (event b m p rest asked)
 
-abbrev pub next_stage : Behaviour → Model → Stage → Stage
+abbrev pub next_stage : Behaviour → Answers → Stage → Stage
 next_stage b m (Running w) = if w.ended then Over w Ended else went b m w (upcoming m w)
 next_stage b m (Over w outcome) = Over w outcome
 
 -- the run after n events, or where it ended before
-abbrev pub after : Behaviour → Model → ℕ → Stage
+abbrev pub after : Behaviour → Answers → ℕ → Stage
 after b m zero = start b m
 after b m (suc n) = next_stage b m (after b m n)
 
@@ -196,7 +195,7 @@ stopped (Running w) = record { world = w; outcome = if w.ended then Ended else E
 stopped (Over w outcome) = record { world = w; outcome = outcome }
 
 -- A RUN, stopped after at most n events
-abbrev pub run_to : Behaviour → Model → ℕ → Ran
+abbrev pub run_to : Behaviour → Answers → ℕ → Ran
 run_to b m n = stopped (after b m n)
 
 -- the run got as far as event n

@@ -1,15 +1,14 @@
 -- What comes next in a run: an event, or an injection that goes before it.
 use Rattle.std.specs.Prelude.{ℕ, zero, suc, List, [], ◌∷◌, Option, Some, None, bytes_eq, if◌then◌else◌}
-use Rattle.model_answers.specs.declared.answer.Answer.{Answer}
-use Rattle.model_answers.specs.declared.answer.Answer.TheVariants as answer
-use Rattle.model_answers.specs.declared.answer.Question.TheVariants.{InjectionBefore}
+use Rattle.run_questions.specs.declared.answer.Answer.{Answer}
+use Rattle.run_questions.specs.declared.answer.Answer.TheVariants as answer
+use Rattle.run_questions.specs.declared.answer.Question.TheVariants.{InjectionBefore}
 use Rattle.injection_order.specs.declared.injection.Due.{Due}
 use Rattle.injection_order.specs.declared.injection.Injection.{Injection}
-use Rattle.model_answers.specs.declared.model.Model.{Model}
-use Rattle.model_answers.specs.declared.record.Record.{Record}
-use Rattle.model_answers.specs.Answering.{answer_of}
+use Rattle.run_questions.specs.Answers.{Answers, answer_of}
+use Rattle.run_questions.specs.declared.record.Record.{Record}
 use Rattle.injection_order.specs.Injections.{turn_of}
-use Rattle.model_answers.specs.Records.{path_of}
+use Rattle.run_questions.specs.Records.{path_of}
 use Rattle.event_set.specs.declared.pending.Happening.TheVariants.{Arrival}
 use Rattle.event_set.specs.declared.pending.Pending.{Pending}
 use Rattle.run_semantics.specs.declared.traces.Instance.{Instance}
@@ -61,7 +60,7 @@ chosen go_on w ps (answer.Injection (Some i)) = aimed go_on (delivered i w) ps i
 chosen go_on w ps _ = first_of w ps
 
 -- what comes next, where fewer than so many injections are discarded before it
-abbrev pub upcoming_in : ℕ → Model → List Pending → World → Upcoming
+abbrev pub upcoming_in : ℕ → Answers → List Pending → World → Upcoming
 upcoming_in zero m ps w = Nothing w
 upcoming_in (suc left) m ps w =
     chosen (upcoming_in left m ps) (asked_next (InjectionBefore (first_due ps) w.delivered) w) ps (answer_of m w.records (InjectionBefore (first_due ps) w.delivered))
@@ -71,5 +70,5 @@ unfoldable pub most_injections : ℕ
 most_injections = 10000
 
 -- WHAT COMES NEXT, where at most all injections of a model are discarded before it
-unfoldable pub upcoming : Model → World → Upcoming
+unfoldable pub upcoming : Answers → World → Upcoming
 upcoming m w = upcoming_in (suc most_injections) m w.pending w

@@ -3,8 +3,7 @@
 ghost use Rattle.std.specs.Prelude.{◌≡◌, ◌↔◌, ℕ, suc, ◌+◌, ◌≤◌, ◌<◌, IsSome, []};
 ghost use Rattle.module_api.specs.Behaviour.{Behaviour};
 ghost use Rattle.module_api.specs.Laws.{IsLawful};
-ghost use Rattle.model_answers.specs.declared.model.Model.{Model};
-ghost use Rattle.model_answers.specs.Answering.{answer_of};
+ghost use Rattle.run_questions.specs.Answers.{Answers, answer_of};
 ghost use Rattle.run_semantics.specs.declared.outcome.Outcome.{Outcome};
 ghost use Rattle.run_semantics.specs.Agreement.{Agrees, AgreesUpTo, questions_of};
 ghost use Rattle.run_semantics.specs.Ending.{ending};
@@ -15,12 +14,12 @@ ghost use Rattle.run_semantics.specs.Run.{Ran, Running, Over, IsReached, next_st
 
 /// After n events at most n are counted.
 pub fn at_most_n_are_counted()
-    ensures { (b : Behaviour) (m : Model) (n : ℕ) → (world_at (after b m n)).count ≤ n }
+    ensures { (b : Behaviour) (m : Answers) (n : ℕ) → (world_at (after b m n)).count ≤ n }
 {}
 
 /// A run that is over after so many events is the same to each limit that is no less.
 pub fn over_is_over()
-    ensures { (b : Behaviour) (m : Model) (w : World) (outcome : Outcome) (k limit : ℕ) → k ≤ limit
+    ensures { (b : Behaviour) (m : Answers) (w : World) (outcome : Outcome) (k limit : ℕ) → k ≤ limit
         → Over w outcome ≡ after b m k → run_to b m limit ≡ record { world = w; outcome = outcome } }
 {}
 
@@ -28,10 +27,10 @@ pub fn over_is_over()
 /// run up to there: the same world, its questions included, and the same outcome where it is over.
 /// Where the run got as far as that event, all that it asked is noted in its world.
 pub fn equal_answers_equal_runs()
-    ensures all { (b : Behaviour) → IsLawful b → (m n : Model) (v : ℕ)
+    ensures all { (b : Behaviour) → IsLawful b → (m n : Answers) (v : ℕ)
         → Agrees m n (world_at (after b m v)).records (questions_of m (after b m v))
         → after b m v ≡ after b n v }
-    ensures reached { (b : Behaviour) → IsLawful b → (m n : Model) (v : ℕ) → IsReached (after b m v) v
+    ensures reached { (b : Behaviour) → IsLawful b → (m n : Answers) (v : ℕ) → IsReached (after b m v) v
         → Agrees m n (world_at (after b m v)).records (world_at (after b m v)).questions
         → after b m v ≡ after b n v }
 {}
@@ -40,10 +39,10 @@ pub fn equal_answers_equal_runs()
 /// models that answer those alike have it in common. Where the run got as far as event v, those that
 /// are noted are enough.
 pub fn equal_runs_up_to_an_event()
-    ensures all { (b : Behaviour) → IsLawful b → (m n : Model) (v k : ℕ) → v ≤ k
+    ensures all { (b : Behaviour) → IsLawful b → (m n : Answers) (v k : ℕ) → v ≤ k
         → AgreesUpTo v m n (world_at (after b m k)).records (questions_of m (after b m k))
         → after b m v ≡ after b n v }
-    ensures reached { (b : Behaviour) → IsLawful b → (m n : Model) (v k : ℕ) → v ≤ k → IsReached (after b m v) v
+    ensures reached { (b : Behaviour) → IsLawful b → (m n : Answers) (v k : ℕ) → v ≤ k → IsReached (after b m v) v
         → AgreesUpTo v m n (world_at (after b m k)).records (world_at (after b m k)).questions
         → after b m v ≡ after b n v }
 {}
@@ -51,23 +50,23 @@ pub fn equal_runs_up_to_an_event()
 /// The answers to what was asked stay the same, in each model, when more modules are created: so it
 /// doesn't matter of which later moment the records are by which models are compared.
 pub fn answers_stay()
-    ensures { (b : Behaviour) (m other : Model) (n k : ℕ) → n ≤ k
+    ensures { (b : Behaviour) (m other : Answers) (n k : ℕ) → n ≤ k
         → Each (λ a. answer_of other (world_at (after b m k)).records a.question
         ≡ answer_of other (world_at (after b m n)).records a.question) (questions_of m (after b m n)) }
 {}
 
 /// What is to come rests on where the run stands alone: n + k events are k more from the stage after n.
 pub fn runs_go_on()
-    ensures { (b : Behaviour) (m : Model) (n k : ℕ) → after b m (n + k) ≡ gone_on b m k (after b m n) }
+    ensures { (b : Behaviour) (m : Answers) (n k : ℕ) → after b m (n + k) ≡ gone_on b m k (after b m n) }
 {}
 
 /// So a world that is kept after event v serves each model that answers alike what was asked up to v:
 /// the run of that model is the one that goes on from there.
 pub fn kept_worlds_serve()
-    ensures all { (b : Behaviour) → IsLawful b → (m n : Model) (v k : ℕ) → v ≤ k
+    ensures all { (b : Behaviour) → IsLawful b → (m n : Answers) (v k : ℕ) → v ≤ k
         → AgreesUpTo v m n (world_at (after b m k)).records (questions_of m (after b m k))
         → (more : ℕ) → after b n (v + more) ≡ gone_on b n more (after b m v) }
-    ensures reached { (b : Behaviour) → IsLawful b → (m n : Model) (v k : ℕ) → v ≤ k → IsReached (after b m v) v
+    ensures reached { (b : Behaviour) → IsLawful b → (m n : Answers) (v k : ℕ) → v ≤ k → IsReached (after b m v) v
         → AgreesUpTo v m n (world_at (after b m k)).records (world_at (after b m k)).questions
         → (more : ℕ) → after b n (v + more) ≡ gone_on b n more (after b m v) }
 {}
@@ -75,57 +74,57 @@ pub fn kept_worlds_serve()
 /// To a limit of one event more, a run that goes on has its next event besides, and one that is over
 /// is the same.
 pub fn one_event_more()
-    ensures running { (b : Behaviour) (m : Model) (n : ℕ) (w : World) → after b m n ≡ Running w
+    ensures running { (b : Behaviour) (m : Answers) (n : ℕ) (w : World) → after b m n ≡ Running w
         → run_to b m (suc n) ≡ stopped (next_stage b m (Running w)) }
-    ensures over { (b : Behaviour) (m : Model) (n : ℕ) (w : World) (outcome : Outcome) → after b m n ≡ Over w outcome
+    ensures over { (b : Behaviour) (m : Answers) (n : ℕ) (w : World) (outcome : Outcome) → after b m n ≡ Over w outcome
         → run_to b m (suc n) ≡ run_to b m n }
 {}
 
 /// Nothing that happened is undone: with more events the clock, the count of events and the next
 /// insertion number do not fall, and records, emissions, scalars and questions stay, each in its place.
 pub fn runs_grow()
-    ensures { (b : Behaviour) (m : Model) (n k : ℕ) → n ≤ k
+    ensures { (b : Behaviour) (m : Answers) (n k : ℕ) → n ≤ k
         → HasGrown (world_at (after b m n)) (world_at (after b m k)) }
 {}
 
 /// From event zero until the end the same modules live and count as started, and none is finished.
 pub fn modules_stay_until_the_end()
-    ensures live { (b : Behaviour) (m : Model) (n k : ℕ) → n ≤ k
+    ensures live { (b : Behaviour) (m : Answers) (n k : ℕ) → n ≤ k
         → (world_at (after b m k)).live ≡ (world_at (after b m n)).live }
-    ensures started { (b : Behaviour) (m : Model) (n k : ℕ) → n ≤ k
+    ensures started { (b : Behaviour) (m : Answers) (n k : ℕ) → n ≤ k
         → (world_at (after b m k)).started ≡ (world_at (after b m n)).started }
-    ensures finished { (b : Behaviour) (m : Model) (n : ℕ) → (world_at (after b m n)).finished ≡ [] }
+    ensures finished { (b : Behaviour) (m : Answers) (n : ℕ) → (world_at (after b m n)).finished ≡ [] }
 {}
 
 /// A run that goes on after n events got as far as event n.
 pub fn running_is_reached()
-    ensures { (b : Behaviour) (m : Model) (n : ℕ) (w : World) → after b m n ≡ Running w
+    ensures { (b : Behaviour) (m : Answers) (n : ℕ) (w : World) → after b m n ≡ Running w
         → IsReached (after b m n) n }
 {}
 
 /// The events to come are in order, at each moment of a run: the first of the list is the next one.
 pub fn events_are_in_order()
-    ensures { (b : Behaviour) (m : Model) (n : ℕ) → AreInOrder (world_at (after b m n)).pending }
+    ensures { (b : Behaviour) (m : Answers) (n : ℕ) → AreInOrder (world_at (after b m n)).pending }
 {}
 
 /// No two events to come have the same insertion number, and the next one is above them all.
 pub fn no_two_events_share_a_number()
-    ensures own { (b : Behaviour) (m : Model) (n : ℕ) → HaveOwnNumbers (world_at (after b m n)).pending }
-    ensures below { (b : Behaviour) (m : Model) (n : ℕ)
+    ensures own { (b : Behaviour) (m : Answers) (n : ℕ) → HaveOwnNumbers (world_at (after b m n)).pending }
+    ensures below { (b : Behaviour) (m : Answers) (n : ℕ)
         → Each (λ e. e.number < (world_at (after b m n)).next) (world_at (after b m n)).pending }
 {}
 
 /// No event to come is earlier than the clock.
 pub fn no_event_is_late()
-    ensures { (b : Behaviour) (m : Model) (n : ℕ)
+    ensures { (b : Behaviour) (m : Answers) (n : ℕ)
         → Each (λ e. (world_at (after b m n)).clock ≤ e.time) (world_at (after b m n)).pending }
 {}
 
 /// What was emitted stands in the order of events: along it neither event numbers nor times fall, and
 /// none is above the count or the clock.
 pub fn emissions_are_in_turn()
-    ensures turn { (b : Behaviour) (m : Model) (n : ℕ) → AreInTurn (world_at (after b m n)).emissions }
-    ensures past { (b : Behaviour) (m : Model) (n : ℕ)
+    ensures turn { (b : Behaviour) (m : Answers) (n : ℕ) → AreInTurn (world_at (after b m n)).emissions }
+    ensures past { (b : Behaviour) (m : Answers) (n : ℕ)
         → Each (λ e. (e.event ≤ (world_at (after b m n)).count) × (e.time ≤ (world_at (after b m n)).clock))
         (world_at (after b m n)).emissions }
 {}
@@ -133,27 +132,27 @@ pub fn emissions_are_in_turn()
 /// Each event to come is for a module that its call finds; and in a run that goes on that module was
 /// started and lives. So no event is passed over, and none calls a module before it is started.
 pub fn events_are_for_started_modules()
-    ensures found { (b : Behaviour) (m : Model) (n : ℕ)
+    ensures found { (b : Behaviour) (m : Answers) (n : ℕ)
         → Each (λ e. IsSome (instance_in e.id (world_at (after b m n)).modules)) (world_at (after b m n)).pending }
-    ensures started { (b : Behaviour) (m : Model) (n : ℕ) (w : World) → after b m n ≡ Running w
+    ensures started { (b : Behaviour) (m : Answers) (n : ℕ) (w : World) → after b m n ≡ Running w
         → Each (λ e. CanBeCalled w e.id) w.pending }
 {}
 
 /// In a run that goes on exactly the simple modules that were created stand, by rising id, each of its
 /// kind.
 pub fn created_modules_stand()
-    ensures { (b : Behaviour) (m : Model) (n : ℕ) (w : World) → after b m n ≡ Running w
+    ensures { (b : Behaviour) (m : Answers) (n : ℕ) (w : World) → after b m n ≡ Running w
         → standing w.modules ≡ parts_of w }
 {}
 
 /// In a run of a lawful catalogue the state of each module is one of its kind, at each moment.
 pub fn states_are_of_their_kinds()
-    ensures { (b : Behaviour) → IsLawful b → (m : Model) (n : ℕ) → AreStates b (world_at (after b m n)).modules }
+    ensures { (b : Behaviour) → IsLawful b → (m : Answers) (n : ℕ) → AreStates b (world_at (after b m n)).modules }
 {}
 
 /// On which of its first events two models agree is the same by what a run asked up to there and by what a longer one asked.
 pub fn longer_runs_agree_alike()
-    ensures { (b : Behaviour) (m p q : Model) (u v k : ℕ) → u ≤ v → v ≤ k
+    ensures { (b : Behaviour) (m p q : Answers) (u v k : ℕ) → u ≤ v → v ≤ k
         → AgreesUpTo u p q (world_at (after b m k)).records (world_at (after b m k)).questions
         ↔ AgreesUpTo u p q (world_at (after b m v)).records (world_at (after b m v)).questions }
 {}
@@ -161,23 +160,23 @@ pub fn longer_runs_agree_alike()
 /// A run stands where it stood after the last event that it executed, whatever its limit was; and one that got as far as an event got as far as
 /// each one before.
 pub fn runs_stand_at_their_last_event()
-    ensures stands { (b : Behaviour) (m : Model) (n : ℕ) → world_at (after b m (world_at (after b m n)).count) ≡ world_at (after b m n) }
-    ensures reached { (b : Behaviour) (m : Model) (v k : ℕ) → v ≤ k → IsReached (after b m k) k → IsReached (after b m v) v }
+    ensures stands { (b : Behaviour) (m : Answers) (n : ℕ) → world_at (after b m (world_at (after b m n)).count) ≡ world_at (after b m n) }
+    ensures reached { (b : Behaviour) (m : Answers) (v k : ℕ) → v ≤ k → IsReached (after b m k) k → IsReached (after b m v) v }
 {}
 
 /// The end of a run asks nothing that is noted, creates no module, and counts no event.
 pub fn the_end_asks_nothing()
-    ensures questions { (b : Behaviour) (m : Model) (ran : Ran) → (ending b m ran).world.questions ≡ ran.world.questions }
-    ensures records { (b : Behaviour) (m : Model) (ran : Ran) → (ending b m ran).world.records ≡ ran.world.records }
-    ensures count { (b : Behaviour) (m : Model) (ran : Ran) → (ending b m ran).world.count ≡ ran.world.count }
+    ensures questions { (b : Behaviour) (m : Answers) (ran : Ran) → (ending b m ran).world.questions ≡ ran.world.questions }
+    ensures records { (b : Behaviour) (m : Answers) (ran : Ran) → (ending b m ran).world.records ≡ ran.world.records }
+    ensures count { (b : Behaviour) (m : Answers) (ran : Ran) → (ending b m ran).world.count ≡ ran.world.count }
 {}
 
 /// The end of a run undoes nothing: the same modules live and count as started, and what is finished, emitted and recorded is added behind what
 /// was there.
 pub fn the_end_only_adds()
-    ensures live { (b : Behaviour) (m : Model) (ran : Ran) → (ending b m ran).world.live ≡ ran.world.live }
-    ensures started { (b : Behaviour) (m : Model) (ran : Ran) → (ending b m ran).world.started ≡ ran.world.started }
-    ensures finished { (b : Behaviour) (m : Model) (ran : Ran) → GoesOn ran.world.finished (ending b m ran).world.finished }
-    ensures emissions { (b : Behaviour) (m : Model) (ran : Ran) → GoesOn ran.world.emissions (ending b m ran).world.emissions }
-    ensures scalars { (b : Behaviour) (m : Model) (ran : Ran) → GoesOn ran.world.scalars (ending b m ran).world.scalars }
+    ensures live { (b : Behaviour) (m : Answers) (ran : Ran) → (ending b m ran).world.live ≡ ran.world.live }
+    ensures started { (b : Behaviour) (m : Answers) (ran : Ran) → (ending b m ran).world.started ≡ ran.world.started }
+    ensures finished { (b : Behaviour) (m : Answers) (ran : Ran) → GoesOn ran.world.finished (ending b m ran).world.finished }
+    ensures emissions { (b : Behaviour) (m : Answers) (ran : Ran) → GoesOn ran.world.emissions (ending b m ran).world.emissions }
+    ensures scalars { (b : Behaviour) (m : Answers) (ran : Ran) → GoesOn ran.world.scalars (ending b m ran).world.scalars }
 {}

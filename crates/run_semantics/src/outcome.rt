@@ -4,7 +4,7 @@ ghost use Rattle.std.specs.Prelude.{◌≡◌, IfOk};
 ghost use Rattle.run_semantics.specs.Perform.{model_fault};
 ghost use Rattle.run_semantics.specs.Run.{is_fault};
 
-use model_answers::answer::ModelFault;
+use run_questions::answer::ModelFault;
 use sim_values::text::Text;
 use std::alloc::{AllocError, Global};
 

@@ -1,13 +1,13 @@
 -- The states of boxes, one id after the other.
-use Rattle.std.proofs.Common.{◌≡◌, ℕ, suc, ◌+◌, ◌≤◌, ◌<◌, ◌==◌, nat_lt, Bool, true, false, cond, IsTrue, IsSome, List, [], ◌∷◌, ◌++◌, Option, Some, None, option_map, Result, Ok, Err, OnOk, refl, sym, ap, ◌∙◌, subst, arith, map, eqb-true, append_assoc, append-nil, if◌then◌else◌}
+use Rattle.std.proofs.Common.{◌≡◌, ℕ, suc, ◌+◌, ◌≤◌, ◌<◌, ◌==◌, nat_lt, Bool, true, false, cond, IsSome, List, [], ◌∷◌, ◌++◌, Option, Some, None, option_map, Result, Ok, Err, OnOk, refl, sym, ap, ◌∙◌, subst, arith, map, eqb-true, append_assoc, append-nil, if◌then◌else◌}
 use Rattle.std.proofs.lemmas.Bool.Decides.{nat_tests}
 use Rattle.module_api.specs.Behaviour.{State, Behaviour}
 use Rattle.module_api.specs.Meaning.{Module}
-use Rattle.module_tree.specs.Boxes.{Seated, AreRising, box_of}
+use Rattle.module_tree.specs.Boxes.{Seated, AreRising}
 use Rattle.run_semantics.specs.declared.traces.Instance.{Instance}
 use Rattle.run_semantics.specs.Event.{with_state}
 use Rattle.run_semantics.specs.Run.{standing}
-use Rattle.saved_boxes.specs.Seats.{Seat, instance_of, module_in, with_module, AreOfKinds, AreKept}
+use Rattle.saved_boxes.specs.Seats.{Seat, instance_of, module_in, AreOfKinds, AreKept}
 use Rattle.saved_boxes.specs.Saved.{instance_at, listed, Takes, IsLoaded}
 use Rattle.saved_boxes.proofs.Keeping.{kind_in, kind_same, kinds_with, standing_with, states_with}
 use Rattle.saved_boxes.proofs.Seating.{seat}

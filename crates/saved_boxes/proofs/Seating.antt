@@ -1,12 +1,10 @@
 -- Boxes in their places.
-use Rattle.std.proofs.Common.{◌≡◌, ℕ, suc, ◌≤◌, ◌<◌, ◌==◌, nat_lt, Bool, true, false, cond, List, [], ◌∷◌, ◌++◌, Option, Some, None, option_map, Result, Ok, Err, OnOk, OnErr, refl, sym, ap, ◌∙◌, subst, arith, map, eqb-true}
+use Rattle.std.proofs.Common.{◌≡◌, ℕ, ◌≤◌, ◌<◌, ◌==◌, nat_lt, Bool, true, false, cond, List, [], ◌∷◌, ◌++◌, Some, None, option_map, Result, Ok, Err, OnOk, OnErr, refl, sym, ap, ◌∙◌, subst, arith, map}
 use Rattle.std.proofs.lemmas.Bool.Decides.{nat_tests}
 use Rattle.module_api.specs.Behaviour.{Behaviour}
 use Rattle.module_api.specs.Meaning.{Module, IsOfKind}
 use Rattle.module_tree.specs.Boxes.{Seated, box_of, with_box, without_box, AreRising}
 use Rattle.module_tree.proofs.Seats.{another_in, same_found, put_again}
-use Rattle.run_semantics.specs.declared.traces.Instance.{Instance}
-use Rattle.run_semantics.specs.Run.{Part, standing}
 use Rattle.saved_boxes.specs.Seats.{Seat, instance_of, module_in, with_module, AreBelow, AreOfKinds}
 
 -- what the boxes of a tree are

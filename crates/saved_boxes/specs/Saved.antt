@@ -1,5 +1,5 @@
 -- Boxes as the kinds and states of their modules.
-use Rattle.std.specs.Prelude.{◌≡◌, ℕ, IsTrue, List, [], ◌∷◌, Option, Some, None, option_map, map}
+use Rattle.std.specs.Prelude.{◌≡◌, ℕ, IsTrue, List, [], ◌∷◌, Option, Some, None, map}
 use Rattle.std.proofs.Common.{Global}
 use Rattle.std.specs.declared.dyn_box.DynBox.{DynBox}
 use Rattle.module_api.specs.Behaviour.{Behaviour, State}

@@ -1,6 +1,6 @@
 //! Boxes as the kinds and states of their modules: saved, and loaded again.
 
-ghost use Rattle.std.specs.Prelude.{◌≡◌, ◌++◌, IsTrue, IfOk, OnOk, Some, map};
+ghost use Rattle.std.specs.Prelude.{◌≡◌, ◌++◌, IsTrue, IfOk, OnOk, Some};
 ghost use Rattle.module_api.specs.Behaviour.{Behaviour};
 ghost use Rattle.module_api.specs.Meaning.{IsSameModule};
 ghost use Rattle.run_semantics.specs.Event.{with_state};

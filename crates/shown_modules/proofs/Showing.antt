@@ -1,11 +1,8 @@
 -- What calls show of a module stays the same when more modules are created, and tables of it stay right.
 use Rattle.std.proofs.Common.{◌≡◌, ℕ, zero, suc, ◌==◌, nat_lt, cond, Bool, true, false, List, [], ◌∷◌, ◌++◌, Option, Some, None, Result, Ok, Err, OnOk, OnErr, refl, sym, ap, ◌∙◌, subst, append_assoc, append-nil, slice_get, eqb-true}
-use Rattle.std.specs.Option.{option_and_then}
-use Rattle.model_answers.specs.declared.model.Model.{Model}
-use Rattle.model_answers.specs.declared.record.Record.{Record}
-use Rattle.model_answers.specs.Answering.{param_answer, with_lines, lines_at}
-use Rattle.model_answers.specs.Records.{record_at, own_name, above_by, path_around, path_by, path_up, path_of, path_under}
-use Rattle.model_answers.specs.Sites.{site_by}
+use Rattle.run_questions.specs.declared.record.Record.{Record}
+use Rattle.run_questions.specs.Answers.{Answers, Place, with_values}
+use Rattle.run_questions.specs.Records.{record_at, own_name, above_by, path_around, path_by, path_up, path_of, path_under}
 use Rattle.module_tree.specs.Boxes.{Seated, box_of, with_box, without_box}
 use Rattle.shown_modules.specs.declared.Shown.{Shown}
 use Rattle.shown_modules.specs.declared.ShownModules.{ShownModules}
@@ -61,14 +58,17 @@ above_more rs more depth id h =
     ap (above_by (path_up depth (rs ++ more))) (record_more (is_whole depth rs) rs more id h)
     ∙ above_same rs more depth (record_at rs id) h
 
+abbrev place : List ℕ → List ℕ → Option Record → Place
+place path above r = record { path = path; around = above; record_there = r }
+
 -- what calls show of it, by its path, that of the module around it, and its record
-abbrev shown_at : Model → List ℕ → List ℕ → Option Record → Shown
+abbrev shown_at : Answers → List ℕ → List ℕ → Option Record → Shown
 shown_at m path above r = record {
   path = path;
-  parameters = with_lines (λ name. param_answer (option_and_then (site_by m path above) r) name) (lines_at (option_and_then (site_by m path above) r));
+  parameters = with_values (m.value (place path above r)) (m.names (place path above r));
 }
 
-shown_by : (m : Model) (rs more : List Record) (depth id : ℕ) → is_whole (suc depth) rs id ≡ true
+shown_by : (m : Answers) (rs more : List Record) (depth id : ℕ) → is_whole (suc depth) rs id ≡ true
     → shown_at m (path_up (suc depth) rs id) (above_by (path_up depth rs) (record_at rs id)) (record_at rs id)
     ≡ shown_at m (path_up (suc depth) (rs ++ more) id) (above_by (path_up depth (rs ++ more)) (record_at (rs ++ more) id)) (record_at (rs ++ more) id)
 shown_by m rs more depth id h =
@@ -77,25 +77,25 @@ shown_by m rs more depth id h =
     ∙ ap (shown_at m (path_up (suc depth) (rs ++ more) id) (above_by (path_up depth (rs ++ more)) (record_at (rs ++ more) id))) (sym (record_more (is_whole depth rs) rs more id h))
 
 -- it stays
-pub whole_lasts : (m : Model) (rs : List Record) (id : ℕ) → is_whole 32 rs id ≡ true → IsShown m rs id (shown_of m rs id)
+pub whole_lasts : (m : Answers) (rs : List Record) (id : ℕ) → is_whole 32 rs id ≡ true → IsShown m rs id (shown_of m rs id)
 unfolding path_of path_around
 whole_lasts m rs id h more = shown_by m rs more 31 id h
 
 -- ---- tables
 
 -- more modules are created
-shown_more : (m : Model) (rs more : List Record) (id : ℕ) (shown : Shown) → IsShown m rs id shown → IsShown m (rs ++ more) id shown
+shown_more : (m : Answers) (rs more : List Record) (id : ℕ) (shown : Shown) → IsShown m rs id shown → IsShown m (rs ++ more) id shown
 shown_more m rs more id shown h others = h (more ++ others) ∙ ap (λ all. shown_of m all id) (sym (append_assoc rs more others))
 
-each_more : (m : Model) (rs more : List Record) (ss : List (Seated Shown)) → AreEach m rs ss → AreEach m (rs ++ more) ss
+each_more : (m : Answers) (rs more : List Record) (ss : List (Seated Shown)) → AreEach m rs ss → AreEach m (rs ++ more) ss
 each_more m rs more [] h = tt
 each_more m rs more (s ∷ ss) h = (shown_more m rs more s.id s.box h.0, each_more m rs more ss h.1)
 
-pub shown_on : (m : Model) (rs more : List Record) (t : ShownModules) → AreShown m rs t → AreShown m (rs ++ more) t
+pub shown_on : (m : Answers) (rs more : List Record) (t : ShownModules) → AreShown m rs t → AreShown m (rs ++ more) t
 shown_on m rs more t h = each_more m rs more t.entries.seats h
 
 -- the one of an id
-pub one_shown : (m : Model) (rs : List Record) (id : ℕ) (ss : List (Seated Shown)) (shown : Shown) → AreEach m rs ss → box_of id ss ≡ Some shown → IsShown m rs id shown
+pub one_shown : (m : Answers) (rs : List Record) (id : ℕ) (ss : List (Seated Shown)) (shown : Shown) → AreEach m rs ss → box_of id ss ≡ Some shown → IsShown m rs id shown
 one_shown m rs id [] shown h e = cc
 one_shown m rs id (s ∷ ss) shown h e = by (s.id == id) refl (one_shown m rs id ss shown h.1) e
   where
@@ -106,11 +106,11 @@ one_shown m rs id (s ∷ ss) shown h e = by (s.id == id) refl (one_shown m rs id
     by false t later e = later e
 
 -- now
-pub now_shown : (m : Model) (rs : List Record) (id : ℕ) (shown : Shown) → IsShown m rs id shown → shown ≡ shown_of m rs id
+pub now_shown : (m : Answers) (rs : List Record) (id : ℕ) (shown : Shown) → IsShown m rs id shown → shown ≡ shown_of m rs id
 now_shown m rs id shown h = h [] ∙ ap (λ all. shown_of m all id) (append-nil rs)
 
 -- without it
-pub each_without : (m : Model) (rs : List Record) (id : ℕ) (ss : List (Seated Shown)) → AreEach m rs ss → AreEach m rs (without_box id ss)
+pub each_without : (m : Answers) (rs : List Record) (id : ℕ) (ss : List (Seated Shown)) → AreEach m rs ss → AreEach m rs (without_box id ss)
 each_without m rs id [] h = tt
 each_without m rs id (s ∷ ss) h = by (s.id == id) (each_without m rs id ss h.1)
   where
@@ -119,7 +119,7 @@ each_without m rs id (s ∷ ss) h = by (s.id == id) (each_without m rs id ss h.1
     by false later = (h.0, later)
 
 -- with one more
-pub each_with : (m : Model) (rs : List Record) (id : ℕ) (shown : Shown) (ss : List (Seated Shown)) → IsShown m rs id shown → AreEach m rs ss → AreEach m rs (with_box id shown ss)
+pub each_with : (m : Answers) (rs : List Record) (id : ℕ) (shown : Shown) (ss : List (Seated Shown)) → IsShown m rs id shown → AreEach m rs ss → AreEach m rs (with_box id shown ss)
 each_with m rs id shown [] k h = (k, tt)
 each_with m rs id shown (s ∷ ss) k h = by (nat_lt id s.id) (each_with m rs id shown ss k h.1)
   where
@@ -128,7 +128,7 @@ each_with m rs id shown (s ∷ ss) k h = by (nat_lt id s.id) (each_with m rs id 
     by false later = (h.0, later)
 
 -- with one more, where there was memory for it
-pub each_placed : {A E : Type 0} (m : Model) (rs : List Record) (id : ℕ) (shown : Shown) (before after : List (Seated Shown)) (placed : Result A E) → OnOk placed (after ≡ with_box id shown before) → OnErr placed (after ≡ before)
+pub each_placed : {A E : Type 0} (m : Answers) (rs : List Record) (id : ℕ) (shown : Shown) (before after : List (Seated Shown)) (placed : Result A E) → OnOk placed (after ≡ with_box id shown before) → OnErr placed (after ≡ before)
     → IsShown m rs id shown → AreEach m rs before → AreEach m rs after
 each_placed m rs id shown before after (Ok x) ok err k h = subst (AreEach m rs) (sym ok) (each_with m rs id shown before k h)
 each_placed m rs id shown before after (Err e) ok err k h = subst (AreEach m rs) (sym err) h

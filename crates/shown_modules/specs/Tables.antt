@@ -1,23 +1,22 @@
 -- What calls show of modules, and tables of it.
 use Rattle.std.specs.Prelude.{◌≡◌, ℕ, zero, suc, ◌==◌, Bool, true, false, List, [], ◌∷◌, ◌++◌, Option, Some, None, if◌then◌else◌}
-use Rattle.model_answers.specs.declared.model.Model.{Model}
-use Rattle.model_answers.specs.declared.record.Record.{Record}
-use Rattle.model_answers.specs.Answering.{parameters_of}
-use Rattle.model_answers.specs.Records.{path_of, record_at}
+use Rattle.run_questions.specs.declared.record.Record.{Record}
+use Rattle.run_questions.specs.Answers.{Answers, parameters_of}
+use Rattle.run_questions.specs.Records.{path_of, record_at}
 use Rattle.module_tree.specs.Boxes.{Seated}
 use Rattle.shown_modules.specs.declared.Shown.{Shown}
 use Rattle.shown_modules.specs.declared.ShownModules.{ShownModules}
 
 -- WHAT CALLS SHOW of the module of that id, but for what changes from one call to the next
-abbrev pub shown_of : Model → List Record → ℕ → Shown
+abbrev pub shown_of : Answers → List Record → ℕ → Shown
 shown_of m records id = record { path = path_of records id; parameters = parameters_of m records id }
 
 -- it is that, and stays so whatever modules are created besides
-abbrev pub IsShown : Model → List Record → ℕ → Shown → Type 0
+abbrev pub IsShown : Answers → List Record → ℕ → Shown → Type 0
 IsShown m records id shown = (more : List Record) → shown ≡ shown_of m (records ++ more) id
 
 -- each of these is that of its module
-abbrev pub AreEach : Model → List Record → List (Seated Shown) → Type 0
+abbrev pub AreEach : Answers → List Record → List (Seated Shown) → Type 0
 AreEach m records [] = Unit {0}
 AreEach m records (s ∷ ss) = IsShown m records s.id s.box × AreEach m records ss
 
@@ -26,7 +25,7 @@ abbrev pub entries_in : ShownModules → List (Seated Shown)
 entries_in t = t.entries.seats
 
 -- A TABLE IS RIGHT: each entry is what calls show of its module, and stays so whatever modules are created besides
-abbrev pub AreShown : Model → List Record → ShownModules → Type 0
+abbrev pub AreShown : Answers → List Record → ShownModules → Type 0
 AreShown m records t = AreEach m records (entries_in t)
 
 -- ---- modules that were created with all that are around them

@@ -2,17 +2,18 @@
 #![tactic(auto)]
 
 ghost use Rattle.std.specs.Prelude.{◌≡◌, ◌++◌, ◌⊎◌, [], List, true, IfOk};
-ghost use Rattle.model_answers.specs.declared.model.Model.{Model};
-ghost use Rattle.model_answers.specs.declared.record.Record.{Record};
+ghost use Rattle.model_answers.specs.Answering.{answers_of};
+ghost use Rattle.run_questions.specs.Answers.{Answers};
+ghost use Rattle.run_questions.specs.declared.record.Record.{Record};
 ghost use Rattle.module_tree.specs.Boxes.{with_box, without_box};
 ghost use Rattle.shown_modules.specs.declared.ShownModules.{ShownModules};
 ghost use Rattle.shown_modules.specs.Tables.{entries_in, is_whole, shown_of, AreShown, IsShown};
 
 use model_answers::answering::parameters_of;
 use model_answers::model::Model;
-use model_answers::record::{MAX_NESTING, Record, path_of, record_at};
 use module_api::call::Parameter;
 use module_tree::Tree;
+use run_questions::record::{MAX_NESTING, Record, path_of, record_at};
 use sim_values::NoMemory;
 use sim_values::text::Text;
 use sqlite_items::Items;
@@ -34,7 +35,7 @@ pub fn shown_of(
     records: &[Record],
     id: u32,
 ) -> Result<Shown, NoMemory>
-    ensures { IfOk result (λ shown. shown ≡ shown_of model.now records.now id) }
+    ensures { IfOk result (λ shown. shown ≡ shown_of (answers_of model.now) records.now id) }
 {
     Ok(Shown {
         path: path_of(alloc, records, id)?,
@@ -45,7 +46,7 @@ pub fn shown_of(
 /// Whether a module was created, and all that are around it: then calls show the same of it when more modules are created.
 #[tactic(auto, using(crate::proofs::Showing::whole_lasts))]
 pub fn lasts(records: &[Record], id: u32) -> bool
-    ensures { result ≡ true → (m : Model) → IsShown m records.now id (shown_of m records.now id) }
+    ensures { result ≡ true → (m : Answers) → IsShown m records.now id (shown_of m records.now id) }
 {
     is_whole(MAX_NESTING, records, id)
 }
@@ -73,7 +74,7 @@ impl ShownModules {
     /// A table without entries, which takes no memory.
     pub fn new(alloc: Global) -> ShownModules
         ensures none { entries_in result ≡ [] }
-        ensures shown { (m : Model) (records : List Record) → AreShown m records result }
+        ensures shown { (m : Answers) (records : List Record) → AreShown m records result }
     {
         ShownModules {
             entries: Tree::new(alloc),
@@ -88,10 +89,10 @@ impl ShownModules {
         records: &[Record],
         id: u32,
     ) -> Result<Shown, NoMemory>
-        requires { AreShown model.now records.now self.old }
-        ensures found { IfOk result (λ shown. shown ≡ shown_of model.now records.now id) }
+        requires { AreShown (answers_of model.now) records.now self.old }
+        ensures found { IfOk result (λ shown. shown ≡ shown_of (answers_of model.now) records.now id) }
         ensures rest { entries_in self.new ≡ without_box id (entries_in self.old) }
-        ensures shown { AreShown model.now records.now self.new }
+        ensures shown { AreShown (answers_of model.now) records.now self.new }
     {
         match self.entries.take(id) {
             Some(shown) => Ok(shown),
@@ -103,7 +104,7 @@ impl ShownModules {
     pub fn put_back(&mut self, lasts: bool, id: u32, shown: Shown)
         ensures entries { let rest = without_box id (entries_in self.old) in
             (entries_in self.new ≡ rest) ⊎ (entries_in self.new ≡ with_box id shown rest) }
-        ensures shown { (m : Model) (records : List Record) → AreShown m records self.old
+        ensures shown { (m : Answers) (records : List Record) → AreShown m records self.old
             → (lasts ≡ true → IsShown m records id shown) → AreShown m records self.new }
     {
         self.entries.take(id);
@@ -116,6 +117,6 @@ impl ShownModules {
 /// A table stays right when more modules are created. The function does nothing: its contract is the law.
 #[tactic(auto, using(crate::proofs::Showing::shown_on))]
 pub fn tables_stay_right()
-    ensures { (m : Model) (records more : List Record) (table : ShownModules)
+    ensures { (m : Answers) (records more : List Record) (table : ShownModules)
         → AreShown m records table → AreShown m (records ++ more) table }
 {}

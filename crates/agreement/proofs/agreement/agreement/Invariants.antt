@@ -1,4 +1,5 @@
 use Rattle.std.proofs.Common.{◌≤◌, Option, ℕ, drop}
+use Rattle.model_answers.specs.Answering.{answers_of}
 use Rattle.question_log.specs.Entries.{noted_in}
 use Rattle.run_semantics.specs.Agreement.{IsAgreement}
 use Rattle.agreement.proofs.agreement.agreement.Given as goal
@@ -6,6 +7,6 @@ use Rattle.agreement.proofs.agreement.agreement.Given as goal
 abbrev pub invariant-loop-entry : goal.invariant-loop-entry
 invariant-loop-entry l = record {
   within : l.valid ≤ l.last;
-  rest : (found : Option ℕ) → IsAgreement l.one l.other l.records l.valid (noted_in (drop l.entry-index l.asked)) found
-      → IsAgreement l.one l.other l.records l.last (noted_in l.asked) found;
+  rest : (found : Option ℕ) → IsAgreement (answers_of l.one) (answers_of l.other) l.records l.valid (noted_in (drop l.entry-index l.asked)) found
+      → IsAgreement (answers_of l.one) (answers_of l.other) l.records l.last (noted_in l.asked) found;
 }

@@ -1,8 +1,8 @@
-use Rattle.std.proofs.Common.{Some, sym, ap, ◌∙◌, subst, map, option_map}
+use Rattle.std.proofs.Common.{sym, ap, ◌∙◌, subst, map, option_map}
 use Rattle.module_tree.specs.Boxes.{box_of, with_box}
 use Rattle.module_tree.proofs.Seats.{gone}
 use Rattle.saved_boxes.specs.Seats.{seat_of}
-use Rattle.saved_boxes.specs.Saved.{Takes, IsLoaded, seats_held}
+use Rattle.saved_boxes.specs.Saved.{Takes, seats_held}
 use Rattle.saved_boxes.proofs.Seating.{means_in, put_back_in}
 use Rattle.saved_boxes.proofs.Saving.{taken, loaded_kept, loaded_state}
 use Rattle.saved_boxes.proofs.boxes_saved.load_one.Goals as goal

@@ -1,3 +1,4 @@
+use Rattle.model_answers.specs.Answering.{answers_of}
 use Rattle.std.proofs.Common.{sym, ◌∙◌, subst}
 use Rattle.module_tree.specs.Boxes.{Held}
 use Rattle.shown_modules.specs.Tables.{AreEach}
@@ -7,15 +8,15 @@ use Rattle.shown_modules.proofs.ShownModules.take.Goals as goal
 
 pub returns-in-Some-clause-found : goal.returns-in-Some-clause-found
 returns-in-Some-clause-found c =
-    now_shown c.args.model.now c.args.records.now c.args.id c.in-Some.shown
-    (one_shown c.args.model.now c.args.records.now c.args.id c.args.self.now.entries.seats c.in-Some.shown c.requires (sym c.take.ensures.value ∙ c.in-Some.is))
+    now_shown (answers_of c.args.model.now) c.args.records.now c.args.id c.in-Some.shown
+    (one_shown (answers_of c.args.model.now) c.args.records.now c.args.id c.args.self.now.entries.seats c.in-Some.shown c.requires (sym c.take.ensures.value ∙ c.in-Some.is))
 
 pub returns-in-Some-clause-shown : goal.returns-in-Some-clause-shown
 returns-in-Some-clause-shown c =
-    subst (λ (h : Held Shown). AreEach c.args.model.now c.args.records.now h.seats) (sym c.take.ensures.rest)
-    (each_without c.args.model.now c.args.records.now c.args.id c.args.self.now.entries.seats c.requires)
+    subst (λ (h : Held Shown). AreEach (answers_of c.args.model.now) c.args.records.now h.seats) (sym c.take.ensures.rest)
+    (each_without (answers_of c.args.model.now) c.args.records.now c.args.id c.args.self.now.entries.seats c.requires)
 
 pub returns-in-None-clause-shown : goal.returns-in-None-clause-shown
 returns-in-None-clause-shown c =
-    subst (λ (h : Held Shown). AreEach c.args.model.now c.args.records.now h.seats) (sym c.take.ensures.rest)
-    (each_without c.args.model.now c.args.records.now c.args.id c.args.self.now.entries.seats c.requires)
+    subst (λ (h : Held Shown). AreEach (answers_of c.args.model.now) c.args.records.now h.seats) (sym c.take.ensures.rest)
+    (each_without (answers_of c.args.model.now) c.args.records.now c.args.id c.args.self.now.entries.seats c.requires)

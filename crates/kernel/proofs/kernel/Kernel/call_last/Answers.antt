@@ -1,6 +1,7 @@
+use Rattle.model_answers.specs.Answering.{answers_of}
 use Rattle.std.proofs.Common.{Ok, None, sym, ap, ◌∙◌, subst}
 use Rattle.module_api.specs.declared.call.Call.{Call}
-use Rattle.model_answers.specs.Answering.{parameters_of}
+use Rattle.run_questions.specs.Answers.{parameters_of}
 use Rattle.run_semantics.specs.World.{World}
 use Rattle.run_semantics.specs.Perform.{On}
 use Rattle.run_semantics.specs.Ending.{answered_last}
@@ -14,7 +15,7 @@ use Rattle.kernel.proofs.kernel.Kernel.call_last.Goals as goal
 pub returns-in_default-clause-step : goal.returns-in_default-clause-step
 returns-in_default-clause-step g c =
     ap (λ core. On (world_of core (seats_in (λ b. (g.dyn-1.0.entry b.vtable).1) c.reply_of.new.self))) c.reply_of.ensures.core
-    ∙ passed_over_last g.C.Catalogue.behaviour c.args.model.now c.args.id c.args.self.now.core (seats_in (λ b. (g.dyn-1.0.entry b.vtable).1) c.args.self.now) (seats_in (λ b. (g.dyn-1.0.entry b.vtable).1) c.reply_of.new.self) (subst (λ (k : Call). IsServed k.id (seats_in (λ b. (g.dyn-1.0.entry b.vtable).1) c.args.self.now) (seats_in (λ b. (g.dyn-1.0.entry b.vtable).1) c.reply_of.new.self) k None) c.in_ok-call.ensures (rw c.in_default.is at c.reply_of.ensures.served))
+    ∙ passed_over_last g.C.Catalogue.behaviour (answers_of c.args.model.now) c.args.id c.args.self.now.core (seats_in (λ b. (g.dyn-1.0.entry b.vtable).1) c.args.self.now) (seats_in (λ b. (g.dyn-1.0.entry b.vtable).1) c.reply_of.new.self) (subst (λ (k : Call). IsServed k.id (seats_in (λ b. (g.dyn-1.0.entry b.vtable).1) c.args.self.now) (seats_in (λ b. (g.dyn-1.0.entry b.vtable).1) c.reply_of.new.self) k None) c.in_ok-call.ensures (rw c.in_default.is at c.reply_of.ensures.served))
 
 pub returns-in_err-reply-clause-kept : goal.returns-in_err-reply-clause-kept
 returns-in_err-reply-clause-kept g c =
@@ -23,8 +24,8 @@ returns-in_err-reply-clause-kept g c =
 pub follow_last-requires-clause-told : goal.follow_last-requires-clause-told
 follow_last-requires-clause-told g c =
     ap (λ (k : Call). k.parameters) c.in_ok-call.ensures
-    ∙ ap (parameters_of c.args.model.now c.args.self.now.core.records) (sym (ap (λ (k : Call). k.id) c.in_ok-call.ensures))
-    ∙ ap (λ (w : World). parameters_of c.args.model.now w.records c.in_ok-call.call.id) (sym c.reply_of.ensures.core)
+    ∙ ap (parameters_of (answers_of c.args.model.now) c.args.self.now.core.records) (sym (ap (λ (k : Call). k.id) c.in_ok-call.ensures))
+    ∙ ap (λ (w : World). parameters_of (answers_of c.args.model.now) w.records c.in_ok-call.call.id) (sym c.reply_of.ensures.core)
 
 pub returns-clause-kept : goal.returns-clause-kept
 returns-clause-kept g c =
@@ -32,12 +33,12 @@ returns-clause-kept g c =
 
 pub returns-clause-step : goal.returns-clause-step
 returns-clause-step g c = ok_step c.follow_last.result c.follow_last.ensures.flow (λ turn step.
-    called_last_is g.C.Catalogue.behaviour c.args.model.now c.args.id c.args.self.now.core c.follow_last.new.core (seats_in (λ b. (g.dyn-1.0.entry b.vtable).1) c.args.self.now) (seats_in (λ b. (g.dyn-1.0.entry b.vtable).1) c.reply_of.new.self)
+    called_last_is g.C.Catalogue.behaviour (answers_of c.args.model.now) c.args.id c.args.self.now.core c.follow_last.new.core (seats_in (λ b. (g.dyn-1.0.entry b.vtable).1) c.args.self.now) (seats_in (λ b. (g.dyn-1.0.entry b.vtable).1) c.reply_of.new.self)
     c.in_ok-reply.reply turn c.requires.callable.kinds
     (subst (λ (k : Call). IsCalled k.id (seats_in (λ b. (g.dyn-1.0.entry b.vtable).1) c.args.self.now) (seats_in (λ b. (g.dyn-1.0.entry b.vtable).1) c.reply_of.new.self) k (Ok c.in_ok-reply.reply)) c.in_ok-call.ensures (rw c.in_ok-reply.was at c.in-Some.ensures.served))
     (step
-    ∙ ap (λ (k : Call). answered_last c.args.model.now k.id c.in_ok-reply.reply c.reply_of.new.self.core) c.in_ok-call.ensures
-    ∙ ap (answered_last c.args.model.now c.args.id c.in_ok-reply.reply) c.reply_of.ensures.core))
+    ∙ ap (λ (k : Call). answered_last (answers_of c.args.model.now) k.id c.in_ok-reply.reply c.reply_of.new.self.core) c.in_ok-call.ensures
+    ∙ ap (answered_last (answers_of c.args.model.now) c.args.id c.in_ok-reply.reply) c.reply_of.ensures.core))
 
 pub returns-in_default-clause-grown : goal.returns-in_default-clause-grown
 returns-in_default-clause-grown g c =

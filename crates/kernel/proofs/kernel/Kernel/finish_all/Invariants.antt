@@ -1,3 +1,4 @@
+use Rattle.model_answers.specs.Answering.{answers_of}
 use Rattle.std.proofs.Common.{◌≡◌, ◌+◌, ◌*◌, ◌≤◌}
 use Rattle.run_semantics.specs.Run.{standing}
 use Rattle.run_semantics.specs.Ending.{finish_all}
@@ -11,7 +12,7 @@ invariant-loop-index g l =
     let old = world_in (λ b. (g.dyn-1.0.entry b.vtable).1) l.fn.self in
     let world = world_in (λ b. (g.dyn-1.0.entry b.vtable).1) l.self in
     record {
-      flow : finish_all g.C.Catalogue.behaviour l.model (parts_left l.index (standing old.modules)) world ≡ finish_all g.C.Catalogue.behaviour l.model (standing old.modules) old;
+      flow : finish_all g.C.Catalogue.behaviour (answers_of l.model) (parts_left l.index (standing old.modules)) world ≡ finish_all g.C.Catalogue.behaviour (answers_of l.model) (standing old.modules) old;
       next : world.next ≤ old.next + 1000 * l.index;
       grown : IsGrownFrom old world;
       kept : KeepsBoxes g.C.Catalogue.behaviour (λ b. (g.dyn-1.0.entry b.vtable).1) l.fn.self l.self;

@@ -1,3 +1,4 @@
+use Rattle.model_answers.specs.Answering.{answers_of}
 use Rattle.std.proofs.Common.{ap, sym, ◌∙◌, arith}
 use Rattle.run_semantics.specs.World.{World}
 use Rattle.run_semantics.specs.Perform.{On, flow_of}
@@ -11,24 +12,24 @@ use Rattle.kernel.proofs.kernel.Kernel.finish_one.Goals as goal
 
 pub returns-then-is_none-clause-step : goal.returns-then-is_none-clause-step
 returns-then-is_none-clause-step g c =
-    finish-none g.C.Catalogue.behaviour c.args.model.now c.args.id (seats_in (λ b. (g.dyn-1.0.entry b.vtable).1) c.args.self.now) (world_in (λ b. (g.dyn-1.0.entry b.vtable).1) c.args.self.now) c.stages_at.result c.stages_at.ensures (is_away c.stages_at.result c.is_none.result c.is_none.ensures c.if-is_none.true)
+    finish-none g.C.Catalogue.behaviour (answers_of c.args.model.now) c.args.id (seats_in (λ b. (g.dyn-1.0.entry b.vtable).1) c.args.self.now) (world_in (λ b. (g.dyn-1.0.entry b.vtable).1) c.args.self.now) c.stages_at.result c.stages_at.ensures (is_away c.stages_at.result c.is_none.result c.is_none.ensures c.if-is_none.true)
 
 pub returns-in_ok-mark_finished-in-GoOn-clause-next : goal.returns-in_ok-mark_finished-in-GoOn-clause-next
 returns-in_ok-mark_finished-in-GoOn-clause-next g c =
-    let kept = call_last_leaves g.C.Catalogue.behaviour c.args.model.now c.args.id c.in_ok-turn.turn (world_in (λ b. (g.dyn-1.0.entry b.vtable).1) c.args.self.now) (world_in (λ b. (g.dyn-1.0.entry b.vtable).1) c.call_last.new.self) c.in_ok-turn.ensures.step in
+    let kept = call_last_leaves g.C.Catalogue.behaviour (answers_of c.args.model.now) c.args.id c.in_ok-turn.turn (world_in (λ b. (g.dyn-1.0.entry b.vtable).1) c.args.self.now) (world_in (λ b. (g.dyn-1.0.entry b.vtable).1) c.call_last.new.self) c.in_ok-turn.ensures.step in
     omega (arith, kept.next, ap (λ (w : World). w.next) c.in_ok-mark_finished-in-GoOn.ensures.marked)
 
 pub returns-in_ok-mark_finished-in-GoOn-clause-step : goal.returns-in_ok-mark_finished-in-GoOn-clause-step
 returns-in_ok-mark_finished-in-GoOn-clause-step g c =
     ap (λ (core : World). On (world_of core (seats_in (λ b. (g.dyn-1.0.entry b.vtable).1) c.call_last.new.self))) c.in_ok-mark_finished-in-GoOn.ensures.marked
-    ∙ finish-called g.C.Catalogue.behaviour c.args.model.now c.args.id (seats_in (λ b. (g.dyn-1.0.entry b.vtable).1) c.args.self.now) (world_in (λ b. (g.dyn-1.0.entry b.vtable).1) c.args.self.now) c.stages_at.result (On (world_in (λ b. (g.dyn-1.0.entry b.vtable).1) c.call_last.new.self)) c.stages_at.ensures (is_there c.stages_at.result c.is_none.result c.is_none.ensures c.if-is_none.false)
+    ∙ finish-called g.C.Catalogue.behaviour (answers_of c.args.model.now) c.args.id (seats_in (λ b. (g.dyn-1.0.entry b.vtable).1) c.args.self.now) (world_in (λ b. (g.dyn-1.0.entry b.vtable).1) c.args.self.now) c.stages_at.result (On (world_in (λ b. (g.dyn-1.0.entry b.vtable).1) c.call_last.new.self)) c.stages_at.ensures (is_there c.stages_at.result c.is_none.result c.is_none.ensures c.if-is_none.false)
     (rw c.in-GoOn.is at c.in_ok-turn.ensures.step)
 
 pub returns-in_default-clause-next : goal.returns-in_default-clause-next
 returns-in_default-clause-next g c =
-    (call_last_leaves g.C.Catalogue.behaviour c.args.model.now c.args.id c.in_ok-turn.turn (world_in (λ b. (g.dyn-1.0.entry b.vtable).1) c.args.self.now) (world_in (λ b. (g.dyn-1.0.entry b.vtable).1) c.call_last.new.self) c.in_ok-turn.ensures.step).next
+    (call_last_leaves g.C.Catalogue.behaviour (answers_of c.args.model.now) c.args.id c.in_ok-turn.turn (world_in (λ b. (g.dyn-1.0.entry b.vtable).1) c.args.self.now) (world_in (λ b. (g.dyn-1.0.entry b.vtable).1) c.call_last.new.self) c.in_ok-turn.ensures.step).next
 
 pub returns-in_default-clause-step : goal.returns-in_default-clause-step
 returns-in_default-clause-step g c =
     sym (stops c.in_ok-turn.turn (world_in (λ b. (g.dyn-1.0.entry b.vtable).1) c.call_last.new.self) (marked c.args.id) c.in_default.not-GoOn)
-    ∙ finish-called g.C.Catalogue.behaviour c.args.model.now c.args.id (seats_in (λ b. (g.dyn-1.0.entry b.vtable).1) c.args.self.now) (world_in (λ b. (g.dyn-1.0.entry b.vtable).1) c.args.self.now) c.stages_at.result (flow_of c.in_ok-turn.turn (world_in (λ b. (g.dyn-1.0.entry b.vtable).1) c.call_last.new.self)) c.stages_at.ensures (is_there c.stages_at.result c.is_none.result c.is_none.ensures c.if-is_none.false) c.in_ok-turn.ensures.step
+    ∙ finish-called g.C.Catalogue.behaviour (answers_of c.args.model.now) c.args.id (seats_in (λ b. (g.dyn-1.0.entry b.vtable).1) c.args.self.now) (world_in (λ b. (g.dyn-1.0.entry b.vtable).1) c.args.self.now) c.stages_at.result (flow_of c.in_ok-turn.turn (world_in (λ b. (g.dyn-1.0.entry b.vtable).1) c.call_last.new.self)) c.stages_at.ensures (is_there c.stages_at.result c.is_none.result c.is_none.ensures c.if-is_none.false) c.in_ok-turn.ensures.step

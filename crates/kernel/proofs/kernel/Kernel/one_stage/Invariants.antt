@@ -1,3 +1,4 @@
+use Rattle.model_answers.specs.Answering.{answers_of}
 use Rattle.std.proofs.Common.{◌≡◌, ◌+◌, ◌*◌, ◌≤◌}
 use Rattle.run_semantics.specs.Run.{standing, one_stage}
 use Rattle.kernel.specs.Kernels.{world_in, KeepsBoxes}
@@ -9,7 +10,7 @@ invariant-loop-index g l =
     let old = world_in (λ b. (g.dyn-1.0.entry b.vtable).1) l.fn.self in
     let world = world_in (λ b. (g.dyn-1.0.entry b.vtable).1) l.self in
     record {
-      flow : one_stage g.C.Catalogue.behaviour l.model l.stage (parts_left l.index (standing old.modules)) world ≡ one_stage g.C.Catalogue.behaviour l.model l.stage (standing old.modules) old;
+      flow : one_stage g.C.Catalogue.behaviour (answers_of l.model) l.stage (parts_left l.index (standing old.modules)) world ≡ one_stage g.C.Catalogue.behaviour (answers_of l.model) l.stage (standing old.modules) old;
       next : world.next ≤ old.next + 1000 * l.index;
       kept : KeepsBoxes g.C.Catalogue.behaviour (λ b. (g.dyn-1.0.entry b.vtable).1) l.fn.self l.self;
     }

@@ -1,3 +1,4 @@
+use Rattle.model_answers.specs.Answering.{answers_of}
 use Rattle.std.proofs.Common.{◌≡◌, ◌+◌, ℕ}
 use Rattle.run_semantics.specs.World.{World}
 use Rattle.run_semantics.specs.Upcoming.{upcoming, upcoming_in}
@@ -9,4 +10,4 @@ use Rattle.kernel.proofs.kernel.Kernel.upcoming.Given as goal
 abbrev pub invariant-loop : goal.invariant-loop
 invariant-loop g l =
     let world : World = world_in (λ b. (g.dyn-1.0.entry b.vtable).1) l.self in
-    (left : ℕ) × (left + l.counter ≡ 10001) × (upcoming_in left l.model world.pending (looked world l.look) ≡ upcoming l.model world)
+    (left : ℕ) × (left + l.counter ≡ 10001) × (upcoming_in left (answers_of l.model) world.pending (looked world l.look) ≡ upcoming (answers_of l.model) world)

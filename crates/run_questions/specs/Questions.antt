@@ -1,7 +1,7 @@
 -- Questions that are the same.
 use Rattle.std.specs.Prelude.{◌==◌, Bool, true, false, ◌&&◌, bytes_eq}
-use Rattle.model_answers.specs.declared.answer.Question.{Question}
-use Rattle.model_answers.specs.declared.answer.Question.TheVariants.{Root, Build, Param, GateSize, BeyondLimit, InjectionBefore}
+use Rattle.run_questions.specs.declared.answer.Question.{Question}
+use Rattle.run_questions.specs.declared.answer.Question.TheVariants.{Root, Build, Param, GateSize, BeyondLimit, InjectionBefore}
 
 -- Whether both ask the same of the model's modules. What is asked of a time is asked of one event, and never the same.
 abbrev pub same_question : Question → Question → Bool

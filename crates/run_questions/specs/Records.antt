@@ -1,6 +1,6 @@
 -- Records of the modules that were created, and their paths.
 use Rattle.std.specs.Prelude.{ℕ, zero, suc, ◌==◌, List, [], ◌∷◌, ◌++◌, Option, Some, None, slice_get, decimal, if◌then◌else◌}
-use Rattle.model_answers.specs.declared.record.Record.{Record}
+use Rattle.run_questions.specs.declared.record.Record.{Record}
 
 -- the record of that id: ids count from 1
 abbrev pub record_at : List Record → ℕ → Option Record

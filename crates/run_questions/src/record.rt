@@ -2,7 +2,7 @@
 
 ghost use Rattle.std.specs.Prelude.{◌≡◌, ◌≤◌, IfOk, OnOk, ◌++◌, length, take};
 ghost use Rattle.std.specs.Option.{option_copied};
-ghost use Rattle.model_answers.specs.Records.{record_at, own_name, path_up, path_of, path_around, path_under, index_of};
+ghost use Rattle.run_questions.specs.Records.{record_at, own_name, path_up, path_of, path_around, path_under, index_of};
 
 use itoa::Buffer;
 use sim_values::text::Text;

@@ -1,7 +1,7 @@
 use Rattle.std.proofs.Common.{arith}
 use Rattle.std.proofs.lemmas.Bool.Decides.{nat_tests}
-use Rattle.model_answers.proofs.RecordLemmas.{path_up-under, pushed_under}
-use Rattle.model_answers.proofs.record.+push_path.Goals as goal
+use Rattle.run_questions.proofs.RecordLemmas.{path_up-under, pushed_under}
+use Rattle.run_questions.proofs.record.+push_path.Goals as goal
 
 pub returns : goal.returns
 returns t c =

@@ -1,6 +1,7 @@
 //! Questions to a model, and their answers.
 
 ghost use Rattle.std.specs.Prelude.{◌≡◌, IfOk};
+ghost use Rattle.run_questions.specs.Answers.{is_beyond};
 
 use injection_order::injection::{Due, Injection, Turn};
 use sim_values::text::Text;
@@ -93,4 +94,14 @@ pub enum Answer {
     Injection(Option<Injection>),
     /// There is no such thing.
     Absent,
+}
+
+/// Whether a time is later than this limit, where there is one, both in picoseconds. A time equal to the limit is not.
+pub fn is_beyond(limit: Option<u64>, time: u64) -> bool
+    ensures { result ≡ is_beyond limit time }
+{
+    match limit {
+        Some(limit) => limit < time,
+        None => false,
+    }
 }

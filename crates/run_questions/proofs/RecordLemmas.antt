@@ -1,8 +1,8 @@
 -- Paths of modules.
 use Rattle.std.proofs.Common.{◌≡◌, ◌≢◌, ℕ, zero, suc, ◌-◌, List, [], ◌∷◌, ◌++◌, Some, Result, Ok, Err, arith, arith, refl, sym, ap, ◌∙◌, eqb, false, append_assoc}
 use Rattle.std.specs.Result.{OnOk}
-use Rattle.model_answers.specs.declared.record.Record.{Record}
-use Rattle.model_answers.specs.Records.{record_at, own_name, path_by, path_up}
+use Rattle.run_questions.specs.declared.record.Record.{Record}
+use Rattle.run_questions.specs.Records.{record_at, own_name, path_by, path_up}
 
 -- one name, and those above it
 path_up-step : (depth : ℕ) (records : List Record) (id : ℕ) → depth ≢ 0 → path_up depth records id ≡ path_by (path_up (depth - 1) records) (record_at records id)

@@ -1,0 +1,5 @@
+//! What a run asks of its model, and the modules that were created.
+#![tactic(auto)]
+
+pub mod answer;
+pub mod record;
