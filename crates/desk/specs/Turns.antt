@@ -2,6 +2,7 @@
 use Rattle.std.specs.Prelude.{◌≡◌, ◌⊎◌, ℕ, List, Option, Some, None, codes}
 use Rattle.module_api.specs.Behaviour.{Behaviour}
 use Rattle.model_answers.specs.declared.model.Model.{Model}
+use Rattle.model_answers.specs.Answering.{answers_of}
 use Rattle.model_edits.specs.declared.edit.Edit.{Edit}
 use Rattle.model_edits.specs.declared.edit.Refusal.{Refusal}
 use Rattle.model_edits.specs.Edited.{number_given, IsEditOf, IsOnlyEditOf, Refuses}
@@ -9,9 +10,10 @@ use Rattle.command_lines.specs.Commands.{command_of}
 use Rattle.command_lines.specs.declared.commands.Command.{Command}
 use Rattle.command_lines.specs.declared.commands.Command.TheVariants as command
 use Rattle.saved_boxes.specs.Seats.{Members}
-use Rattle.edit_session.specs.Editing.{Editing, boxes_left, completed, fresh_run, IsGivenUp, WaitsFor}
-use Rattle.edit_session.specs.Positions.{events_behind, positions_after, start_of, up_to_event}
-use Rattle.edit_session.specs.declared.running.Phase.TheVariants.{Idle}
+use Rattle.edit_session.specs.Editing.{Editing, boxes_left, completed, IsGivenUp, WaitsFor}
+use Rattle.checkpointed_runs.specs.Running.{fresh_run}
+use Rattle.checkpointed_runs.specs.Positions.{events_behind, positions_after, start_of, up_to_event}
+use Rattle.checkpointed_runs.specs.declared.running.Phase.TheVariants.{Idle}
 use Rattle.edit_session.specs.Reuse.{IsValidTo}
 use Rattle.edit_session.specs.Sessions.{editing_of, IsSound, KeepsModel}
 use Rattle.desk.specs.Answers.{done_text, edit_refusal_text, edited_text, held_text, positions_text}
@@ -41,7 +43,7 @@ module _ {C X : Type 0} {Y : X → Type 0} where
 -- the answer of a fresh run of the model that begins there: how it ends, and how many events are executed behind that
 abbrev pub answer_from : Behaviour → Model → ℕ → Option ℕ → List ℕ
 answer_from b m limit start =
-    let ran = fresh_run b m limit in
+    let ran = fresh_run b (answers_of m) limit in
     done_text ran.outcome start (events_behind start ran.world.count)
 
 -- THE ANSWER TO `run N` where these positions are stored: that of a fresh run of the model, which begins at the greatest of them up to N
@@ -52,8 +54,8 @@ run_answer b m limit old = answer_from b m limit (start_of limit old)
 pub record IsDone (b : Behaviour) (before : Editing) (limit : ℕ) (after : Editing) : Type 0 where
   pub done : after.done ≡ Some (completed b before.model limit)
   pub held : after.held ≡ boxes_left b before.model limit
-  pub known : after.known ≡ Some (fresh_run b before.model limit).world.count
-  pub positions : after.positions ≡ positions_after b before.model limit before.interval before.positions
+  pub known : after.known ≡ Some (fresh_run b (answers_of before.model) limit).world.count
+  pub positions : after.positions ≡ positions_after b (answers_of before.model) limit before.interval before.positions
 
 -- The same, and the text is its answer.
 pub record HasRun (b : Behaviour) (before : Editing) (limit : ℕ) (text : List ℕ) (after : Editing) : Type 0 where
@@ -75,7 +77,7 @@ MayBeDone b before limit after = IsGivenUp b before limit after ⊎ IsDone b bef
 -- events are known, is one of the new model.
 pub record IsMade (b : Behaviour) (m : Model) (known : Option ℕ) (e : Edit) (text : List ℕ) (new : Model) (valid : Option ℕ) : Type 0 where
   pub text_is : text ≡ edited_text valid (number_given e m)
-  pub valid_to : IsValidTo b m new known valid
+  pub valid_to : IsValidTo b (answers_of m) (answers_of new) known valid
   pub edited : IsEditOf m e new
   pub only : IsOnlyEditOf m e new
 

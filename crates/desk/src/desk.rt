@@ -4,7 +4,7 @@ ghost use Rattle.std.specs.Prelude.{◌≡◌, ◌↔◌, ◌+◌, None, IsSome,
 ghost use Rattle.edit_session.specs.Editing.{Completed, IsFor, IsUnknown, wanted_of};
 ghost use Rattle.edit_session.specs.Files.{scalars_of_run, vectors_of_run, FileWritten};
 ghost use Rattle.edit_session.specs.Sessions.{editing_of, IsSound};
-ghost use Rattle.edit_session.specs.declared.running.Phase.{Phase};
+ghost use Rattle.checkpointed_runs.specs.declared.running.Phase.{Phase};
 ghost use Rattle.edit_session.specs.declared.session.SupplyReason.{SupplyReason};
 ghost use Rattle.command_lines.specs.Commands.{command_of};
 ghost use Rattle.desk.specs.Answers.{held_text, positions_text};

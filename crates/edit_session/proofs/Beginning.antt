@@ -2,10 +2,9 @@
 use Rattle.std.proofs.Common.{◌≡◌, ℕ, List, [], ◌∷◌, None, refl, ap, length, map}
 use Rattle.model_answers.specs.declared.model.Model.{Model}
 use Rattle.run_semantics.specs.World.{World, empty}
-use Rattle.run_semantics.specs.declared.traces.Instance.{Instance}
 use Rattle.saved_boxes.specs.Seats.{Seat, instance_of}
 use Rattle.kernel.specs.Seats.{world_of}
-use Rattle.edit_session.specs.declared.running.Phase.TheVariants.{Idle}
+use Rattle.checkpointed_runs.specs.declared.running.Phase.TheVariants.{Idle}
 use Rattle.edit_session.specs.Editing.{Editing, fresh_editing}
 
 -- a session without a run, with so many boxes

@@ -1,7 +1,6 @@
 pub mod Beginning
-pub mod Counting
-pub mod Filling
+pub mod Boxes
+pub mod Edited
+pub mod GivenUp
 pub mod Giving
-pub mod Going
-pub mod Good
 pub mod Valid

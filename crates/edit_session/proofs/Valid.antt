@@ -3,13 +3,15 @@ use Rattle.std.proofs.Common.{◌≡◌, ◌≤◌, ◌<◌, ℕ, List, [], ◌�
 use Rattle.sim_values.specs.declared.NoMemory.{NoMemory}
 use Rattle.module_api.specs.Behaviour.{Behaviour}
 use Rattle.module_api.specs.Laws.{IsLawful}
-use Rattle.model_answers.specs.declared.answer.Asked.{Asked}
+use Rattle.run_questions.specs.declared.answer.Asked.{Asked}
 use Rattle.model_answers.specs.declared.model.Model.{Model}
-use Rattle.model_answers.specs.declared.record.Record.{Record}
+use Rattle.model_answers.specs.Answering.{answers_of}
+use Rattle.run_questions.specs.Answers.{Answers}
+use Rattle.run_questions.specs.declared.record.Record.{Record}
 use Rattle.run_semantics.specs.declared.outcome.Outcome.{Outcome}
 use Rattle.run_semantics.specs.Agreement.{AgreesUpTo, IsAgreement}
 use Rattle.run_semantics.specs.Ending.{ending}
-use Rattle.run_semantics.specs.Run.{Stage, Running, Over, Ran, IsReached, after, run_to, stopped, world_at}
+use Rattle.run_semantics.specs.Run.{Stage, IsReached, after, run_to, world_at}
 use Rattle.run_semantics.specs.World.{World}
 use Rattle.run_semantics.proofs.Agreeing.{shorter_agrees, longer_agrees}
 use Rattle.run_semantics.proofs.Closing.{ending_closed}
@@ -18,30 +20,24 @@ use Rattle.run_semantics.proofs.Reuse.{reached_same_up_to}
 use Rattle.result_files.specs.declared.files.ResultFiles.{ResultFiles}
 use Rattle.kernel_actions.specs.declared.position.Position.{Position}
 use Rattle.saved_boxes.specs.Seats.{Seat, AreOfKinds}
-use Rattle.edit_session.specs.Kept.{AreGood}
-use Rattle.edit_session.specs.declared.running.Phase.TheVariants.{Idle}
+use Rattle.checkpointed_runs.specs.Kept.{AreGood}
+use Rattle.checkpointed_runs.specs.declared.running.Phase.TheVariants.{Idle}
 use Rattle.edit_session.specs.declared.session.Change.{Change}
-use Rattle.edit_session.specs.Positions.{up_to_event}
-use Rattle.edit_session.specs.Editing.{Editing, edited_by, files_in, whole_run, IsKept}
+use Rattle.checkpointed_runs.specs.Positions.{up_to_event}
+use Rattle.edit_session.specs.Editing.{Editing, edited_by, files_in, IsKept}
+use Rattle.checkpointed_runs.specs.Running.{whole_run}
+use Rattle.checkpointed_runs.proofs.Whole.{stopped_world}
 use Rattle.edit_session.specs.Reuse.{IsValidTo, IsAskedUpTo, IsKnown}
 
 -- ---- a run that is done
 
-stopped_world : (s : Stage) → (stopped s).world ≡ world_at s
-stopped_world (Running w) = refl
-stopped_world (Over w outcome) = refl
-
--- a run has as many events with its end as without
-pub whole_count : (b : Behaviour) (m : Model) (limit : ℕ) (w : World) (outcome : Outcome) → whole_run b m limit w outcome → w.count ≡ (run_to b m limit).world.count
-whole_count b m limit w outcome whole = ap (λ (r : Ran). r.world.count) (sym whole) ∙ (ending_closed b m (run_to b m limit)).count
-
 -- each model agrees with itself
-pub agrees_itself : (v : ℕ) (m : Model) (rs : List Record) (qs : List Asked) → AgreesUpTo v m m rs qs
+pub agrees_itself : (v : ℕ) (m : Answers) (rs : List Record) (qs : List Asked) → AgreesUpTo v m m rs qs
 agrees_itself v m rs [] = tt
 agrees_itself v m rs (q ∷ qs) = (λ l. refl, agrees_itself v m rs qs)
 
 -- all events of a run that is done are known
-pub known_done : (b : Behaviour) (m : Model) (limit : ℕ) (w : World) (outcome : Outcome) → whole_run b m limit w outcome → IsAskedUpTo b m w w.count
+pub known_done : (b : Behaviour) (m : Answers) (limit : ℕ) (w : World) (outcome : Outcome) → whole_run b m limit w outcome → IsAskedUpTo b m w w.count
 known_done b m limit w outcome whole =
     let ran = run_to b m limit in
     let u : World = world_at (after b m limit) in
@@ -63,17 +59,17 @@ known_done b m limit w outcome whole =
 -- ---- an edit
 
 -- where two lists of questions say the same of the events up to the last one, they have the same agreement
-same_agreement : (m n : Model) (k : ℕ) (rs ss : List Record) (qs xs : List Asked)
+same_agreement : (m n : Answers) (k : ℕ) (rs ss : List Record) (qs xs : List Asked)
     → ((u : ℕ) → u ≤ k → AgreesUpTo u m n rs qs → AgreesUpTo u m n ss xs) → ((u : ℕ) → u ≤ k → AgreesUpTo u m n ss xs → AgreesUpTo u m n rs qs)
     → (found : Option ℕ) → IsAgreement m n rs k qs found → IsAgreement m n ss k xs found
 same_agreement m n k rs ss qs xs to back None h = λ a. h (back 0 (omega arith) a)
 same_agreement m n k rs ss qs xs to back (Some v) h = (h.0, to v h.0 h.1, λ u low high a. h.2 u low high (back u high a))
 
 -- what is found by the questions that are kept is the answer
-pub valid_found : (b : Behaviour) → IsLawful b → (m n : Model) (w : World) (v : ℕ) (found : Option ℕ) → IsAskedUpTo b m w v
+pub valid_found : (b : Behaviour) → IsLawful b → (m n : Answers) (w : World) (v : ℕ) (found : Option ℕ) → IsAskedUpTo b m w v
     → IsAgreement m n w.records v w.questions found → IsValidTo b m n (Some v) found
 valid_found b law m n w v found h a =
-    let o : Model = h.origin in
+    let o : Answers = h.origin in
     let all : World = world_at (after b o h.last) in
     let first : World = world_at (after b o v) in
     let at : IsReached (after b o v) v = reached_before b o v h.last h.within h.reached in
@@ -87,12 +83,12 @@ valid_found b law m n w v found h a =
     subst (λ (s : Stage). IsAgreement m n (world_at s).records v (world_at s).questions found) one own
 
 -- one agreement and then another
-pub agrees_then : (u v : ℕ) (o m n : Model) (rs : List Record) (qs : List Asked) → u ≤ v → AgreesUpTo v o m rs qs → AgreesUpTo u m n rs qs → AgreesUpTo u o n rs qs
+pub agrees_then : (u v : ℕ) (o m n : Answers) (rs : List Record) (qs : List Asked) → u ≤ v → AgreesUpTo v o m rs qs → AgreesUpTo u m n rs qs → AgreesUpTo u o n rs qs
 agrees_then u v o m n rs [] l f g = tt
 agrees_then u v o m n rs (q ∷ qs) l f g = (λ (e : q.event ≤ u). f.0 (omega (arith, e, l)) ∙ g.0 e, agrees_then u v o m n rs qs l f.1 g.1)
 
 -- what stays known
-pub known_edited : (b : Behaviour) (m n : Model) (w : World) (v : ℕ) (found : Option ℕ) → IsAskedUpTo b m w v → IsAgreement m n w.records v w.questions found → IsKnown b n w found
+pub known_edited : (b : Behaviour) (m n : Answers) (w : World) (v : ℕ) (found : Option ℕ) → IsAskedUpTo b m w v → IsAgreement m n w.records v w.questions found → IsKnown b n w found
 known_edited b m n w v None h a = tt
 known_edited b m n w v (Some u) h a = record {
   origin = h.origin;
@@ -105,7 +101,7 @@ known_edited b m n w v (Some u) h a = record {
 }
 
 -- What is known stays known where the modules and the questions are the same.
-pub known_same : (b : Behaviour) (m : Model) (w u : World) (known : Option ℕ) → u.records ≡ w.records → u.questions ≡ w.questions → IsKnown b m w known → IsKnown b m u known
+pub known_same : (b : Behaviour) (m : Answers) (w u : World) (known : Option ℕ) → u.records ≡ w.records → u.questions ≡ w.questions → IsKnown b m w known → IsKnown b m u known
 known_same b m w u None r q h = tt
 known_same b m w u (Some v) r q h = record {
   origin = h.origin;
@@ -118,26 +114,26 @@ known_same b m w u (Some v) r q h = record {
 }
 
 -- what is told of a session's last run, where there is one
-pub valid_of : (b : Behaviour) → IsLawful b → (m n : Model) (w : World) (known : Option ℕ) (last : ℕ) (told : Result (Option ℕ) NoMemory) → known ≡ Some last → IsKnown b m w known
+pub valid_of : (b : Behaviour) → IsLawful b → (m n : Answers) (w : World) (known : Option ℕ) (last : ℕ) (told : Result (Option ℕ) NoMemory) → known ≡ Some last → IsKnown b m w known
     → IfOk told (λ found. IsAgreement m n w.records last w.questions found) → IfOk told (λ found. IsValidTo b m n known found)
 valid_of b law m n w known last (Err error) e h a = tt
 valid_of b law m n w known last (Ok found) e h a =
     subst (λ k. IsValidTo b m n k found) (sym e) (valid_found b law m n w last found (subst (IsKnown b m w) e h) a)
 
-pub known_of : (b : Behaviour) (m n : Model) (w : World) (known : Option ℕ) (last : ℕ) (told : Result (Option ℕ) NoMemory) → known ≡ Some last → IsKnown b m w known
+pub known_of : (b : Behaviour) (m n : Answers) (w : World) (known : Option ℕ) (last : ℕ) (told : Result (Option ℕ) NoMemory) → known ≡ Some last → IsKnown b m w known
     → IfOk told (λ found. IsAgreement m n w.records last w.questions found) → IfOk told (λ found. IsKnown b n w found)
 known_of b m n w known last (Err error) e h a = tt
 known_of b m n w known last (Ok found) e h a = known_edited b m n w last found (subst (IsKnown b m w) e h) a
 
 -- what is kept of a run that is done
-pub kept_done : (b : Behaviour) (ss : List Seat) (w : World) (m : Model) (limit : ℕ) (outcome : Outcome) (files : ResultFiles) (known interval : ℕ) (ps : List Position) → AreOfKinds b ss → whole_run b m limit w outcome
-    → files ≡ files_in m w → known ≡ w.count → AreGood b m ss w ps → 1 ≤ interval → IsKept b ss w m Idle (Some (record { limit = limit; outcome = outcome; files = files })) (Some known) interval ps
+pub kept_done : (b : Behaviour) (ss : List Seat) (w : World) (m : Model) (limit : ℕ) (outcome : Outcome) (files : ResultFiles) (known interval : ℕ) (ps : List Position) → AreOfKinds b ss → whole_run b (answers_of m) limit w outcome
+    → files ≡ files_in m w → known ≡ w.count → AreGood b (answers_of m) ss w ps → 1 ≤ interval → IsKept b ss w m Idle (Some (record { limit = limit; outcome = outcome; files = files })) (Some known) interval ps
 kept_done b ss w m limit outcome files known interval ps kinds whole e n good i = record {
   kinds = kinds;
   live = tt;
   left = (whole, e);
   undone = tt;
-  asked = subst (IsAskedUpTo b m w) (sym n) (known_done b m limit w outcome whole);
+  asked = subst (IsAskedUpTo b (answers_of m) w) (sym n) (known_done b (answers_of m) limit w outcome whole);
   good = good;
   interval_is = i;
 }

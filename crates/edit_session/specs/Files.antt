@@ -2,23 +2,25 @@
 use Rattle.std.specs.Prelude.{◌≡◌, ℕ, List, Option, Some, None, Result, Ok, Err}
 use Rattle.module_api.specs.Behaviour.{Behaviour}
 use Rattle.model_answers.specs.declared.model.Model.{Model}
+use Rattle.model_answers.specs.Answering.{answers_of}
 use Rattle.result_files.specs.Files.{scalar_text_of, vector_text_of}
 use Rattle.result_files.specs.Taken.{Taken}
 use Rattle.result_files.specs.Written.{IsWritten}
-use Rattle.edit_session.specs.Editing.{Completed, fresh_run}
+use Rattle.edit_session.specs.Editing.{Completed}
+use Rattle.checkpointed_runs.specs.Running.{fresh_run}
 use Rattle.edit_session.specs.declared.session.FileFault.{FileFault}
 use Rattle.edit_session.specs.declared.session.FileFault.TheVariants as fault
 
 -- THE SCALAR FILE of a fresh run of the model to that limit
 abbrev pub scalars_of_run : Behaviour → Model → ℕ → List ℕ
 scalars_of_run b m limit =
-    let world = (fresh_run b m limit).world in
+    let world = (fresh_run b (answers_of m) limit).world in
     scalar_text_of m world.records world.finished world.scalars world.emissions
 
 -- THE VECTOR FILE of a fresh run of the model to that limit
 abbrev pub vectors_of_run : Behaviour → Model → ℕ → List ℕ
 vectors_of_run b m limit =
-    let world = (fresh_run b m limit).world in
+    let world = (fresh_run b (answers_of m) limit).world in
     vector_text_of m world.records world.emissions
 
 -- All of the text was written, and the device did not fail; or it failed once, and took as many of the text's first bytes

@@ -1,12 +1,13 @@
 -- A session, by what its boxes mean.
 use Rattle.std.specs.Prelude.{◌≡◌, option_map, length}
 use Rattle.module_api.specs.Behaviour.{Behaviour}
+use Rattle.model_answers.specs.Answering.{answers_of}
 use Rattle.model_edits.specs.declared.edit.Edit.{Edit}
 use Rattle.saved_boxes.specs.Seats.{Members}
 use Rattle.kernel.specs.Kernels.{seats_in, world_in}
 use Rattle.edit_session.specs.Editing.{Completed, Editing, IsChangeBy, IsKept}
 use Rattle.checkpoints.specs.Stored.{counts_of}
-use Rattle.edit_session.specs.Kept.{kept_up_to, AreGood}
+use Rattle.checkpointed_runs.specs.Kept.{kept_up_to, AreGood}
 use Rattle.edit_session.specs.Reuse.{IsKnown}
 use Rattle.edit_session.specs.declared.session.Change.{Change}
 use Rattle.edit_session.specs.declared.session.Done.{Done}
@@ -42,5 +43,5 @@ module _ {C X : Type 0} {Y : X → Type 0} where
   -- The change is what the edit makes of this session. Up to where it says the questions stay known and the positions good.
   pub record IsChangeOf (b : Behaviour) (members : Members X Y) (s : Session C X Y) (e : Edit) (change : Change) : Type 0 where
     pub by : IsChangeBy b (editing_of members s) e change
-    pub known : IsKnown b change.model (world_in members s.runner.kernel) change.edited.valid_to
-    pub good : AreGood b change.model (seats_in members s.runner.kernel) (world_in members s.runner.kernel) (kept_up_to change.edited.valid_to s.runner.positions)
+    pub known : IsKnown b (answers_of change.model) (world_in members s.runner.kernel) change.edited.valid_to
+    pub good : AreGood b (answers_of change.model) (seats_in members s.runner.kernel) (world_in members s.runner.kernel) (kept_up_to change.edited.valid_to s.runner.positions)

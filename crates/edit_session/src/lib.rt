@@ -1,5 +1,4 @@
 //! A session: one model, its edits and its runs.
 #![tactic(auto)]
 
-pub mod running;
 pub mod session;

@@ -3,14 +3,15 @@
 ghost use Rattle.std.specs.Prelude.{◌≡◌, ◌↔◌, ◌+◌, ◌≤◌, Some, None, IsSome, OnOk, OnErr, IfOk, IfErr, option_map, option_copied};
 ghost use Rattle.sim_values.specs.Memory.{no_memory};
 ghost use Rattle.model_answers.specs.declared.model.Model.{Model};
+ghost use Rattle.model_answers.specs.Answering.{answers_of};
 ghost use Rattle.result_files.specs.ScalarText.{scalar_text};
 ghost use Rattle.result_files.specs.VectorText.{vector_text};
 ghost use Rattle.model_texts.specs.Models.{IsModelOf, IsRuledOut, Refuses};
 ghost use Rattle.model_edits.specs.Edited.{number_given, IsRuledOut as IsEditRuledOut, Refuses as RefusesEdit};
 ghost use Rattle.edit_session.specs.Files.{scalars_of_run, vectors_of_run, FileWritten, TextWritten};
 ghost use Rattle.edit_session.specs.Editing.{Completed, edited_by, fresh_editing, last_used, wanted_of, IfDone, IfWant, IsAccepted, IsFor, IsFreshRun, IsGivenUp, IsUnknown, WaitsFor};
-ghost use Rattle.edit_session.specs.Kept.{kept_up_to, AreGood, HasGood};
-ghost use Rattle.edit_session.specs.Positions.{events_behind, starts_within, HasStored};
+ghost use Rattle.checkpointed_runs.specs.Kept.{kept_up_to, AreGood, HasGood};
+ghost use Rattle.checkpointed_runs.specs.Positions.{events_behind, starts_within, HasStored};
 ghost use Rattle.kernel.specs.declared.request.Request.{Request};
 ghost use Rattle.edit_session.specs.Reuse.{IsKnown, IsValidTo};
 ghost use Rattle.edit_session.specs.Sessions.{editing_of, IsChangeOf, IsSound, KeepsModel};
@@ -18,12 +19,12 @@ ghost use Rattle.kernel.specs.Kernels.{seats_in, world_in, HasKinds};
 ghost use Rattle.checkpoints.specs.Stored.{counts_of};
 ghost use Rattle.model_edits.specs.declared.edit.Edit.{Edit};
 
-use crate::running::{Advance, Phase, Runner};
 use agreement::agreement::agreement;
+use checkpointed_runs::running::{Advance, Phase, Runner};
+use checkpoints::positions::Positions;
 use kernel::kernel::Kernel;
 use kernel::request::Request;
 use model_answers::model::Model;
-use model_answers::record::Record;
 use model_edits::edit::{Edit, Refusal, edited, number_given};
 use model_texts::begin::{BeginFault, model_of};
 use module_api::catalogue::Catalogue;
@@ -32,10 +33,12 @@ use module_tree::Tree;
 use ned_syntax::texts::NedTexts;
 use result_files::files::{ResultFiles, prepare, write_scalars, write_vectors};
 use result_files::writer::Out;
+use run_questions::record::Record;
 use run_semantics::outcome::Outcome;
 use run_semantics::traces::Emission;
 use sim_values::NoMemory;
 use std::alloc::{AllocFailed, Global};
+use std::marker::PhantomData;
 use thiserror::Error;
 
 /// A run that is done.
@@ -124,6 +127,8 @@ pub struct Session<C: Catalogue> {
     done: Option<Done>,
     /// The last event of a run of the model whose questions the kernel has, where there is one.
     known: Option<u64>,
+    /// What the kernel holds, so that contracts can name what boxes say of themselves.
+    holds: PhantomData<Box<dyn SimpleModule>>,
 }
 
 // Written out, so that a crate which drops one need not prove what that does.
@@ -136,6 +141,7 @@ impl<C: Catalogue> Drop for Session<C> {
             phase: _,
             done: _,
             known: _,
+            holds: _,
         } = self;
     }
 }
@@ -171,11 +177,19 @@ impl<C: Catalogue> Session<C> {
     {
         Session {
             alloc,
-            runner: Runner::new(alloc, Kernel::new(alloc, Tree::new(alloc)), interval),
+            // A runner's parts are put together here: a function of its crate that made one would hand out boxes that it
+            // did not take.
+            runner: Runner {
+                kernel: Kernel::new(alloc, Tree::new(alloc)),
+                positions: Positions::new(alloc),
+                interval,
+                holds: PhantomData,
+            },
             model,
             phase: Phase::Idle,
             done: None,
             known: None,
+            holds: PhantomData,
         }
     }
 
@@ -238,12 +252,12 @@ impl<C: Catalogue> Session<C> {
     fn valid_to(&self, model: &Model) -> Result<Option<u64>, NoMemory>
         requires sound { IsSound C.behaviour SimpleModule-box self.now }
         ensures valid { let before = editing_of SimpleModule-box self.now in
-            IfOk result (λ valid. IsValidTo C.behaviour before.model model.now before.known valid) }
+            IfOk result (λ valid. IsValidTo C.behaviour (answers_of before.model) (answers_of model.now) before.known valid) }
         ensures known { IfOk result (λ valid.
-            IsKnown C.behaviour model.now
+            IsKnown C.behaviour (answers_of model.now)
             (world_in SimpleModule-box self.now.runner.kernel) valid) }
         ensures good { let kernel = self.now.runner.kernel in
-            IfOk result (λ valid. AreGood C.behaviour model.now (seats_in SimpleModule-box kernel)
+            IfOk result (λ valid. AreGood C.behaviour (answers_of model.now) (seats_in SimpleModule-box kernel)
             (world_in SimpleModule-box kernel) (kept_up_to valid self.now.runner.positions)) }
     {
         let Some(last) = self.known else {
@@ -342,8 +356,8 @@ impl<C: Catalogue> Session<C> {
         ensures model { (self.new.model ≡ self.old.model)
             × (self.new.runner.interval ≡ self.old.runner.interval) }
         ensures kinds { HasKinds C.behaviour SimpleModule-box self.new.runner.kernel }
-        ensures good { HasGood C.behaviour self.new.model SimpleModule-box self.new.runner }
-        ensures stored { HasStored C.behaviour self.old.model limit self.old.runner.interval
+        ensures good { HasGood C.behaviour (answers_of self.new.model) SimpleModule-box self.new.runner }
+        ensures stored { HasStored C.behaviour (answers_of self.old.model) limit self.old.runner.interval
             (counts_of self.old.runner.positions) (counts_of self.new.runner.positions) }
         ensures sound { OnOk result (IsSound C.behaviour SimpleModule-box self.new) }
         ensures done { let before = editing_of SimpleModule-box self.old in

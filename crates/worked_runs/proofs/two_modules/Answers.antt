@@ -3,8 +3,9 @@ use lib.Utf8.{encode}
 use Rattle.std.specs.Fmt.{digits}
 use Rattle.std.specs.Str.{chars, is_utf8}
 use Rattle.sim_time.specs.Text.{text_of_time}
+use Rattle.model_answers.specs.Answering.{answers_of}
 use Rattle.model_answers.specs.Models.{time_limit_of}
-use Rattle.model_answers.specs.Records.{path_around, path_of}
+use Rattle.run_questions.specs.Records.{path_around, path_of}
 use Rattle.recorders.specs.Hearing.{is_within}
 use Rattle.recorders.specs.Scalars.{statistic_lines}
 use Rattle.recorders.specs.Selection.{selected_modes}
@@ -15,5 +16,5 @@ use Rattle.stock_modules.specs.Tick.{number_of, state_of, tick_naming}
 use Rattle.worked_runs.proofs.two_modules.Goals as goal
 
 pub returns : goal.returns
-unfolding encode is_utf8 chars digits text_of_time path_of path_around time_limit_of is_within statistic_lines selected_modes item_line stock number_of state_of tick_naming upcoming most_injections
+unfolding encode is_utf8 chars digits text_of_time path_of path_around answers_of time_limit_of is_within statistic_lines selected_modes item_line stock number_of state_of tick_naming upcoming most_injections
 returns c = record { answer_is = refl; scalars_are = refl; vectors_are = refl }

@@ -2,7 +2,7 @@ use Rattle.std.proofs.Common.{length, ap, ◌∙◌}
 use Rattle.checkpoints.specs.Stored.{counts_of}
 use Rattle.kernel.specs.Kernels.{seats_in}
 use Rattle.edit_session.specs.Sessions.{editing_of}
-use Rattle.edit_session.proofs.Counting.{kept_counts}
+use Rattle.checkpointed_runs.proofs.Counting.{kept_counts}
 use Rattle.edit_session.proofs.Valid.{edited_same}
 use Rattle.edit_session.proofs.session.Session.accept.Goals as goal
 

@@ -1,7 +1,7 @@
 use Rattle.std.proofs.Common.{option_map, refl, sym, ◌∙◌}
 use Rattle.kernel.specs.Kernels.{seats_in, world_in}
 use Rattle.edit_session.specs.Sessions.{completed_of}
-use Rattle.edit_session.proofs.Filling.{kept_declined}
+use Rattle.edit_session.proofs.Boxes.{kept_declined}
 use Rattle.edit_session.proofs.session.Session.decline.Goals as goal
 
 pub returns-in-Some-clause-sound : goal.returns-in-Some-clause-sound

@@ -1,6 +1,6 @@
 use Rattle.std.proofs.Common.{◌≤◌, sym, ◌∙◌, subst}
 use Rattle.kernel.specs.Kernels.{seats_in, world_in}
-use Rattle.edit_session.proofs.Good.{kept_cut}
+use Rattle.edit_session.proofs.GivenUp.{kept_cut}
 use Rattle.edit_session.proofs.session.Session.run.Goals as goal
 
 pub returns-in-Err-clause-kept : goal.returns-in-Err-clause-kept

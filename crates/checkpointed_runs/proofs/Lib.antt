@@ -1,0 +1,5 @@
+pub mod Counting
+pub mod Filling
+pub mod Going
+pub mod Good
+pub mod Whole

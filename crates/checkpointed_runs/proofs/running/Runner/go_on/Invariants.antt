@@ -1,0 +1,25 @@
+use Rattle.model_answers.specs.Answering.{answers_of}
+use Rattle.std.proofs.Common.{◌≡◌, ◌≤◌}
+use Rattle.run_semantics.specs.World.{HasRoom}
+use Rattle.run_semantics.specs.Run.{Running, after}
+use Rattle.shown_modules.specs.Tables.{AreShown}
+use Rattle.kernel.specs.Kernels.{world_in, HasKinds}
+use Rattle.checkpointed_runs.specs.Kept.{HasGood}
+use Rattle.checkpointed_runs.proofs.Going.{StoredAt}
+use Rattle.checkpointed_runs.proofs.running.Runner.go_on.Given as goal
+
+-- so many events are executed, and behind the positions that there were stand the multiples of the interval
+abbrev pub invariant-loop-k : goal.invariant-loop-k
+invariant-loop-k g l =
+    let first = world_in (λ b. (g.dyn-1.0.entry b.vtable).1) l.fn.self.kernel in
+    let world = world_in (λ b. (g.dyn-1.0.entry b.vtable).1) l.self.kernel in
+    record {
+      going : Running world ≡ after g.C.Catalogue.behaviour (answers_of l.model) l._k;
+      from : first.count ≤ l._k;
+      room : HasRoom world;
+      kinds : HasKinds g.C.Catalogue.behaviour (λ b. (g.dyn-1.0.entry b.vtable).1) l.self.kernel;
+      good : HasGood g.C.Catalogue.behaviour (answers_of l.model) (λ b. (g.dyn-1.0.entry b.vtable).1) l.self;
+      interval : l.self.interval ≡ l.fn.self.interval;
+      shown : AreShown (answers_of l.model) world.records l.shown;
+      stored : StoredAt l.fn.self.interval first.count l.fn.self.positions l.self.positions l._k;
+    }

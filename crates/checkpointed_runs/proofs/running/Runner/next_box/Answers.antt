@@ -1,0 +1,8 @@
+use Rattle.model_answers.specs.Answering.{answers_of}
+use Rattle.std.proofs.Common.{sym}
+use Rattle.checkpointed_runs.proofs.Filling.{filled_ready}
+use Rattle.checkpointed_runs.proofs.running.Runner.next_box.Goals as goal
+
+pub returns-in-None-clause-stands : goal.returns-in-None-clause-stands
+returns-in-None-clause-stands g c =
+    (filled_ready g.C.Catalogue.behaviour (answers_of c.args.model.now) _ c.requires.filled (rw c.in-None.is at (sym c.in_ok-request.ensures)), c.requires.filled.next)

@@ -1,0 +1,100 @@
+-- Stored positions, and how a run leaves them.
+use Rattle.std.specs.Prelude.{◌≡◌, ◌⊎◌, ◌≤◌, ℕ, suc, ◌-◌, ◌<◌, ◌&&◌, nat_lt, not, Bool, true, false, List, [], ◌∷◌, ◌++◌, Option, Some, None, map}
+use Rattle.std.specs.List.{filter}
+use Rattle.checkpoints.specs.Stored.{counts_of, up_to, AreBelow}
+use Rattle.kernel_actions.specs.declared.position.Position.{Position}
+use Rattle.saved_boxes.specs.Seats.{Members}
+use Rattle.kernel.specs.Kernels.{seats_in, world_in}
+use Rattle.kernel_actions.specs.Positions.{cut_to, position_of, IsGrownFrom}
+use Rattle.saved_boxes.specs.Seats.{Seat, instance_of}
+use Rattle.module_api.specs.Behaviour.{Behaviour}
+use Rattle.run_questions.specs.Answers.{Answers}
+use Rattle.run_semantics.specs.declared.outcome.Outcome.{Outcome}
+use Rattle.run_semantics.specs.Run.{Running, Ran, after, standing, is_fault}
+use Rattle.run_semantics.specs.World.{World, HasRoom}
+use Rattle.checkpointed_runs.specs.Positions.{is_left, is_multiple, multiples_from, numbers_from}
+use Rattle.checkpointed_runs.specs.declared.running.Runner.{Runner}
+
+-- A POSITION IS GOOD: the run of the model goes on after its events, it is the position of the world there, whose lists have only grown since, and
+-- its modules are those that have boxes.
+pub record IsGood (b : Behaviour) (m : Answers) (seats : List Seat) (w : World) (p : Position) : Type 0 where
+  pub world : World
+  pub stage : after b m p.count ≡ Running world
+  pub position : p ≡ position_of world
+  pub room : HasRoom world
+  pub grown : IsGrownFrom world w
+  pub same : standing (map instance_of seats) ≡ standing world.modules
+
+abbrev pub AreGood : Behaviour → Answers → List Seat → World → List Position → Type 0
+AreGood b m seats w [] = Unit {0}
+AreGood b m seats w (p ∷ ps) = IsGood b m seats w p × AreGood b m seats w ps
+
+-- those up to an event; up to none there is none
+abbrev pub kept_up_to : Option ℕ → List Position → List Position
+kept_up_to None ps = []
+kept_up_to (Some event) ps = up_to event ps
+
+-- the lists that only grow, cut to what a position has of them
+abbrev pub cut_to_last : Option Position → World → World
+cut_to_last None w = w
+cut_to_last (Some p) w = cut_to p.lengths w
+
+-- ---- how a run adds to them
+
+-- it alone, where it is due
+abbrev pub kept_if : Bool → Position → List Position
+kept_if true p = p ∷ []
+kept_if false p = []
+
+-- of events up to this one, those that did not end in a fault
+abbrev pub lasting : Bool → ℕ → ℕ
+lasting true last = last - 1
+lasting false last = last
+
+-- whether a run that went on from so many events owes a position after its last one, which no multiple of the interval is
+abbrev pub is_owed : ℕ → ℕ → Bool → ℕ → Bool
+is_owed interval from faulted last = not faulted && (nat_lt from last && not (is_multiple interval last))
+
+-- A run went on from so many events to its end: behind the positions that there were stand those of the multiples. Where it did not end in a fault it
+-- could go on from there.
+pub record HasGoneOn (b : Behaviour) (m : Answers) (interval from : ℕ) (before new : List Position) (w : World) (outcome : Outcome) : Type 0 where
+  pub grew : from ≤ w.count
+  pub faulted : is_fault outcome ≡ true → from < w.count
+  pub lasts : is_fault outcome ≡ false → Running w ≡ after b m w.count
+  pub counts : counts_of new ≡ counts_of before ++ multiples_from interval (suc from) (lasting (is_fault outcome) w.count - from)
+
+-- behind them stand the multiples of some events: it was given up
+abbrev pub HasBegun : ℕ → ℕ → List Position → List Position → Type 0
+HasBegun interval from before after = (more : ℕ) × (counts_of after ≡ counts_of before ++ multiples_from interval (suc from) more)
+
+-- behind them stand its own; a fault is that of an event behind where it went on
+pub record HasLeft (interval from : ℕ) (before after : List Position) (ran : Ran) : Type 0 where
+  pub grew : from ≤ ran.world.count
+  pub faulted : is_fault ran.outcome ≡ true → from < ran.world.count
+  pub counts : counts_of after ≡ counts_of before ++ filter (is_left interval ran.world.count (is_fault ran.outcome)) (numbers_from (suc from) (ran.world.count - from))
+
+-- ---- in a runner
+
+module _ {C X : Type 0} {Y : X → Type 0} where
+  -- its positions are good
+  abbrev pub HasGood : Behaviour → Answers → Members X Y → Runner C X Y → Type 0
+  HasGood b m members r = AreGood b m (seats_in members r.kernel) (world_in members r.kernel) r.positions
+
+  -- the run of the model goes on from where its kernel stands, which is up to the limit; numbers are far from running out
+  pub record IsGoing (b : Behaviour) (m : Answers) (members : Members X Y) (limit : ℕ) (r : Runner C X Y) : Type 0 where
+    pub going : Running (world_in members r.kernel) ≡ after b m (world_in members r.kernel).count
+    pub within : (world_in members r.kernel).count ≤ limit
+    pub room : HasRoom (world_in members r.kernel)
+    pub good : HasGood b m members r
+    pub below : AreBelow (suc (world_in members r.kernel).count) r.positions
+    pub interval : 1 ≤ r.interval
+
+  -- Where there is a start the run goes on from there, and of the positions those up to it are left; else nothing has changed.
+  abbrev pub IsBack : Behaviour → Answers → Members X Y → ℕ → Runner C X Y → Runner C X Y → Option ℕ → Type 0
+  IsBack b m members limit before after None = after ≡ before
+  IsBack b m members limit before after (Some start) =
+      IsGoing b m members limit after × ((world_in members after.kernel).count ≡ start) × (after.positions ≡ up_to start before.positions)
+
+  -- all but its kernel stays
+  abbrev pub IsBesideKernel : Runner C X Y → Runner C X Y → Type 0
+  IsBesideKernel before after = (after.positions ≡ before.positions) × (after.interval ≡ before.interval)

@@ -1,0 +1,3 @@
+pub mod Positions
+pub mod Kept
+pub mod Running

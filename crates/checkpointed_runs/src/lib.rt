@@ -1,0 +1,4 @@
+//! Runs of a model that begin with setup or at a stored position, and leave positions.
+#![tactic(auto)]
+
+pub mod running;

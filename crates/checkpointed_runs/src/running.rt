@@ -1,0 +1,411 @@
+//! A run, from setup or from a position, and the positions that it leaves.
+
+ghost use Rattle.std.specs.Prelude.{◌≡◌, ◌⊎◌, ◌++◌, ◌≤◌, true, None, [], OnOk, OnErr, IfOk, length};
+ghost use Rattle.model_answers.specs.Answering.{answers_of};
+ghost use Rattle.run_semantics.specs.Perform.{On};
+ghost use Rattle.run_semantics.specs.Run.{ready, run_to};
+ghost use Rattle.kernel_actions.specs.Positions.{position_of};
+ghost use Rattle.kernel.specs.Kernels.{seats_in, world_in, ran_in, HasKinds};
+ghost use Rattle.checkpoints.specs.Stored.{counts_of, last_of, AreBelow, AreRising};
+ghost use Rattle.checkpointed_runs.specs.Running.{fresh_run, kept_boxes, Advances, IsDeclined, IsFilled, IsLive, IsStopped, IsUndeclined, Stands, Wants};
+ghost use Rattle.checkpointed_runs.specs.Kept.{cut_to_last, is_owed, kept_if, kept_up_to, HasBegun, HasGood, HasGoneOn, HasLeft, IsBack, IsBesideKernel, IsGoing};
+ghost use Rattle.checkpointed_runs.specs.Positions.{is_multiple, last_count, positions_after, start_of, up_to_event, HasStored};
+ghost use Rattle.checkpointed_runs.specs.declared.running.Phase.{Phase};
+
+use checkpoints::positions::Positions;
+use kernel::kernel::Kernel;
+use kernel::request::Request;
+use model_answers::model::Model;
+use module_api::catalogue::Catalogue;
+use module_api::simple_module::SimpleModule;
+use run_semantics::outcome::{Fault, Outcome};
+use shown_modules::ShownModules;
+use sim_values::NoMemory;
+use std::alloc::Global;
+use std::marker::PhantomData;
+
+/// Where a run stands between two calls.
+#[derive(Clone, Copy, PartialEq, Eq)]
+pub enum Phase {
+    /// No run waits.
+    Idle,
+    /// A run waits for the box of a module.
+    Waiting,
+    /// There is no box for the module that the run waited for.
+    Declined,
+}
+
+/// Where a run stands before its first event.
+#[derive(Drop)]
+pub enum Standing {
+    /// It can't begin.
+    Over(Outcome),
+    /// A module has no box yet.
+    Missing(Request),
+    /// Each module has its box.
+    Ready,
+}
+
+/// Where a run is after it was asked for.
+#[derive(Drop)]
+pub enum Advance {
+    /// It waits for the box of a module.
+    Waits(Request),
+    /// It is done. It began at a position of so many events, or with setup.
+    Ends(Option<u64>, Outcome),
+}
+
+/// The kernel of a session, and the positions to which it can go back.
+pub struct Runner<C: Catalogue> {
+    pub kernel: Kernel<C>,
+    pub positions: Positions,
+    /// After each multiple of so many events a run leaves a position.
+    pub interval: u64,
+    /// What the kernel holds, so that contracts can name what boxes say of themselves.
+    pub holds: PhantomData<Box<dyn SimpleModule>>,
+}
+
+// Written out, so that a crate which drops one need not prove what that does.
+impl<C: Catalogue> Drop for Runner<C> {
+    fn drop(self) {
+        let Runner {
+            kernel: _,
+            positions: _,
+            interval: _,
+            holds: _,
+        } = self;
+    }
+}
+
+impl<C: Catalogue> Runner<C> {
+    // ---- from setup to the boxes
+
+    /// The module that a run which is set up needs a box for, if there is one.
+    fn next_box(&self, alloc: Global, model: &Model) -> Result<Standing, NoMemory>
+        requires filled { let world = world_in SimpleModule-box self.now.kernel in
+            IsFilled C.behaviour (answers_of model.now) world }
+        ensures stands { let world = world_in SimpleModule-box self.now.kernel in
+            IfOk result (λ standing.
+            Stands C.behaviour (answers_of model.now) (length world.modules) world standing) }
+        ensures wants { let world = world_in SimpleModule-box self.now.kernel in
+            IfOk result (λ standing. (phase : Phase)
+            → IsUndeclined phase → Wants (answers_of model.now) (length world.modules) phase standing) }
+    {
+        let _model = model;
+        match self.kernel.missing(alloc)? {
+            Some(request) => Ok(Standing::Missing(request)),
+            None => Ok(Standing::Ready),
+        }
+    }
+
+    /// Sets a run up anew, up to its boxes.
+    fn set_up(&mut self, alloc: Global, model: &Model) -> Result<Standing, NoMemory>
+        requires { HasKinds C.behaviour SimpleModule-box self.old.kernel }
+        ensures kinds { HasKinds C.behaviour SimpleModule-box self.new.kernel }
+        ensures kept { IsBesideKernel self.old self.new }
+        ensures stands { IfOk result (λ standing.
+            Stands C.behaviour (answers_of model.now) 0 (world_in SimpleModule-box self.new.kernel) standing) }
+        ensures wants { IfOk result (λ standing.
+            (phase : Phase) → IsUndeclined phase → Wants (answers_of model.now) 0 phase standing) }
+    {
+        match self.kernel.setup(alloc, model)? {
+            Some(outcome) => Ok(Standing::Over(outcome)),
+            None => {
+                let standing = self.next_box(alloc, model)?;
+                Ok(standing)
+            }
+        }
+    }
+
+    /// The end of a run for one of whose modules there is no box.
+    fn declined(&self, alloc: Global, model: &Model) -> Result<Standing, NoMemory>
+        requires declined { let world = world_in SimpleModule-box self.now.kernel in
+            IsDeclined C.behaviour (answers_of model.now) world }
+        ensures stands { IfOk result (λ standing.
+            Stands C.behaviour (answers_of model.now) 0 (world_in SimpleModule-box self.now.kernel) standing) }
+        ensures over { IfOk result (λ standing. Wants (answers_of model.now) 0 Phase.Declined standing) }
+    {
+        let _model = model;
+        let request = self.kernel.missing(alloc)?.unwrap();
+        Ok(Standing::Over(Outcome::Fault(self.kernel.count(), request.path, Fault::UnknownClass)))
+    }
+
+    /// Where a run stands that begins with setup: one that waits goes on, any other is set up.
+    fn stand(&mut self, alloc: Global, model: &Model, phase: Phase) -> Result<Standing, NoMemory>
+        requires live { let world = world_in SimpleModule-box self.old.kernel in
+            IsLive C.behaviour (answers_of model.now) world phase }
+        requires kinds { HasKinds C.behaviour SimpleModule-box self.old.kernel }
+        ensures kinds { HasKinds C.behaviour SimpleModule-box self.new.kernel }
+        ensures kept { IsBesideKernel self.old self.new }
+        ensures stands { let world = world_in SimpleModule-box self.old.kernel in
+            let kept = kept_boxes phase (length world.modules) in
+            let left = world_in SimpleModule-box self.new.kernel in
+            IfOk result (λ standing. Stands C.behaviour (answers_of model.now) kept left standing) }
+        ensures wants { let world = world_in SimpleModule-box self.old.kernel in
+            let kept = kept_boxes phase (length world.modules) in
+            IfOk result (λ standing. Wants (answers_of model.now) kept phase standing) }
+    {
+        match phase {
+            Phase::Idle => {
+                let standing = self.set_up(alloc, model)?;
+                Ok(standing)
+            }
+            Phase::Waiting => {
+                let standing = self.next_box(alloc, model)?;
+                Ok(standing)
+            }
+            Phase::Declined => {
+                let standing = self.declined(alloc, model)?;
+                Ok(standing)
+            }
+        }
+    }
+
+    // ---- positions
+
+    /// Stores the position where the run stands, if it is due. Where memory runs out the stored ones stay.
+    fn keep_if(&mut self, alloc: Global, due: bool) -> Result<(), NoMemory>
+        requires below { due ≡ true
+            → AreBelow (world_in SimpleModule-box self.old.kernel).count self.old.positions }
+        ensures kept { (self.new.kernel ≡ self.old.kernel)
+            × (self.new.interval ≡ self.old.interval) }
+        ensures ok { let position = position_of (world_in SimpleModule-box self.old.kernel) in
+            OnOk result (self.new.positions ≡ self.old.positions ++ kept_if due position) }
+        ensures err { OnErr result (self.new.positions ≡ self.old.positions) }
+    {
+        if !due {
+            return Ok(());
+        }
+        let position = self.kernel.position(alloc)?;
+        self.positions.take(position)
+    }
+
+    /// Goes back to the last position up to the limit, and gives up those behind it; where there is none, nothing changes.
+    fn go_back(&mut self, alloc: Global, model: &Model, limit: u64) -> Result<Option<u64>, NoMemory>
+        requires kinds { HasKinds C.behaviour SimpleModule-box self.old.kernel }
+        requires good { HasGood C.behaviour (answers_of model.now) SimpleModule-box self.old }
+        requires interval { 1 ≤ self.old.interval }
+        ensures kinds { HasKinds C.behaviour SimpleModule-box self.new.kernel }
+        ensures interval { self.new.interval ≡ self.old.interval }
+        ensures good { HasGood C.behaviour (answers_of model.now) SimpleModule-box self.new }
+        ensures back { IfOk result (λ start.
+            (start ≡ start_of limit (counts_of self.old.positions))
+            × IsBack C.behaviour (answers_of model.now) SimpleModule-box limit self.old self.new start) }
+        ensures err { OnErr result (counts_of self.new.positions
+            ≡ up_to_event (start_of limit (counts_of self.old.positions))
+            (counts_of self.old.positions)) }
+    {
+        let _model = model;
+        let Some(position) = self.positions.at_most(limit) else {
+            return Ok(None);
+        };
+        let start = position.count();
+        let back = self.kernel.go_back(alloc, position);
+        self.positions.cut_after(start);
+        back?;
+        Ok(Some(start))
+    }
+
+    /// Gives up the positions behind an event, or all of them.
+    pub fn keep_up_to(&mut self, alloc: Global, event: Option<u64>)
+        ensures kernel { self.new.kernel ≡ self.old.kernel }
+        ensures interval { self.new.interval ≡ self.old.interval }
+        ensures positions { self.new.positions ≡ kept_up_to event self.old.positions }
+    {
+        match event {
+            Some(event) => self.positions.cut_after(event),
+            None => self.positions = Positions::new(alloc),
+        }
+    }
+
+    /// Cuts the lists that only grow to what the last position has of them, and answers its count of events. Where there is no position
+    /// nothing changes.
+    pub fn cut_back(&mut self) -> Option<u64>
+        requires { HasKinds C.behaviour SimpleModule-box self.old.kernel }
+        ensures seats { seats_in SimpleModule-box self.new.kernel
+            ≡ seats_in SimpleModule-box self.old.kernel }
+        ensures interval { self.new.interval ≡ self.old.interval }
+        ensures positions { self.new.positions ≡ self.old.positions }
+        ensures rising { AreRising self.old.positions }
+        ensures last { result ≡ last_count (counts_of self.old.positions) }
+        ensures world { world_in SimpleModule-box self.new.kernel
+            ≡ cut_to_last (last_of self.old.positions) (world_in SimpleModule-box self.old.kernel) }
+    {
+        let Some(position) = self.positions.last() else {
+            return None;
+        };
+        self.kernel.cut_back(position);
+        Some(position.count())
+    }
+
+    // ---- events
+
+    /// Goes on to the limit or to an end. After each event whose number is a multiple of the interval, a position is stored.
+    fn go_on(&mut self, alloc: Global, model: &Model, limit: u64) -> Result<Outcome, NoMemory>
+        requires going { IsGoing C.behaviour (answers_of model.now) SimpleModule-box limit self.old }
+        requires kinds { HasKinds C.behaviour SimpleModule-box self.old.kernel }
+        ensures kinds { HasKinds C.behaviour SimpleModule-box self.new.kernel }
+        ensures interval { self.new.interval ≡ self.old.interval }
+        ensures good { HasGood C.behaviour (answers_of model.now) SimpleModule-box self.new }
+        ensures begun { let from = (world_in SimpleModule-box self.old.kernel).count in
+            HasBegun self.old.interval from self.old.positions self.new.positions }
+        ensures ran { IfOk result (λ outcome. IsStopped C.behaviour (answers_of model.now) limit
+            (ran_in SimpleModule-box outcome self.new.kernel)) }
+        ensures stored { let from = (world_in SimpleModule-box self.old.kernel).count in
+            let left = world_in SimpleModule-box self.new.kernel in
+            IfOk result (λ outcome. HasGoneOn C.behaviour (answers_of model.now) self.old.interval from
+            self.old.positions self.new.positions left outcome) }
+    {
+        let last_time = model.time_limit();
+        let mut shown = ShownModules::new(alloc);
+        for _k in self.kernel.count()..limit {
+            if let Some(outcome) = self.kernel.step(alloc, model, last_time, &mut shown)? {
+                return Ok(outcome);
+            }
+            let due = is_multiple(self.interval, self.kernel.count());
+            self.keep_if(alloc, due)?;
+        }
+        Ok(self.kernel.outcome_of(None))
+    }
+
+    /// Goes on to the limit or to an end, and ends the run. A position is stored after its last event too, unless that ended in a fault.
+    fn run_on(&mut self, alloc: Global, model: &Model, limit: u64) -> Result<Outcome, NoMemory>
+        requires going { IsGoing C.behaviour (answers_of model.now) SimpleModule-box limit self.old }
+        requires kinds { HasKinds C.behaviour SimpleModule-box self.old.kernel }
+        ensures kinds { HasKinds C.behaviour SimpleModule-box self.new.kernel }
+        ensures interval { self.new.interval ≡ self.old.interval }
+        ensures good { HasGood C.behaviour (answers_of model.now) SimpleModule-box self.new }
+        ensures ran { IfOk result (λ outcome. fresh_run C.behaviour (answers_of model.now) limit
+            ≡ ran_in SimpleModule-box outcome self.new.kernel) }
+        ensures left { let from = (world_in SimpleModule-box self.old.kernel).count in
+            let ran = run_to C.behaviour (answers_of model.now) limit in
+            OnOk result (HasLeft self.old.interval from self.old.positions self.new.positions ran) }
+        ensures stopped { let from = (world_in SimpleModule-box self.old.kernel).count in
+            let ran = run_to C.behaviour (answers_of model.now) limit in
+            HasBegun self.old.interval from self.old.positions self.new.positions
+            ⊎ HasLeft self.old.interval from self.old.positions self.new.positions ran }
+    {
+        let from = self.kernel.count();
+        let outcome = self.go_on(alloc, model, limit)?;
+        let due = is_owed(self.interval, from, outcome.is_fault(), self.kernel.count());
+        self.keep_if(alloc, due)?;
+        self.kernel.finish(alloc, model, outcome)
+    }
+
+    /// A whole run from where each module has its box: its events, and its end.
+    fn complete(&mut self, alloc: Global, model: &Model, limit: u64) -> Result<Outcome, NoMemory>
+        requires ready { let world = world_in SimpleModule-box self.old.kernel in
+            On world ≡ ready C.behaviour (answers_of model.now) }
+        requires next { (world_in SimpleModule-box self.old.kernel).next ≡ 0 }
+        requires kinds { HasKinds C.behaviour SimpleModule-box self.old.kernel }
+        requires interval { 1 ≤ self.old.interval }
+        requires none { self.old.positions ≡ [] }
+        ensures kinds { HasKinds C.behaviour SimpleModule-box self.new.kernel }
+        ensures interval { self.new.interval ≡ self.old.interval }
+        ensures good { HasGood C.behaviour (answers_of model.now) SimpleModule-box self.new }
+        ensures ran { IfOk result (λ outcome. fresh_run C.behaviour (answers_of model.now) limit
+            ≡ ran_in SimpleModule-box outcome self.new.kernel) }
+        ensures left { OnOk result (counts_of self.new.positions
+            ≡ positions_after C.behaviour (answers_of model.now) limit self.old.interval []) }
+        ensures stopped { HasStored C.behaviour (answers_of model.now) limit self.old.interval []
+            (counts_of self.new.positions) }
+    {
+        match self.kernel.start(alloc, model)? {
+            Some(outcome) => self.kernel.finish(alloc, model, outcome),
+            None => {
+                self.keep_if(alloc, true)?;
+                self.run_on(alloc, model, limit)
+            }
+        }
+    }
+
+    /// Runs from setup, or finds the box that is needed first. There is no position behind which it could begin.
+    fn begin(
+        &mut self,
+        alloc: Global,
+        model: &Model,
+        phase: Phase,
+        limit: u64,
+    ) -> Result<Advance, NoMemory>
+        requires live { let world = world_in SimpleModule-box self.old.kernel in
+            IsLive C.behaviour (answers_of model.now) world phase }
+        requires kinds { HasKinds C.behaviour SimpleModule-box self.old.kernel }
+        requires interval { 1 ≤ self.old.interval }
+        requires none { self.old.positions ≡ [] }
+        ensures kinds { HasKinds C.behaviour SimpleModule-box self.new.kernel }
+        ensures interval { self.new.interval ≡ self.old.interval }
+        ensures good { HasGood C.behaviour (answers_of model.now) SimpleModule-box self.new }
+        ensures advances { let world = world_in SimpleModule-box self.old.kernel in
+            let kept = kept_boxes phase (length world.modules) in
+            let left = world_in SimpleModule-box self.new.kernel in
+            IfOk result (λ advance.
+            Advances C.behaviour (answers_of model.now) limit self.old.interval kept phase [] left
+            (counts_of self.new.positions) advance) }
+        ensures stopped { HasStored C.behaviour (answers_of model.now) limit self.old.interval []
+            (counts_of self.new.positions) }
+    {
+        match self.stand(alloc, model, phase)? {
+            Standing::Over(outcome) => Ok(Advance::Ends(None, outcome)),
+            Standing::Missing(request) => Ok(Advance::Waits(request)),
+            Standing::Ready => {
+                let outcome = self.complete(alloc, model, limit)?;
+                Ok(Advance::Ends(None, outcome))
+            }
+        }
+    }
+
+    /// Runs the model for at most so many events, from the last position up to there or from setup, or finds the box that is needed first.
+    pub fn carry_on(
+        &mut self,
+        alloc: Global,
+        model: &Model,
+        phase: Phase,
+        limit: u64,
+    ) -> Result<Advance, NoMemory>
+        requires live { let world = world_in SimpleModule-box self.old.kernel in
+            IsLive C.behaviour (answers_of model.now) world phase }
+        requires kinds { HasKinds C.behaviour SimpleModule-box self.old.kernel }
+        requires interval { 1 ≤ self.old.interval }
+        requires good { HasGood C.behaviour (answers_of model.now) SimpleModule-box self.old }
+        ensures kinds { HasKinds C.behaviour SimpleModule-box self.new.kernel }
+        ensures interval { self.new.interval ≡ self.old.interval }
+        ensures good { HasGood C.behaviour (answers_of model.now) SimpleModule-box self.new }
+        ensures advances { let world = world_in SimpleModule-box self.old.kernel in
+            let kept = kept_boxes phase (length world.modules) in
+            let left = world_in SimpleModule-box self.new.kernel in
+            IfOk result (λ advance.
+            Advances C.behaviour (answers_of model.now) limit self.old.interval kept phase
+            (counts_of self.old.positions) left
+            (counts_of self.new.positions) advance) }
+        ensures stopped { HasStored C.behaviour (answers_of model.now) limit self.old.interval
+            (counts_of self.old.positions)
+            (counts_of self.new.positions) }
+    {
+        match self.go_back(alloc, model, limit)? {
+            Some(start) => {
+                let outcome = self.run_on(alloc, model, limit)?;
+                Ok(Advance::Ends(Some(start), outcome))
+            }
+            None => {
+                self.positions = Positions::new(alloc);
+                self.begin(alloc, model, phase, limit)
+            }
+        }
+    }
+}
+
+/// Whether so many events are a multiple of the interval.
+fn is_multiple(interval: u64, count: u64) -> bool
+    requires { 1 ≤ interval }
+    ensures { result ≡ is_multiple interval count }
+{
+    count % interval == 0
+}
+
+/// Whether a run that went on from so many events owes a position after its last one, which no multiple of the interval is.
+fn is_owed(interval: u64, from: u64, fault: bool, last: u64) -> bool
+    requires { 1 ≤ interval }
+    ensures { result ≡ is_owed interval from fault last }
+{
+    !fault && from < last && last % interval != 0
+}

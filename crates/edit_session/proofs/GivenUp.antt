@@ -1,0 +1,68 @@
+-- What a session keeps of a run that is given up.
+use Rattle.std.proofs.Common.{◌≡◌, ℕ, ◌≤◌, List, Option, Some, None, option_map, refl, sym, ap, ◌∙◌, arith, subst}
+use Rattle.module_api.specs.Behaviour.{Behaviour}
+use Rattle.model_answers.specs.declared.model.Model.{Model}
+use Rattle.model_answers.specs.Answering.{answers_of}
+use Rattle.run_questions.specs.Answers.{Answers}
+use Rattle.run_semantics.specs.Run.{after, world_at}
+use Rattle.run_semantics.specs.World.{World}
+use Rattle.run_semantics.proofs.Counts.{reached_after}
+use Rattle.checkpoints.specs.Stored.{counts_of, last_of, AreRising}
+use Rattle.kernel_actions.specs.declared.position.Position.{Position}
+use Rattle.kernel_actions.specs.Positions.{cut_to, lengths_of, IsGrownFrom}
+use Rattle.saved_boxes.specs.Seats.{Seat, AreOfKinds}
+use Rattle.checkpointed_runs.specs.declared.running.Phase.TheVariants.{Idle}
+use Rattle.checkpointed_runs.specs.Kept.{cut_to_last, AreGood, IsGood}
+use Rattle.checkpointed_runs.specs.Positions.{last_count}
+use Rattle.checkpointed_runs.proofs.Counting.{last_count_is}
+use Rattle.checkpointed_runs.proofs.Good.{cut_good, cut_grown, cut_is, good_last, last_below}
+use Rattle.edit_session.specs.Editing.{IsKept}
+use Rattle.edit_session.specs.Reuse.{IsAskedUpTo}
+use Rattle.edit_session.proofs.Valid.{agrees_itself}
+
+known_cut : (b : Behaviour) (m : Answers) (ss : List Seat) (w u : World) (p : Position) → (h : IsGood b m ss w p) → u ≡ cut_to (lengths_of h.world) w → IsAskedUpTo b m u p.count
+known_cut b m ss w u p h e =
+    let here : world_at (after b m p.count) ≡ h.world = ap world_at h.stage in
+    record {
+      origin = m;
+      last = p.count;
+      within = omega arith;
+      reached = reached_after b m p.count h.world h.stage;
+      records = ap (λ (x : World). x.records) e ∙ cut_is h.world.records w.records h.grown.records ∙ sym (ap (λ (x : World). x.records) here);
+      questions = ap (λ (x : World). x.questions) e ∙ cut_is h.world.questions w.questions h.grown.questions ∙ sym (ap (λ (x : World). x.questions) here);
+      agrees = agrees_itself p.count m u.records u.questions;
+    }
+
+cut_kept : (b : Behaviour) (m : Model) (ss : List Seat) (w u : World) (interval : ℕ) (ps : List Position) (last : Option Position) → last_of ps ≡ last → AreOfKinds b ss → AreGood b (answers_of m) ss w ps → AreRising ps
+    → u ≡ cut_to_last last w → 1 ≤ interval → IsKept b ss u m Idle None (option_map (λ (p : Position). p.count) last) interval ps
+cut_kept b m ss w u interval ps None l kinds good rising e i = record {
+  kinds = kinds;
+  live = tt;
+  left = tt;
+  undone = tt;
+  asked = tt;
+  good = subst (λ (x : World). AreGood b (answers_of m) ss x ps) (sym e) good;
+  interval_is = i;
+}
+cut_kept b m ss w u interval ps (Some p) l kinds good rising e i =
+    let h : IsGood b (answers_of m) ss w p = good_last b (answers_of m) ss w ps p good l in
+    let cut : u ≡ cut_to (lengths_of h.world) w = e ∙ ap (λ (q : Position). cut_to q.lengths w) h.position in
+    record {
+      kinds = kinds;
+      live = tt;
+      left = tt;
+      undone = tt;
+      asked = known_cut b (answers_of m) ss w u p h cut;
+      good = cut_good b (answers_of m) ss w u p ps h (subst (IsGrownFrom h.world) (sym cut) (cut_grown h.world w h.grown)) (last_below ps p rising l) good;
+      interval_is = i;
+    }
+
+-- WHAT A SESSION KEEPS of a run that is given up
+pub kept_given_up : (b : Behaviour) (m : Model) (ss : List Seat) (w u : World) (interval : ℕ) (ps : List Position) → AreOfKinds b ss → AreGood b (answers_of m) ss w ps → AreRising ps → u ≡ cut_to_last (last_of ps) w → 1 ≤ interval
+    → IsKept b ss u m Idle None (last_count (counts_of ps)) interval ps
+kept_given_up b m ss w u interval ps kinds good rising e i =
+    subst (λ k. IsKept b ss u m Idle None k interval ps) (sym (last_count_is ps)) (cut_kept b m ss w u interval ps (last_of ps) refl kinds good rising e i)
+
+pub kept_cut : (b : Behaviour) (m : Model) (ss ts : List Seat) (w u : World) (interval j : ℕ) (ps qs : List Position) (known : Option ℕ) → ts ≡ ss → j ≡ interval → qs ≡ ps → known ≡ last_count (counts_of ps)
+    → AreOfKinds b ss → AreGood b (answers_of m) ss w ps → AreRising ps → u ≡ cut_to_last (last_of ps) w → 1 ≤ interval → IsKept b ts u m Idle None known j qs
+kept_cut b m ss ts w u interval j ps qs known t i q k kinds good rising e one = rw (t, i, q, k) (kept_given_up b m ss w u interval ps kinds good rising e one)
