@@ -7,33 +7,33 @@ ghost use Rattle.model_texts.specs.Models.{IsModelOf, IsRuledOut, Refuses};
 ghost use Rattle.stock_modules.specs.Stock.{stock};
 ghost use Rattle.stock_desk.specs.Served.{fresh_machine};
 ghost use Rattle.stock_desk.specs.Serving.{Ends};
-ghost use Rattle.stock_desk.specs.Stops.{at_stop};
-ghost use Rattle.stock_desk.specs.declared.serving.Stop.TheVariants as why;
-ghost use Rattle.nedrun.specs.Stops.{EndsEarly, IsLost, IsReason, IsStopOf};
+ghost use Rattle.desk_clients.specs.Stops.{at_stop};
+ghost use Rattle.desk_clients.specs.declared.clients.Stop.TheVariants as why;
+ghost use Rattle.nedrun.specs.Stops.{EndsEarly, IsStopOf};
+ghost use Rattle.program_user.specs.Stops.{IsLost, IsReason};
 ghost use Rattle.program_dialogue.specs.Typing.{AsksInOrder};
 ghost use Rattle.program_dialogue.specs.declared.dialogue.Ask.TheVariants as ask;
 ghost use Rattle.program_stops.specs.declared.stops.Stop.{Stop as StopValue};
 
-mod advice;
-mod user;
+mod refusals;
 
+use desk_clients::clients;
 use model_texts::begin::BeginFault;
 use program_stops::stops::Stop;
 use program_streams::{endings, files, output};
+use program_user::user::User;
 use program_words::words::Words;
 use std::process::ExitCode;
 use std::rt::{Env, Files};
-use stock_desk::serving;
 use stock_desk::serving::serve;
 use text_explanations::sources::Sources;
-use user::User;
 
 /// Serves the user at a desk of the model that the files make, until the user asks nothing more or can't go on.
 fn serve_user<'a, R: Files + Input + Print + Eprint + AllocGlobal>(
     rt: &'a R,
     words: &'a Words,
     sources: &'a Sources<'a>,
-) -> Result<(User<'a, R>, serving::Stop), BeginFault>
+) -> Result<(User<'a, R>, clients::Stop), BeginFault>
     requires interval { 1 ≤ words.now.interval }
     // What the user hears is what the plain machine says to what the user asks.
     ensures served { IfOk result (λ r. (model : Model)
@@ -67,7 +67,7 @@ fn serve_user<'a, R: Files + Input + Print + Eprint + AllocGlobal>(
 fn ended<R: Files + Input + Print + Eprint + AllocGlobal>(
     rt: &R,
     sources: &Sources<'_>,
-    served: Result<(User<'_, R>, serving::Stop), BeginFault>,
+    served: Result<(User<'_, R>, clients::Stop), BeginFault>,
 ) -> Result<(), Stop>
     ensures over { IfOk served.entry (λ r. r.1 ≡ why.End → result ≡ Ok tt) }
     ensures stuck { IfOk served.entry (λ r. r.1 ≢ why.End
@@ -75,9 +75,9 @@ fn ended<R: Files + Input + Print + Eprint + AllocGlobal>(
     ensures refused { IfErr served.entry (λ fault. IsErrAnd result (IsStopOf fault)) }
 {
     match served {
-        Ok((_, serving::Stop::End)) => Ok(()),
+        Ok((_, clients::Stop::End)) => Ok(()),
         Ok((user, _)) => Err(user.into_stop()),
-        Err(fault) => Err(advice::refused(rt.alloc(), fault, sources)),
+        Err(fault) => Err(refusals::refused(rt.alloc(), fault, sources)),
     }
 }
 

@@ -2,18 +2,19 @@
 
 ghost use Rattle.std.specs.Prelude.{◌≡◌, ◌≤◌, ℕ, ◌++◌, ◌∷◌, [], Some, IfOk, IfSome, IsSome, OnOk, OnErr, length};
 ghost use Rattle.result_files.specs.Taken.{untouched};
-ghost use Rattle.stock_desk.specs.Devices.{HasFailed};
-ghost use Rattle.stock_desk.specs.Stops.{at_stop};
+ghost use Rattle.desk_clients.specs.Devices.{HasFailed};
+ghost use Rattle.desk_clients.specs.Stops.{at_stop};
 ghost use Rattle.transcripts.specs.Heard as heards;
 
 use crate::scenario::Scenario;
 use desk::answers::refusal_text;
+use desk_clients::clients::{Client, Gone, Page, Pages, Stop};
 use model_texts::begin::BeginFault;
 use result_files::buffer::Buffer;
 use sim_values::NoMemory;
 use sim_values::text::Text;
 use std::alloc::Global;
-use stock_desk::serving::{Client, Gone, Page, Pages, Stop, serve};
+use stock_desk::serving::serve;
 use text_files::noted::Noted;
 use transcripts::asked::Asked;
 use transcripts::transcript::Transcript;

@@ -3,9 +3,10 @@ use Rattle.std.proofs.Common.{◌≡◌, ℕ, suc, ◌-◌, List, [], ◌++◌, 
 use Rattle.std.specs.List.{filter}
 use Rattle.module_api.specs.Behaviour.{Behaviour}
 use Rattle.model_answers.specs.declared.model.Model.{Model}
+use Rattle.model_answers.specs.Answering.{answers_of}
 use Rattle.run_semantics.specs.Run.{run_to, is_fault}
 use Rattle.edit_session.specs.Editing.{Editing}
-use Rattle.edit_session.specs.Positions.{first_behind, is_left, multiples_from, numbers_from, positions_after, positions_begun, start_of, up_to_event, HasStored}
+use Rattle.checkpointed_runs.specs.Positions.{first_behind, is_left, multiples_from, numbers_from, positions_after, positions_begun, start_of, up_to_event, HasStored}
 use Rattle.desk.specs.Turns.{answer_from, run_answer}
 use Rattle.stock_desk.specs.Served.{Machine}
 use Rattle.stock_desk.specs.Serving.{Seen, IsAt, RunsAlike, WaitsIn}
@@ -22,11 +23,11 @@ same_answer b limit e s same =
 -- those that a run leaves behind its start
 abbrev own_from : Behaviour → Model → ℕ → ℕ → Option ℕ → List ℕ
 own_from b m limit interval start =
-    let ran = run_to b m limit in
+    let ran = run_to b (answers_of m) limit in
     filter (is_left interval ran.world.count (is_fault ran.outcome)) (numbers_from (first_behind start) (suc ran.world.count - first_behind start))
 
 same_left : (b : Behaviour) (m : Model) (limit interval : ℕ) (old other : List ℕ) → start_of limit old ≡ start_of limit other
-    → up_to_event (start_of limit old) old ≡ up_to_event (start_of limit other) other → positions_after b m limit interval old ≡ positions_after b m limit interval other
+    → up_to_event (start_of limit old) old ≡ up_to_event (start_of limit other) other → positions_after b (answers_of m) limit interval old ≡ positions_after b (answers_of m) limit interval other
 same_left b m limit interval old other start kept =
     ap (λ (ps : List ℕ). ps ++ own_from b m limit interval (start_of limit old)) kept
     ∙ ap (λ (from : Option ℕ). up_to_event (start_of limit other) other ++ own_from b m limit interval from) start
@@ -38,14 +39,14 @@ same_begun interval more old other start from is kept =
     ∙ ap (λ (at : Option ℕ). up_to_event from other ++ multiples_from interval (first_behind at) more) is
 
 pub same_positions : (b : Behaviour) (limit : ℕ) (e : Editing) (s : Machine) → RunsAlike limit e s
-    → positions_after b e.model limit e.interval e.positions ≡ positions_after b s.model limit s.interval s.positions
+    → positions_after b (answers_of e.model) limit e.interval e.positions ≡ positions_after b (answers_of s.model) limit s.interval s.positions
 same_positions b limit e s same =
-    ap (λ (m : Model). positions_after b m limit e.interval e.positions) same.model
-    ∙ ap (λ (interval : ℕ). positions_after b s.model limit interval e.positions) same.interval
+    ap (λ (m : Model). positions_after b (answers_of m) limit e.interval e.positions) same.model
+    ∙ ap (λ (interval : ℕ). positions_after b (answers_of s.model) limit interval e.positions) same.interval
     ∙ same_left b s.model limit s.interval e.positions s.positions same.start same.kept
 
 pub same_stored : (b : Behaviour) (limit : ℕ) (e : Editing) (s : Machine) (new : List ℕ) → RunsAlike limit e s
-    → HasStored b e.model limit e.interval e.positions new → HasStored b s.model limit s.interval s.positions new
+    → HasStored b (answers_of e.model) limit e.interval e.positions new → HasStored b (answers_of s.model) limit s.interval s.positions new
 same_stored b limit e s new same (inl begun) = inl (
   begun.0,
   begun.1 ∙ ap (λ (interval : ℕ). positions_begun interval e.positions (start_of limit e.positions) begun.0) same.interval

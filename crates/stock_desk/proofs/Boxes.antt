@@ -1,12 +1,13 @@
 -- No model needs more boxes than there may be modules.
 use Rattle.std.proofs.Common.{◌≡◌, ℕ, suc, zero, ◌+◌, ◌≤◌, List, [], ◌∷◌, ◌++◌, Option, Some, None, map, length, slice_get, arith, refl, ap}
-use Rattle.model_answers.specs.declared.answer.Answer.{Answer}
-use Rattle.model_answers.specs.declared.answer.Answer.TheVariants as answer
-use Rattle.model_answers.specs.declared.answer.Built.{Built}
-use Rattle.model_answers.specs.declared.answer.Question.TheVariants.{Root, Build}
+use Rattle.run_questions.specs.declared.answer.Answer.{Answer}
+use Rattle.run_questions.specs.declared.answer.Answer.TheVariants as answer
+use Rattle.run_questions.specs.declared.answer.Built.{Built}
+use Rattle.run_questions.specs.declared.answer.Question.TheVariants.{Root, Build}
 use Rattle.model_answers.specs.declared.model.Model.{Model}
-use Rattle.model_answers.specs.declared.record.Record.{Record}
-use Rattle.model_answers.specs.Answering.{answer_of}
+use Rattle.model_answers.specs.Answering.{answers_of}
+use Rattle.run_questions.specs.Answers.{Answers, answer_of}
+use Rattle.run_questions.specs.declared.record.Record.{Record}
 use Rattle.run_semantics.specs.World.{World, empty, asked}
 use Rattle.run_semantics.specs.Perform.{◌>>=◌}
 use Rattle.run_semantics.specs.Run.{Part, built, inside_asked, network_record, parts_from, record_under, rooted, unless_many, with_class}
@@ -47,7 +48,7 @@ few_inside (answer.Beyond beyond) w one = omega arith
 few_inside (answer.Injection found) w one = omega arith
 few_inside answer.Absent w one = omega arith
 
-few_root : (m : Model) (a : Answer) (w : World) → boxes_after (rooted a w >>= inside_asked m) ≤ most_boxes
+few_root : (m : Answers) (a : Answer) (w : World) → boxes_after (rooted a w >>= inside_asked m) ≤ most_boxes
 few_root m (answer.Root name) w =
     few_inside (answer_of m (network_record name ∷ []) (Build 1)) (asked (Build 1) (record w { records = network_record name ∷ []; live = 1 ∷ [] })) refl
 few_root m (answer.Inside bs) w = omega arith
@@ -58,4 +59,4 @@ few_root m (answer.Injection found) w = omega arith
 few_root m answer.Absent w = omega arith
 
 pub few_boxes : (m : Model) → boxes_of m ≤ most_boxes
-few_boxes m = few_root m (answer_of m [] Root) (asked Root empty)
+few_boxes m = few_root (answers_of m) (answer_of (answers_of m) [] Root) (asked Root empty)

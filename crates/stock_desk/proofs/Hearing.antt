@@ -2,9 +2,10 @@
 use Rattle.std.proofs.Common.{◌≡◌, ℕ, Bor, true, false, List, [], ◌∷◌, ◌++◌, Option, Some, None, IsSome, is_some, option_copied, option_map, codes, inl, inr, refl, sym, ap, ◌∙◌, subst}
 use Rattle.module_api.specs.Behaviour.{Behaviour}
 use Rattle.model_answers.specs.declared.model.Model.{Model}
+use Rattle.model_answers.specs.Answering.{answers_of}
 use Rattle.run_semantics.specs.declared.outcome.Outcome.{Outcome}
 use Rattle.edit_session.specs.Editing.{Completed, Editing, boxes_left, completed}
-use Rattle.edit_session.specs.Positions.{last_count, up_to_event, HasStored}
+use Rattle.checkpointed_runs.specs.Positions.{last_count, up_to_event, HasStored}
 use Rattle.edit_session.specs.Files.{scalars_of_run, vectors_of_run}
 use Rattle.desk.specs.Answers.{held_text, positions_text}
 use Rattle.desk.specs.Turns.{AnswersEdit, HasRun, IsDone, IsMade, IsRefused, MayBeDone}
@@ -18,7 +19,7 @@ use Rattle.transcripts.specs.declared.asked.Asked.{Asked}
 use Rattle.stock_desk.specs.Serving.{Seen, AreFilled, ComesTo, HearsAnswer, HearsNext, IsAt, IsCutOff, IsRunIn, RunsAlike}
 use Rattle.stock_desk.specs.declared.serving.Next.{Next}
 use Rattle.stock_desk.specs.declared.serving.Next.TheVariants as next
-use Rattle.stock_desk.specs.declared.serving.Stop.TheVariants as stop
+use Rattle.desk_clients.specs.declared.clients.Stop.TheVariants as stop
 use Rattle.stock_desk.specs.declared.serving.Turn.TheVariants as turn
 use Rattle.stock_desk.proofs.Alike.{same_answer, same_positions, same_stored}
 
@@ -99,7 +100,7 @@ tells_run b limit before after text n asked may running stays ran heard = tells_
 pub record LeavesNone (b : Behaviour) (before : Editing) (limit : ℕ) (after : Editing) : Type 0 where
   pub done : after.done ≡ None
   pub known : after.known ≡ last_count after.positions
-  pub positions : HasStored b before.model limit before.interval before.positions after.positions
+  pub positions : HasStored b (answers_of before.model) limit before.interval before.positions after.positions
 
 none_left : (b : Behaviour) (limit : ℕ) (before after : Editing) (s : Machine) → StaysOf before after → LeavesNone b before limit after → RunsAlike limit before s
     → Told b (command.Run limit) (codes "refused NoMemory") s after

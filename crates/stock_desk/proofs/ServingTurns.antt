@@ -5,12 +5,12 @@ use Rattle.checkpoints.specs.Stored.{counts_of}
 use Rattle.command_lines.specs.declared.commands.Command.{Command}
 use Rattle.command_lines.specs.declared.commands.Command.TheVariants as command
 use Rattle.edit_session.specs.Editing.{Completed, Editing, IsUndone, fresh_editing, waited_for, wanted_of}
-use Rattle.edit_session.specs.Positions.{last_count, positions_begun, start_of}
-use Rattle.edit_session.specs.declared.running.Phase.{Phase}
+use Rattle.checkpointed_runs.specs.Positions.{last_count, positions_begun, start_of}
+use Rattle.checkpointed_runs.specs.declared.running.Phase.{Phase}
 use Rattle.kernel_actions.specs.declared.position.Position.{Position}
 use Rattle.model_answers.specs.declared.model.Model.{Model}
 use Rattle.stock_modules.specs.declared.modules.StockModule.{StockModule}
-use Rattle.edit_session.specs.declared.running.Phase.TheVariants.{Idle, Waiting, Declined}
+use Rattle.checkpointed_runs.specs.declared.running.Phase.TheVariants.{Idle, Waiting, Declined}
 use Rattle.stock_desk.specs.Boxes.{most_boxes}
 use Rattle.stock_desk.specs.Served.{Machine, AreHeard, BeginsToHear, Hears, command_asked, fresh_machine}
 use Rattle.stock_desk.specs.Serving.{Seen, ComesTo, Ends, EndsServing, HearsAnswer, HearsNext, IsAt, IsCutOff, IsGoing, IsNextServing, IsRunIn, IsServed, IsServingTurn, NeedsBox, RunsAlike, Stands, StandsBy, WaitsIn, left_in_run, left_seen}
@@ -18,8 +18,8 @@ use Rattle.transcripts.specs.Heard.{Heard}
 use Rattle.transcripts.specs.declared.asked.Asked.{Asked}
 use Rattle.stock_desk.specs.declared.serving.Next.{Next}
 use Rattle.stock_desk.specs.declared.serving.Next.TheVariants as next
-use Rattle.stock_desk.specs.declared.serving.Stop.{Stop}
-use Rattle.stock_desk.specs.declared.serving.Stop.TheVariants as stop
+use Rattle.desk_clients.specs.declared.clients.Stop.{Stop}
+use Rattle.desk_clients.specs.declared.clients.Stop.TheVariants as stop
 use Rattle.stock_desk.specs.declared.serving.Turn.{Turn}
 use Rattle.stock_desk.specs.declared.serving.Turn.TheVariants as turn
 use Rattle.stock_desk.proofs.Alike.{at_alike, waits_alike}

@@ -8,7 +8,7 @@ use Rattle.transcripts.specs.declared.asked.Asked.{Asked}
 use Rattle.stock_desk.specs.Serving.{Seen, seen_in, IsServer, Serves, Tells}
 use Rattle.stock_desk.specs.declared.serving.Next.{Next}
 use Rattle.stock_desk.specs.declared.serving.Server.{Server}
-use Rattle.stock_desk.specs.declared.serving.Stop.{Stop}
+use Rattle.desk_clients.specs.declared.clients.Stop.{Stop}
 
 module _ {O K X : Type 0} {Y : X → Type 0} {R : Type 0} {b : Behaviour} {members : Members X Y} {asked_of : K → List Asked} {heard_of : K → List Heard} {may_ask : K → ℕ}
     {keeps : K → Type 0} {label_of : K → ℕ} {stops_of : K → Stop → Type 0} {may_stop : (Stop → Type 0) → R → Type 0} {is_step : Seen → Seen → R → Type 0} where

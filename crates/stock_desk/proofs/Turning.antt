@@ -1,13 +1,15 @@
 -- What is left to be done, from one turn to the next.
 use Rattle.std.proofs.Common.{◌≡◌, ℕ, suc, zero, ◌+◌, ◌-◌, ◌<◌, ◌≤◌, List, [], ◌∷◌, Option, Some, None, IsSome, Result, Ok, Err, OnOk, OnErr, option_map, length, slice_get, arith, sym, ap, ◌∙◌, subst}
 use Rattle.model_answers.specs.declared.model.Model.{Model}
+use Rattle.model_answers.specs.Answering.{answers_of}
 use Rattle.run_semantics.specs.Perform.{Flow, On, Stopped, Broken}
 use Rattle.run_semantics.specs.Run.{parts_of, prepared}
 use Rattle.kernel.specs.declared.request.Request.{Request}
 use Rattle.kernel.specs.Seats.{request_for}
-use Rattle.edit_session.specs.Editing.{Editing, kept_boxes, wanted_after, wanted_of, waited_for, IsUndeclined, WaitsFor}
-use Rattle.edit_session.specs.declared.running.Phase.{Phase}
-use Rattle.edit_session.specs.declared.running.Phase.TheVariants.{Idle, Waiting, Declined}
+use Rattle.edit_session.specs.Editing.{Editing, wanted_of, waited_for, WaitsFor}
+use Rattle.checkpointed_runs.specs.Running.{kept_boxes, wanted_after, IsUndeclined}
+use Rattle.checkpointed_runs.specs.declared.running.Phase.{Phase}
+use Rattle.checkpointed_runs.specs.declared.running.Phase.TheVariants.{Idle, Waiting, Declined}
 use Rattle.edit_session.specs.declared.session.NotWanted.{NotWanted}
 use Rattle.stock_desk.proofs.Boxes.{few_boxes}
 use Rattle.stock_desk.specs.Boxes.{boxes_after, boxes_of, left_of, most_boxes}
@@ -58,7 +60,7 @@ some_left Declined boxes held is = absurd is
 
 one_box_less : (phase : Phase) (m : Model) (held : ℕ) → IsSome (waited_for phase m held) → left_of phase (boxes_of m) (held + 1) < left_of phase (boxes_of m) held
 one_box_less Idle m held is = cc
-one_box_less Waiting m held is = omega (arith, box_there (prepared m) held is)
+one_box_less Waiting m held is = omega (arith, box_there (prepared (answers_of m)) held is)
 one_box_less Declined m held is = cc
 
 -- it waits: no more is left

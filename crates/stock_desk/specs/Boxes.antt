@@ -1,10 +1,11 @@
 -- The boxes that a run needs.
 use Rattle.std.specs.Prelude.{ℕ, ◌+◌, ◌-◌, length}
 use Rattle.model_answers.specs.declared.model.Model.{Model}
+use Rattle.model_answers.specs.Answering.{answers_of}
 use Rattle.run_semantics.specs.Perform.{Flow, On, Stopped, Broken}
 use Rattle.run_semantics.specs.Run.{parts_of, prepared}
-use Rattle.edit_session.specs.declared.running.Phase.{Phase}
-use Rattle.edit_session.specs.declared.running.Phase.TheVariants.{Idle, Waiting, Declined}
+use Rattle.checkpointed_runs.specs.declared.running.Phase.{Phase}
+use Rattle.checkpointed_runs.specs.declared.running.Phase.TheVariants.{Idle, Waiting, Declined}
 
 -- how many boxes a run needs
 abbrev pub boxes_after : Flow → ℕ
@@ -13,7 +14,7 @@ boxes_after (Stopped w) = 0
 boxes_after (Broken w path f) = 0
 
 abbrev pub boxes_of : Model → ℕ
-boxes_of m = boxes_after (prepared m)
+boxes_of m = boxes_after (prepared (answers_of m))
 
 -- no model has more modules, and so none needs more boxes
 abbrev pub most_boxes : ℕ

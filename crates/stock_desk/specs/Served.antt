@@ -2,13 +2,15 @@
 use Rattle.std.specs.Prelude.{◌≡◌, ◌⊎◌, ℕ, List, [], ◌∷◌, ◌++◌, Option, Some, None, codes}
 use Rattle.module_api.specs.Behaviour.{Behaviour}
 use Rattle.model_answers.specs.declared.model.Model.{Model}
+use Rattle.model_answers.specs.Answering.{answers_of}
 use Rattle.model_edits.specs.declared.edit.Edit.{Edit}
 use Rattle.command_lines.specs.Commands.{command_of}
 use Rattle.command_lines.specs.declared.commands.Command.{Command}
 use Rattle.command_lines.specs.declared.commands.Command.TheVariants as command
-use Rattle.edit_session.specs.Editing.{boxes_left, fresh_run}
+use Rattle.edit_session.specs.Editing.{boxes_left}
+use Rattle.checkpointed_runs.specs.Running.{fresh_run}
 use Rattle.edit_session.specs.Files.{scalars_of_run, vectors_of_run}
-use Rattle.edit_session.specs.Positions.{last_count, positions_after, up_to_event, HasStored}
+use Rattle.checkpointed_runs.specs.Positions.{last_count, positions_after, up_to_event, HasStored}
 use Rattle.desk.specs.Answers.{held_text, positions_text}
 use Rattle.desk.specs.Turns.{run_answer, IsMade, IsRefused}
 use Rattle.transcripts.specs.Heard.{Answer, Files, Heard}
@@ -27,7 +29,7 @@ pub record Machine : Type 0 where
 
 -- how many events a run of the model has, up to that limit
 abbrev pub events_of : Behaviour → Model → ℕ → ℕ
-events_of b m limit = (fresh_run b m limit).world.count
+events_of b m limit = (fresh_run b (answers_of m) limit).world.count
 
 -- the command that is asked for; a line that is too long to be kept is too large
 abbrev pub command_asked : Asked → Command
@@ -45,7 +47,7 @@ behind_run b s limit = record {
   held = boxes_left b s.model limit;
   known = Some (events_of b s.model limit);
   interval = s.interval;
-  positions = positions_after b s.model limit s.interval s.positions;
+  positions = positions_after b (answers_of s.model) limit s.interval s.positions;
 }
 
 -- Memory ran out for a run to that limit, and none is done: its positions are those that it stored, known are the events up to the last of them, and
@@ -55,7 +57,7 @@ pub record GivesUpRun (b : Behaviour) (s : Machine) (limit : ℕ) (s' : Machine)
   pub last : s'.last ≡ None
   pub known : s'.known ≡ last_count s'.positions
   pub interval : s'.interval ≡ s.interval
-  pub positions : HasStored b s.model limit s.interval s.positions s'.positions
+  pub positions : HasStored b (answers_of s.model) limit s.interval s.positions s'.positions
 
 -- A RUN is answered as a fresh run of the model that begins at the greatest position up to the limit. Or memory ran out: the run may be done nevertheless.
 abbrev pub HearsRun : Behaviour → Machine → ℕ → List Heard → Machine → Type 0

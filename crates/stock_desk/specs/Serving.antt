@@ -8,10 +8,10 @@ use Rattle.stock_modules.specs.Modules.{module_of}
 use Rattle.stock_modules.specs.declared.modules.StockModule.{StockModule}
 use Rattle.edit_session.specs.Editing.{Completed, Editing, completed, wanted_of, IsFor}
 use Rattle.edit_session.specs.Files.{scalars_of_run, vectors_of_run}
-use Rattle.edit_session.specs.Positions.{start_of, up_to_event}
+use Rattle.checkpointed_runs.specs.Positions.{start_of, up_to_event}
 use Rattle.saved_boxes.specs.Seats.{Members}
 use Rattle.desk.specs.Turns.{editing_at, IsSettled}
-use Rattle.edit_session.specs.declared.running.Phase.TheVariants.{Declined}
+use Rattle.checkpointed_runs.specs.declared.running.Phase.TheVariants.{Declined}
 use Rattle.stock_desk.specs.Boxes.{boxes_of, left_of, most_boxes}
 use Rattle.stock_desk.specs.Served.{Machine, AreHeard, BeginsToHear, Hears, HearsRun, IsBroken, command_asked}
 use Rattle.transcripts.specs.Heard.{Answer, Heard}
@@ -19,8 +19,8 @@ use Rattle.transcripts.specs.declared.asked.Asked.{Asked}
 use Rattle.stock_desk.specs.declared.serving.Next.{Next}
 use Rattle.stock_desk.specs.declared.serving.Next.TheVariants as next
 use Rattle.stock_desk.specs.declared.serving.Server.{Server}
-use Rattle.stock_desk.specs.declared.serving.Stop.{Stop}
-use Rattle.stock_desk.specs.declared.serving.Stop.TheVariants as stop
+use Rattle.desk_clients.specs.declared.clients.Stop.{Stop}
+use Rattle.desk_clients.specs.declared.clients.Stop.TheVariants as stop
 use Rattle.stock_desk.specs.declared.serving.Turn.{Turn}
 use Rattle.stock_desk.specs.declared.serving.Turn.TheVariants as turn
 

@@ -5,7 +5,7 @@ use Rattle.stock_desk.specs.Served.{fresh_machine}
 use Rattle.stock_desk.specs.Serving.{Ends}
 use Rattle.std.specs.String.{string_bytes}
 use Rattle.program_dialogue.specs.declared.dialogue.Ask.TheVariants as ask
-use Rattle.nedrun.proofs.Reasons.{session_ends, session_served}
+use Rattle.nedrun.proofs.Sessions.{session_ends, session_served}
 use Rattle.nedrun.proofs.session.Goals as goal
 
 pub returns-clause-served : goal.returns-clause-served

@@ -1,26 +1,26 @@
 //! Who asks by lines of standard input, and hears by lines of standard output.
 
 ghost use Rattle.std.specs.Prelude.{◌≡◌, ◌⊎◌, ◌<◌, [], ◌∷◌, ◌++◌, Some, None, IsSomeAnd, IfSome, IfOk, IfErr, OnOk, OnErr, codes, string_bytes};
-ghost use Rattle.nedrun.specs.Devices.{path_of};
-ghost use Rattle.nedrun.specs.Stops.{IsLost, IsOneUnwritable, IsReason, IsUntold};
+ghost use Rattle.program_user.specs.Devices.{path_of};
+ghost use Rattle.program_user.specs.Stops.{IsLost, IsOneUnwritable, IsReason, IsUntold};
 ghost use Rattle.program_dialogue.specs.Asking.{left_in, HasAskedAll, IsInOrder, IsUnasked};
 ghost use Rattle.program_stops.specs.declared.stops.Stop.{Stop as StopValue};
 ghost use Rattle.program_streams.specs.Devices.{taken_by, unwritten};
 ghost use Rattle.program_streams.specs.Paths.{file_path};
 ghost use Rattle.program_streams.specs.Stops.{IsShortOf, IsShortOfRun, IsUnsaid, IsUnwritable};
 ghost use Rattle.result_files.specs.Taken.{untouched};
-ghost use Rattle.stock_desk.specs.Devices.{HasFailed};
-ghost use Rattle.stock_desk.specs.Stops.{at_stop};
+ghost use Rattle.desk_clients.specs.Devices.{HasFailed};
+ghost use Rattle.desk_clients.specs.Stops.{at_stop};
 ghost use Rattle.transcripts.specs.Heard as heards;
 
 use crate::advice;
+use desk_clients::clients::{Client, Gone, Page, Pages};
 use program_dialogue::dialogue::Dialogue;
 use program_stops::stops::Stop;
 use program_streams::devices::FileOut;
 use program_streams::output;
 use program_words::words::Words;
 use std::rt::Files;
-use stock_desk::serving::{Client, Gone, Page, Pages};
 use text_explanations::sources::Sources;
 use text_files::noted::Noted;
 use transcripts::asked::Asked;
@@ -32,13 +32,13 @@ pub struct User<'a, R: Files + Input> {
     rt: &'a R,
     words: &'a Words,
     sources: &'a Sources<'a>,
-    dialogue: Dialogue<R::Reader>,
+    pub dialogue: Dialogue<R::Reader>,
     /// Whether an answer was heard.
     heard_any: bool,
     /// Whether the model is the one that the files make: no edit was made.
     is_as_read: bool,
     /// Why the user can't go on.
-    stop: Option<Stop>,
+    pub stop: Option<Stop>,
 }
 
 impl<'a, R: Files + Input + Print + Eprint + AllocGlobal> User<'a, R> {

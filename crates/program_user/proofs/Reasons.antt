@@ -1,11 +1,6 @@
--- Why a user can't go on, and why a session ends early.
-use Rattle.std.proofs.Common.{◌≡◌, ◌⊎◌, ℕ, List, inl, inr, refl, sym, subst, Option, Some, None, Result, Ok, Err, IfOk, IfErr, OnOk, IsErrAnd, IsSomeAnd}
+-- Why a user can't go on.
+use Rattle.std.proofs.Common.{◌≡◌, ◌⊎◌, ℕ, List, inl, inr, sym, subst, Option, Some, None, IsSomeAnd}
 use Rattle.line_reading.specs.Waits.{Waiting}
-use Rattle.model_answers.specs.declared.model.Model.{Model}
-use Rattle.model_texts.specs.declared.begin.BeginFault.{BeginFault}
-use Rattle.stock_desk.specs.Stops.{at_stop}
-use Rattle.stock_desk.specs.declared.serving.Stop.{Stop as Why}
-use Rattle.stock_desk.specs.declared.serving.Stop.TheVariants as why
 use Rattle.program_dialogue.specs.Asking.{IsUnasked, IsUnread}
 use Rattle.program_dialogue.specs.declared.dialogue.Ask.{Ask}
 use Rattle.program_dialogue.specs.declared.dialogue.Ask.TheVariants as ask
@@ -13,7 +8,7 @@ use Rattle.program_stops.specs.Stops.{IsOutOfMemory}
 use Rattle.program_stops.specs.declared.stops.Stop.{Stop}
 use Rattle.program_stops.specs.declared.stops.Stop.TheVariants as stop
 use Rattle.program_streams.specs.Stops.{IsShortOf, IsShortOfRun, IsUnadvised, IsUnsaid, IsUnwritable}
-use Rattle.nedrun.specs.Stops.{IsLost, IsOneUnwritable, IsReason, IsStopOf, IsUntold}
+use Rattle.program_user.specs.Stops.{IsLost, IsOneUnwritable, IsReason, IsUntold}
 
 -- ---- reasons
 
@@ -48,7 +43,7 @@ pub reason_of_files : (scalars vectors : List ℕ) (W : Type 0) (waiting : Waiti
 reason_of_files scalars vectors W waiting s (inl h) = reason_unwritable scalars waiting s h
 reason_of_files scalars vectors W waiting s (inr h) = reason_unwritable vectors waiting s h.1
 
-reason_lost : (waiting : Waiting) (s : Stop) → IsLost s → IsReason waiting s
+pub reason_lost : (waiting : Waiting) (s : Stop) → IsLost s → IsReason waiting s
 reason_lost waiting s h = reason_unwritable h.0 waiting s h.1
 
 unwritable_short : (path : List ℕ) (s : Stop) → IsShortOf path s → IsUnwritable path s
@@ -97,42 +92,3 @@ kept_for noted scalars vectors W s e (inr h) = subst (λ (o : Option Stop). IsSo
 pub for_reason : (P Q : Stop → Type 0) (o : Option Stop) → ((s : Stop) → P s → Q s) → IsSomeAnd o P → IsSomeAnd o Q
 for_reason P Q None f h = h
 for_reason P Q (Some s) f h = f s h
-
--- ---- sessions
-
-stuck_at : (o : Option Stop) (waiting : Waiting) (Q : Stop → Type 0) (result : Result Unit Stop) → IsSomeAnd o (IsReason waiting)
-    → ((s : Stop) → o ≡ Some s → result ≡ Err s) → ((s : Stop) → IsReason waiting s → Q s) → IfErr result Q
-stuck_at None waiting Q result h is to = absurd h
-stuck_at (Some s) waiting Q result h is to = subst (λ (r : Result Unit Stop). IfErr r Q) (sym (is s refl)) (to s h)
-
--- a session ends early for a refusal, or because the user can't go on
-pub session_ends : {K : Type 0} (served : Result (K × Why) BeginFault) (result : Result Unit Stop)
-    (stop_of : K → Option Stop) (waiting_of : K → Waiting) (Over : K → Type 0) (R : BeginFault → Type 0)
-    → IfOk served (λ r. at_stop (Over r.0) (IsSomeAnd (stop_of r.0) (IsReason (waiting_of r.0))) (λ _ _. IsSomeAnd (stop_of r.0) IsLost) r.1)
-    → IfErr served R
-    → IfOk served (λ r. r.1 ≡ why.End → result ≡ Ok tt)
-    → IfOk served (λ r. (r.1 ≡ why.End → ⊥) → (s : Stop) → stop_of r.0 ≡ Some s → result ≡ Err s)
-    → IfErr served (λ fault. IsErrAnd result (IsStopOf fault))
-    → IfErr result (λ s. ((fault : BeginFault) × R fault × IsStopOf fault s) ⊎ ((waiting : Waiting) × IsReason waiting s))
-session_ends (Err fault) (Ok _) stop_of waiting_of Over R stopped refused over stuck told = tt
-session_ends (Err fault) (Err s) stop_of waiting_of Over R stopped refused over stuck told = inl (fault, refused, told)
-session_ends (Ok (k, why.End)) result stop_of waiting_of Over R stopped refused over stuck told =
-    subst (λ (r : Result Unit Stop). IfErr r (λ s. ((fault : BeginFault) × R fault × IsStopOf fault s) ⊎ ((waiting : Waiting) × IsReason waiting s)))
-    (sym (over refl)) tt
-session_ends (Ok (k, why.Gone)) result stop_of waiting_of Over R stopped refused over stuck told =
-    stuck_at (stop_of k) (waiting_of k) (λ s. ((fault : BeginFault) × R fault × IsStopOf fault s) ⊎ ((waiting : Waiting) × IsReason waiting s)) result stopped
-    (stuck (λ e. cc)) (λ s h. inr (waiting_of k, h))
-session_ends (Ok (k, why.Device page written)) result stop_of waiting_of Over R stopped refused over stuck told =
-    stuck_at (stop_of k) (waiting_of k) (λ s. ((fault : BeginFault) × R fault × IsStopOf fault s) ⊎ ((waiting : Waiting) × IsReason waiting s)) result
-    (for_reason IsLost (IsReason (waiting_of k)) (stop_of k) (reason_lost (waiting_of k)) stopped)
-    (stuck (λ e. cc)) (λ s h. inr (waiting_of k, h))
-
--- a session that does not end early was served
-pub session_served : {K : Type 0} (served : Result (K × Why) BeginFault) (result : Result Unit Stop) (M : Model → Type 0) (Q : Model → K × Why → Type 0)
-    → IfOk served (λ r. (model : Model) × M model × Q model r)
-    → IfErr served (λ fault. IsErrAnd result (IsStopOf fault))
-    → OnOk result ((model : Model) × M model)
-session_served (Ok r) (Ok _) M Q of told = (of.0, of.1)
-session_served (Ok r) (Err _) M Q of told = tt
-session_served (Err fault) (Ok _) M Q of told = absurd told
-session_served (Err fault) (Err _) M Q of told = tt

@@ -1,8 +1,8 @@
 -- The devices of the files of a run.
 use Rattle.std.specs.Prelude.{◌≡◌, ℕ, length}
 use Rattle.result_files.specs.Taken.{Taken, untouched}
-use Rattle.stock_desk.specs.declared.serving.Page.{Page}
-use Rattle.stock_desk.specs.declared.serving.Page.TheVariants as page
+use Rattle.desk_clients.specs.declared.clients.Page.{Page}
+use Rattle.desk_clients.specs.declared.clients.Page.TheVariants as page
 
 -- THE DEVICE of that file failed, once, and took so many bytes before. The scalar file is written first: where its device fails the other one took
 -- nothing, and it did not fail where the other one does.

@@ -1,7 +1,7 @@
 use Rattle.std.proofs.Common.{◌≡◌, [], string_bytes}
 use Rattle.program_streams.specs.Devices.{unwritten}
-use Rattle.nedrun.proofs.Reasons.{kept_for, reason_of_files, stuck_for}
-use Rattle.nedrun.proofs.user.UserClientFileOut.keep.Goals as goal
+use Rattle.program_user.proofs.Reasons.{kept_for, reason_of_files, stuck_for}
+use Rattle.program_user.proofs.user.UserClientFileOut.keep.Goals as goal
 
 pub returns-clause-stuck : goal.returns-clause-stuck
 returns-clause-stuck g c =

@@ -2,9 +2,9 @@
 use Rattle.std.specs.Prelude.{ℕ, List}
 use Rattle.std.specs.String.{string_bytes}
 use Rattle.program_streams.specs.declared.devices.FileOut.{FileOut}
-use Rattle.stock_desk.specs.declared.serving.Page.{Page}
-use Rattle.stock_desk.specs.declared.serving.Page.TheVariants as page
-use Rattle.stock_desk.specs.declared.serving.Pages.{Pages}
+use Rattle.desk_clients.specs.declared.clients.Page.{Page}
+use Rattle.desk_clients.specs.declared.clients.Page.TheVariants as page
+use Rattle.desk_clients.specs.declared.clients.Pages.{Pages}
 
 -- the path of one of both files
 abbrev pub path_of : {A B C : Type 0} → Page → Pages (FileOut A B C) → List ℕ

@@ -1,8 +1,8 @@
 -- Why a client is served no more.
 use Rattle.std.specs.Prelude.{ℕ}
-use Rattle.stock_desk.specs.declared.serving.Page.{Page}
-use Rattle.stock_desk.specs.declared.serving.Stop.{Stop}
-use Rattle.stock_desk.specs.declared.serving.Stop.TheVariants as stop
+use Rattle.desk_clients.specs.declared.clients.Page.{Page}
+use Rattle.desk_clients.specs.declared.clients.Stop.{Stop}
+use Rattle.desk_clients.specs.declared.clients.Stop.TheVariants as stop
 
 -- what is true at each reason: that nothing more is asked, that the client can't go on, or what comes of a device that failed
 abbrev pub at_stop : Type 0 → Type 0 → (Page → ℕ → Type 0) → Stop → Type 0
