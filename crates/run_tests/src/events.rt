@@ -61,18 +61,25 @@ fn three_timers(alloc: Global) -> Result<EventSet, NoMemory>
     Ok(events)
 }
 
+/// What is told of the first of the events to come: its time in picoseconds, its priority, and its module's id.
+fn first_of(events: &EventSet) -> Option<(u64, i16, u32)> {
+    match events.first() {
+        Some(coming) => Some((coming.time.ps(), coming.priority, coming.id)),
+        None => None,
+    }
+}
+
 #[test]
 fn a_lesser_priority_comes_first_and_then_the_first_inserted(rt: HostRuntime) -> Result<(), Fail> {
     let alloc = rt.alloc();
     let mut events = three_timers(alloc)?;
-    let coming = events.first().ok_or("none")?;
-    assert_eq!(rt; coming.time.ps(), FIVE);
-    assert_eq!(rt; coming.priority, -1);
-    assert_eq!(rt; coming.id, 7);
-    let timers = timers_in_turn(alloc, &mut events)?;
-    assert_eq!(rt; timers.as_slice(), [1, 0, 2].as_slice());
-    assert!(rt; events.take_first().is_none());
-    assert!(rt; events.first().is_none());
+    let first = first_of(&events);
+    let timers = timers_in_turn(alloc, &mut events);
+    let none_left = events.take_first().is_none() && events.first().is_none();
+    drop(events);
+    assert!(rt; first == Some((FIVE, -1, 7)));
+    assert!(rt; timers?.as_slice() == [1, 0, 2].as_slice());
+    assert!(rt; none_left);
     Ok(())
 }
 
@@ -148,17 +155,32 @@ fn five_hundred_of_a_thousand_come_in_the_order_of_insertion(rt: HostRuntime) ->
     Ok(())
 }
 
+/// The timers that come of a copy, and then those of the set, of which the timer 1 is cancelled behind the copy; none where that is not
+/// pending in the set before, or in the copy behind it.
+fn timers_of_both(
+    alloc: Global,
+    events: &mut EventSet,
+    copy: &mut EventSet,
+) -> Result<Option<(Vec<u32>, Vec<u32>)>, AllocError> {
+    if !events.cancel(7, 1) || !copy.has_timer(7, 1) {
+        return Ok(None);
+    }
+    let of_copy = timers_in_turn(alloc, copy)?;
+    let left = timers_in_turn(alloc, events)?;
+    Ok(Some((of_copy, left)))
+}
+
 #[test]
 fn a_copy_is_a_set_of_its_own(rt: HostRuntime) -> Result<(), Fail> {
     let alloc = rt.alloc();
     let mut events = three_timers(alloc)?;
     let mut copy = events.copy(alloc)?;
-    assert!(rt; events.cancel(7, 1));
-    assert!(rt; copy.has_timer(7, 1));
-    let timers = timers_in_turn(alloc, &mut copy)?;
-    assert_eq!(rt; timers.as_slice(), [1, 0, 2].as_slice());
-    let left = timers_in_turn(alloc, &mut events)?;
-    assert_eq!(rt; left.as_slice(), [0, 2].as_slice());
+    let both = timers_of_both(alloc, &mut events, &mut copy);
+    drop(events);
+    drop(copy);
+    let (of_copy, left) = both?.ok_or("the timer 1 is not pending")?;
+    assert!(rt; of_copy.as_slice() == [1, 0, 2].as_slice());
+    assert!(rt; left.as_slice() == [0, 2].as_slice());
     Ok(())
 }
 
