@@ -10,7 +10,7 @@ use crate::counted::Counted;
 use desk::desk::{Desk, DeskTurn};
 use edit_session::session::Session;
 use module_api::simple_module::SimpleModule;
-use ned_syntax::texts::NedTexts;
+use ned_trees::texts::NedTexts;
 use sim_values::text::Text;
 use std::alloc::Global;
 use std::cell::Cell;

@@ -30,7 +30,7 @@ use model_texts::begin::{BeginFault, model_of};
 use module_api::catalogue::Catalogue;
 use module_api::simple_module::SimpleModule;
 use module_tree::Tree;
-use ned_syntax::texts::NedTexts;
+use ned_trees::texts::NedTexts;
 use result_files::files::{ResultFiles, prepare, write_scalars, write_vectors};
 use result_files::writer::Out;
 use run_questions::record::Record;

@@ -17,7 +17,7 @@ use ini_texts::error::ChainError;
 use ini_texts::lines::IniText;
 use model_answers::model::Model;
 use ned_syntax::parse::parse_ned;
-use ned_syntax::texts::NedTexts;
+use ned_trees::texts::NedTexts;
 use ned_trees::declarations::NedFile;
 use ned_types::table::TypeTable;
 use ned_values::error::NedError;

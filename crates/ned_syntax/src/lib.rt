@@ -36,5 +36,4 @@ pub mod parameters;
 pub mod parse;
 pub mod properties;
 pub mod statistics;
-pub mod texts;
 mod types;

@@ -1,4 +1,4 @@
-//! What NED texts and ini texts say, as trees: expressions, recording modes and declarations.
+//! NED texts, and what they and ini texts say, as trees: expressions, recording modes and declarations.
 #![tactic(auto)]
 
 /// The value that was copied; a refusal is the caller's own. It is `?` for an error that needs no conversion: the two
@@ -33,3 +33,4 @@ pub mod declarations;
 pub mod expressions;
 pub mod modes;
 pub mod refusals;
+pub mod texts;

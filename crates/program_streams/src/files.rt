@@ -4,7 +4,7 @@ ghost use Rattle.std.specs.Prelude.{◌<◌, IfErr, codes, length};
 ghost use Rattle.program_stops.specs.Stops.{IsFailed};
 ghost use Rattle.program_streams.specs.Stops.{IsOneUnreadable, IsUnreadable};
 
-use ned_syntax::texts::NedTexts;
+use ned_trees::texts::NedTexts;
 use program_stops::stops::Stop;
 use std::io;
 use std::rt::Files;

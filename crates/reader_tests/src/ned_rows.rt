@@ -5,7 +5,7 @@ use crate::telling::Telling;
 use crate::tree_rows::tell_tree;
 use crate::words::{tell_names, written};
 use ned_syntax::parse::parse_ned;
-use ned_syntax::texts::NedTexts;
+use ned_trees::texts::NedTexts;
 use ned_trees::declarations::{
     Declaration, GateLine, GateSize, NedFile, NestedType, ParameterValue, SectionLine, Statistic,
     Submodule, TypeDeclaration,

@@ -12,7 +12,7 @@ use clerk::{Clerk, Office};
 use desk::desk::{Desk, DeskTurn};
 use edit_session::session::Session;
 use module_api::simple_module::SimpleModule;
-use ned_syntax::texts::NedTexts;
+use ned_trees::texts::NedTexts;
 use result_files::buffer::Buffer;
 use sim_values::text::Text;
 use std::alloc::{AllocError, Global};

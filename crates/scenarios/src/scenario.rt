@@ -2,7 +2,7 @@
 
 ghost use Rattle.std.specs.Prelude.{◌≤◌, IfOk};
 
-use ned_syntax::texts::NedTexts;
+use ned_trees::texts::NedTexts;
 use sim_values::NoMemory;
 use std::alloc::Global;
 

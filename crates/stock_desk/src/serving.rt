@@ -22,7 +22,7 @@ use kernel::request::Request;
 use model_edits::edit::Edit;
 use model_texts::begin::BeginFault;
 use module_api::simple_module::SimpleModule;
-use ned_syntax::texts::NedTexts;
+use ned_trees::texts::NedTexts;
 use result_files::writer::Out;
 use std::alloc::Global;
 use std::marker::PhantomData;

@@ -1,6 +1,6 @@
 //! The files of a run.
 
-use ned_syntax::texts::NedTexts;
+use ned_trees::texts::NedTexts;
 
 /// The files of a run, as the program was given them.
 #[derive(Clone, Copy)]

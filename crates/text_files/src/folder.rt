@@ -5,7 +5,7 @@ ghost use Rattle.sim_values.specs.Memory.{no_memory};
 ghost use Rattle.text_files.specs.Folders.{AreTextsOf, IsWithin};
 
 use crate::reading::ReadFault;
-use ned_syntax::texts::NedTexts;
+use ned_trees::texts::NedTexts;
 use sim_values::NoMemory;
 use std::alloc::Global;
 use std::io;

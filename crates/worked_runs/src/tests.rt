@@ -6,7 +6,7 @@ use edit_session::session::{FileFault, Session};
 use model_texts::begin::BeginFault;
 use module_api::catalogue::Catalogue;
 use module_api::simple_module::SimpleModule;
-use ned_syntax::texts::NedTexts;
+use ned_trees::texts::NedTexts;
 use result_files::buffer::Buffer;
 use result_files::writer::{Out, WriteFault};
 use sim_values::NoMemory;
