@@ -1,5 +1,6 @@
 //! Why a configuration can't be run.
 
+use crate::reading::read_types;
 use ini_config::error::IniError;
 use ini_config::parse::parse_ini;
 use ini_texts::entries::network_entry;
@@ -15,7 +16,7 @@ use sqlite_items::Items;
 use std::alloc::Global;
 use text_explanations::explanation::Explanation;
 use text_explanations::names::shown;
-use text_explanations::ned_files::{is_anywhere, read_types, type_named};
+use text_explanations::ned_files::{is_anywhere, type_named};
 use text_explanations::sources::Sources;
 
 /// The lines of an ini text that was read before; none where it was not.
@@ -36,12 +37,22 @@ pub fn chain_of(alloc: Global, text: &IniText, config: &[u8]) -> Result<Items<Te
     }
 }
 
+/// Whether that name is one of these.
+pub fn is_among(name: &[u8], names: &[&[u8]]) -> bool {
+    for it in names {
+        if *it == name {
+            return true;
+        }
+    }
+    false
+}
+
 /// The names of the configurations of an ini text, each once.
 fn configurations<'a>(alloc: Global, lines: &'a [IniLine]) -> Result<Vec<&'a [u8]>, NoMemory> {
     let mut names: Vec<&[u8]> = Vec::new(alloc);
     for line in lines {
         if let LineMeaning::Section(name) = &line.meaning {
-            if !names.iter().any(|other| *other == name.as_bytes()) {
+            if !is_among(name.as_bytes(), names.as_slice()) {
                 names.push(name.as_bytes())?;
             }
         }
@@ -91,7 +102,7 @@ fn bases_of<'a>(lines: &'a [IniLine], name: &[u8]) -> Option<(usize, &'a [Text])
 
 /// Whether there is a configuration of that name.
 fn exists(names: &[&[u8]], name: &[u8]) -> bool {
-    spells(name, b"General") || names.iter().any(|other| *other == name)
+    spells(name, b"General") || is_among(name, names)
 }
 
 /// Begins what is wrong with the configuration of that name, which extends something in that line.

@@ -4,6 +4,8 @@
 #![tactic(auto)]
 
 mod configurations;
+mod reading;
 pub mod refusals;
 pub mod runs;
+mod syntax;
 pub mod warnings;

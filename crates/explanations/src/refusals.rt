@@ -1,14 +1,16 @@
 //! Why the files make no model.
 
 use crate::configurations::{tell_no_chain, tell_no_config, tell_no_network};
+use crate::reading::read_types;
+use crate::syntax::tell_syntax;
 use model_texts::begin::{BeginFault, MAX_FILES};
 use sim_values::NoMemory;
 use sim_values::text::MAX_LENGTH;
 use std::alloc::Global;
 use text_explanations::explanation::Explanation;
 use text_explanations::ini_lines::{line_at, tell_ini_line};
+use text_explanations::ned_files::Files;
 use text_explanations::sources::Sources;
-use text_explanations::syntax::tell_syntax;
 use text_explanations::types::tell_types;
 
 /// Says which text is too long.
@@ -36,6 +38,20 @@ fn tell_large(told: &mut Explanation, sources: &Sources<'_>) {
     told.say(" are read at most");
 }
 
+/// Says why the types of the files don't go together.
+fn tell_clash(told: &mut Explanation, sources: &Sources<'_>) {
+    match read_types(told.alloc(), sources) {
+        Ok(types) => {
+            let files = Files {
+                sources,
+                types: types.as_slice(),
+            };
+            tell_types(told, &files);
+        }
+        Err(error) => told.refuse(error),
+    }
+}
+
 /// Says what is wrong with files that were refused.
 fn tell_refusal(told: &mut Explanation, fault: BeginFault, sources: &Sources<'_>) {
     match fault {
@@ -54,7 +70,7 @@ fn tell_refusal(told: &mut Explanation, fault: BeginFault, sources: &Sources<'_>
         | BeginFault::UnknownType
         | BeginFault::InheritanceCircle
         | BeginFault::KindClash
-        | BeginFault::Interface => tell_types(told, sources),
+        | BeginFault::Interface => tell_clash(told, sources),
         BeginFault::NoSuchConfig => tell_no_config(told, sources),
         BeginFault::ChainFault => tell_no_chain(told, sources),
         BeginFault::NoSuchNetwork => tell_no_network(told, sources),

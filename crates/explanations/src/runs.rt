@@ -1,12 +1,13 @@
 //! Why a run ended with a fault.
 
+use crate::reading::read_types;
 use ini_entries::constants::is_constant;
 use ini_texts::entries::value_for;
 use ini_texts::entry::EntryValue;
-use model_answers::model::Model;
 use model_answers::parameters::lone_value;
 use model_answers::scene::{Placed, Told};
 use model_texts::begin::model_of;
+use model_answers::model::Model;
 use ned_trees::declarations::{
     Declaration, ParameterValue, ParameterWord, SectionLine, TypeDeclaration,
 };
@@ -19,6 +20,7 @@ use sim_values::value::Dimension;
 use std::alloc::Global;
 use text_explanations::explanation::Explanation;
 use text_explanations::names::shown;
+use text_explanations::ned_files::Files;
 use text_explanations::sources::Sources;
 use text_explanations::values::{Parameter, tell_place_of_value};
 
@@ -248,6 +250,20 @@ fn tell_wrong_in_ned(told: &mut Explanation, it: Faulty<'_>, expression: &Expres
     }
 }
 
+/// Says where the type of that name, or what it extends, gives a parameter its value: `path:line: `.
+fn tell_given(told: &mut Explanation, sources: &Sources<'_>, name: &[u8], of: Parameter<'_>) {
+    match read_types(told.alloc(), sources) {
+        Ok(types) => {
+            let files = Files {
+                sources,
+                types: types.as_slice(),
+            };
+            tell_place_of_value(told, &files, name, of);
+        }
+        Err(error) => told.refuse(error),
+    }
+}
+
 /// Says where the NED files give a parameter of that name its value: `path:line: `.
 fn tell_place(
     told: &mut Explanation,
@@ -261,13 +277,13 @@ fn tell_place(
             submodule: None,
             name,
         };
-        tell_place_of_value(told, sources, found.of.name.as_bytes(), of);
+        tell_given(told, sources, found.of.name.as_bytes(), of);
     } else if let Some((_, own)) = path.split_once('.') {
         let of = Parameter {
             submodule: Some(own.as_bytes()),
             name,
         };
-        tell_place_of_value(told, sources, found.network, of);
+        tell_given(told, sources, found.network, of);
     }
 }
 

@@ -1,6 +1,7 @@
 //! Lines of an ini text that have no effect.
 
-use crate::configurations::{chain_of, lines_of};
+use crate::configurations::{chain_of, is_among, lines_of};
+use crate::reading::read_types;
 use ini_pattern::Pattern;
 use ini_texts::entries::network_entry;
 use ini_texts::entry::{EntryMeaning, ObjectEntry, ObjectOption};
@@ -15,7 +16,7 @@ use std::fmt::Write;
 use text_explanations::bases::with_bases;
 use text_explanations::explanation::Explanation;
 use text_explanations::names::shown;
-use text_explanations::ned_files::{read_types, type_named};
+use text_explanations::ned_files::type_named;
 use text_explanations::sources::Sources;
 
 /// The options that have an effect, or whose only value has.
@@ -132,7 +133,12 @@ impl Paths {
 
     /// Whether a pattern matches a parameter.
     fn has_parameter(&self, pattern: &Pattern) -> bool {
-        self.parameters.lines().any(|path| pattern.matches(path))
+        for path in self.parameters.lines() {
+            if pattern.matches(path) {
+                return true;
+            }
+        }
+        false
     }
 
     /// Whether a pattern matches a statistic with that option.
@@ -232,7 +238,7 @@ fn tell_entry(
 ) {
     let key = entry.key.as_bytes();
     match &entry.meaning {
-        EntryMeaning::Other if !OPTIONS.iter().any(|known| *known == key) => {
+        EntryMeaning::Other if !is_among(key, OPTIONS.as_slice()) => {
             tell_useless(told, sources, line, key, "there is no such option here");
             told.say_near(key, OPTIONS.as_slice());
             told.say("\n");

@@ -8,7 +8,10 @@ use std::alloc::Global;
 
 /// The place of a type that is extended, where there is one.
 fn place_of_base(types: &[TypeDeclaration], base: &Option<Text>) -> Option<usize> {
-    place_of(types, base.as_ref()?.as_bytes())
+    match base {
+        Some(name) => place_of(types, name.as_bytes()),
+        None => None,
+    }
 }
 
 /// The place of what each type extends, where that is one of them.
@@ -74,6 +77,16 @@ pub fn is_interface(kind: TypeKind) -> bool {
     matches!(kind, TypeKind::ModuleInterface | TypeKind::ChannelInterface)
 }
 
+/// Whether one of these types has that name.
+fn has_named(types: &[&TypeDeclaration], name: &[u8]) -> bool {
+    for it in types {
+        if it.name.is(name) {
+            return true;
+        }
+    }
+    false
+}
+
 /// Adds the interfaces of a type to others, each once.
 fn push_interfaces<'a>(
     line: &mut Vec<&'a TypeDeclaration>,
@@ -82,7 +95,7 @@ fn push_interfaces<'a>(
 ) -> Result<(), NoMemory> {
     for name in it.interfaces.as_slice() {
         if let Some(found) = type_named(types, name.as_bytes()) {
-            if !line.iter().any(|other| other.name.is(name.as_bytes())) {
+            if !has_named(line.as_slice(), name.as_bytes()) {
                 line.push(found)?;
             }
         }

@@ -3,30 +3,30 @@
 use ned_trees::declarations::{ParameterWord, TypeDeclaration};
 use sim_values::text::{Text, spells};
 
-/// Their names.
-const BUILT_IN: [&str; 3] = ["IdealChannel", "DelayChannel", "DatarateChannel"];
-
-/// The parameters of a DatarateChannel; the first two are those of a DelayChannel.
-const PARAMETERS: [&str; 5] = ["delay", "disabled", "datarate", "ber", "per"];
-
 /// Whether a built-in channel has that name.
 pub fn is_built_in(name: &[u8]) -> bool {
-    BUILT_IN.iter().any(|known| known.as_bytes() == name)
+    spells(name, b"IdealChannel")
+        || spells(name, b"DelayChannel")
+        || spells(name, b"DatarateChannel")
+}
+
+/// Whether a DelayChannel has the parameter.
+fn is_of_delay(name: &[u8]) -> bool {
+    spells(name, b"delay") || spells(name, b"disabled")
+}
+
+/// Whether a DatarateChannel has the parameter, and a DelayChannel has not.
+fn is_of_datarate(name: &[u8]) -> bool {
+    spells(name, b"datarate") || spells(name, b"ber") || spells(name, b"per")
 }
 
 /// Whether the built-in channel of that name has the parameter.
 fn has_parameter(channel: &[u8], name: &[u8]) -> bool {
-    let known = if spells(channel, b"DatarateChannel") {
-        5
-    } else if spells(channel, b"DelayChannel") {
-        2
+    if spells(channel, b"DatarateChannel") {
+        is_of_delay(name) || is_of_datarate(name)
     } else {
-        0
-    };
-    PARAMETERS
-        .iter()
-        .take(known)
-        .any(|parameter| parameter.as_bytes() == name)
+        spells(channel, b"DelayChannel") && is_of_delay(name)
+    }
 }
 
 /// What a type extends, where it is a built-in channel.

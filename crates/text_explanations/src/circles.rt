@@ -63,12 +63,22 @@ fn leading(alloc: Global, types: &[TypeDeclaration]) -> Result<Vec<bool>, NoMemo
     Ok(left)
 }
 
+/// The place of the first type that is left.
+fn first_place(left: &[bool]) -> Option<usize> {
+    for (at, stays) in left.iter().enumerate() {
+        if *stays {
+            return Some(at);
+        }
+    }
+    None
+}
+
 /// A type in a circle, and what it extends there, where these lead into one.
 fn in_a_circle<'a>(
     types: &'a [TypeDeclaration],
     left: &[bool],
 ) -> Option<(&'a TypeDeclaration, &'a TypeDeclaration)> {
-    let mut at = left.iter().position(|stays| *stays)?;
+    let mut at = first_place(left)?;
     let mut found = None;
     for _step in 0..=types.len() {
         let it = types.get(at)?;

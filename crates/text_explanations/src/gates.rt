@@ -3,7 +3,15 @@
 use crate::explanation::Explanation;
 use crate::ned_files::Files;
 use crate::places::{Sign, Spot};
-use ned_trees::declarations::{GateLine, SectionLine, TypeDeclaration};
+use ned_trees::declarations::{GateLine, SectionLine, Submodule, TypeDeclaration};
+
+/// The first so many of a list, or all where it has fewer.
+fn front<T>(list: &[T], count: usize) -> &[T] {
+    match list.get(..count) {
+        Some(front) => front,
+        None => list,
+    }
+}
 
 /// Whether the line declares a gate of that name.
 fn declares_gate(line: &GateLine, name: &[u8]) -> bool {
@@ -19,6 +27,39 @@ fn declares_parameter(line: &SectionLine, name: &[u8]) -> bool {
         SectionLine::Declaration(it) => it.name.is(name),
         _ => false,
     }
+}
+
+/// How many of the lines declare a gate of that name.
+fn gates_named(lines: &[GateLine], name: &[u8]) -> usize {
+    let mut count = 0usize;
+    for line in lines {
+        if declares_gate(line, name) {
+            count = count.saturating_add(1);
+        }
+    }
+    count
+}
+
+/// How many of the submodules have that name.
+fn submodules_named(submodules: &[Submodule], name: &[u8]) -> usize {
+    let mut count = 0usize;
+    for it in submodules {
+        if it.name.is(name) {
+            count = count.saturating_add(1);
+        }
+    }
+    count
+}
+
+/// How many of the lines declare a parameter of that name.
+fn parameters_named(lines: &[SectionLine], name: &[u8]) -> usize {
+    let mut count = 0usize;
+    for line in lines {
+        if declares_parameter(line, name) {
+            count = count.saturating_add(1);
+        }
+    }
+    count
 }
 
 /// A member of a type: how it is called, and what its place shows.
@@ -60,18 +101,9 @@ fn parameter(name: &[u8]) -> Member<'_> {
 fn count(member: Member<'_>, it: &TypeDeclaration, lines: usize) -> usize {
     let name = member.name;
     match member.sign {
-        Sign::Gate => {
-            let first = it.gates.as_slice().iter().take(lines);
-            first.filter(|line| declares_gate(*line, name)).count()
-        }
-        Sign::Submodule => {
-            let first = it.submodules.as_slice().iter().take(lines);
-            first.filter(|line| line.name.is(name)).count()
-        }
-        _ => {
-            let first = it.lines.as_slice().iter().take(lines);
-            first.filter(|line| declares_parameter(*line, name)).count()
-        }
+        Sign::Gate => gates_named(front(it.gates.as_slice(), lines), name),
+        Sign::Submodule => submodules_named(front(it.submodules.as_slice(), lines), name),
+        _ => parameters_named(front(it.lines.as_slice(), lines), name),
     }
 }
 

@@ -77,11 +77,21 @@ fn tell_dotted(told: &mut Explanation, key: &str, value: &str) {
     }
 }
 
+/// Whether a key is of ASCII characters alone, without blanks.
+fn is_graphic(key: &str) -> bool {
+    for byte in key.as_bytes() {
+        if !byte.is_ascii_graphic() {
+            return false;
+        }
+    }
+    true
+}
+
 /// Says what is wrong with an entry.
 fn tell_entry(told: &mut Explanation, key: &str, value: &str) {
     if key.is_empty() {
         told.say("there is no key before '='");
-    } else if !key.bytes().all(|b| b.is_ascii_graphic()) {
+    } else if !is_graphic(key) {
         told.say("a key is of ASCII characters, without blanks");
     } else if value.ends_with('\\') {
         told.say("continuation lines are not supported: write the whole entry on one line");

@@ -43,15 +43,20 @@ fn declares_like(line: &GateLine, wanted: &GateDeclaration) -> bool {
     }
 }
 
+/// Whether one of the lines declares a gate like that one.
+fn declare_like(lines: &[GateLine], wanted: &GateDeclaration) -> bool {
+    for line in lines {
+        if declares_like(line, wanted) {
+            return true;
+        }
+    }
+    false
+}
+
 /// Whether one of these types has that gate.
 fn has_gate(along: &[&TypeDeclaration], wanted: &GateDeclaration) -> bool {
     for it in along {
-        if it
-            .gates
-            .as_slice()
-            .iter()
-            .any(|line| declares_like(line, wanted))
-        {
+        if declare_like(it.gates.as_slice(), wanted) {
             return true;
         }
     }

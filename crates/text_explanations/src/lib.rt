@@ -16,7 +16,6 @@ pub mod names;
 pub mod ned_files;
 pub mod places;
 pub mod sources;
-pub mod syntax;
-mod tokens;
+pub mod tokens;
 pub mod types;
 pub mod values;

@@ -31,22 +31,34 @@ fn is_declaration(line: &SectionLine) -> bool {
 
 /// How many of the lines declare the parameter.
 fn declarations_of(lines: &[SectionLine], name: &[u8]) -> usize {
-    lines
-        .iter()
-        .filter(|line| is_declaration(*line) && name_in(*line) == name)
-        .count()
+    let mut count = 0usize;
+    for line in lines {
+        if is_declaration(line) && name_in(line) == name {
+            count = count.saturating_add(1);
+        }
+    }
+    count
 }
 
 /// How many of the lines speak of the parameter.
 fn mentions_of(lines: &[SectionLine], name: &[u8]) -> usize {
-    lines.iter().filter(|line| name_in(*line) == name).count()
+    let mut count = 0usize;
+    for line in lines {
+        if name_in(line) == name {
+            count = count.saturating_add(1);
+        }
+    }
+    count
 }
 
 /// Whether one of the lines gives the parameter a fixed value.
 fn is_fixed(lines: &[SectionLine], name: &[u8]) -> bool {
-    lines
-        .iter()
-        .any(|line| name_in(line) == name && fixes(line))
+    for line in lines {
+        if name_in(line) == name && fixes(line) {
+            return true;
+        }
+    }
+    false
 }
 
 /// The first of the types that declares the parameter.

@@ -15,19 +15,26 @@ pub fn shown(bytes: &[u8]) -> &str
 
 /// How many bytes two texts have in common, from their front on.
 fn common(one: &[u8], other: &[u8]) -> usize {
-    one.iter()
-        .zip(other.iter())
-        .take_while(|pair| pair.0 == pair.1)
-        .count()
+    let mut count = 0usize;
+    for (a, b) in one.iter().zip(other.iter()) {
+        if a != b {
+            break;
+        }
+        count = count.saturating_add(1);
+    }
+    count
 }
 
 /// How many bytes two texts have in common, from their end on.
 fn common_end(one: &[u8], other: &[u8]) -> usize {
-    one.iter()
-        .rev()
-        .zip(other.iter().rev())
-        .take_while(|pair| pair.0 == pair.1)
-        .count()
+    let mut count = 0usize;
+    for (a, b) in one.iter().rev().zip(other.iter().rev()) {
+        if a != b {
+            break;
+        }
+        count = count.saturating_add(1);
+    }
+    count
 }
 
 /// Whether the texts differ in one place only, where at most two bytes stand in each.

@@ -5,43 +5,7 @@ use crate::explanation::Explanation;
 use crate::names::is_inner;
 use crate::places::{Sign, Spot, line_in};
 use crate::sources::Sources;
-use ned_scopes::scopes::types_of;
-use ned_syntax::parse::parse_ned;
-use ned_trees::declarations::{NedFile, TypeDeclaration, TypeKind};
-use ned_values::error::NedError;
-use sim_values::NoMemory;
-use sim_values::text::Text;
-use sqlite_items::Items;
-use std::alloc::Global;
-
-/// What a text declares; nothing where it is no NED.
-fn file_of(alloc: Global, text: &Text) -> Result<NedFile, NoMemory> {
-    match parse_ned(alloc, text.as_bytes()) {
-        Ok(file) => Ok(file),
-        Err(NedError::NoMemory(error)) => Err(error),
-        Err(_) => Ok(NedFile {
-            types: Items::new(alloc),
-        }),
-    }
-}
-
-/// What each text declares.
-fn files_of(alloc: Global, texts: &[Text]) -> Result<Vec<NedFile>, NoMemory> {
-    let mut files = Vec::new(alloc);
-    for text in texts {
-        files.push(file_of(alloc, text)?)?;
-    }
-    Ok(files)
-}
-
-/// The types of all files, in order, each before those within it, with names resolved.
-pub fn read_types(
-    alloc: Global,
-    sources: &Sources<'_>,
-) -> Result<Items<TypeDeclaration>, NoMemory> {
-    let files = files_of(alloc, sources.texts.as_slice())?;
-    Ok(types_of(alloc, files)?)
-}
+use ned_trees::declarations::{TypeDeclaration, TypeKind};
 
 /// The files of a run, and what they declare.
 #[derive(Clone, Copy)]
@@ -63,7 +27,12 @@ pub fn type_named<'a>(types: &'a [TypeDeclaration], name: &[u8]) -> Option<&'a T
 
 /// The place of the type of that name.
 pub fn place_of(types: &[TypeDeclaration], name: &[u8]) -> Option<usize> {
-    types.iter().position(|it| it.name.is(name))
+    for (at, it) in types.iter().enumerate() {
+        if it.name.is(name) {
+            return Some(at);
+        }
+    }
+    None
 }
 
 /// Whether the name is that of a type of that kind.

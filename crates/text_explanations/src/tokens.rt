@@ -29,10 +29,20 @@ fn is_same(one: &Token, other: &Token) -> bool {
     }
 }
 
+/// Whether one of the tokens is the same word or mark.
+fn has_same(tokens: &[Token], token: &Token) -> bool {
+    for it in tokens {
+        if is_same(it, token) {
+            return true;
+        }
+    }
+    false
+}
+
 /// Whether the token is written so.
 fn is_written(alloc: Global, token: &Token, written: &str) -> Result<bool, NoMemory> {
     let list = tokenize(alloc, written.as_bytes())?;
-    Ok(list.tokens.as_slice().iter().any(|it| is_same(it, token)))
+    Ok(has_same(list.tokens.as_slice(), token))
 }
 
 /// How a word or a mark is written.

@@ -9,9 +9,8 @@ use crate::heads::{tell_other_base, tell_other_interface, tell_submodule, tell_u
 use crate::interfaces::tell_broken;
 use crate::members::{tell_body, tell_section};
 use crate::names::{is_inner, last_part};
-use crate::ned_files::{Files, is_of_kind, place_of, read_types, type_named};
+use crate::ned_files::{Files, is_of_kind, place_of, type_named};
 use crate::places::{Sign, Spot};
-use crate::sources::Sources;
 use ned_trees::declarations::{Submodule, TypeDeclaration, TypeKind};
 
 /// Says that the type at that place has the name of another before it, or of a built-in channel. Answers whether it has.
@@ -174,28 +173,14 @@ fn tell_clash(told: &mut Explanation, files: &Files<'_>) -> bool {
     }
 }
 
-/// Says the first reason why types don't go together, in the order of the refusals. Answers whether there is one.
-fn tell_reason(told: &mut Explanation, files: &Files<'_>) -> bool {
-    tell_duplicate(told, files)
+/// Says the first reason why types don't go together, in the order of the refusals.
+pub fn tell_types(told: &mut Explanation, files: &Files<'_>) {
+    let _is_told = tell_duplicate(told, files)
         || tell_unknown(told, files)
         || tell_circle(told, files)
         || tell_other_interface(told, files)
         || tell_other_base(told, files)
         || tell_inner_network(told, files)
         || tell_clash(told, files)
-        || tell_broken(told, files)
-}
-
-/// Says why the types of the files don't go together.
-pub fn tell_types(told: &mut Explanation, sources: &Sources<'_>) {
-    match read_types(told.alloc(), sources) {
-        Ok(types) => {
-            let files = Files {
-                sources,
-                types: types.as_slice(),
-            };
-            let _is_told = tell_reason(told, &files);
-        }
-        Err(error) => told.refuse(error),
-    }
+        || tell_broken(told, files);
 }

@@ -2,9 +2,8 @@
 
 use crate::bases::with_bases;
 use crate::explanation::Explanation;
-use crate::ned_files::{Files, read_types, type_named};
+use crate::ned_files::{Files, type_named};
 use crate::places::{Sign, Spot};
-use crate::sources::Sources;
 use ned_trees::declarations::{SectionLine, TypeDeclaration};
 use ned_types::flat::submodule_named;
 use ned_types::given::{name_in, value_in};
@@ -68,32 +67,18 @@ fn tell_first(
     }
 }
 
-/// Says where the type of that name, or what it extends, gives the parameter its value.
-fn tell_in(told: &mut Explanation, files: &Files<'_>, name: &[u8], of: Parameter<'_>) {
+/// Says where the type of that name, or what it extends, gives a parameter its value: `path:line: `.
+pub fn tell_place_of_value(
+    told: &mut Explanation,
+    files: &Files<'_>,
+    name: &[u8],
+    of: Parameter<'_>,
+) {
     let Some(it) = type_named(files.types, name) else {
         return;
     };
     match with_bases(told.alloc(), files.types, it) {
         Ok(along) => tell_first(told, files, along.as_slice(), of),
-        Err(error) => told.refuse(error),
-    }
-}
-
-/// Says where the type of that name, or what it extends, gives a parameter its value: `path:line: `.
-pub fn tell_place_of_value(
-    told: &mut Explanation,
-    sources: &Sources<'_>,
-    name: &[u8],
-    of: Parameter<'_>,
-) {
-    match read_types(told.alloc(), sources) {
-        Ok(types) => {
-            let files = Files {
-                sources,
-                types: types.as_slice(),
-            };
-            tell_in(told, &files, name, of);
-        }
         Err(error) => told.refuse(error),
     }
 }

@@ -1,13 +1,13 @@
 //! Why a text is no NED.
 
-use crate::explanation::Explanation;
-use crate::tokens::{is_for_later, tell_token, token_of};
 use ned_syntax::parse::tokens_left;
 use ned_tokens::lines::tokenize;
 use ned_tokens::token::Token;
 use sim_values::NoMemory;
 use sqlite_items::Items;
 use std::alloc::Global;
+use text_explanations::explanation::Explanation;
+use text_explanations::tokens::{is_for_later, tell_token, token_of};
 
 /// What a text can go on with, as it is written: words and marks, `1` for an expression, `+` for an operator and `x` for a name.
 const GOES_ON: &str =
@@ -50,6 +50,16 @@ fn is_front(written: &str) -> bool {
     written == "(" || written == "x"
 }
 
+/// Whether one of these is an expression.
+fn wants_expression(found: &[&str]) -> bool {
+    for it in found {
+        if *it == "1" {
+            return true;
+        }
+    }
+    false
+}
+
 /// What is wanted behind the tokens: what they can go on with, but where an expression is wanted not what it begins with, and
 /// where anything may stand only what ends that.
 fn wanted(alloc: Global, tokens: &mut Items<Token>) -> Result<Vec<&'static str>, NoMemory> {
@@ -58,7 +68,7 @@ fn wanted(alloc: Global, tokens: &mut Items<Token>) -> Result<Vec<&'static str>,
         found.clear();
         found.push(end_of_any(alloc, tokens)?)?;
     }
-    if found.iter().any(|it| *it == "1") {
+    if wants_expression(found.as_slice()) {
         found.retain(|it| !is_front(*it));
     }
     Ok(found)
