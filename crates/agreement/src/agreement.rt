@@ -14,7 +14,7 @@ use crate::common::{Common, common_of};
 use crate::same::same_answer;
 use injection_order::injection::Due;
 use model_answers::answering::answer;
-use model_answers::model::Model;
+use models::model::Model;
 use question_log::entry::{Entry, first_injection};
 use run_questions::answer::Question;
 use run_questions::record::Record;

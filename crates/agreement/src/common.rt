@@ -6,7 +6,7 @@ ghost use Rattle.question_log.specs.Entries.{asked_in};
 ghost use Rattle.agreement.specs.Common.{is_about, are_about, IsCommon};
 
 use crate::same::same_injections;
-use model_answers::model::Model;
+use models::model::Model;
 use question_log::entry::Entry;
 use run_questions::answer::Question;
 

@@ -15,7 +15,8 @@ ghost use Rattle.checkpointed_runs.specs.declared.running.Phase.{Phase};
 use checkpoints::positions::Positions;
 use kernel::kernel::Kernel;
 use kernel::request::Request;
-use model_answers::model::Model;
+use model_answers::answering::time_limit;
+use models::model::Model;
 use module_api::catalogue::Catalogue;
 use module_api::simple_module::SimpleModule;
 use run_semantics::outcome::{Fault, Outcome};
@@ -256,7 +257,7 @@ impl<C: Catalogue> Runner<C> {
             IfOk result (λ outcome. HasGoneOn C.behaviour (answers_of model.now) self.old.interval from
             self.old.positions self.new.positions left outcome) }
     {
-        let last_time = model.time_limit();
+        let last_time = time_limit(model);
         let mut shown = ShownModules::new(alloc);
         for _k in self.kernel.count()..limit {
             if let Some(outcome) = self.kernel.step(alloc, model, last_time, &mut shown)? {

@@ -1,6 +1,6 @@
 -- A session without a run has no boxes.
 use Rattle.std.proofs.Common.{◌≡◌, ℕ, List, [], ◌∷◌, None, refl, ap, length, map}
-use Rattle.model_answers.specs.declared.model.Model.{Model}
+use Rattle.models.specs.declared.model.Model.{Model}
 use Rattle.run_semantics.specs.World.{World, empty}
 use Rattle.saved_boxes.specs.Seats.{Seat, instance_of}
 use Rattle.kernel.specs.Seats.{world_of}

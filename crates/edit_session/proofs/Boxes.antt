@@ -2,7 +2,7 @@
 use Rattle.std.proofs.Common.{◌≡◌, ℕ, suc, ◌≤◌, List, [], ◌∷◌, Option, Some, None, option_map, refl, sym, ap, ◌∙◌, subst, length, map}
 use Rattle.module_api.specs.Behaviour.{Behaviour}
 use Rattle.module_api.specs.Meaning.{Module}
-use Rattle.model_answers.specs.declared.model.Model.{Model}
+use Rattle.models.specs.declared.model.Model.{Model}
 use Rattle.model_answers.specs.Answering.{answers_of}
 use Rattle.run_questions.specs.Answers.{Answers}
 use Rattle.run_semantics.specs.World.{World}

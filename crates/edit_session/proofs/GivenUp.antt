@@ -1,7 +1,7 @@
 -- What a session keeps of a run that is given up.
 use Rattle.std.proofs.Common.{◌≡◌, ℕ, ◌≤◌, List, Option, Some, None, option_map, refl, sym, ap, ◌∙◌, arith, subst}
 use Rattle.module_api.specs.Behaviour.{Behaviour}
-use Rattle.model_answers.specs.declared.model.Model.{Model}
+use Rattle.models.specs.declared.model.Model.{Model}
 use Rattle.model_answers.specs.Answering.{answers_of}
 use Rattle.run_questions.specs.Answers.{Answers}
 use Rattle.run_semantics.specs.Run.{after, world_at}

@@ -1,7 +1,7 @@
 -- What is written of the files of a session.
 use Rattle.std.specs.Prelude.{◌≡◌, ℕ, List, Option, Some, None, Result, Ok, Err}
 use Rattle.module_api.specs.Behaviour.{Behaviour}
-use Rattle.model_answers.specs.declared.model.Model.{Model}
+use Rattle.models.specs.declared.model.Model.{Model}
 use Rattle.model_answers.specs.Answering.{answers_of}
 use Rattle.result_files.specs.Files.{scalar_text_of, vector_text_of}
 use Rattle.result_files.specs.Taken.{Taken}

@@ -2,7 +2,7 @@
 
 ghost use Rattle.std.specs.Prelude.{◌≡◌, ◌↔◌, ◌+◌, ◌≤◌, Some, None, IsSome, OnOk, OnErr, IfOk, IfErr, option_map, option_copied};
 ghost use Rattle.sim_values.specs.Memory.{no_memory};
-ghost use Rattle.model_answers.specs.declared.model.Model.{Model};
+ghost use Rattle.models.specs.declared.model.Model.{Model};
 ghost use Rattle.model_answers.specs.Answering.{answers_of};
 ghost use Rattle.result_files.specs.ScalarText.{scalar_text};
 ghost use Rattle.result_files.specs.VectorText.{vector_text};
@@ -24,9 +24,9 @@ use checkpointed_runs::running::{Advance, Phase, Runner};
 use checkpoints::positions::Positions;
 use kernel::kernel::Kernel;
 use kernel::request::Request;
-use model_answers::model::Model;
 use model_edits::edit::{Edit, Refusal, edited, number_given};
 use model_texts::begin::{BeginFault, model_of};
+use models::model::Model;
 use module_api::catalogue::Catalogue;
 use module_api::simple_module::SimpleModule;
 use module_tree::Tree;

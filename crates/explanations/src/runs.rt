@@ -7,7 +7,7 @@ use ini_texts::entry::EntryValue;
 use model_answers::parameters::lone_value;
 use model_answers::scene::{Placed, Told};
 use model_texts::begin::model_of;
-use model_answers::model::Model;
+use models::model::Model;
 use ned_trees::declarations::{
     Declaration, ParameterValue, ParameterWord, SectionLine, TypeDeclaration,
 };

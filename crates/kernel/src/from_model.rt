@@ -19,7 +19,7 @@ use kernel_actions::core_part::Core;
 use kernel_actions::looks::Look;
 use kernel_actions::reads::{fault_of_read, question_of, was_told};
 use model_answers::answering::answer;
-use model_answers::model::Model;
+use models::model::Model;
 use module_api::call::{Call, Prompt};
 use module_api::reply::{Read, Reply};
 use run_questions::answer::Question;

@@ -27,7 +27,7 @@ use kernel_actions::core_part::Core;
 use kernel_actions::events::{arrival, message_of};
 use kernel_actions::looks::{Look, Next};
 use kernel_actions::position::Position;
-use model_answers::model::Model;
+use models::model::Model;
 use module_api::call::{Call, Prompt};
 use module_api::catalogue::Catalogue;
 use module_api::reply::Reply;

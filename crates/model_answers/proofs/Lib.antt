@@ -1,3 +1,2 @@
 pub mod Around
 pub mod Names
-pub mod Networks

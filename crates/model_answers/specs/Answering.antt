@@ -12,10 +12,10 @@ use Rattle.run_questions.specs.declared.answer.Answer.TheVariants as answer
 use Rattle.run_questions.specs.declared.answer.Built.{Built}
 use Rattle.run_questions.specs.declared.answer.ModelFault.{ModelFault}
 use Rattle.model_answers.specs.declared.inside.PlacedFault.{PlacedFault}
-use Rattle.model_answers.specs.declared.model.Model.{Model}
+use Rattle.models.specs.declared.model.Model.{Model}
 use Rattle.model_answers.specs.Inside.{built_all, fault_of_site}
 use Rattle.run_questions.specs.Answers.{Answers, Place, is_declared}
-use Rattle.model_answers.specs.Models.{network_of, type_of_record, time_limit_of}
+use Rattle.models.specs.Models.{network_of, type_of_record, time_limit_of}
 use Rattle.model_answers.specs.Parameters.{parameter_value}
 use Rattle.model_answers.specs.Scenes.{Site}
 use Rattle.model_answers.specs.Sites.{network_site, site_in, told_by_type}

@@ -12,8 +12,8 @@ use Rattle.run_questions.specs.declared.answer.Built.{Built}
 use Rattle.run_questions.specs.declared.answer.ModelFault.{ModelFault}
 use Rattle.run_questions.specs.declared.answer.ModelFault.TheVariants.{UnknownType}
 use Rattle.model_answers.specs.declared.inside.PlacedFault.{PlacedFault}
-use Rattle.model_answers.specs.declared.model.Model.{Model}
-use Rattle.model_answers.specs.Models.{named_type}
+use Rattle.models.specs.declared.model.Model.{Model}
+use Rattle.models.specs.Models.{named_type}
 use Rattle.model_answers.specs.Parameters.{parameter_value}
 use Rattle.run_questions.specs.Records.{path_under}
 use Rattle.model_answers.specs.Scenes.{Site, Told}

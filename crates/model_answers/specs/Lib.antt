@@ -1,4 +1,3 @@
-pub mod Models
 pub mod Scenes
 pub mod Sites
 pub mod Parameters

@@ -20,7 +20,7 @@ use Rattle.parameter_values.specs.Meaning.{key_of}
 use Rattle.parameter_values.specs.Settings.{Given, Fixed, Default, Declared, Setting}
 use Rattle.model_answers.specs.declared.scene.Placed.{Placed}
 use Rattle.model_answers.specs.declared.scene.Told as told_type
-use Rattle.model_answers.specs.Models.{entries_in}
+use Rattle.models.specs.Models.{entries_in}
 use Rattle.run_questions.specs.Records.{path_under}
 
 abbrev pub kind_by : ParameterWord → Option Dimension → Kind

@@ -4,9 +4,9 @@ use Rattle.std.specs.Option.{option_and_then}
 use Rattle.ned_trees.specs.declared.declarations.Submodule.{Submodule}
 use Rattle.ned_trees.specs.declared.declarations.TypeDeclaration.{TypeDeclaration}
 use Rattle.ned_types.specs.Flat.{submodule_named}
-use Rattle.model_answers.specs.declared.model.Model.{Model}
+use Rattle.models.specs.declared.model.Model.{Model}
 use Rattle.run_questions.specs.declared.record.Record.{Record}
-use Rattle.model_answers.specs.Models.{entries_in, named_type, network_of}
+use Rattle.models.specs.Models.{entries_in, named_type, network_of}
 use Rattle.run_questions.specs.Answers.{Place}
 use Rattle.model_answers.specs.Scenes.{Site, Told}
 

@@ -6,18 +6,18 @@ ghost use Rattle.model_answers.specs.Answering.{answer_in, answers_of, root_answ
 ghost use Rattle.run_questions.specs.Answers.{answer_of, is_declared, parameters_of, place_of, with_values};
 ghost use Rattle.injection_order.specs.Injections.{injection_before};
 ghost use Rattle.run_questions.specs.declared.answer.Answer.TheVariants as answer;
-ghost use Rattle.model_answers.specs.Models.{network_of, type_at};
+ghost use Rattle.models.specs.Models.{network_of, type_at};
 ghost use Rattle.run_questions.specs.Records.{path_of};
 ghost use Rattle.model_answers.specs.Scenes.{setting_at, site_of};
 ghost use Rattle.model_answers.specs.Sites.{site_in};
 ghost use Rattle.parameter_values.specs.Values.{rules_of};
 
 use crate::inside::{built_all, first_fault};
-use crate::model::Model;
 use crate::parameters::{no_values, parameter_value};
 use crate::scene::{Placed, Told};
 use answer_engine::table::Table;
 use injection_order::injection::{Due, Turn, injection_before};
+use models::model::Model;
 use module_api::call::Parameter;
 use ned_trees::declarations::{SectionLine, TypeDeclaration, TypeKind};
 use ned_types::flat::declaration_named;
@@ -48,6 +48,14 @@ pub fn answer(
         Question::BeyondLimit(time) => Ok(Answer::Beyond(is_beyond(model.time_limit(), *time))),
         Question::InjectionBefore(due, last) => injection_answer(alloc, model, *due, *last),
     }
+}
+
+/// The time after which no event is executed, in picoseconds.
+#[tactic(auto, unfolding(crate::specs::Answering::answers_of))]
+pub fn time_limit(model: &Model) -> Option<u64>
+    ensures { result ≡ (answers_of model.now).time_limit }
+{
+    model.time_limit()
 }
 
 /// The injection that goes before an event that is due then, behind the one that was delivered last.

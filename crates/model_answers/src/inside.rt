@@ -6,10 +6,10 @@ ghost use Rattle.answer_engine.specs.Tables.{IsKept};
 ghost use Rattle.model_answers.specs.Scenes.{setting_at, site_of, told_of};
 ghost use Rattle.parameter_values.specs.Values.{rules_of};
 
-use crate::model::Model;
 use crate::parameters::{no_values, parameter_value};
 use crate::scene::{Placed, Told};
 use answer_engine::table::Table;
+use models::model::Model;
 use ned_trees::declarations::{SectionLine, Submodule, TypeDeclaration, TypeKind};
 use ned_types::flat::class_of;
 use parameter_values::key::Key;

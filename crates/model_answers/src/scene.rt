@@ -2,15 +2,15 @@
 
 ghost use Rattle.std.specs.Prelude.{◌≡◌, IfOk, take};
 ghost use Rattle.std.specs.Option.{option_copied, option_and_then};
-ghost use Rattle.model_answers.specs.Models.{entries_in};
+ghost use Rattle.models.specs.Models.{entries_in};
 ghost use Rattle.run_questions.specs.Records.{record_at};
 ghost use Rattle.model_answers.specs.Scenes.{declared_in, entry_in, given_in, given_to, kind_of, maybe_site, maybe_told, module_of, parent_of, setting_at, site_of, told_of};
 ghost use Rattle.model_answers.specs.Sites.{network_site, site_by, submodule_site, told_by_type};
 ghost use Rattle.parameter_values.specs.Scenes.{declared_by, given_by};
 
-use crate::model::Model;
 use ini_texts::entries::value_for;
 use ini_texts::entry::EntryValue;
+use models::model::Model;
 use ned_trees::declarations::{
     Declaration, ParameterValue, ParameterWord, SectionLine, Submodule, TypeDeclaration,
 };

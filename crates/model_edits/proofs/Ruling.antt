@@ -8,8 +8,8 @@ use Rattle.ini_config.specs.Edits.{AnswersEdit, IsEdited, Refused}
 use Rattle.ini_config.specs.Edits as change
 use Rattle.ini_texts.specs.Sections.{IsChain, is_section}
 use Rattle.ini_texts.proofs.ChainLaws.{one_chain_law}
-use Rattle.model_answers.specs.declared.model.Model.{Model}
-use Rattle.model_answers.specs.Models.{network_of}
+use Rattle.models.specs.declared.model.Model.{Model}
+use Rattle.models.specs.Models.{network_of}
 use Rattle.ned_trees.specs.declared.declarations.TypeDeclaration.{TypeDeclaration}
 use Rattle.model_edits.specs.declared.edit.Edit.{Edit}
 use Rattle.model_edits.specs.declared.edit.Edit.TheVariants as edit

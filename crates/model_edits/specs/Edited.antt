@@ -9,8 +9,8 @@ use Rattle.ini_config.specs.Edits as change
 use Rattle.ini_texts.specs.Sections.{IsChain, is_section}
 use Rattle.injection_order.specs.declared.injection.Due.{Due}
 use Rattle.injection_order.specs.declared.injection.Injection.{Injection}
-use Rattle.model_answers.specs.declared.model.Model.{Model}
-use Rattle.model_answers.specs.Models.{network_of}
+use Rattle.models.specs.declared.model.Model.{Model}
+use Rattle.models.specs.Models.{network_of}
 use Rattle.model_edits.specs.declared.edit.Edit.{Edit}
 use Rattle.model_edits.specs.declared.edit.Edit.TheVariants as edit
 use Rattle.model_edits.specs.declared.edit.Refusal.{Refusal}

@@ -4,8 +4,8 @@ use Rattle.ini_config.specs.declared.error.EditError.{EditError}
 use Rattle.ini_config.specs.declared.error.EditError.TheVariants as errors
 use Rattle.ini_texts.specs.declared.lines.IniLine.{IniLine}
 use Rattle.ini_texts.specs.Sections.{IsChain, is_section}
-use Rattle.model_answers.specs.declared.model.Model.{Model}
-use Rattle.model_answers.specs.Models.{network_of}
+use Rattle.models.specs.declared.model.Model.{Model}
+use Rattle.models.specs.Models.{network_of}
 use Rattle.model_edits.specs.declared.edit.Edit.{Edit}
 use Rattle.model_edits.specs.declared.edit.Refusal.{Refusal}
 use Rattle.model_edits.specs.declared.edit.Refusal.TheVariants as refusal

@@ -3,7 +3,7 @@
 ghost use Rattle.std.specs.Prelude.{◌≡◌, ◌<◌, true, length, position, IfOk, IfErr, IfSome, OnOk, OnErr, is_some};
 ghost use Rattle.std.specs.Option.{option_and_then, option_copied};
 ghost use Rattle.ini_texts.specs.Sections.{IsChain, is_section};
-ghost use Rattle.model_answers.specs.Models.{as_network};
+ghost use Rattle.models.specs.Models.{as_network};
 ghost use Rattle.model_edits.specs.Edited.{has_no_room, is_numbered, number_given, IsEditOf, IsOnlyEditOf, IsRuledOut, Refuses, RefusesLines};
 ghost use Rattle.model_edits.specs.declared.edit.Edit.TheVariants as edits;
 ghost use Rattle.model_edits.specs.Steps.{has_network, told_as, Comes, RefusesChain, Takes, TakesMade};
@@ -15,7 +15,7 @@ use ini_texts::error::ChainError;
 use ini_texts::lines::IniText;
 use ini_texts::speaks::last_name;
 use injection_order::injection::{Due, Injection};
-use model_answers::model::Model;
+use models::model::Model;
 use ned_trees::declarations::{TypeDeclaration, TypeKind};
 use sim_values::NoMemory;
 use sim_values::text::Text;

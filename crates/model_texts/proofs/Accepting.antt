@@ -17,8 +17,8 @@ use Rattle.ini_texts.specs.Sections.{IsChain, is_section}
 use Rattle.ini_texts.proofs.ChainLaws.{one_chain_law}
 use Rattle.ini_config.proofs.MeaningLaws.{bad_text, text_same}
 use Rattle.injection_order.specs.declared.injection.Injection.{Injection}
-use Rattle.model_answers.specs.declared.model.Model.{Model}
-use Rattle.model_answers.specs.Models.{network_of}
+use Rattle.models.specs.declared.model.Model.{Model}
+use Rattle.models.specs.Models.{network_of}
 use Rattle.model_texts.specs.declared.begin.BeginFault.{BeginFault}
 use Rattle.model_texts.specs.declared.begin.BeginFault.TheVariants as fault
 use Rattle.model_texts.specs.Models.{AreNedFiles, AreRead, AreApart, IsModelOf, IsReadAs, Refuses, IsRuledOut, is_too_large}

@@ -5,8 +5,8 @@ use Rattle.sim_values.specs.Memory.{no_memory}
 use Rattle.ini_texts.specs.declared.lines.IniLine.{IniLine}
 use Rattle.ini_config.specs.Meaning.{IsIniText, FirstBad}
 use Rattle.ini_texts.specs.Sections.{IsChain, is_section}
-use Rattle.model_answers.specs.declared.model.Model.{Model}
-use Rattle.model_answers.specs.Models.{network_of}
+use Rattle.models.specs.declared.model.Model.{Model}
+use Rattle.models.specs.Models.{network_of}
 use Rattle.sim_values.specs.Limits.{max_length}
 use Rattle.ned_tokens.specs.Viable.{IsFirstBadLine}
 use Rattle.ned_trees.specs.declared.declarations.NedFile.{NedFile}

@@ -1,7 +1,7 @@
 -- Why a session ends early.
 use Rattle.std.proofs.Common.{◌≡◌, ◌⊎◌, inl, inr, refl, sym, subst, Option, Some, None, Result, Ok, Err, IfOk, IfErr, OnOk, IsErrAnd, IsSomeAnd}
 use Rattle.line_reading.specs.Waits.{Waiting}
-use Rattle.model_answers.specs.declared.model.Model.{Model}
+use Rattle.models.specs.declared.model.Model.{Model}
 use Rattle.model_texts.specs.declared.begin.BeginFault.{BeginFault}
 use Rattle.desk_clients.specs.Stops.{at_stop}
 use Rattle.desk_clients.specs.declared.clients.Stop.{Stop as Why}

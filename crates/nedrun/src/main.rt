@@ -2,7 +2,7 @@
 #![tactic(auto)]
 
 ghost use Rattle.std.specs.Prelude.{◌≡◌, ◌≢◌, ◌≤◌, [], Some, Ok, Err, IsErrAnd, IsSomeAnd, IfErr, IfOk, OnOk, string_bytes};
-ghost use Rattle.model_answers.specs.declared.model.Model.{Model};
+ghost use Rattle.models.specs.declared.model.Model.{Model};
 ghost use Rattle.model_texts.specs.Models.{IsModelOf, IsRuledOut, Refuses};
 ghost use Rattle.stock_modules.specs.Stock.{stock};
 ghost use Rattle.stock_desk.specs.Served.{fresh_machine};

@@ -5,12 +5,12 @@ use crate::telling::Telling;
 use crate::tree_rows::tell_tree;
 use crate::words::{tell_names, written};
 use ned_syntax::parse::parse_ned;
-use ned_trees::texts::NedTexts;
 use ned_trees::declarations::{
     Declaration, GateLine, GateSize, NedFile, NestedType, ParameterValue, SectionLine, Statistic,
     Submodule, TypeDeclaration,
 };
 use ned_trees::expressions::Expression;
+use ned_trees::texts::NedTexts;
 use ned_values::parse::parse_expression;
 use sim_values::text::Text;
 use std::alloc::Global;

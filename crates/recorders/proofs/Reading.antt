@@ -5,8 +5,8 @@ use Rattle.std.proofs.lemmas.List.{append-nil}
 use Rattle.std.specs.List.{flat_map, list_any}
 use Rattle.std.specs.Str.{bytes_eq}
 use Rattle.run_questions.specs.declared.record.Record.{Record}
-use Rattle.model_answers.specs.declared.model.Model.{Model}
-use Rattle.model_answers.specs.Models.{entries_in}
+use Rattle.models.specs.declared.model.Model.{Model}
+use Rattle.models.specs.Models.{entries_in}
 use Rattle.run_questions.specs.Records.{path_of}
 use Rattle.ned_trees.specs.declared.modes.Mode.{Mode}
 use Rattle.ned_trees.specs.declared.declarations.Statistic.{Statistic}

@@ -1,9 +1,9 @@
 -- Which scalars a run records, read by the places of what concerns a module.
 use Rattle.std.specs.Prelude.{ℕ, ◌==◌, List, [], ◌++◌, length, flat_map, if◌then◌else◌}
-use Rattle.model_answers.specs.declared.model.Model.{Model}
+use Rattle.models.specs.declared.model.Model.{Model}
 use Rattle.run_questions.specs.declared.record.Record.{Record}
 use Rattle.model_answers.specs.Answering.{lines_of}
-use Rattle.model_answers.specs.Models.{type_at}
+use Rattle.models.specs.Models.{type_at}
 use Rattle.ned_types.specs.Flat.{statistics_of}
 use Rattle.recorders.specs.declared.places.RunPlaces.{RunPlaces}
 use Rattle.recorders.specs.declared.scalar_line.ScalarLine.{ScalarLine}

@@ -3,10 +3,10 @@
 use Rattle.std.specs.Prelude.{ℕ, ◌+◌, ℤ, Bool, List, [], ◌∷◌, ◌++◌, flat_map, Option, Some, None, ◌==◌, if◌then◌else◌}
 use Rattle.std.specs.List.{list_any}
 use Rattle.ini_texts.specs.declared.lines.Entry.{Entry}
-use Rattle.model_answers.specs.declared.model.Model.{Model}
+use Rattle.models.specs.declared.model.Model.{Model}
 use Rattle.run_questions.specs.declared.record.Record.{Record}
 use Rattle.model_answers.specs.Answering.{lines_of}
-use Rattle.model_answers.specs.Models.{entries_in, type_at}
+use Rattle.models.specs.Models.{entries_in, type_at}
 use Rattle.run_questions.specs.Records.{path_of}
 use Rattle.ned_trees.specs.declared.modes.Mode.{Mode}
 use Rattle.ned_trees.specs.declared.declarations.Statistic.{Statistic}

@@ -2,10 +2,10 @@
 use Rattle.std.specs.Prelude.{◌≡◌, ℕ, ◌+◌, ◌<◌, Bool, false, List, Option, Some, None, length, slice_get}
 use Rattle.std.specs.List.{list_any}
 use Rattle.ini_texts.specs.declared.lines.Entry.{Entry}
-use Rattle.model_answers.specs.declared.model.Model.{Model}
+use Rattle.models.specs.declared.model.Model.{Model}
 use Rattle.run_questions.specs.declared.record.Record.{Record}
 use Rattle.model_answers.specs.Answering.{lines_of}
-use Rattle.model_answers.specs.Models.{entries_in, type_at}
+use Rattle.models.specs.Models.{entries_in, type_at}
 use Rattle.run_questions.specs.Records.{path_of}
 use Rattle.ned_trees.specs.declared.declarations.Statistic.{Statistic}
 use Rattle.ned_types.specs.Flat.{statistics_of}

@@ -2,10 +2,10 @@
 
 ghost use Rattle.std.specs.Prelude.{◌≡◌, IfOk};
 ghost use Rattle.model_answers.specs.Answering.{lines_of};
-ghost use Rattle.model_answers.specs.Models.{type_at};
+ghost use Rattle.models.specs.Models.{type_at};
 ghost use Rattle.ned_types.specs.Flat.{statistics_of};
 
-use model_answers::model::Model;
+use models::model::Model;
 use ned_trees::declarations::Statistic;
 use ned_types::flat::statistics_of;
 use run_questions::record::Record;

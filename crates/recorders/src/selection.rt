@@ -2,7 +2,7 @@
 
 ghost use Rattle.std.specs.Prelude.{◌≡◌, IfOk, OnOk};
 ghost use Rattle.std.specs.Option.{option_copied};
-ghost use Rattle.model_answers.specs.Models.{entries_in};
+ghost use Rattle.models.specs.Models.{entries_in};
 ghost use Rattle.ned_trees.specs.Modes.{mode_name};
 ghost use Rattle.recorders.specs.Selection.{after_item, after_items, begins_signed, chosen_modes, first_modes, is_on, is_signed, modes_of, option_of, recorded_modes, records_scalar_among, records_scalar_named, records_scalars, records_statistic, records_vector, records_vector_named, result_name, selected_modes};
 
@@ -11,7 +11,7 @@ use crate::modes::{
 };
 use ini_texts::entries::object_for;
 use ini_texts::entry::{ModeItem, ObjectOption};
-use model_answers::model::Model;
+use models::model::Model;
 use ned_trees::declarations::{RecordedMode, Statistic};
 use ned_trees::modes::Mode;
 use run_questions::record::path_under;

@@ -11,7 +11,7 @@ use crate::places::{heard_lists, places_at};
 use crate::selection::records_vector;
 use crate::vector_line::VectorLine;
 use crate::wanted::{Output, is_wanted, wanted};
-use model_answers::model::Model;
+use models::model::Model;
 use ned_trees::declarations::Statistic;
 use run_questions::record::{Record, path_of};
 use run_semantics::traces::Emission;

@@ -1,11 +1,11 @@
 //! The modules of whose statistics something is recorded: their places alone are noted.
 
 ghost use Rattle.std.specs.Prelude.{◌≡◌, ◌+◌, ◌^◌, ◌<◌, IfOk, length};
-ghost use Rattle.model_answers.specs.Models.{entries_in};
+ghost use Rattle.models.specs.Models.{entries_in};
 ghost use Rattle.recorders.specs.Wanted.{is_wanted, has_output, has_output_among, wants, AreWanted};
 
 use crate::selection::{records_scalars, records_vector};
-use model_answers::model::Model;
+use models::model::Model;
 use ned_trees::declarations::Statistic;
 use ned_types::flat::statistics_of;
 use run_questions::record::{Record, path_of};

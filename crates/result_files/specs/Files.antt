@@ -1,6 +1,6 @@
 -- The result files of a run.
 use Rattle.std.specs.Prelude.{ℕ, List}
-use Rattle.model_answers.specs.declared.model.Model.{Model}
+use Rattle.models.specs.declared.model.Model.{Model}
 use Rattle.run_questions.specs.declared.record.Record.{Record}
 use Rattle.recorders.specs.Scalars.{scalars_of}
 use Rattle.recorders.specs.Vectors.{vectors_of}

@@ -4,8 +4,8 @@ use Rattle.std.specs.List.{list_all, flat_map}
 use Rattle.ini_texts.specs.declared.lines.Entry.{Entry}
 use Rattle.ini_texts.specs.Entries.{last_name, network_entry}
 use Rattle.ini_texts.specs.Sections.{is_extends}
-use Rattle.model_answers.specs.declared.model.Model.{Model}
-use Rattle.model_answers.specs.Models.{entries_in}
+use Rattle.models.specs.declared.model.Model.{Model}
+use Rattle.models.specs.Models.{entries_in}
 use Rattle.module_api.specs.Names.{is_plain, is_quoting}
 
 abbrev pub escaped : ℕ → List ℕ

@@ -10,7 +10,7 @@ use crate::header::header;
 use crate::lines::{put_data_lines, put_scalar_lines, put_vector_lines};
 use crate::progress::{Progress, put};
 use crate::writer::{Device, Out};
-use model_answers::model::Model;
+use models::model::Model;
 use recorders::scalar_line::ScalarLine;
 use recorders::scalars::scalars;
 use recorders::vector_line::VectorLine;

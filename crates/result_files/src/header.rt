@@ -10,7 +10,7 @@ use ini_texts::entry::EntryMeaning;
 use ini_texts::lines::{Entry, IniLine};
 use ini_texts::scan::{entry_in, section_behind};
 use ini_texts::speaks::last_name;
-use model_answers::model::Model;
+use models::model::Model;
 use module_api::names::{is_all_plain, is_quoting};
 use sim_values::text::Text;
 use std::alloc::{AllocError, Global};

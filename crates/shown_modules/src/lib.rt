@@ -10,7 +10,7 @@ ghost use Rattle.shown_modules.specs.declared.ShownModules.{ShownModules};
 ghost use Rattle.shown_modules.specs.Tables.{entries_in, is_whole, shown_of, AreShown, IsShown};
 
 use model_answers::answering::parameters_of;
-use model_answers::model::Model;
+use models::model::Model;
 use module_api::call::Parameter;
 use module_tree::Tree;
 use run_questions::record::{MAX_NESTING, Record, path_of, record_at};

@@ -4,7 +4,7 @@ use Rattle.run_questions.specs.declared.answer.Answer.{Answer}
 use Rattle.run_questions.specs.declared.answer.Answer.TheVariants as answer
 use Rattle.run_questions.specs.declared.answer.Built.{Built}
 use Rattle.run_questions.specs.declared.answer.Question.TheVariants.{Root, Build}
-use Rattle.model_answers.specs.declared.model.Model.{Model}
+use Rattle.models.specs.declared.model.Model.{Model}
 use Rattle.model_answers.specs.Answering.{answers_of}
 use Rattle.run_questions.specs.Answers.{Answers, answer_of}
 use Rattle.run_questions.specs.declared.record.Record.{Record}

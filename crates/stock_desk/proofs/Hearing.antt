@@ -1,7 +1,7 @@
 -- What a client hears of one command.
 use Rattle.std.proofs.Common.{◌≡◌, ℕ, Bor, true, false, List, [], ◌∷◌, ◌++◌, Option, Some, None, IsSome, is_some, option_copied, option_map, codes, inl, inr, refl, sym, ap, ◌∙◌, subst}
 use Rattle.module_api.specs.Behaviour.{Behaviour}
-use Rattle.model_answers.specs.declared.model.Model.{Model}
+use Rattle.models.specs.declared.model.Model.{Model}
 use Rattle.model_answers.specs.Answering.{answers_of}
 use Rattle.run_semantics.specs.declared.outcome.Outcome.{Outcome}
 use Rattle.edit_session.specs.Editing.{Completed, Editing, boxes_left, completed}

@@ -8,7 +8,7 @@ use Rattle.edit_session.specs.Editing.{Completed, Editing, IsUndone, fresh_editi
 use Rattle.checkpointed_runs.specs.Positions.{last_count, positions_begun, start_of}
 use Rattle.checkpointed_runs.specs.declared.running.Phase.{Phase}
 use Rattle.kernel_actions.specs.declared.position.Position.{Position}
-use Rattle.model_answers.specs.declared.model.Model.{Model}
+use Rattle.models.specs.declared.model.Model.{Model}
 use Rattle.stock_modules.specs.declared.modules.StockModule.{StockModule}
 use Rattle.checkpointed_runs.specs.declared.running.Phase.TheVariants.{Idle, Waiting, Declined}
 use Rattle.stock_desk.specs.Boxes.{most_boxes}

@@ -1,6 +1,6 @@
 -- The boxes that a run needs.
 use Rattle.std.specs.Prelude.{ℕ, ◌+◌, ◌-◌, length}
-use Rattle.model_answers.specs.declared.model.Model.{Model}
+use Rattle.models.specs.declared.model.Model.{Model}
 use Rattle.model_answers.specs.Answering.{answers_of}
 use Rattle.run_semantics.specs.Perform.{Flow, On, Stopped, Broken}
 use Rattle.run_semantics.specs.Run.{parts_of, prepared}

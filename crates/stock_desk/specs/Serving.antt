@@ -1,7 +1,7 @@
 -- A desk with a client, from one turn to the next.
 use Rattle.std.specs.Prelude.{◌≡◌, ◌⊎◌, ◌≤◌, ◌<◌, ℕ, ◌+◌, ◌*◌, List, [], ◌∷◌, ◌++◌, Option, Some, None, IsSome, option_map}
 use Rattle.module_api.specs.Behaviour.{Behaviour}
-use Rattle.model_answers.specs.declared.model.Model.{Model}
+use Rattle.models.specs.declared.model.Model.{Model}
 use Rattle.command_lines.specs.declared.commands.Command.{Command}
 use Rattle.command_lines.specs.declared.commands.Command.TheVariants as command
 use Rattle.stock_modules.specs.Modules.{module_of}

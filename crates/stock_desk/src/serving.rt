@@ -1,7 +1,7 @@
 //! A client at a desk with boxes of the stock modules: it asks one thing after the other, and hears what comes of it.
 
 ghost use Rattle.std.specs.Prelude.{◌≡◌, ◌<◌, ◌≤◌, ℕ, [], ◌∷◌, ◌++◌, Some, None, IsSome, OnOk, IfOk, IfErr, codes};
-ghost use Rattle.model_answers.specs.declared.model.Model.{Model};
+ghost use Rattle.models.specs.declared.model.Model.{Model};
 ghost use Rattle.model_texts.specs.Models.{IsModelOf, IsRuledOut, Refuses};
 ghost use Rattle.stock_modules.specs.Stock.{stock};
 ghost use Rattle.edit_session.specs.Editing.{wanted_of, IsFor};

@@ -18,7 +18,7 @@ use Rattle.ini_texts.specs.declared.entry.EntryValue.TheVariants as entry_value
 use Rattle.ini_texts.specs.declared.entry.EntryMeaning.TheVariants as meaning
 use Rattle.ini_texts.specs.declared.lines.IniLine.{IniLine}
 use Rattle.ini_texts.specs.declared.lines.LineMeaning.TheVariants as ini
-use Rattle.model_answers.specs.declared.model.Model.{Model}
+use Rattle.models.specs.declared.model.Model.{Model}
 
 -- `int NAME;`
 abbrev pub number : List ℕ → SectionLine

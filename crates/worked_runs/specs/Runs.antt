@@ -2,7 +2,7 @@
 use Rattle.std.specs.Prelude.{◌≡◌, ℕ, pos, List, [], ◌∷◌, ◌++◌, codes}
 use Rattle.sim_values.specs.declared.value.Dimension.TheVariants as dimension
 use Rattle.sim_values.specs.declared.value.Value.TheVariants as values
-use Rattle.model_answers.specs.declared.model.Model.{Model}
+use Rattle.models.specs.declared.model.Model.{Model}
 use Rattle.stock_modules.specs.Stock.{stock}
 use Rattle.edit_session.specs.Files.{scalars_of_run, vectors_of_run}
 use Rattle.desk.specs.Turns.{run_answer}

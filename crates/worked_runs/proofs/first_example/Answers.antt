@@ -42,7 +42,7 @@ use Rattle.ini_entries.specs.Texts.{before_blanks, is_among, parts_at}
 use Rattle.ini_config.specs.Meaning.{ends_with}
 use Rattle.ini_config.specs.Texts.{lines_of_ini, literal_rest, uncommented, before_hash, holds_variable}
 use Rattle.model_answers.specs.Answering.{answers_of}
-use Rattle.model_answers.specs.Models.{time_limit_of}
+use Rattle.models.specs.Models.{time_limit_of}
 use Rattle.ned_scopes.specs.Scopes.{types_of}
 use Rattle.ned_scopes.proofs.ExampleLaws.{two_levels}
 use Rattle.ned_trees.specs.declared.declarations.TypeDeclaration.{TypeDeclaration}

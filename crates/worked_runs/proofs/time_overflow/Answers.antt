@@ -4,7 +4,7 @@ use Rattle.std.specs.Fmt.{digits}
 use Rattle.std.specs.Str.{chars, is_utf8}
 use Rattle.sim_time.specs.Text.{text_of_time}
 use Rattle.model_answers.specs.Answering.{answers_of}
-use Rattle.model_answers.specs.Models.{time_limit_of}
+use Rattle.models.specs.Models.{time_limit_of}
 use Rattle.run_questions.specs.Records.{path_around, path_of}
 use Rattle.recorders.specs.Hearing.{is_within}
 use Rattle.recorders.specs.Scalars.{statistic_lines}

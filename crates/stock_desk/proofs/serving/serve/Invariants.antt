@@ -1,5 +1,5 @@
 use Rattle.std.proofs.Common.{◌≡◌}
-use Rattle.model_answers.specs.declared.model.Model.{Model}
+use Rattle.models.specs.declared.model.Model.{Model}
 use Rattle.model_texts.specs.Models.{IsModelOf}
 use Rattle.stock_modules.specs.Stock.{stock}
 use Rattle.stock_desk.specs.Served.{fresh_machine}

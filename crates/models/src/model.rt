@@ -2,8 +2,7 @@
 
 ghost use Rattle.std.specs.Prelude.{◌≡◌, IfOk, Some};
 ghost use Rattle.std.specs.Option.{option_copied};
-ghost use Rattle.model_answers.specs.Models.{network_of, type_at, inner_type, as_network};
-ghost use Rattle.model_answers.specs.Answering.{answers_of};
+ghost use Rattle.models.specs.Models.{network_of, type_at, inner_type, as_network, time_limit_of};
 ghost use Rattle.run_questions.specs.Records.{record_at};
 ghost use Rattle.ned_types.specs.Flat.{submodule_named};
 
@@ -74,10 +73,10 @@ impl Model {
         as_network(declared)
     }
 
-    #[tactic(auto, unfolding(crate::specs::Answering::answers_of, crate::specs::Models::time_limit_of))]
     /// The time after which no event is executed, in picoseconds: the option sim-time-limit.
+    #[tactic(auto, unfolding(crate::specs::Models::time_limit_of))]
     pub fn time_limit(&self) -> Option<u64>
-        ensures { result ≡ (answers_of self.now).time_limit }
+        ensures { result ≡ time_limit_of self.now }
     {
         time_limit_entry(self.ini.lines(), self.chain.as_slice())
     }

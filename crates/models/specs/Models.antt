@@ -10,7 +10,7 @@ use Rattle.ned_trees.specs.declared.declarations.TypeKind.{TypeKind}
 use Rattle.ned_trees.specs.declared.declarations.TypeKind.TheVariants.{Network}
 use Rattle.ned_types.specs.Types.{type_named}
 use Rattle.ned_types.specs.Flat.{submodule_named}
-use Rattle.model_answers.specs.declared.model.Model.{Model}
+use Rattle.models.specs.declared.model.Model.{Model}
 use Rattle.run_questions.specs.declared.record.Record.{Record}
 use Rattle.run_questions.specs.Records.{record_at}
 

@@ -7,8 +7,8 @@ use Rattle.ned_trees.specs.declared.declarations.TypeKind.TheVariants.{Simple, N
 use Rattle.ned_types.specs.Types.{type_named}
 use Rattle.ned_types.specs.WellFormed.{IsAmong}
 use Rattle.ini_texts.specs.Entries.{last_name, network_entry}
-use Rattle.model_answers.specs.declared.model.Model.{Model}
-use Rattle.model_answers.specs.Models.{as_network, entries_in, network_of, of_kind, type_by_last_name}
+use Rattle.models.specs.declared.model.Model.{Model}
+use Rattle.models.specs.Models.{as_network, entries_in, network_of, of_kind, type_by_last_name}
 
 named_among : (name : List ℕ) (ts : List TypeDeclaration) (t : TypeDeclaration) → type_named name ts ≡ Some t → IsAmong t ts
 named_among name [] t e = cc

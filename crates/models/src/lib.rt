@@ -1,0 +1,4 @@
+//! The model of a run: what its texts make, before anything is asked of it.
+#![tactic(auto)]
+
+pub mod model;
