@@ -19,7 +19,7 @@ use kernel::request::Request;
 use model_edits::edit::Edit;
 use module_api::catalogue::Catalogue;
 use module_api::simple_module::SimpleModule;
-use result_files::writer::Out;
+use result_lines::writer::Out;
 use run_semantics::outcome::Outcome;
 use sim_values::NoMemory;
 use sim_values::text::Text;

@@ -1,6 +1,6 @@
 -- The devices of the files of a run.
 use Rattle.std.specs.Prelude.{◌≡◌, ℕ, length}
-use Rattle.result_files.specs.Taken.{Taken, untouched}
+use Rattle.result_lines.specs.Taken.{Taken, untouched}
 use Rattle.desk_clients.specs.declared.clients.Page.{Page}
 use Rattle.desk_clients.specs.declared.clients.Page.TheVariants as page
 

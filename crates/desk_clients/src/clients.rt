@@ -1,14 +1,14 @@
 //! Who asks at a desk, and hears what comes of it.
 
 ghost use Rattle.std.specs.Prelude.{◌≡◌, ◌<◌, ℕ, List, ◌∷◌, ◌++◌, [], None, OnOk, OnErr, IfOk, IfSome};
-ghost use Rattle.result_files.specs.Taken.{untouched};
+ghost use Rattle.result_lines.specs.Taken.{untouched};
 ghost use Rattle.desk_clients.specs.Devices.{HasFailed};
 ghost use Rattle.desk_clients.specs.declared.clients.Stop.{Stop as StopValue};
 ghost use Rattle.desk_clients.specs.declared.clients.Stop.TheVariants as why;
 ghost use Rattle.transcripts.specs.declared.asked.Asked.{Asked as AskedValue};
 ghost use Rattle.transcripts.specs.Heard.{Heard, Answer, Files};
 
-use result_files::writer::Out;
+use result_lines::writer::Out;
 use text_files::noted::Noted;
 use transcripts::asked::Asked;
 

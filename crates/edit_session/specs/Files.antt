@@ -4,8 +4,8 @@ use Rattle.module_api.specs.Behaviour.{Behaviour}
 use Rattle.models.specs.declared.model.Model.{Model}
 use Rattle.model_answers.specs.Answering.{answers_of}
 use Rattle.result_files.specs.Files.{scalar_text_of, vector_text_of}
-use Rattle.result_files.specs.Taken.{Taken}
-use Rattle.result_files.specs.Written.{IsWritten}
+use Rattle.result_lines.specs.Taken.{Taken}
+use Rattle.result_lines.specs.Written.{IsWritten}
 use Rattle.edit_session.specs.Editing.{Completed}
 use Rattle.checkpointed_runs.specs.Running.{fresh_run}
 use Rattle.edit_session.specs.declared.session.FileFault.{FileFault}

@@ -1,7 +1,7 @@
 -- A file of the system as a device.
 use Rattle.std.specs.Prelude.{ℕ, List}
 use Rattle.std.specs.Io.Buffered.{writer_buffer}
-use Rattle.result_files.specs.Taken.{Taken}
+use Rattle.result_lines.specs.Taken.{Taken}
 use Rattle.program_streams.specs.declared.devices.FileOut.{FileOut}
 
 -- what it took

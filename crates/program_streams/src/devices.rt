@@ -6,11 +6,11 @@ ghost use Rattle.std.specs.declared.io.Error.{Error as SystemError};
 ghost use Rattle.sim_values.specs.Counts.{next_count};
 ghost use Rattle.program_stops.specs.Stops.{IsFailed};
 ghost use Rattle.program_streams.specs.Devices.{taken_by, unwritten};
-ghost use Rattle.result_files.specs.Taken.{untouched};
+ghost use Rattle.result_lines.specs.Taken.{untouched};
 ghost use Rattle.program_streams.specs.Stops.{IsShortOf, IsUnwritable};
 
 use program_stops::stops::Stop;
-use result_files::writer::{Out, WriteFault};
+use result_lines::writer::{Out, WriteFault};
 use std::fs::File;
 use std::io;
 use std::io::{BufWriter, ErrorKind, Write};

@@ -8,7 +8,7 @@ ghost use Rattle.program_stops.specs.declared.stops.Stop.{Stop as StopValue};
 ghost use Rattle.program_streams.specs.Devices.{taken_by, unwritten};
 ghost use Rattle.program_streams.specs.Paths.{file_path};
 ghost use Rattle.program_streams.specs.Stops.{IsShortOf, IsShortOfRun, IsUnsaid, IsUnwritable};
-ghost use Rattle.result_files.specs.Taken.{untouched};
+ghost use Rattle.result_lines.specs.Taken.{untouched};
 ghost use Rattle.desk_clients.specs.Devices.{HasFailed};
 ghost use Rattle.desk_clients.specs.Stops.{at_stop};
 ghost use Rattle.transcripts.specs.Heard as heards;

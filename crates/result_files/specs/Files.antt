@@ -5,9 +5,9 @@ use Rattle.run_questions.specs.declared.record.Record.{Record}
 use Rattle.recorders.specs.Scalars.{scalars_of}
 use Rattle.recorders.specs.Vectors.{vectors_of}
 use Rattle.result_files.specs.declared.files.ResultFiles.{ResultFiles}
-use Rattle.result_files.specs.Header.{header_of}
-use Rattle.result_files.specs.ScalarText.{scalar_text}
-use Rattle.result_files.specs.VectorText.{vector_text}
+use Rattle.result_lines.specs.Header.{header_of}
+use Rattle.result_lines.specs.ScalarText.{scalar_text}
+use Rattle.result_lines.specs.VectorText.{vector_text}
 use Rattle.run_semantics.specs.declared.traces.Emission.{Emission}
 use Rattle.run_semantics.specs.declared.traces.Scalar.{Scalar}
 

@@ -1,20 +1,20 @@
 //! The result files of a run.
 
 ghost use Rattle.std.specs.Prelude.{◌≡◌, ◌<◌, ◌^◌, IfOk, length};
-ghost use Rattle.result_files.specs.Written.{answer_of, IsWritten};
-ghost use Rattle.result_files.specs.ScalarText.{scalar_text};
-ghost use Rattle.result_files.specs.VectorText.{vector_text};
+ghost use Rattle.result_lines.specs.Written.{answer_of, IsWritten};
+ghost use Rattle.result_lines.specs.ScalarText.{scalar_text};
+ghost use Rattle.result_lines.specs.VectorText.{vector_text};
 ghost use Rattle.result_files.specs.Files.{files_of};
 
-use crate::header::header;
-use crate::lines::{put_data_lines, put_scalar_lines, put_vector_lines};
-use crate::progress::{Progress, put};
-use crate::writer::{Device, Out};
 use models::model::Model;
 use recorders::scalar_line::ScalarLine;
 use recorders::scalars::scalars;
 use recorders::vector_line::VectorLine;
 use recorders::vectors::vectors;
+use result_lines::header::header;
+use result_lines::lines::{put_data_lines, put_scalar_lines, put_vector_lines};
+use result_lines::progress::{Progress, put};
+use result_lines::writer::{Device, Out};
 use run_questions::record::Record;
 use run_semantics::traces::{Emission, Scalar};
 use sim_values::NoMemory;

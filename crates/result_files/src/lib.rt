@@ -1,10 +1,4 @@
-//! The bytes of result files.
+//! The result files of a run.
 #![tactic(auto)]
 
-pub mod buffer;
 pub mod files;
-pub mod header;
-mod lines;
-mod next_vector;
-mod progress;
-pub mod writer;

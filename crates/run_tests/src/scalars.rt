@@ -13,7 +13,7 @@ use desk::desk::{Desk, DeskTurn};
 use edit_session::session::Session;
 use module_api::simple_module::SimpleModule;
 use ned_trees::texts::NedTexts;
-use result_files::buffer::Buffer;
+use result_lines::buffer::Buffer;
 use sim_values::text::Text;
 use std::alloc::{AllocError, Global};
 use std::test::Fail;

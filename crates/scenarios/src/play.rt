@@ -1,7 +1,7 @@
 //! A scenario at a desk, with the stock modules.
 
 ghost use Rattle.std.specs.Prelude.{◌≡◌, ◌≤◌, ℕ, ◌++◌, ◌∷◌, [], Some, IfOk, IfSome, IsSome, OnOk, OnErr, length};
-ghost use Rattle.result_files.specs.Taken.{untouched};
+ghost use Rattle.result_lines.specs.Taken.{untouched};
 ghost use Rattle.desk_clients.specs.Devices.{HasFailed};
 ghost use Rattle.desk_clients.specs.Stops.{at_stop};
 ghost use Rattle.transcripts.specs.Heard as heards;
@@ -10,7 +10,7 @@ use crate::scenario::Scenario;
 use desk::answers::refusal_text;
 use desk_clients::clients::{Client, Gone, Page, Pages, Stop};
 use model_texts::begin::BeginFault;
-use result_files::buffer::Buffer;
+use result_lines::buffer::Buffer;
 use sim_values::NoMemory;
 use sim_values::text::Text;
 use std::alloc::Global;

@@ -10,7 +10,7 @@ ghost use Rattle.stock_desk.specs.Served.{fresh_machine};
 ghost use Rattle.command_lines.specs.declared.commands.Command.TheVariants as commands;
 ghost use Rattle.stock_desk.specs.Served.{command_asked};
 ghost use Rattle.stock_desk.specs.Serving.{AreFilled, ComesTo, Ends, HearsNext, IsMetIn, IsNextServing, IsReady, IsRunIn, IsServer, IsServingTurn, MayStopAt, MayStopIn, Serves, Tells};
-ghost use Rattle.result_files.specs.Taken.{untouched};
+ghost use Rattle.result_lines.specs.Taken.{untouched};
 ghost use Rattle.desk_clients.specs.Devices.{HasFailed};
 ghost use Rattle.desk_clients.specs.declared.clients.Stop.TheVariants as why;
 
@@ -23,7 +23,7 @@ use model_edits::edit::Edit;
 use model_texts::begin::BeginFault;
 use module_api::simple_module::SimpleModule;
 use ned_trees::texts::NedTexts;
-use result_files::writer::Out;
+use result_lines::writer::Out;
 use std::alloc::Global;
 use std::marker::PhantomData;
 use stock_modules::modules::StockModule;

@@ -9,7 +9,7 @@ use Rattle.run_questions.specs.Records.{path_around, path_of}
 use Rattle.recorders.specs.Hearing.{is_within}
 use Rattle.recorders.specs.Scalars.{statistic_lines}
 use Rattle.recorders.specs.Selection.{selected_modes}
-use Rattle.result_files.specs.Header.{item_line}
+use Rattle.result_lines.specs.Header.{item_line}
 use Rattle.run_semantics.specs.Upcoming.{most_injections, upcoming}
 use Rattle.stock_modules.specs.Stock.{stock}
 use Rattle.stock_modules.specs.Tick.{number_of, state_of, tick_naming}

@@ -1,4 +1,4 @@
-use Rattle.result_files.proofs.Writing.{adds_then, written}
+use Rattle.result_lines.proofs.Writing.{adds_then, written}
 use Rattle.result_files.proofs.files.write_scalars.Goals as goal
 
 pub returns : goal.returns

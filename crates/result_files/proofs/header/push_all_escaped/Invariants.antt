@@ -1,7 +1,0 @@
-use Rattle.std.proofs.Common.{◌≡◌, ◌++◌, drop}
-use Rattle.std.specs.List.{flat_map}
-use Rattle.result_files.specs.Header.{escaped}
-use Rattle.result_files.proofs.header.push_all_escaped.Given as goal
-
-abbrev pub invariant-loop-byte : goal.invariant-loop-byte
-invariant-loop-byte l = l.header.items ++ flat_map escaped (drop l.byte-index l.value) ≡ l.fn.header.items ++ flat_map escaped l.value

@@ -1,9 +1,0 @@
-use Rattle.std.proofs.Common.{◌≡◌, ◌++◌, drop}
-use Rattle.ini_texts.specs.Sections.{entries_along}
-use Rattle.result_files.specs.Header.{config_lines}
-use Rattle.result_files.proofs.header.push_entries.Given as goal
-
-abbrev pub invariant-loop-name : goal.invariant-loop-name
-invariant-loop-name l =
-    l.header.items ++ config_lines (entries_along (drop l.name-index l.chain) l.lines)
-    ≡ l.fn.header.items ++ config_lines (entries_along l.chain l.lines)

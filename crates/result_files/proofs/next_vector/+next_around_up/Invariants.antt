@@ -1,4 +1,0 @@
-use Rattle.result_files.proofs.next_vector.+next_around_up.Given as goal
-
-abbrev pub decreases-next_around_up : goal.decreases-next_around_up
-decreases-next_around_up l = l.depth

@@ -1,0 +1,162 @@
+//! The header of a result file.
+
+ghost use Rattle.std.specs.Prelude.{◌≡◌, ◌++◌, IfOk, OnOk};
+ghost use Rattle.std.specs.List.{flat_map};
+ghost use Rattle.ini_texts.specs.Sections.{entries_along, entries_under};
+ghost use Rattle.result_lines.specs.Header.{escaped, value_text, item_line, run_lines, attribute_lines, config_line, config_lines, header_text, network_name, header_of};
+
+use ini_texts::entries::network_entry;
+use ini_texts::entry::EntryMeaning;
+use ini_texts::lines::{Entry, IniLine};
+use ini_texts::scan::{entry_in, section_behind};
+use ini_texts::speaks::last_name;
+use models::model::Model;
+use module_api::names::{is_all_plain, is_quoting};
+use sim_values::text::Text;
+use std::alloc::{AllocError, Global};
+
+/// Adds a byte of a value between quotes.
+fn push_escaped(header: &mut Vec<u8>, byte: u8) -> Result<(), AllocError>
+    ensures { OnOk result (header.new.items ≡ header.old.items ++ escaped byte) }
+{
+    if is_quoting(byte) {
+        header.push(b'\\')?;
+    }
+    header.push(byte)?;
+    Ok(())
+}
+
+/// Adds the bytes of a value between quotes.
+fn push_all_escaped(header: &mut Vec<u8>, value: &[u8]) -> Result<(), AllocError>
+    ensures { OnOk result (header.new.items ≡ header.old.items ++ flat_map escaped value.now) }
+{
+    for byte in value {
+        push_escaped(header, *byte)?;
+    }
+    Ok(())
+}
+
+/// Adds a value: as it is where all its bytes are plain, else between quotes.
+fn push_value(header: &mut Vec<u8>, value: &[u8]) -> Result<(), AllocError>
+    ensures { OnOk result (header.new.items ≡ header.old.items ++ value_text value.now) }
+{
+    if is_all_plain(value) {
+        return header.extend_from_slice(value);
+    }
+    header.push(b'"')?;
+    push_all_escaped(header, value)?;
+    header.push(b'"')?;
+    Ok(())
+}
+
+/// Adds a line that gives a value to a key.
+#[tactic(auto, unfolding(crate::specs::Header::item_line))]
+fn push_item(header: &mut Vec<u8>, word: &[u8], key: &[u8], value: &[u8]) -> Result<(), AllocError>
+    ensures { OnOk result (header.new.items ≡ header.old.items ++ item_line word.now key.now value.now) }
+{
+    header.extend_from_slice(word)?;
+    header.push(b' ')?;
+    header.extend_from_slice(key)?;
+    header.push(b' ')?;
+    push_value(header, value)?;
+    header.push(b'\n')?;
+    Ok(())
+}
+
+/// Adds the line of an entry, but for one of the option `extends`.
+fn push_entry(header: &mut Vec<u8>, entry: &Entry) -> Result<(), AllocError>
+    ensures { OnOk result (header.new.items ≡ header.old.items ++ config_line entry.now) }
+{
+    match &entry.meaning {
+        EntryMeaning::Extends(_) => Ok(()),
+        _ => push_item(
+            header,
+            b"config",
+            entry.key.as_bytes(),
+            entry.value.as_bytes(),
+        ),
+    }
+}
+
+/// Adds the lines of the entries of the section of that name.
+fn push_section(header: &mut Vec<u8>, name: &[u8], lines: &[IniLine]) -> Result<(), AllocError>
+    ensures { OnOk result (header.new.items ≡ header.old.items ++ config_lines (entries_under name.now lines.now)) }
+{
+    let mut section = None;
+    for line in lines {
+        if let Some(entry) = entry_in(name, section, line) {
+            push_entry(header, entry)?;
+        }
+        section = section_behind(section, line);
+    }
+    Ok(())
+}
+
+/// Adds the lines of all entries of the chain.
+fn push_entries(header: &mut Vec<u8>, chain: &[Text], lines: &[IniLine]) -> Result<(), AllocError>
+    ensures { OnOk result (header.new.items ≡ header.old.items ++ config_lines (entries_along chain.now lines.now)) }
+{
+    for name in chain {
+        push_section(header, name.as_bytes(), lines)?;
+    }
+    Ok(())
+}
+
+/// The name of the network without that of its package.
+fn network_name(model: &Model) -> &[u8]
+    ensures { result.now ≡ network_name model.now }
+{
+    match network_entry(model.ini.lines(), model.chain.as_slice()) {
+        Some(name) => last_name(name),
+        None => last_name(b""),
+    }
+}
+
+/// Adds the lines that name the run with the number 0 of a configuration.
+fn push_run(header: &mut Vec<u8>, config: &[u8]) -> Result<(), AllocError>
+    ensures { OnOk result (header.new.items ≡ header.old.items ++ run_lines config.now) }
+{
+    header.extend_from_slice(b"version 3\nrun ")?;
+    header.extend_from_slice(config)?;
+    header.extend_from_slice(b"-0\n")
+}
+
+/// Adds the lines of the run's attributes.
+fn push_attributes(header: &mut Vec<u8>, config: &[u8], network: &[u8]) -> Result<(), AllocError>
+    ensures { OnOk result (header.new.items ≡ header.old.items ++ attribute_lines config.now network.now) }
+{
+    push_item(header, b"attr", b"configname", config)?;
+    push_item(header, b"attr", b"network", network)?;
+    push_item(header, b"attr", b"runnumber", b"0")
+}
+
+/// The header of the run with the number 0 of a configuration of that name, network, chain and lines.
+pub fn header_text(
+    alloc: Global,
+    config: &[u8],
+    network: &[u8],
+    chain: &[Text],
+    lines: &[IniLine],
+) -> Result<Text, AllocError>
+    ensures { IfOk result (λ header. header ≡ header_text config.now network.now (entries_along chain.now lines.now)) }
+{
+    let mut header = Vec::new(alloc);
+    push_run(&mut header, config)?;
+    push_attributes(&mut header, config, network)?;
+    push_entries(&mut header, chain, lines)?;
+    header.push(b'\n')?;
+    Ok(Text::from_vec(header))
+}
+
+/// The header of the result files of a run of the model.
+pub fn header(alloc: Global, model: &Model) -> Result<Text, AllocError>
+    ensures { IfOk result (λ header. header ≡ header_of model.now) }
+{
+    header_text(
+        alloc,
+        model.config.as_bytes(),
+        network_name(model),
+        model.chain.as_slice(),
+        model.ini.lines(),
+    )
+}

@@ -1,0 +1,9 @@
+//! The lines of result files, and what takes their bytes.
+#![tactic(auto)]
+
+pub mod buffer;
+pub mod header;
+pub mod lines;
+mod next_vector;
+pub mod progress;
+pub mod writer;
