@@ -1,7 +1,7 @@
 //! Rules as words.
 
 use crate::numbers::Rule;
-use crate::rows::number;
+use crate::part_rows::number;
 use std::alloc::AllocError;
 
 /// The rule that a word is, of the key behind that one: a number, `>2` for one more than that of the key 2, `1+2` for the sum of

@@ -8,9 +8,18 @@ mod escapes;
 mod ini_rows;
 mod meaning_rows;
 mod ned_rows;
+mod number_rows;
+mod numbers;
+mod part_rows;
 mod pattern_rows;
+mod reference_rows;
 mod rows;
+mod rules;
+mod scene;
+mod scene_rows;
+mod source;
 mod telling;
+mod text_rows;
 mod time_rows;
 mod tree_rows;
 mod value_rows;
@@ -36,10 +45,21 @@ fn tell_rows<R: Print + AllocGlobal>(rt: &R, file: &str, text: &str) -> anyhow::
     Ok(())
 }
 
+/// Prints what becomes of the rows of the file for crates that read nothing.
+fn tell_parts<R: Print + AllocGlobal>(rt: &R, file: &str, text: &str) -> anyhow::Result<()> {
+    let mut told = String::new(rt.alloc());
+    part_rows::tell_rows(rt.alloc(), &mut told, text)?;
+    print!(rt; "== {file}\n{told}")?;
+    Ok(())
+}
+
 /// Prints what becomes of the rows of a file.
 fn tell<R: Files + Print + AllocGlobal>(rt: &R, file: &str) -> anyhow::Result<()> {
     let text = fs::read_to_string(rt, file)?;
-    tell_rows(rt, file, text.as_str())
+    match file {
+        "parts" => tell_parts(rt, file, text.as_str()),
+        _ => tell_rows(rt, file, text.as_str()),
+    }
 }
 
 /// Prints what becomes of the rows of all the files that are named.

@@ -1,7 +1,7 @@
 //! A scene of parameters that stand in a table.
 
 ghost use Rattle.std.specs.Prelude.{◌≡◌};
-ghost use Rattle.part_tests.specs.Scenes.{setting_of, told};
+ghost use Rattle.row_tests.specs.Scenes.{setting_of, told};
 ghost use Rattle.parameter_values.specs.Scenes.{given_by};
 
 use indexmap::IndexMap;

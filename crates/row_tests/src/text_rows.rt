@@ -1,6 +1,6 @@
 //! Texts and lines of sources that give a little at a time, fail, or have more than is read.
 
-use crate::rows::{first_part, number};
+use crate::part_rows::{first_part, number};
 use crate::source::Drip;
 use line_reading::line::NextLine;
 use line_reading::reader::LineReader;

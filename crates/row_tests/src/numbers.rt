@@ -1,8 +1,8 @@
 //! Numbers that rest on other numbers.
 
 ghost use Rattle.std.specs.Prelude.{◌≡◌};
-ghost use Rattle.part_tests.specs.declared.numbers.Fault.TheVariants as fault;
-ghost use Rattle.part_tests.specs.Numbers.{sum, asked_of, goes_on, weight, same_is};
+ghost use Rattle.row_tests.specs.declared.numbers.Fault.TheVariants as fault;
+ghost use Rattle.row_tests.specs.Numbers.{sum, asked_of, goes_on, weight, same_is};
 
 use answer_engine::asker::Asker;
 use answer_engine::turn::Turn;

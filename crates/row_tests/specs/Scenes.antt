@@ -4,10 +4,10 @@ use Rattle.std.specs.Map.{lookup}
 use Rattle.ini_texts.specs.declared.entry.EntryValue.{EntryValue}
 use Rattle.parameter_values.specs.Settings.{Given, Fixed, Default, Declared, Setting}
 use Rattle.parameter_values.specs.Values.{same_key}
-use Rattle.part_tests.specs.declared.scene.Row.{Row}
-use Rattle.part_tests.specs.declared.scene.Rows.{Rows}
-use Rattle.part_tests.specs.declared.scene.Said.{Said}
-use Rattle.part_tests.specs.declared.scene.Said.TheVariants as said
+use Rattle.row_tests.specs.declared.scene.Row.{Row}
+use Rattle.row_tests.specs.declared.scene.Rows.{Rows}
+use Rattle.row_tests.specs.declared.scene.Said.{Said}
+use Rattle.row_tests.specs.declared.scene.Said.TheVariants as said
 
 abbrev pub told : Said → Option Given
 told said.Nothing = None

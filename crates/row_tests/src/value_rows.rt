@@ -1,7 +1,7 @@
 //! Values of expressions.
 
 ghost use Rattle.std.specs.Prelude.{◌≡◌, ◌++◌, IfOk};
-ghost use Rattle.reader_tests.specs.Example as example;
+ghost use Rattle.row_tests.specs.Example as example;
 
 use crate::escapes::unescaped;
 use crate::telling::Telling;

@@ -3,11 +3,11 @@
 ghost use Rattle.std.specs.Prelude.{nat_eq};
 ghost use Rattle.answer_engine.specs.Tables.{IsKept};
 ghost use Rattle.answer_engine.specs.Working.{ruled};
-ghost use Rattle.part_tests.specs.declared.numbers.Fault.TheVariants as fault;
-ghost use Rattle.part_tests.specs.Numbers.{asked_of};
+ghost use Rattle.row_tests.specs.declared.numbers.Fault.TheVariants as fault;
+ghost use Rattle.row_tests.specs.Numbers.{asked_of};
 
 use crate::numbers::{Fault, Numbers, Rule};
-use crate::rows::{first_part, number};
+use crate::part_rows::{first_part, number};
 use crate::rules::add_all;
 use answer_engine::engine::{empty_table, value_of};
 use answer_engine::table::Table;

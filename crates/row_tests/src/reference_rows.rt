@@ -2,9 +2,9 @@
 
 ghost use Rattle.answer_engine.specs.Tables.{IsKept};
 ghost use Rattle.parameter_values.specs.Values.{rules_of};
-ghost use Rattle.part_tests.specs.Scenes.{setting_of};
+ghost use Rattle.row_tests.specs.Scenes.{setting_of};
 
-use crate::rows::{first_part, number};
+use crate::part_rows::{first_part, number};
 use crate::scene::Rows;
 use crate::scene_rows::{Line, WHOLE, add, tell_lone, tell_value};
 use answer_engine::table::Table;

@@ -1,7 +1,7 @@
 //! Values of parameters in scenes that rows describe.
 
-use crate::chain_rows::tell_chain;
-use crate::rows::first_part;
+use crate::part_rows::first_part;
+use crate::reference_rows::tell_chain;
 use crate::scene::{Row, Rows, Said, both};
 use ini_texts::entry::EntryValue;
 use ned_expressions::parse::parse_expression;

@@ -5,12 +5,12 @@ use Rattle.asking.specs.Asking.{Asking, Done, Ask}
 use Rattle.answer_engine.specs.Turns.{came_to}
 use Rattle.answer_engine.specs.declared.turn.Turn.{Turn}
 use Rattle.answer_engine.specs.declared.turn.Turn.TheVariants as turn
-use Rattle.part_tests.specs.declared.numbers.Evaluation.{Evaluation}
-use Rattle.part_tests.specs.declared.numbers.Evaluation.TheVariants as evaluation
-use Rattle.part_tests.specs.declared.numbers.Fault.{Fault}
-use Rattle.part_tests.specs.declared.numbers.Fault.TheVariants as fault
-use Rattle.part_tests.specs.declared.numbers.Rule.{Rule}
-use Rattle.part_tests.specs.declared.numbers.Rule.TheVariants as rule
+use Rattle.row_tests.specs.declared.numbers.Evaluation.{Evaluation}
+use Rattle.row_tests.specs.declared.numbers.Evaluation.TheVariants as evaluation
+use Rattle.row_tests.specs.declared.numbers.Fault.{Fault}
+use Rattle.row_tests.specs.declared.numbers.Fault.TheVariants as fault
+use Rattle.row_tests.specs.declared.numbers.Rule.{Rule}
+use Rattle.row_tests.specs.declared.numbers.Rule.TheVariants as rule
 
 abbrev pub Numbered : Type 0
 Numbered = Asking ℕ ℕ Fault ℕ
