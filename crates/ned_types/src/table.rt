@@ -8,10 +8,10 @@ ghost use Rattle.ned_types.specs.WellFormed.{HaveOwnNames, IsAmong, IsWellFormed
 
 use crate::flat::submodule_named;
 use crate::made::{behind, changed};
-use indexmap::IndexMap;
 use ned_trees::declarations::{Submodule, TypeDeclaration};
 use sqlite_items::Items;
 use std::alloc::{AllocError, Global};
+use std::collections::BTreeMap;
 use std::marker::Model;
 use std::rc::Rc;
 
@@ -20,7 +20,7 @@ use std::rc::Rc;
 pub struct TypeTable {
     types: Rc<Items<TypeDeclaration>>,
     /// The place of each name: where a type is looked for first.
-    places: Rc<IndexMap<Vec<u8>, usize>>,
+    places: Rc<BTreeMap<Vec<u8>, usize>>,
 }
 
 // Written out, so that a crate which drops one need not prove what that does.
@@ -124,7 +124,7 @@ fn shared<T: Drop>(alloc: Global, value: T) -> Result<Rc<T>, AllocError>
 /// Adds the place of each name.
 fn add_places(
     alloc: Global,
-    places: &mut IndexMap<Vec<u8>, usize>,
+    places: &mut BTreeMap<Vec<u8>, usize>,
     types: &[TypeDeclaration],
 ) -> Result<(), AllocError> {
     for (place, declared) in types.iter().enumerate() {
@@ -138,8 +138,8 @@ fn add_places(
 fn shared_places(
     alloc: Global,
     types: &[TypeDeclaration],
-) -> Result<Rc<IndexMap<Vec<u8>, usize>>, AllocError> {
-    let mut places = IndexMap::new(alloc);
+) -> Result<Rc<BTreeMap<Vec<u8>, usize>>, AllocError> {
+    let mut places = BTreeMap::new(alloc);
     let done = add_places(alloc, &mut places, types);
     let places = changed(places, done)?;
     shared(alloc, places)

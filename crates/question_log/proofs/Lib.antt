@@ -1,3 +1,5 @@
 pub mod Noted
 pub mod Shorter
+pub mod Same
+pub mod Once
 pub mod Keys

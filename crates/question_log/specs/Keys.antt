@@ -1,14 +1,17 @@
 -- The questions about modules among those that were asked.
-use Rattle.std.specs.Prelude.{◌≡◌, List, [], ◌∷◌, if◌then◌else◌}
+use Rattle.std.specs.Prelude.{◌≡◌, true, false, List, [], ◌∷◌}
+use Rattle.std.specs.List.{list_any}
 use Rattle.run_questions.specs.declared.answer.Asked.{Asked}
 use Rattle.run_questions.specs.declared.answer.Question.{Question}
-use Rattle.run_questions.specs.Questions.{is_of_modules}
+use Rattle.run_questions.specs.Questions.{same_question, is_of_modules}
+use Rattle.run_semantics.specs.World.{is_asked}
 
--- those that are asked of the model's modules, in order
-abbrev pub about_modules : List Asked → List Question
-about_modules [] = []
-about_modules (a ∷ rest) = if is_of_modules a.question then a.question ∷ about_modules rest else about_modules rest
+-- each question about modules stands there once; what is asked of a time is never the same
+abbrev pub AreAskedOnce : List Asked → Type 0
+AreAskedOnce [] = Unit {0}
+AreAskedOnce (a ∷ rest) = (is_asked a.question rest ≡ false) × AreAskedOnce rest
 
--- these are they
-abbrev pub AreKeysOf : List Asked → List Question → Type 0
-AreKeysOf asked keys = keys ≡ about_modules asked
+-- These are the questions about modules among those that were asked: one is among them exactly where it was asked, and it was asked once.
+pub record AreKeysOf (asked : List Asked) (keys : List Question) : Type 0 where
+  pub found : (q : Question) → is_of_modules q ≡ true → list_any (same_question q) keys ≡ is_asked q asked
+  pub once : AreAskedOnce asked

@@ -7,10 +7,10 @@ ghost use Rattle.question_log.specs.Entries.{noted_in};
 
 use crate::asked_list::AskedList;
 use crate::entry::Entry;
-use indexmap::IndexSet;
 use run_questions::answer::{Asked, Question};
 use sim_values::NoMemory;
 use std::alloc::Global;
+use std::collections::HashSet;
 use std::marker::Model;
 
 /// The questions that were asked, each with its event. A question about modules stands in it once, with the first event that
@@ -18,7 +18,7 @@ use std::marker::Model;
 pub struct QuestionLog {
     asked: AskedList,
     /// The questions about modules among them.
-    about_modules: IndexSet<Question>,
+    about_modules: HashSet<Question>,
 }
 
 // Written out, so that a crate which drops one need not prove what that does.
@@ -50,7 +50,7 @@ impl QuestionLog {
     {
         QuestionLog {
             asked: AskedList::new(alloc),
-            about_modules: IndexSet::new(alloc),
+            about_modules: HashSet::new(alloc),
         }
     }
 
@@ -118,8 +118,7 @@ impl QuestionLog {
     {
         let last = self.asked.pop()?;
         if is_of_modules(&last.question) {
-            let fewer = self.about_modules.len() - 1;
-            self.about_modules.truncate(fewer);
+            self.about_modules.remove(&last.question);
         }
         Some(last)
     }
