@@ -7,6 +7,7 @@ use Rattle.run_questions.specs.Answers.{Answers}
 use Rattle.run_questions.specs.declared.record.Record.{Record}
 use Rattle.run_semantics.specs.declared.outcome.Turn.{Turn}
 use Rattle.run_semantics.specs.Event.{call_of, call_module}
+use Rattle.run_semantics.specs.Ending.{call_last}
 use Rattle.run_semantics.specs.Perform.{flow_of}
 use Rattle.run_semantics.specs.World.{World}
 use Rattle.shown_modules.specs.declared.Shown.{Shown}
@@ -20,6 +21,14 @@ use Rattle.kernel_actions.specs.Positions.{IsGrownFrom}
 pub told_itself : (m : Answers) (id : ℕ) (p : Prompt) (w : World) (call : Call) → call ≡ call_of m id p w → call ≡ call_of m call.id call.prompt w
 told_itself m id p w call e =
     e ∙ (ap (λ i. call_of m i p w) (sym (ap (λ (k : Call). k.id) e)) ∙ ap (λ q. call_of m call.id q w) (sym (ap (λ (k : Call). k.prompt) e)))
+
+-- of the same id
+pub told_for : (m : Answers) (id : ℕ) (p : Prompt) (w : World) (call : Call) → call ≡ call_of m id p w → call ≡ call_of m call.id p w
+told_for m id p w call e = e ∙ ap (λ i. call_of m i p w) (sym (ap (λ (k : Call). k.id) e))
+
+pub named_last : (b : Behaviour) (m : Answers) (id : ℕ) (p : Prompt) (v w : World) (call : Call) (turn : Turn) → call ≡ call_of m id p v
+    → flow_of turn w ≡ call_last b m call.id v → flow_of turn w ≡ call_last b m id v
+named_last b m id p v w call turn e step = step ∙ ap (λ i. call_last b m i v) (ap (λ (k : Call). k.id) e)
 
 pub named_step : (b : Behaviour) (m : Answers) (id : ℕ) (p : Prompt) (v w : World) (call : Call) (turn : Turn) → call ≡ call_of m id p v
     → flow_of turn w ≡ call_module b m call.id call.prompt v → flow_of turn w ≡ call_module b m id p v

@@ -520,6 +520,30 @@ impl<C: Catalogue> Kernel<C> {
 
     // ---- the end
 
+    /// Calls the module that the call for the end names, and does what its reply says. A call of what isn't there is passed over.
+    #[tactic(auto, using(kernel_actions::proofs::Lasting::growth_same))]
+    fn carry_out_last(
+        &mut self,
+        alloc: Global,
+        model: &Model,
+        call: &Call,
+    ) -> Result<Turn, NoMemory>
+        requires callable { IsCallable C.behaviour SimpleModule-box 1000 self.old }
+        requires told { call.now
+            ≡ call_of (answers_of model.now) call.now.id Prompt.Finish (world_in SimpleModule-box self.old) }
+        ensures kept { KeepsBoxes C.behaviour SimpleModule-box self.old self.new }
+        ensures step { IfOk result (λ turn. flow_of turn (world_in SimpleModule-box self.new)
+            ≡ call_last C.behaviour (answers_of model.now) call.now.id (world_in SimpleModule-box self.old)) }
+        ensures grown { IsGrownFrom (world_in SimpleModule-box self.old)
+            (world_in SimpleModule-box self.new) }
+    {
+        let Some(reply) = self.reply_of(alloc, call) else {
+            return Ok(Turn::GoOn);
+        };
+        let reply = reply?;
+        follow_last(&mut self.core, alloc, model, call, &reply)
+    }
+
     /// Tells the module of that id that the run is over, where it has a box.
     #[tactic(auto, using(kernel_actions::proofs::Lasting::growth_same))]
     fn call_last(&mut self, alloc: Global, model: &Model, id: u32) -> Result<Turn, NoMemory>
@@ -532,11 +556,7 @@ impl<C: Catalogue> Kernel<C> {
             (world_in SimpleModule-box self.new) }
     {
         let call = call(&self.core, alloc, model, id, Prompt::Finish)?;
-        let Some(reply) = self.reply_of(alloc, &call) else {
-            return Ok(Turn::GoOn);
-        };
-        let reply = reply?;
-        follow_last(&mut self.core, alloc, model, &call, &reply)
+        self.carry_out_last(alloc, model, &call)
     }
 
     /// Finishes the module of that id, where it has a box.

@@ -1,53 +1,13 @@
 use Rattle.model_answers.specs.Answering.{answers_of}
-use Rattle.std.proofs.Common.{Ok, None, sym, ap, ◌∙◌, subst}
-use Rattle.module_api.specs.declared.call.Call.{Call}
-use Rattle.run_questions.specs.Answers.{parameters_of}
-use Rattle.run_semantics.specs.World.{World}
-use Rattle.run_semantics.specs.Perform.{On}
-use Rattle.run_semantics.specs.Ending.{answered_last}
-use Rattle.kernel.specs.Seats.{world_of, IsCalled, IsServed}
-use Rattle.kernel.specs.Kernels.{seats_in}
-use Rattle.kernel_actions.specs.Positions.{IsGrownFrom}
-use Rattle.kernel_actions.proofs.Lasting.{growth_is}
-use Rattle.kernel.proofs.Calling.{boxed_grows, ok_step, served_kept, passed_over_last, called_last_is}
+use Rattle.module_api.specs.declared.call.Prompt.TheVariants.{Finish}
+use Rattle.kernel.specs.Kernels.{world_in}
+use Rattle.kernel.proofs.Calling.{ok_step}
+use Rattle.kernel.proofs.Shown.{told_for, named_last}
 use Rattle.kernel.proofs.kernel.Kernel.call_last.Goals as goal
 
-pub returns-in_default-clause-step : goal.returns-in_default-clause-step
-returns-in_default-clause-step g c =
-    ap (λ core. On (world_of core (seats_in (λ b. (g.dyn-1.0.entry b.vtable).1) c.reply_of.new.self))) c.reply_of.ensures.core
-    ∙ passed_over_last g.C.Catalogue.behaviour (answers_of c.args.model.now) c.args.id c.args.self.now.core (seats_in (λ b. (g.dyn-1.0.entry b.vtable).1) c.args.self.now) (seats_in (λ b. (g.dyn-1.0.entry b.vtable).1) c.reply_of.new.self) (subst (λ (k : Call). IsServed k.id (seats_in (λ b. (g.dyn-1.0.entry b.vtable).1) c.args.self.now) (seats_in (λ b. (g.dyn-1.0.entry b.vtable).1) c.reply_of.new.self) k None) c.in_ok-call.ensures (rw c.in_default.is at c.reply_of.ensures.served))
-
-pub returns-in_err-reply-clause-kept : goal.returns-in_err-reply-clause-kept
-returns-in_err-reply-clause-kept g c =
-    served_kept g.C.Catalogue.behaviour c.args.id (seats_in (λ b. (g.dyn-1.0.entry b.vtable).1) c.args.self.now) (seats_in (λ b. (g.dyn-1.0.entry b.vtable).1) c.reply_of.new.self) _ c.reply_of.result (subst (λ (k : Call). IsServed k.id (seats_in (λ b. (g.dyn-1.0.entry b.vtable).1) c.args.self.now) (seats_in (λ b. (g.dyn-1.0.entry b.vtable).1) c.reply_of.new.self) k c.reply_of.result) c.in_ok-call.ensures c.reply_of.ensures.served) c.requires.callable.kinds
-
-pub follow_last-requires-clause-told : goal.follow_last-requires-clause-told
-follow_last-requires-clause-told g c =
-    ap (λ (k : Call). k.parameters) c.in_ok-call.ensures
-    ∙ ap (parameters_of (answers_of c.args.model.now) c.args.self.now.core.records) (sym (ap (λ (k : Call). k.id) c.in_ok-call.ensures))
-    ∙ ap (λ (w : World). parameters_of (answers_of c.args.model.now) w.records c.in_ok-call.call.id) (sym c.reply_of.ensures.core)
-
-pub returns-clause-kept : goal.returns-clause-kept
-returns-clause-kept g c =
-    served_kept g.C.Catalogue.behaviour c.args.id (seats_in (λ b. (g.dyn-1.0.entry b.vtable).1) c.args.self.now) (seats_in (λ b. (g.dyn-1.0.entry b.vtable).1) c.reply_of.new.self) _ c.reply_of.result (subst (λ (k : Call). IsServed k.id (seats_in (λ b. (g.dyn-1.0.entry b.vtable).1) c.args.self.now) (seats_in (λ b. (g.dyn-1.0.entry b.vtable).1) c.reply_of.new.self) k c.reply_of.result) c.in_ok-call.ensures c.reply_of.ensures.served) c.requires.callable.kinds
+pub carry_out_last-requires-clause-told : goal.carry_out_last-requires-clause-told
+carry_out_last-requires-clause-told g c = told_for (answers_of c.args.model.now) c.args.id Finish c.args.self.now.core c.in_ok-call.call c.in_ok-call.ensures
 
 pub returns-clause-step : goal.returns-clause-step
-returns-clause-step g c = ok_step c.follow_last.result c.follow_last.ensures.flow (λ turn step.
-    called_last_is g.C.Catalogue.behaviour (answers_of c.args.model.now) c.args.id c.args.self.now.core c.follow_last.new.core (seats_in (λ b. (g.dyn-1.0.entry b.vtable).1) c.args.self.now) (seats_in (λ b. (g.dyn-1.0.entry b.vtable).1) c.reply_of.new.self)
-    c.in_ok-reply.reply turn c.requires.callable.kinds
-    (subst (λ (k : Call). IsCalled k.id (seats_in (λ b. (g.dyn-1.0.entry b.vtable).1) c.args.self.now) (seats_in (λ b. (g.dyn-1.0.entry b.vtable).1) c.reply_of.new.self) k (Ok c.in_ok-reply.reply)) c.in_ok-call.ensures (rw c.in_ok-reply.was at c.in-Some.ensures.served))
-    (step
-    ∙ ap (λ (k : Call). answered_last (answers_of c.args.model.now) k.id c.in_ok-reply.reply c.reply_of.new.self.core) c.in_ok-call.ensures
-    ∙ ap (answered_last (answers_of c.args.model.now) c.args.id c.in_ok-reply.reply) c.reply_of.ensures.core))
-
-pub returns-in_default-clause-grown : goal.returns-in_default-clause-grown
-returns-in_default-clause-grown g c =
-    boxed_grows c.args.self.now.core c.reply_of.new.self.core (seats_in (λ b. (g.dyn-1.0.entry b.vtable).1) c.args.self.now) (seats_in (λ b. (g.dyn-1.0.entry b.vtable).1) c.reply_of.new.self) (growth_is c.args.self.now.core c.reply_of.new.self.core c.reply_of.ensures.core)
-
-pub returns-in_err-reply-clause-grown : goal.returns-in_err-reply-clause-grown
-returns-in_err-reply-clause-grown g c =
-    boxed_grows c.args.self.now.core c.reply_of.new.self.core (seats_in (λ b. (g.dyn-1.0.entry b.vtable).1) c.args.self.now) (seats_in (λ b. (g.dyn-1.0.entry b.vtable).1) c.reply_of.new.self) (growth_is c.args.self.now.core c.reply_of.new.self.core c.reply_of.ensures.core)
-
-pub returns-clause-grown : goal.returns-clause-grown
-returns-clause-grown g c =
-    boxed_grows c.args.self.now.core c.follow_last.new.core (seats_in (λ b. (g.dyn-1.0.entry b.vtable).1) c.args.self.now) (seats_in (λ b. (g.dyn-1.0.entry b.vtable).1) c.reply_of.new.self) (subst (λ (w : World). IsGrownFrom w c.follow_last.new.core) c.reply_of.ensures.core c.follow_last.ensures.grown)
+returns-clause-step g c = ok_step c.carry_out_last.result c.carry_out_last.ensures.step (λ turn step.
+    named_last g.C.Catalogue.behaviour (answers_of c.args.model.now) c.args.id Finish (world_in (λ b. (g.dyn-1.0.entry b.vtable).1) c.args.self.now) (world_in (λ b. (g.dyn-1.0.entry b.vtable).1) c.carry_out_last.new.self) c.in_ok-call.call turn c.in_ok-call.ensures step)
