@@ -1,6 +1,6 @@
 //! Tests of `event_set`: the order of the events to come, timers that are cancelled, and events of modules that are gone.
 
-ghost use Rattle.std.specs.Prelude.{◌+◌, ◌≤◌, ◌<◌, IfOk};
+ghost use Rattle.std.specs.Prelude.{◌≡◌, ◌+◌, ◌≤◌, ◌<◌, IfOk};
 
 use event_set::pending::{Happening, Pending};
 use event_set::set::EventSet;
@@ -83,43 +83,81 @@ fn a_lesser_priority_comes_first_and_then_the_first_inserted(rt: HostRuntime) ->
     Ok(())
 }
 
-#[test]
-fn an_earlier_time_comes_before_a_lesser_priority(rt: HostRuntime) -> Result<(), Fail> {
-    let alloc = rt.alloc();
+/// Timers of the module 7: 0 at five seconds with the least priority, 1 a picosecond earlier with the greatest, and 2 at once.
+fn timers_by_time(alloc: Global) -> Result<EventSet, NoMemory> {
     let mut events = EventSet::new(alloc);
     set_timer(&mut events, Row(FIVE, -32768, 7, 0))?;
     set_timer(&mut events, Row(FIVE - 1, 32767, 7, 1))?;
     set_timer(&mut events, Row(0, 0, 7, 2))?;
-    let timers = timers_in_turn(alloc, &mut events)?;
-    assert_eq!(rt; timers.as_slice(), [2, 1, 0].as_slice());
+    Ok(events)
+}
+
+#[test]
+fn an_earlier_time_comes_before_a_lesser_priority(rt: HostRuntime) -> Result<(), Fail> {
+    let alloc = rt.alloc();
+    let mut events = timers_by_time(alloc)?;
+    let timers = timers_in_turn(alloc, &mut events);
+    drop(events);
+    assert!(rt; timers?.as_slice() == [2, 1, 0].as_slice());
     Ok(())
+}
+
+/// Whether the timer 0 of the module 7, which is pending, can be set, is cancelled, is pending then, and is cancelled again; and whether
+/// a timer of the module 8 is cancelled, which has none.
+fn cancel_twice(events: &mut EventSet) -> Result<[bool; 5], NoMemory>
+    requires { events.old.next < 5000 }
+{
+    let is_set = set_timer(events, Row(FIVE, 3, 7, 0))?;
+    let is_cancelled = events.cancel(7, 0);
+    let is_pending = events.has_timer(7, 0);
+    let again = events.cancel(7, 0);
+    let other = events.cancel(8, 1);
+    Ok([is_set, is_cancelled, is_pending, again, other])
 }
 
 #[test]
 fn a_pending_timer_is_cancelled_once(rt: HostRuntime) -> Result<(), Fail> {
     let alloc = rt.alloc();
     let mut events = three_timers(alloc)?;
-    assert!(rt; !set_timer(&mut events, Row(FIVE, 3, 7, 0))?);
-    assert!(rt; events.cancel(7, 0));
-    assert!(rt; !events.has_timer(7, 0));
-    assert!(rt; !events.cancel(7, 0));
-    assert!(rt; !events.cancel(8, 1));
-    let timers = timers_in_turn(alloc, &mut events)?;
-    assert_eq!(rt; timers.as_slice(), [1, 2].as_slice());
+    let told = cancel_twice(&mut events);
+    let timers = timers_in_turn(alloc, &mut events);
+    drop(events);
+    assert!(rt; told? == [false, true, false, false, false]);
+    assert!(rt; timers?.as_slice() == [1, 2].as_slice());
     Ok(())
+}
+
+/// Takes the first event out, and answers its number and the timer that it is.
+fn take_number(events: &mut EventSet) -> Option<(u128, Option<u32>)>
+    ensures { events.new.next ≡ events.old.next }
+{
+    let event = events.take_first()?;
+    Some((event.number, timer_of(&event)))
+}
+
+/// Whether the timer 1 of the module 7 is pending before the first event is taken out, whether behind it, and whether it can be set then; and
+/// what that event is, and the first one behind that.
+fn set_again(
+    events: &mut EventSet,
+) -> Result<([bool; 3], [Option<(u128, Option<u32>)>; 2]), NoMemory>
+    requires { events.old.next < 5000 }
+{
+    let before = events.has_timer(7, 1);
+    let first = take_number(events);
+    let behind = events.has_timer(7, 1);
+    let is_set = set_timer(events, Row(FIVE, -1, 7, 1))?;
+    let again = take_number(events);
+    Ok(([before, behind, is_set], [first, again]))
 }
 
 #[test]
 fn a_timer_that_came_may_be_set_again(rt: HostRuntime) -> Result<(), Fail> {
     let mut events = three_timers(rt.alloc())?;
-    assert!(rt; events.has_timer(7, 1));
-    let first = events.take_first().ok_or("none")?;
-    assert_eq!(rt; first.number, 1);
-    assert!(rt; !events.has_timer(7, 1));
-    assert!(rt; set_timer(&mut events, Row(FIVE, -1, 7, 1))?);
-    let again = events.take_first().ok_or("none")?;
-    assert_eq!(rt; again.number, 3);
-    assert_eq!(rt; timer_of(&again), Some(1));
+    let told = set_again(&mut events);
+    drop(events);
+    let (pending, taken) = told?;
+    assert!(rt; pending == [true, false, true]);
+    assert!(rt; taken == [Some((1, Some(1))), Some((3, Some(1)))]);
     Ok(())
 }
 
@@ -142,16 +180,31 @@ fn cancel_the_odd(events: &mut EventSet) -> bool {
     true
 }
 
+/// Whether these are 998, 996, .., 0.
+fn are_the_even(timers: &[u32]) -> bool {
+    if timers.len() != 500 {
+        return false;
+    }
+    for (place, timer) in timers.iter().enumerate() {
+        if *timer as usize + place * 2 != 998 {
+            return false;
+        }
+    }
+    true
+}
+
 #[test]
 fn five_hundred_of_a_thousand_come_in_the_order_of_insertion(rt: HostRuntime) -> Result<(), Fail> {
     let alloc = rt.alloc();
     let mut events = thousand_timers(alloc)?;
-    assert!(rt; cancel_the_odd(&mut events));
-    let timers = timers_in_turn(alloc, &mut events)?;
-    assert_eq!(rt; timers.len(), 500);
-    for (place, timer) in timers.as_slice().iter().enumerate() {
-        assert_eq!(rt; *timer as usize + place * 2, 998, "at {place}");
-    }
+    let were_pending = cancel_the_odd(&mut events);
+    let timers = timers_in_turn(alloc, &mut events);
+    drop(events);
+    assert!(rt; were_pending, "a timer was not pending");
+    assert!(rt;
+        are_the_even(timers?.as_slice()),
+        "the timers that come are others"
+    );
     Ok(())
 }
 
@@ -206,29 +259,72 @@ fn payload_of(event: Pending) -> Option<Text> {
     }
 }
 
+/// Takes the first event out, and answers whether it is a message with that payload.
+fn comes_with(events: &mut EventSet, payload: &str) -> bool {
+    match events.take_first() {
+        Some(event) => is_payload(payload_of(event), payload),
+        None => false,
+    }
+}
+
+/// Whether there is a payload, and it is that one.
+fn is_payload(found: Option<Text>, payload: &str) -> bool {
+    match found {
+        Some(text) => text.is(payload.as_bytes()),
+        None => false,
+    }
+}
+
 #[test]
 fn messages_are_kept_as_they_are(rt: HostRuntime) -> Result<(), Fail> {
-    let mut events = mixed_events(rt.alloc())?.copy(rt.alloc())?;
-    for want in ["one", "two"] {
-        let event = events.take_first().ok_or("none")?;
-        let payload = payload_of(event).ok_or("a timer")?;
-        assert_eq!(rt; payload.as_bytes(), want.as_bytes());
-    }
-    assert_eq!(rt; events.first().ok_or("none")?.id, 1);
+    let alloc = rt.alloc();
+    let events = mixed_events(alloc)?;
+    let copy = events.copy(alloc);
+    drop(events);
+    let mut copy = copy?;
+    let come = [comes_with(&mut copy, "one"), comes_with(&mut copy, "two")];
+    let left = first_of(&copy);
+    drop(copy);
+    assert!(rt; come == [true, true]);
+    assert!(rt; left == Some((FIVE, 0, 1)));
     Ok(())
+}
+
+/// The module's id of the first of the events to come.
+fn first_id(events: &EventSet) -> Option<u32> {
+    match events.first() {
+        Some(coming) => Some(coming.id),
+        None => None,
+    }
+}
+
+/// Takes the first event out, and answers its module's id.
+fn take_id(events: &mut EventSet) -> Option<u32> {
+    match events.take_first() {
+        Some(event) => Some(event.id),
+        None => None,
+    }
+}
+
+/// Strikes out what comes first of modules that are gone: of none, of the module 2, and of that once more behind the first event. Answers for which
+/// module the first event is each time, and whether the timer of the module 2 is pending before the last time, and behind it.
+fn strike_in_turn(events: &mut EventSet) -> ([Option<u32>; 3], [bool; 2]) {
+    events.strike([false, true, true].as_slice());
+    let none_gone = first_id(events);
+    events.strike([false, true].as_slice());
+    let one_gone = take_id(events);
+    let before = events.has_timer(2, 0);
+    events.strike([false, true].as_slice());
+    let behind = events.has_timer(2, 0);
+    ([none_gone, one_gone, first_id(events)], [before, behind])
 }
 
 #[test]
 fn the_first_events_of_gone_modules_are_struck_out(rt: HostRuntime) -> Result<(), Fail> {
     let mut events = mixed_events(rt.alloc())?;
-    events.strike([false, true, true].as_slice());
-    assert_eq!(rt; events.first().ok_or("none")?.id, 2);
-    events.strike([false, true].as_slice());
-    let event = events.take_first().ok_or("none")?;
-    assert_eq!(rt; event.id, 1);
-    assert!(rt; events.has_timer(2, 0));
-    events.strike([false, true].as_slice());
-    assert!(rt; !events.has_timer(2, 0));
-    assert!(rt; events.first().is_none());
+    let (firsts, pending) = strike_in_turn(&mut events);
+    drop(events);
+    assert!(rt; firsts == [Some(2), Some(1), None]);
+    assert!(rt; pending == [true, false]);
     Ok(())
 }
