@@ -3,7 +3,7 @@ use Rattle.std.proofs.Common.{◌≡◌, Bool, true, false, ◌&&◌, List, [], 
 use Rattle.run_questions.specs.declared.answer.Answer.TheVariants as answer
 use Rattle.run_questions.specs.declared.answer.Asked.{Asked}
 use Rattle.run_questions.specs.declared.answer.Question.{Question}
-use Rattle.run_questions.specs.declared.answer.Question.TheVariants.{Root, Build, Param, GateSize, BeyondLimit, InjectionBefore}
+use Rattle.run_questions.specs.declared.answer.Question.TheVariants.{Root, Build, Param, GateSize, Hop, HopBack, BeyondLimit, InjectionBefore}
 use Rattle.injection_order.specs.declared.injection.Injection.{Injection}
 use Rattle.run_questions.specs.Answers.{Answers, answer_of, is_beyond}
 use Rattle.run_questions.specs.declared.record.Record.{Record}
@@ -18,6 +18,8 @@ alike m n c rs Root h e = cc
 alike m n c rs (Build id) h e = cc
 alike m n c rs (Param id name) h e = cc
 alike m n c rs (GateSize id name) h e = cc
+alike m n c rs (Hop id name index) h e = cc
+alike m n c rs (HopBack id name index) h e = cc
 alike m n c rs (BeyondLimit time) h e = ap (λ limit. answer.Beyond (is_beyond limit time)) (h.limit_is e)
 alike m n c rs (InjectionBefore due last) h e = ap (λ (is : List Injection). answer.Injection (injection_before due last is)) (h.injections_are e)
 

@@ -1,6 +1,6 @@
 -- What is the same by what it holds is one.
 use Rattle.std.proofs.Common.{◌≡◌, ℕ, ◌==◌, int_eq, Bool, true, false, ◌&&◌, List, [], ◌∷◌, Option, Some, None, refl, sym, ap, ◌∙◌, subst, eqb-true, bytes_eq, length, rules}
-use Rattle.std.specs.Bool.{Decides}
+use Rattle.std.specs.Bool.{Decides, beq}
 use Rattle.std.specs.Cmp.{booleans_Decides}
 use Rattle.std.proofs.lemmas.Bool.Decides.{Decides-int_eq, Decides-eqb}
 use Rattle.std.proofs.lemmas.Slice.Eq.{bytes_eq-Decides}
@@ -12,8 +12,15 @@ use Rattle.run_questions.specs.contracts.answer.ModelFault as fault_kind
 use Rattle.run_questions.specs.declared.answer.Answer.{Answer}
 use Rattle.run_questions.specs.declared.answer.Answer.TheVariants as answer
 use Rattle.run_questions.specs.declared.answer.Built.{Built}
+use Rattle.module_api.specs.contracts.call.Direction as direction_kind
+use Rattle.module_api.specs.declared.call.Gate.{Gate}
+use Rattle.run_questions.specs.contracts.answer.ChannelKind as channel_kind
+use Rattle.run_questions.specs.declared.answer.Channel.{Channel}
+use Rattle.run_questions.specs.declared.answer.Neighbour.{Neighbour}
+use Rattle.run_questions.specs.declared.answer.Neighbour.TheVariants as neighbour
+use Rattle.run_questions.specs.declared.answer.NextGate.{NextGate}
 use Rattle.injection_order.specs.declared.injection.Injection.{Injection}
-use Rattle.agreement.specs.Same.{same_value, same_class, same_index, same_built, same_inside, same_due, same_message, same_injection, same_injections, same_next, same_answer}
+use Rattle.agreement.specs.Same.{same_value, same_class, same_index, same_built, same_inside, same_due, same_message, same_injection, same_injections, same_next, same_gate, same_neighbour, same_channel, same_hop, same_end, same_answer}
 
 both : (a b : Bool) → (a && b) ≡ true → (a ≡ true) × (b ≡ true)
 both true b e = (refl, e)
@@ -83,10 +90,56 @@ next_is None None e = refl
 next_is (Some a) (Some b) e = ap Some (injection_is a b e)
 next_is _ _ e = cc
 
+gate_is : (a b : Gate) → same_gate a b ≡ true → a ≡ b
+gate_is a b e =
+    let h = both (bytes_eq a.name b.name) (sameb direction_kind.the_type a.direction b.direction && (a.size == b.size)) e in
+    let k = both (sameb direction_kind.the_type a.direction b.direction) (a.size == b.size) h.1 in
+    ap (λ x. record a { name = x }) ((bytes_eq-Decides a.name b.name).0 h.0)
+    ∙ (ap (λ x. record { name = b.name; direction = x; size = a.size }) (same_true direction_kind.the_type (search rules) a.direction b.direction k.0)
+    ∙ ap (λ x. record b { size = x }) (eqb-true a.size b.size k.1))
+
+neighbour_is : (a b : Neighbour) → same_neighbour a b ≡ true → a ≡ b
+neighbour_is neighbour.Itself neighbour.Itself e = refl
+neighbour_is neighbour.Around neighbour.Around e = refl
+neighbour_is (neighbour.Beside a i) (neighbour.Beside b k) e =
+    let h = both (bytes_eq a b) (same_index i k) e in
+    ap (λ x. neighbour.Beside x i) ((bytes_eq-Decides a b).0 h.0) ∙ ap (neighbour.Beside b) (index_is i k h.1)
+neighbour_is (neighbour.Inside a i) (neighbour.Inside b k) e =
+    let h = both (bytes_eq a b) (same_index i k) e in
+    ap (λ x. neighbour.Inside x i) ((bytes_eq-Decides a b).0 h.0) ∙ ap (neighbour.Inside b) (index_is i k h.1)
+neighbour_is _ _ e = cc
+
+channel_is : (a b : Channel) → same_channel a b ≡ true → a ≡ b
+channel_is a b e =
+    let h = both (sameb channel_kind.the_type a.kind b.kind) ((a.delay == b.delay) && ((a.datarate == b.datarate) && beq a.disabled b.disabled)) e in
+    let k = both (a.delay == b.delay) ((a.datarate == b.datarate) && beq a.disabled b.disabled) h.1 in
+    let l = both (a.datarate == b.datarate) (beq a.disabled b.disabled) k.1 in
+    ap (λ x. record a { kind = x }) (same_true channel_kind.the_type (search rules) a.kind b.kind h.0)
+    ∙ (ap (λ x. record a { kind = b.kind; delay = x }) (eqb-true a.delay b.delay k.0)
+    ∙ (ap (λ x. record a { kind = b.kind; delay = b.delay; datarate = x }) (eqb-true a.datarate b.datarate l.0)
+    ∙ ap (λ x. record b { disabled = x }) ((booleans_Decides a.disabled b.disabled).0 l.1)))
+
+hop_is : (a b : NextGate) → same_hop a b ≡ true → a ≡ b
+hop_is a b e =
+    let h = both (same_neighbour a.neighbour b.neighbour) (bytes_eq a.gate b.gate && ((a.index == b.index) && same_channel a.channel b.channel)) e in
+    let k = both (bytes_eq a.gate b.gate) ((a.index == b.index) && same_channel a.channel b.channel) h.1 in
+    let l = both (a.index == b.index) (same_channel a.channel b.channel) k.1 in
+    ap (λ x. record a { neighbour = x }) (neighbour_is a.neighbour b.neighbour h.0)
+    ∙ (ap (λ x. record a { neighbour = b.neighbour; gate = x }) ((bytes_eq-Decides a.gate b.gate).0 k.0)
+    ∙ (ap (λ x. record a { neighbour = b.neighbour; gate = b.gate; index = x }) (eqb-true a.index b.index l.0)
+    ∙ ap (λ x. record b { channel = x }) (channel_is a.channel b.channel l.1)))
+
+end_is : (a b : Option NextGate) → same_end a b ≡ true → a ≡ b
+end_is None None e = refl
+end_is (Some a) (Some b) e = ap Some (hop_is a b e)
+end_is _ _ e = cc
+
 answer_is : (a b : Answer) → same_answer a b ≡ true → a ≡ b
 answer_is (answer.Root a) (answer.Root b) e = ap answer.Root ((bytes_eq-Decides a b).0 e)
 answer_is (answer.Inside a) (answer.Inside b) e = ap answer.Inside (inside_is a b e)
 answer_is (answer.Value a) (answer.Value b) e = ap answer.Value (value_is a b e)
+answer_is (answer.Gate a) (answer.Gate b) e = ap answer.Gate (gate_is a b e)
+answer_is (answer.Next a) (answer.Next b) e = ap answer.Next (end_is a b e)
 answer_is (answer.Fault a f) (answer.Fault b g) e =
     let h = both (bytes_eq a b) (sameb fault_kind.the_type f g) e in
     ap (λ x. answer.Fault x f) ((bytes_eq-Decides a b).0 h.0) ∙ ap (answer.Fault b) (same_true fault_kind.the_type (search rules) f g h.1)
@@ -140,10 +193,39 @@ next_same : (a : Option Injection) → same_next a a ≡ true
 next_same None = refl
 next_same (Some a) = injection_same a
 
+gate_same : (a : Gate) → same_gate a a ≡ true
+gate_same a =
+    join (bytes_eq a.name a.name) (sameb direction_kind.the_type a.direction a.direction && (a.size == a.size)) ((bytes_eq-Decides a.name a.name).1 refl)
+    (join (sameb direction_kind.the_type a.direction a.direction) (a.size == a.size) (true_same direction_kind.the_type a.direction a.direction refl) ((Decides-eqb a.size a.size).1 refl))
+
+neighbour_same : (a : Neighbour) → same_neighbour a a ≡ true
+neighbour_same neighbour.Itself = refl
+neighbour_same neighbour.Around = refl
+neighbour_same (neighbour.Beside a i) = join (bytes_eq a a) (same_index i i) ((bytes_eq-Decides a a).1 refl) (index_same i)
+neighbour_same (neighbour.Inside a i) = join (bytes_eq a a) (same_index i i) ((bytes_eq-Decides a a).1 refl) (index_same i)
+
+channel_same : (a : Channel) → same_channel a a ≡ true
+channel_same a =
+    join (sameb channel_kind.the_type a.kind a.kind) ((a.delay == a.delay) && ((a.datarate == a.datarate) && beq a.disabled a.disabled)) (true_same channel_kind.the_type a.kind a.kind refl)
+    (join (a.delay == a.delay) ((a.datarate == a.datarate) && beq a.disabled a.disabled) ((Decides-eqb a.delay a.delay).1 refl)
+    (join (a.datarate == a.datarate) (beq a.disabled a.disabled) ((Decides-eqb a.datarate a.datarate).1 refl) ((booleans_Decides a.disabled a.disabled).1 refl)))
+
+hop_same : (a : NextGate) → same_hop a a ≡ true
+hop_same a =
+    join (same_neighbour a.neighbour a.neighbour) (bytes_eq a.gate a.gate && ((a.index == a.index) && same_channel a.channel a.channel)) (neighbour_same a.neighbour)
+    (join (bytes_eq a.gate a.gate) ((a.index == a.index) && same_channel a.channel a.channel) ((bytes_eq-Decides a.gate a.gate).1 refl)
+    (join (a.index == a.index) (same_channel a.channel a.channel) ((Decides-eqb a.index a.index).1 refl) (channel_same a.channel)))
+
+end_same : (a : Option NextGate) → same_end a a ≡ true
+end_same None = refl
+end_same (Some a) = hop_same a
+
 answer_same : (a : Answer) → same_answer a a ≡ true
 answer_same (answer.Root a) = (bytes_eq-Decides a a).1 refl
 answer_same (answer.Inside a) = inside_same a
 answer_same (answer.Value a) = value_same a
+answer_same (answer.Gate a) = gate_same a
+answer_same (answer.Next a) = end_same a
 answer_same (answer.Fault a f) = join (bytes_eq a a) (sameb fault_kind.the_type f f) ((bytes_eq-Decides a a).1 refl) (true_same fault_kind.the_type f f refl)
 answer_same (answer.Beyond a) = (booleans_Decides a a).1 refl
 answer_same (answer.Injection a) = next_same a

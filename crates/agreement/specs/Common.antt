@@ -2,7 +2,7 @@
 use Rattle.std.specs.Prelude.{◌≡◌, Bool, true, false, ◌&&◌, List, [], ◌∷◌}
 use Rattle.run_questions.specs.declared.answer.Asked.{Asked}
 use Rattle.run_questions.specs.declared.answer.Question.{Question}
-use Rattle.run_questions.specs.declared.answer.Question.TheVariants.{Root, Build, Param, GateSize, BeyondLimit, InjectionBefore}
+use Rattle.run_questions.specs.declared.answer.Question.TheVariants.{Root, Build, Param, GateSize, Hop, HopBack, BeyondLimit, InjectionBefore}
 use Rattle.run_questions.specs.Answers.{Answers}
 use Rattle.agreement.specs.declared.common.Common.{Common}
 
@@ -17,6 +17,8 @@ is_about c Root = false
 is_about c (Build id) = false
 is_about c (Param id name) = false
 is_about c (GateSize id name) = false
+is_about c (Hop id name index) = false
+is_about c (HopBack id name index) = false
 is_about c (BeyondLimit time) = c.limit
 is_about c (InjectionBefore due last) = c.injections
 

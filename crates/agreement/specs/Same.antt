@@ -10,6 +10,13 @@ use Rattle.run_questions.specs.contracts.answer.ModelFault as fault_kind
 use Rattle.run_questions.specs.declared.answer.Answer.{Answer}
 use Rattle.run_questions.specs.declared.answer.Answer.TheVariants as answer
 use Rattle.run_questions.specs.declared.answer.Built.{Built}
+use Rattle.module_api.specs.contracts.call.Direction as direction_kind
+use Rattle.module_api.specs.declared.call.Gate.{Gate}
+use Rattle.run_questions.specs.contracts.answer.ChannelKind as channel_kind
+use Rattle.run_questions.specs.declared.answer.Channel.{Channel}
+use Rattle.run_questions.specs.declared.answer.Neighbour.{Neighbour}
+use Rattle.run_questions.specs.declared.answer.Neighbour.TheVariants as neighbour
+use Rattle.run_questions.specs.declared.answer.NextGate.{NextGate}
 use Rattle.injection_order.specs.declared.injection.Injection.{Injection}
 
 abbrev pub same_value : Value → Value → Bool
@@ -56,11 +63,34 @@ same_injections [] [] = true
 same_injections (a ∷ xs) (b ∷ ys) = same_injection a b && same_injections xs ys
 same_injections _ _ = false
 
+abbrev pub same_gate : Gate → Gate → Bool
+same_gate a b = bytes_eq a.name b.name && (sameb direction_kind.the_type a.direction b.direction && (a.size == b.size))
+
+abbrev pub same_neighbour : Neighbour → Neighbour → Bool
+same_neighbour neighbour.Itself neighbour.Itself = true
+same_neighbour neighbour.Around neighbour.Around = true
+same_neighbour (neighbour.Beside a i) (neighbour.Beside b k) = bytes_eq a b && same_index i k
+same_neighbour (neighbour.Inside a i) (neighbour.Inside b k) = bytes_eq a b && same_index i k
+same_neighbour _ _ = false
+
+abbrev pub same_channel : Channel → Channel → Bool
+same_channel a b = sameb channel_kind.the_type a.kind b.kind && ((a.delay == b.delay) && ((a.datarate == b.datarate) && beq a.disabled b.disabled))
+
+abbrev pub same_hop : NextGate → NextGate → Bool
+same_hop a b = same_neighbour a.neighbour b.neighbour && (bytes_eq a.gate b.gate && ((a.index == b.index) && same_channel a.channel b.channel))
+
+abbrev pub same_end : Option NextGate → Option NextGate → Bool
+same_end None None = true
+same_end (Some a) (Some b) = same_hop a b
+same_end _ _ = false
+
 -- whether two answers are the same
 abbrev pub same_answer : Answer → Answer → Bool
 same_answer (answer.Root a) (answer.Root b) = bytes_eq a b
 same_answer (answer.Inside a) (answer.Inside b) = same_inside a b
 same_answer (answer.Value a) (answer.Value b) = same_value a b
+same_answer (answer.Gate a) (answer.Gate b) = same_gate a b
+same_answer (answer.Next a) (answer.Next b) = same_end a b
 same_answer (answer.Fault a f) (answer.Fault b g) = bytes_eq a b && sameb fault_kind.the_type f g
 same_answer (answer.Beyond a) (answer.Beyond b) = beq a b
 same_answer (answer.Injection a) (answer.Injection b) = same_next a b

@@ -2,10 +2,11 @@
 
 ghost use Rattle.std.specs.Prelude.{◌≡◌, length, true};
 ghost use Rattle.std.specs.Bool.{Decides};
-ghost use Rattle.agreement.specs.Same.{same_value, same_class, same_index, same_built, same_inside, same_due, same_message, same_injection, same_injections, same_next, same_answer};
+ghost use Rattle.agreement.specs.Same.{same_value, same_class, same_index, same_built, same_inside, same_due, same_message, same_injection, same_injections, same_next, same_gate, same_neighbour, same_channel, same_hop, same_end, same_answer};
 
 use injection_order::injection::Injection;
-use run_questions::answer::{Answer, Built};
+use module_api::call::Gate;
+use run_questions::answer::{Answer, Built, Channel, Neighbour, NextGate};
 use sim_values::text::Text;
 use sim_values::value::Value;
 
@@ -131,6 +132,56 @@ pub fn same_injections(one: &[Injection], other: &[Injection]) -> bool
     same_listed(one, other)
 }
 
+fn same_gate(one: &Gate, other: &Gate) -> bool
+    ensures { result ≡ same_gate one.now other.now }
+{
+    one.name.is(other.name.as_bytes()) && one.direction == other.direction && one.size == other.size
+}
+
+fn same_neighbour(one: &Neighbour, other: &Neighbour) -> bool
+    ensures { result ≡ same_neighbour one.now other.now }
+{
+    match (one, other) {
+        (Neighbour::Itself, Neighbour::Itself) => true,
+        (Neighbour::Around, Neighbour::Around) => true,
+        (Neighbour::Beside(a, i), Neighbour::Beside(b, k)) => {
+            a.is(b.as_bytes()) && same_index(*i, *k)
+        }
+        (Neighbour::Inside(a, i), Neighbour::Inside(b, k)) => {
+            a.is(b.as_bytes()) && same_index(*i, *k)
+        }
+        _ => false,
+    }
+}
+
+fn same_channel(one: &Channel, other: &Channel) -> bool
+    ensures { result ≡ same_channel one.now other.now }
+{
+    one.kind == other.kind
+        && one.delay == other.delay
+        && one.datarate == other.datarate
+        && one.disabled == other.disabled
+}
+
+fn same_hop(one: &NextGate, other: &NextGate) -> bool
+    ensures { result ≡ same_hop one.now other.now }
+{
+    same_neighbour(&one.neighbour, &other.neighbour)
+        && one.gate.is(other.gate.as_bytes())
+        && one.index == other.index
+        && same_channel(&one.channel, &other.channel)
+}
+
+fn same_end(one: &Option<NextGate>, other: &Option<NextGate>) -> bool
+    ensures { result ≡ same_end one.now other.now }
+{
+    match (one, other) {
+        (None, None) => true,
+        (Some(a), Some(b)) => same_hop(a, b),
+        _ => false,
+    }
+}
+
 fn compared(one: &Answer, other: &Answer) -> bool
     ensures { result ≡ same_answer one.now other.now }
 {
@@ -138,6 +189,8 @@ fn compared(one: &Answer, other: &Answer) -> bool
         (Answer::Root(a), Answer::Root(b)) => a.is(b.as_bytes()),
         (Answer::Inside(a), Answer::Inside(b)) => same_inside(a.as_slice(), b.as_slice()),
         (Answer::Value(a), Answer::Value(b)) => same_value(a, b),
+        (Answer::Gate(a), Answer::Gate(b)) => same_gate(a, b),
+        (Answer::Next(a), Answer::Next(b)) => same_end(a, b),
         (Answer::Fault(a, f), Answer::Fault(b, g)) => a.is(b.as_bytes()) && f == g,
         (Answer::Beyond(a), Answer::Beyond(b)) => a == b,
         (Answer::Injection(a), Answer::Injection(b)) => same_next(a, b),

@@ -2,22 +2,19 @@
 use Rattle.std.proofs.Common.{◌≡◌, ℕ, zero, suc, ◌≤◌, ◌<◌, Bool, true, false, List, [], ◌∷◌, ◌++◌, drop, take, Option, Some, None, option_map, refl, sym, ap, ◌∙◌, subst, arith, slice_get, length}
 use Rattle.module_api.specs.Behaviour.{Behaviour}
 use Rattle.module_api.specs.Meaning.{Module, IsFresh}
-use Rattle.run_questions.specs.declared.answer.Answer.{Answer}
-use Rattle.run_questions.specs.declared.answer.Answer.TheVariants as answer
-use Rattle.run_questions.specs.declared.answer.Built.{Built}
-use Rattle.run_questions.specs.declared.answer.Question.TheVariants.{Root, Build}
-use Rattle.run_questions.specs.Answers.{Answers, answer_of}
+use Rattle.run_questions.specs.Answers.{Answers}
 use Rattle.run_questions.specs.declared.record.Record.{Record}
 use Rattle.run_questions.specs.Records.{path_of}
 use Rattle.run_semantics.specs.declared.outcome.Fault.TheVariants.{UnknownClass}
 use Rattle.run_semantics.specs.declared.outcome.Outcome.{Outcome}
 use Rattle.run_semantics.specs.declared.outcome.Outcome.TheVariants as outcomes
 use Rattle.run_semantics.specs.declared.traces.Instance.{Instance}
-use Rattle.run_semantics.specs.World.{World, empty, asked}
+use Rattle.run_semantics.specs.World.{World}
 use Rattle.run_semantics.specs.Perform.{Flow, On, Stopped, Broken, ◌>>=◌}
-use Rattle.run_semantics.specs.Run.{Part, part_of, standing, parts_from, parts_of, with_class, rooted, built, unless_many, root_asked, inside_asked, prepared, place_parts, ready, placed, place, place_all, initialize_all, start, Running, Over, settled, is_fault}
+use Rattle.run_semantics.specs.Run.{Part, part_of, standing, parts_from, parts_of, with_class, prepared, place_parts, ready, placed, place, place_all, initialize_all, start, Running, Over, settled, is_fault}
 use Rattle.run_semantics.specs.Ending.{ending}
 use Rattle.run_semantics.proofs.Ends.{run_over}
+use Rattle.run_semantics.proofs.Setting.{IsLasting, Stays, prepared_stays}
 use Rattle.kernel.specs.declared.request.Request.{Request}
 use Rattle.saved_boxes.specs.Seats.{AreBelow}
 use Rattle.kernel.specs.Seats.{request_for, missing_part, missing_of}
@@ -31,35 +28,17 @@ GoesOn (On w) = w.next ≡ 0
 GoesOn (Stopped w) = ⊥
 GoesOn (Broken w path f) = Unit {0}
 
-root_goes : (found : Answer) → GoesOn (rooted found (asked Root empty))
-root_goes (answer.Root name) = refl
-root_goes (answer.Inside bs) = tt
-root_goes (answer.Value v) = tt
-root_goes (answer.Fault path f) = tt
-root_goes (answer.Beyond beyond) = tt
-root_goes (answer.Injection found) = tt
-root_goes answer.Absent = tt
+-- a setup inserts nothing
+next_lasts : IsLasting (λ w. w.next ≡ 0)
+next_lasts = record { asked = λ id w e l. e; created = λ parent bs w e l few. e }
 
-many_goes : (parent : ℕ) (bs : List Built) (w : World) (one : Option Built) → w.next ≡ 0 → GoesOn (unless_many parent bs w one)
-many_goes parent bs w (Some b) e = tt
-many_goes parent bs w None e = e
-
-built_goes : (parent : ℕ) (found : Answer) (w : World) → w.next ≡ 0 → GoesOn (built parent found w)
-built_goes parent (answer.Inside bs) w e = many_goes parent bs w (slice_get bs 65535) e
-built_goes parent (answer.Root name) w e = tt
-built_goes parent (answer.Value v) w e = tt
-built_goes parent (answer.Fault path f) w e = tt
-built_goes parent (answer.Beyond beyond) w e = tt
-built_goes parent (answer.Injection found) w e = tt
-built_goes parent answer.Absent w e = tt
-
-then_goes : (fl : Flow) (k : World → Flow) → GoesOn fl → ((w : World) → w.next ≡ 0 → GoesOn (k w)) → GoesOn (fl >>= k)
-then_goes (On w) k h g = g w h
-then_goes (Stopped w) k h g = h
-then_goes (Broken w path f) k h g = tt
+stays_going : (fl : Flow) → Stays (λ w. w.next ≡ 0) fl → GoesOn fl
+stays_going (On w) h = h
+stays_going (Stopped w) h = h
+stays_going (Broken w path f) h = tt
 
 prepared_goes : (m : Answers) → GoesOn (prepared m)
-prepared_goes m = then_goes (root_asked m) (inside_asked m) (root_goes (answer_of m [] Root)) (λ w e. built_goes 1 (answer_of m w.records (Build 1)) (asked (Build 1) w) e)
+prepared_goes m = stays_going (prepared m) (prepared_stays (λ w. w.next ≡ 0) m next_lasts refl (λ name. refl))
 
 running_on : (fl : Flow) (w : World) → GoesOn fl → Running w ≡ settled fl → (fl ≡ On w) × (w.next ≡ 0)
 running_on (On v) w h e = let s : v ≡ w = cc in (ap On s, ap (λ (u : World). u.next) (sym s) ∙ h)

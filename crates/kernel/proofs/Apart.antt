@@ -1,5 +1,5 @@
 -- What a reply leads to neither reads nor changes modules.
-use Rattle.std.proofs.Common.{◌≡◌, ℕ, List, [], ◌∷◌, refl, sym, ap, ◌∙◌, Bool, true, false, Option, Some, None, slice_get, length, nat_lt, if◌then◌else◌}
+use Rattle.std.proofs.Common.{◌≡◌, ℕ, List, [], ◌∷◌, refl, sym, ap, ◌∙◌, Bool, true, false, Option, Some, None, length, nat_lt, if◌then◌else◌}
 use Rattle.sim_time.specs.Time.{time_sum}
 use Rattle.module_api.specs.declared.reply.Action.{Action}
 use Rattle.module_api.specs.Names.{is_scalar_name}
@@ -7,19 +7,16 @@ use Rattle.module_api.specs.declared.reply.Action.TheVariants.{Emit, RecordScala
 use Rattle.module_api.specs.declared.reply.Read.{Read}
 use Rattle.module_api.specs.declared.reply.Reply.{Reply}
 use Rattle.module_api.specs.declared.reply.Schedule.{Schedule}
-use Rattle.run_questions.specs.declared.answer.Answer.{Answer}
-use Rattle.run_questions.specs.declared.answer.Answer.TheVariants as answer
-use Rattle.run_questions.specs.declared.answer.Built.{Built}
-use Rattle.run_questions.specs.declared.answer.Question.TheVariants.{Root, Build}
-use Rattle.run_questions.specs.Answers.{Answers, answer_of}
+use Rattle.run_questions.specs.Answers.{Answers}
 use Rattle.run_semantics.specs.declared.outcome.Fault.{Fault}
 use Rattle.run_semantics.specs.declared.outcome.Turn.{Turn}
 use Rattle.run_semantics.specs.declared.outcome.Turn.TheVariants.{GoOn, Stop, Break}
 use Rattle.run_semantics.specs.declared.traces.Instance.{Instance}
-use Rattle.run_semantics.specs.World.{World, empty, asked}
+use Rattle.run_semantics.specs.World.{World, asked}
 use Rattle.event_set.specs.Timers.{has_timer}
 use Rattle.run_semantics.specs.Perform.{Flow, On, Stopped, Broken, ◌>>=◌, flow_of, scheduled, perform, perform_all, ask_all, question_of, acted, read_fault, unless_fault, answered}
-use Rattle.run_semantics.specs.Run.{rooted, built, unless_many, root_asked, inside_asked, prepared}
+use Rattle.run_semantics.specs.Run.{prepared}
+use Rattle.run_semantics.proofs.Setting.{IsLasting, Stays, prepared_stays}
 use Rattle.run_semantics.specs.Ending.{is_last_action, perform_last, perform_last_all, acted_last, answered_last}
 
 -- the world, with these modules
@@ -103,32 +100,14 @@ answered_last_apart ms m id reply w =
 
 -- ---- setup
 
-root_apart : (found : Answer) → flow_with [] (rooted found (asked Root empty)) ≡ rooted found (asked Root empty)
-root_apart (answer.Root name) = refl
-root_apart (answer.Inside bs) = refl
-root_apart (answer.Value v) = refl
-root_apart (answer.Fault path f) = refl
-root_apart (answer.Beyond beyond) = refl
-root_apart (answer.Injection found) = refl
-root_apart answer.Absent = refl
+-- a setup places no module
+none_lasts : IsLasting (λ w. w.modules ≡ [])
+none_lasts = record { asked = λ id w e l. e; created = λ parent bs w e l few. e }
 
-many_apart : (ms : List Instance) (parent : ℕ) (bs : List Built) (w : World) (one : Option Built) → unless_many parent bs (with_modules ms w) one ≡ flow_with ms (unless_many parent bs w one)
-many_apart ms parent bs w (Some b) = refl
-many_apart ms parent bs w None = refl
+with_none : (fl : Flow) → Stays (λ w. w.modules ≡ []) fl → flow_with [] fl ≡ fl
+with_none (On w) h = ap (λ ms. On (with_modules ms w)) (sym h)
+with_none (Stopped w) h = absurd h
+with_none (Broken w path f) h = ap (λ ms. Broken (with_modules ms w) path f) (sym h)
 
-built_apart : (ms : List Instance) (parent : ℕ) (found : Answer) (w : World) → built parent found (with_modules ms w) ≡ flow_with ms (built parent found w)
-built_apart ms parent (answer.Inside bs) w = many_apart ms parent bs w (slice_get bs 65535)
-built_apart ms parent (answer.Root name) w = refl
-built_apart ms parent (answer.Value v) w = refl
-built_apart ms parent (answer.Fault path f) w = refl
-built_apart ms parent (answer.Beyond beyond) w = refl
-built_apart ms parent (answer.Injection found) w = refl
-built_apart ms parent answer.Absent w = refl
-
--- setup places no module
 pub prepared_apart : (m : Answers) → flow_with [] (prepared m) ≡ prepared m
-prepared_apart m =
-    sym_then ∙ ap (λ (fl : Flow). fl >>= inside_asked m) (root_apart (answer_of m [] Root))
-  where
-    sym_then : flow_with [] (prepared m) ≡ (flow_with [] (root_asked m) >>= inside_asked m)
-    sym_then = sym (then_apart [] (root_asked m) (inside_asked m) (λ w. built_apart [] 1 (answer_of m w.records (Build 1)) (asked (Build 1) w)))
+prepared_apart m = with_none (prepared m) (prepared_stays (λ w. w.modules ≡ []) m none_lasts refl (λ name. refl))

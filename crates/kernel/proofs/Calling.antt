@@ -11,10 +11,10 @@ use Rattle.run_questions.specs.Answers.{Answers}
 use Rattle.run_semantics.specs.declared.outcome.Turn.{Turn}
 use Rattle.run_semantics.specs.declared.traces.Instance.{Instance}
 use Rattle.run_semantics.specs.World.{World}
-use Rattle.run_semantics.specs.Perform.{On, flow_of, answered}
-use Rattle.run_semantics.specs.Event.{call_of, instance_in, with_state, changed, replied, called, call_module}
+use Rattle.run_semantics.specs.Perform.{Flow, On, flow_of, answered}
+use Rattle.run_semantics.specs.Event.{call_of, instance_in, with_state, changed, replied, called, calling, call_module}
 use Rattle.run_semantics.specs.Run.{standing}
-use Rattle.run_semantics.specs.Ending.{answered_last, replied_last, called_last, call_last}
+use Rattle.run_semantics.specs.Ending.{answered_last, call_last}
 use Rattle.saved_boxes.specs.Seats.{Seat, instance_of, module_in, AreOfKinds, AreKept}
 use Rattle.saved_boxes.proofs.Keeping.{kind_same, kind_in, kinds_with, standing_with, states_with}
 use Rattle.kernel_actions.specs.Positions.{IsGrownFrom}
@@ -51,51 +51,31 @@ boxed_grows v w old new g = record {
 -- ---- what a call does
 
 -- what a box says is what its module says in the definitions
-module _ (b : Behaviour) (m : Answers) (id : ℕ) (p : Prompt) (w : World) where
+module _ (b : Behaviour) (m : Answers) (follow : Reply → World → Flow) (id : ℕ) (p : Prompt) (w : World) where
   abbrev reply_by : Module → Replied
   reply_by box = (b.naming box.kind).reply box.state (call_of m id p w)
 
-  found_called : (ss : List Seat) (before : Module) → module_in id ss ≡ Some before → called b m id p w (instance_in id (map instance_of ss)) ≡ replied m id (reply_by before) w
+  found_called : (ss : List Seat) (before : Module) → module_in id ss ≡ Some before → called b m follow id p w (instance_in id (map instance_of ss)) ≡ replied follow id (reply_by before) w
   found_called [] before e = cc
   found_called (s ∷ ss) before e = by (s.id == id) (found_called ss before) e
     where
-      by : (t : Bool) → (module_in id ss ≡ Some before → called b m id p w (instance_in id (map instance_of ss)) ≡ replied m id (reply_by before) w) → cond t (Some s.box) (module_in id ss) ≡ Some before
-          → called b m id p w (cond t (Some (instance_of s)) (instance_in id (map instance_of ss))) ≡ replied m id (reply_by before) w
-      by true later e = let same : s.box ≡ before = cc in ap (λ (x : Module). replied m id (reply_by x) w) same
+      by : (t : Bool) → (module_in id ss ≡ Some before → called b m follow id p w (instance_in id (map instance_of ss)) ≡ replied follow id (reply_by before) w) → cond t (Some s.box) (module_in id ss) ≡ Some before
+          → called b m follow id p w (cond t (Some (instance_of s)) (instance_in id (map instance_of ss))) ≡ replied follow id (reply_by before) w
+      by true later e = let same : s.box ≡ before = cc in ap (λ (x : Module). replied follow id (reply_by x) w) same
       by false later e = later e
 
-  none_called : (ss : List Seat) → module_in id ss ≡ None → On w ≡ called b m id p w (instance_in id (map instance_of ss))
+  none_called : (ss : List Seat) → module_in id ss ≡ None → On w ≡ called b m follow id p w (instance_in id (map instance_of ss))
   none_called [] e = refl
   none_called (s ∷ ss) e = by (s.id == id) (none_called ss) e
     where
-      by : (t : Bool) → (module_in id ss ≡ None → On w ≡ called b m id p w (instance_in id (map instance_of ss))) → cond t (Some s.box) (module_in id ss) ≡ None
-          → On w ≡ called b m id p w (cond t (Some (instance_of s)) (instance_in id (map instance_of ss)))
+      by : (t : Bool) → (module_in id ss ≡ None → On w ≡ called b m follow id p w (instance_in id (map instance_of ss))) → cond t (Some s.box) (module_in id ss) ≡ None
+          → On w ≡ called b m follow id p w (cond t (Some (instance_of s)) (instance_in id (map instance_of ss)))
       by true later e = cc
       by false later e = later e
 
--- the same at the end
-module _ (b : Behaviour) (m : Answers) (id : ℕ) (w : World) where
-  found_called_last : (ss : List Seat) (before : Module) → module_in id ss ≡ Some before → called_last b m id w (instance_in id (map instance_of ss)) ≡ replied_last m id (reply_by b m id prompt.Finish w before) w
-  found_called_last [] before e = cc
-  found_called_last (s ∷ ss) before e = by (s.id == id) (found_called_last ss before) e
-    where
-      by : (t : Bool) → (module_in id ss ≡ Some before → called_last b m id w (instance_in id (map instance_of ss)) ≡ replied_last m id (reply_by b m id prompt.Finish w before) w) → cond t (Some s.box) (module_in id ss) ≡ Some before
-          → called_last b m id w (cond t (Some (instance_of s)) (instance_in id (map instance_of ss))) ≡ replied_last m id (reply_by b m id prompt.Finish w before) w
-      by true later e = let same : s.box ≡ before = cc in ap (λ (x : Module). replied_last m id (reply_by b m id prompt.Finish w x) w) same
-      by false later e = later e
-
-  none_called_last : (ss : List Seat) → module_in id ss ≡ None → On w ≡ called_last b m id w (instance_in id (map instance_of ss))
-  none_called_last [] e = refl
-  none_called_last (s ∷ ss) e = by (s.id == id) (none_called_last ss) e
-    where
-      by : (t : Bool) → (module_in id ss ≡ None → On w ≡ called_last b m id w (instance_in id (map instance_of ss))) → cond t (Some s.box) (module_in id ss) ≡ None
-          → On w ≡ called_last b m id w (cond t (Some (instance_of s)) (instance_in id (map instance_of ss)))
-      by true later e = cc
-      by false later e = later e
-
-module _ (b : Behaviour) (m : Answers) (id : ℕ) (p : Prompt) (core : World) (old new : List Seat) (reply : Reply) (kinds : AreOfKinds b old) (s : IsCalled id old new (call_of m id p core) (Ok reply)) where
+module _ (b : Behaviour) (m : Answers) (follow : Reply → World → Flow) (id : ℕ) (p : Prompt) (core : World) (old new : List Seat) (reply : Reply) (kinds : AreOfKinds b old) (s : IsCalled id old new (call_of m id p core) (Ok reply)) where
   abbrev said : Replied
-  said = reply_by b m id p core s.before
+  said = reply_by b m follow id p core s.before
 
   kind : IsOfKind b s.before
   kind = kind_in b id old s.before s.found kinds
@@ -109,37 +89,34 @@ module _ (b : Behaviour) (m : Answers) (id : ℕ) (p : Prompt) (core : World) (o
   modules_after : map instance_of new ≡ with_state id said.state (map instance_of old)
   modules_after = ap (map instance_of) s.seats ∙ states_with id old s.before s.after said.state s.found s.same.kind left_state
 
-  called_is_step : answered m id reply (world_of core new) ≡ replied m id said (world_of core old)
+  called_is_step : follow reply (world_of core new) ≡ replied follow id said (world_of core old)
   called_is_step =
-      ap (λ (ms : List Instance). answered m id reply (with_modules ms core)) modules_after
-      ∙ ap (λ (x : Reply). answered m id x (changed id said.state (world_of core old))) told_reply
+      ap (λ (ms : List Instance). follow reply (with_modules ms core)) modules_after
+      ∙ ap (λ (x : Reply). follow x (changed id said.state (world_of core old))) told_reply
 
-  called_last_is_step : answered_last m id reply (world_of core new) ≡ replied_last m id said (world_of core old)
-  called_last_is_step =
-      ap (λ (ms : List Instance). answered_last m id reply (with_modules ms core)) modules_after
-      ∙ ap (λ (x : Reply). answered_last m id x (changed id said.state (world_of core old))) told_reply
-
--- A CALL in code is a call of the definitions
-pub called_is : (b : Behaviour) (m : Answers) (id : ℕ) (p : Prompt) (core core' : World) (old new : List Seat) (reply : Reply) (turn : Turn) → AreOfKinds b old → IsCalled id old new (call_of m id p core) (Ok reply) → flow_of turn core' ≡ answered m id reply core
-    → flow_of turn (world_of core' new) ≡ call_module b m id p (world_of core old)
-called_is b m id p core core' old new reply turn kinds s e =
+-- A CALL in code is a call of the definitions, where what follows its reply neither reads nor changes modules
+calling_is : (b : Behaviour) (m : Answers) (follow : Reply → World → Flow) (id : ℕ) (p : Prompt) (core core' : World) (old new : List Seat) (reply : Reply) (turn : Turn) → ((ms : List Instance) → follow reply (with_modules ms core) ≡ flow_with ms (follow reply core))
+    → AreOfKinds b old → IsCalled id old new (call_of m id p core) (Ok reply) → flow_of turn core' ≡ follow reply core → flow_of turn (world_of core' new) ≡ calling b m follow id p (world_of core old)
+calling_is b m follow id p core core' old new reply turn apart kinds s e =
     flow_of_with (map instance_of new) turn core'
     ∙ ap (flow_with (map instance_of new)) e
-    ∙ sym (answered_apart (map instance_of new) m id reply core)
-    ∙ called_is_step b m id p core old new reply kinds s
-    ∙ sym (found_called b m id p (world_of core old) old s.before s.found)
+    ∙ sym (apart (map instance_of new))
+    ∙ called_is_step b m follow id p core old new reply kinds s
+    ∙ sym (found_called b m follow id p (world_of core old) old s.before s.found)
+
+calling_none : (b : Behaviour) (m : Answers) (follow : Reply → World → Flow) (id : ℕ) (p : Prompt) (core : World) (old new : List Seat) → (module_in id old ≡ None) × (new ≡ old) → On (world_of core new) ≡ calling b m follow id p (world_of core old)
+calling_none b m follow id p core old new h = ap (λ (ss : List Seat). On (world_of core ss)) h.1 ∙ none_called b m follow id p (world_of core old) old h.0
+
+pub called_is : (b : Behaviour) (m : Answers) (id : ℕ) (p : Prompt) (core core' : World) (old new : List Seat) (reply : Reply) (turn : Turn) → AreOfKinds b old → IsCalled id old new (call_of m id p core) (Ok reply) → flow_of turn core' ≡ answered m id reply core
+    → flow_of turn (world_of core' new) ≡ call_module b m id p (world_of core old)
+called_is b m id p core core' old new reply turn kinds s e = calling_is b m (answered m id) id p core core' old new reply turn (λ ms. answered_apart ms m id reply core) kinds s e
 
 pub passed_over : (b : Behaviour) (m : Answers) (id : ℕ) (p : Prompt) (core : World) (old new : List Seat) → (module_in id old ≡ None) × (new ≡ old) → On (world_of core new) ≡ call_module b m id p (world_of core old)
-passed_over b m id p core old new h = ap (λ (ss : List Seat). On (world_of core ss)) h.1 ∙ none_called b m id p (world_of core old) old h.0
+passed_over b m id p core old new h = calling_none b m (answered m id) id p core old new h
 
 pub called_last_is : (b : Behaviour) (m : Answers) (id : ℕ) (core core' : World) (old new : List Seat) (reply : Reply) (turn : Turn) → AreOfKinds b old → IsCalled id old new (call_of m id prompt.Finish core) (Ok reply) → flow_of turn core' ≡ answered_last m id reply core
     → flow_of turn (world_of core' new) ≡ call_last b m id (world_of core old)
-called_last_is b m id core core' old new reply turn kinds s e =
-    flow_of_with (map instance_of new) turn core'
-    ∙ ap (flow_with (map instance_of new)) e
-    ∙ sym (answered_last_apart (map instance_of new) m id reply core)
-    ∙ called_last_is_step b m id prompt.Finish core old new reply kinds s
-    ∙ sym (found_called_last b m id (world_of core old) old s.before s.found)
+called_last_is b m id core core' old new reply turn kinds s e = calling_is b m (answered_last m id) id prompt.Finish core core' old new reply turn (λ ms. answered_last_apart ms m id reply core) kinds s e
 
 pub passed_over_last : (b : Behaviour) (m : Answers) (id : ℕ) (core : World) (old new : List Seat) → (module_in id old ≡ None) × (new ≡ old) → On (world_of core new) ≡ call_last b m id (world_of core old)
-passed_over_last b m id core old new h = ap (λ (ss : List Seat). On (world_of core ss)) h.1 ∙ none_called_last b m id (world_of core old) old h.0
+passed_over_last b m id core old new h = calling_none b m (answered_last m id) id prompt.Finish core old new h

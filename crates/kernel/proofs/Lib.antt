@@ -1,7 +1,6 @@
 pub mod Apart
 pub mod Behind
 pub mod Calling
-pub mod Ending
 pub mod Lookups
 pub mod Rising
 pub mod Starting

@@ -41,7 +41,7 @@ told_shown m id p w shown call found e = e ∙ ap (λ (s : Shown). call_with id 
 
 -- what it showed
 abbrev shown_by : Call → Shown
-shown_by call = record { path = call.path; parameters = call.parameters }
+shown_by call = record { path = call.path; parameters = call.parameters; gates = call.gates }
 
 -- and that lasts
 pub lent_shown : (m : Answers) (id : ℕ) (p : Prompt) (w : World) (shown : Shown) (call : Call) (again : Shown) → shown ≡ shown_of m w.records id → call ≡ call_with id p shown w → again ≡ shown_by call

@@ -1,42 +1,36 @@
--- The start of a run, in code and in the definitions.
-use Rattle.std.proofs.Common.{◌≡◌, ℕ, suc, ◌+◌, ◌-◌, ◌<◌, ◌≤◌, nat_lt, max, true, false, List, [], ◌∷◌, Option, Some, None, option_map, refl, sym, ap, ◌∙◌, arith, map, unwrap_or}
+-- The start of modules, in code and in the definitions.
+use Rattle.std.proofs.Common.{◌≡◌, ℕ, zero, suc, ◌+◌, ◌-◌, ◌≤◌, ◌<◌, ◌==◌, nat_lt, max, Bool, true, false, cond, List, [], ◌∷◌, Option, Some, None, is_some, not, unwrap_or, refl, sym, ap, ◌∙◌, add-one, arith, drop, get_or, length, map}
 use Rattle.std.proofs.lemmas.Bool.Decides.{nat_tests}
 use Rattle.module_api.specs.Behaviour.{Behaviour}
-use Rattle.module_api.specs.Meaning.{Module}
 use Rattle.module_api.specs.declared.call.Prompt.TheVariants as prompt
+use Rattle.module_api.specs.Meaning.{Module}
 use Rattle.run_questions.specs.Answers.{Answers}
 use Rattle.run_semantics.specs.declared.outcome.Turn.{Turn}
 use Rattle.run_semantics.specs.declared.outcome.Turn.TheVariants.{GoOn, Stop, Break}
+use Rattle.run_semantics.specs.declared.traces.Instance.{Instance}
 use Rattle.run_semantics.specs.World.{World}
-use Rattle.run_semantics.specs.Perform.{Flow, On, ◌>>=◌, flow_of}
-use Rattle.run_semantics.specs.Event.{call_module}
-use Rattle.run_semantics.specs.Run.{Part, standing, most_stages, initialize, one_stage, stages_from}
+use Rattle.run_semantics.specs.Perform.{Flow, On, ◌>>=◌, flow_of, for_each}
+use Rattle.run_semantics.specs.Event.{call_module, instance_in}
+use Rattle.run_semantics.specs.Run.{stages_in, most_stages, initialize, one_stage, stages_from}
 use Rattle.saved_boxes.specs.Seats.{Seat, instance_of, module_in, AreOfKinds}
 use Rattle.kernel.specs.Seats.{stages_of}
-use Rattle.kernel.specs.Parts.{part_in, initialize_at}
-use Rattle.saved_boxes.proofs.Keeping.{kind_in}
-use Rattle.kernel.proofs.Rising.{Rise, parts_left, all_left, none_left, left_none, left_some, part_for, part_standing}
 
 -- ---- stages
 
--- the stages of a box are those of the part that stands, by its kind
-pub staged : (b : Behaviour) (id : ℕ) (ss : List Seat) (box : Module) → module_in id ss ≡ Some box → AreOfKinds b ss → box.naming.stages ≡ (b.naming box.kind).stages
-staged b id ss box e h = ap (λ n. n.stages) (kind_in b id ss box e h).named
+-- the stages that a box tells are those of its module
+pub stages_told : (b : Behaviour) (id : ℕ) (ss : List Seat) → AreOfKinds b ss → unwrap_or (stages_of (module_in id ss)) 0 ≡ stages_in b (instance_in id (map instance_of ss))
+stages_told b id [] h = refl
+stages_told b id (s ∷ ss) h = by (s.id == id) (stages_told b id ss h.1)
+  where
+    by : (t : Bool) → unwrap_or (stages_of (module_in id ss)) 0 ≡ stages_in b (instance_in id (map instance_of ss)) → unwrap_or (stages_of (cond t (Some s.box) (module_in id ss))) 0 ≡ stages_in b (cond t (Some (instance_of s)) (instance_in id (map instance_of ss)))
+    by true later = ap (λ n. n.stages) h.0.named
+    by false later = later
 
-some_part : (id : ℕ) (ss : List Seat) (box : Module) → module_in id ss ≡ Some box → part_in id (standing (map instance_of ss)) ≡ Some (part_for id box)
-some_part id ss box e = part_standing id ss ∙ ap (option_map (part_for id)) e
-
-pub no_part : (id : ℕ) (ss : List Seat) → module_in id ss ≡ None → part_in id (standing (map instance_of ss)) ≡ None
-no_part id ss e = part_standing id ss ∙ ap (option_map (part_for id)) e
-
--- the box whose stages are told
-told_box : (found : Option Module) (stages : Option ℕ) → stages ≡ stages_of found → (n : ℕ) → stages ≡ Some n → (box : Module) × (found ≡ Some box) × (n ≡ box.naming.stages)
-told_box None stages e n h = cc
-told_box (Some box) stages e n h = (box, refl, cc)
-
-pub told_none : (found : Option Module) (stages : Option ℕ) → stages ≡ stages_of found → stages ≡ None → found ≡ None
-told_none None stages e h = refl
-told_none (Some box) stages e h = cc
+-- a box whose stages are not told is not there
+pub told_none : (found : Option Module) (stages : Option ℕ) (none : Bool) → stages ≡ stages_of found → is_some stages ≡ not none → none ≡ true → found ≡ None
+told_none None stages none e f t = refl
+told_none (Some box) None none e f t = cc
+told_none (Some box) (Some n) none e f t = let same : true ≡ not true = f ∙ ap not t in cc
 
 past : (stage stages : ℕ) → stages ≤ stage → nat_lt stage stages ≡ false
 past stage stages h = grind (arith, nat_tests)
@@ -44,25 +38,13 @@ past stage stages h = grind (arith, nat_tests)
 before : (stage stages : ℕ) → stage < stages → nat_lt stage stages ≡ true
 before stage stages h = grind (arith, nat_tests)
 
--- a module that has no box
-pub initialize-none : (b : Behaviour) (m : Answers) (stage id : ℕ) (ss : List Seat) (w : World) (stages : Option ℕ) → stages ≡ stages_of (module_in id ss) → stages ≡ None → On w ≡ initialize_at b m stage w (part_in id (standing (map instance_of ss)))
-initialize-none b m stage id ss w stages told none = ap (initialize_at b m stage w) (sym (no_part id ss (told_none (module_in id ss) stages told none)))
-
--- one that doesn't have the stage
-pub initialize-past : (b : Behaviour) (m : Answers) (stage id : ℕ) (ss : List Seat) (w : World) (stages : Option ℕ) (n : ℕ) → AreOfKinds b ss → stages ≡ stages_of (module_in id ss) → stages ≡ Some n → n ≤ stage → On w ≡ initialize_at b m stage w (part_in id (standing (map instance_of ss)))
-initialize-past b m stage id ss w stages n kinds told some h =
-    let box = told_box (module_in id ss) stages told n some in
-    let e : (b.naming box.0.kind).stages ≡ n = sym (box.2 ∙ staged b id ss box.0 box.1 kinds) in
-    let t : nat_lt stage (b.naming box.0.kind).stages ≡ false = ap (nat_lt stage) e ∙ past stage n h in
-    rw (some_part id ss box.0 box.1, t) refl
+-- a module that doesn't have the stage
+pub initialize-past : (b : Behaviour) (m : Answers) (stage id stages : ℕ) (w : World) → stages ≡ stages_in b (instance_in id w.modules) → stages ≤ stage → On w ≡ initialize b m stage id w
+initialize-past b m stage id stages w told h = rw (ap (nat_lt stage) (sym told) ∙ past stage stages h) refl
 
 -- one that has it
-pub initialize-called : (b : Behaviour) (m : Answers) (stage id : ℕ) (ss : List Seat) (w : World) (stages : Option ℕ) (n : ℕ) (fl : Flow) → AreOfKinds b ss → stages ≡ stages_of (module_in id ss) → stages ≡ Some n → stage < n → fl ≡ call_module b m id (prompt.Initialize stage) w → fl ≡ initialize_at b m stage w (part_in id (standing (map instance_of ss)))
-initialize-called b m stage id ss w stages n fl kinds told some h f =
-    let box = told_box (module_in id ss) stages told n some in
-    let e : (b.naming box.0.kind).stages ≡ n = sym (box.2 ∙ staged b id ss box.0 box.1 kinds) in
-    let t : nat_lt stage (b.naming box.0.kind).stages ≡ true = ap (nat_lt stage) e ∙ before stage n h in
-    rw (some_part id ss box.0 box.1, t) f
+pub initialize-called : (b : Behaviour) (m : Answers) (stage id stages : ℕ) (w : World) (fl : Flow) → stages ≡ stages_in b (instance_in id w.modules) → stage < stages → fl ≡ call_module b m id (prompt.Initialize stage) w → fl ≡ initialize b m stage id w
+initialize-called b m stage id stages w fl told h f = rw (ap (nat_lt stage) (sym told) ∙ before stage stages h) f
 
 -- ---- loops
 
@@ -72,77 +54,64 @@ stops GoOn w k h = absurd (h refl)
 stops Stop w k h = refl
 stops (Break path f) w k h = refl
 
--- one id more
-stage_at : (b : Behaviour) (m : Answers) (stage n below : ℕ) (ps : List Part) (w : World) (fl whole : Flow) (found : Option Part) → part_in n ps ≡ found → Rise 0 below ps → fl ≡ initialize_at b m stage w found → one_stage b m stage (parts_left n ps) w ≡ whole → (fl >>= one_stage b m stage (parts_left (n + 1) ps)) ≡ whole
-stage_at b m stage n below ps w fl whole None e r step done =
-    ap (λ (f : Flow). f >>= one_stage b m stage (parts_left (n + 1) ps)) step
-    ∙ ap (λ (xs : List Part). one_stage b m stage xs w) (sym (left_none n 0 below ps r e))
-    ∙ done
-stage_at b m stage n below ps w fl whole (Some p) e r step done =
-    ap (λ (f : Flow). f >>= one_stage b m stage (parts_left (n + 1) ps)) step
-    ∙ ap (λ (xs : List Part). one_stage b m stage xs w) (sym (left_some n 0 below ps p r e))
-    ∙ done
+-- the first of those that are left, and the others
+drop_step : (xs : List ℕ) (i d : ℕ) → i < length xs → drop i xs ≡ get_or xs i d ∷ drop (suc i) xs
+drop_step [] i d h = absurd (omega (arith, h))
+drop_step (x ∷ xs) zero d h = refl
+drop_step (x ∷ xs) (suc i) d h = drop_step xs i d (omega (arith, h))
 
-pub stage_step : (b : Behaviour) (m : Answers) (stage n below : ℕ) (ps now : List Part) (w : World) (fl whole : Flow) → now ≡ ps → Rise 0 below ps → fl ≡ initialize_at b m stage w (part_in n now) → one_stage b m stage (parts_left n ps) w ≡ whole → (fl >>= one_stage b m stage (parts_left (n + 1) ps)) ≡ whole
-stage_step b m stage n below ps now w fl whole same r step done = stage_at b m stage n below ps w fl whole (part_in n ps) refl r (step ∙ ap (λ (qs : List Part). initialize_at b m stage w (part_in n qs)) same) done
+next_left : (xs : List ℕ) (i d : ℕ) → i < length xs → drop i xs ≡ get_or xs i d ∷ drop (i + 1) xs
+next_left xs i d h = rw add-one (drop_step xs i d h)
 
-pub stage_begins : (b : Behaviour) (m : Answers) (stage : ℕ) (ps : List Part) (w : World) → one_stage b m stage (parts_left 0 ps) w ≡ one_stage b m stage ps w
-stage_begins b m stage ps w = ap (λ (xs : List Part). one_stage b m stage xs w) (all_left ps)
+none_left : (xs : List ℕ) (i : ℕ) → length xs ≤ i → drop i xs ≡ []
+none_left [] zero h = refl
+none_left [] (suc i) h = refl
+none_left (x ∷ xs) zero h = absurd (omega (arith, h))
+none_left (x ∷ xs) (suc i) h = none_left xs i (omega (arith, h))
 
-pub stage_ends : (b : Behaviour) (m : Answers) (stage below n : ℕ) (ps : List Part) (w : World) → n ≡ below → Rise 0 below ps → one_stage b m stage (parts_left n ps) w ≡ On w
-stage_ends b m stage below n ps w e r = ap (λ (xs : List Part). one_stage b m stage xs w) (ap (λ i. parts_left i ps) e ∙ none_left 0 below ps r)
+-- one more, in a loop
+pub each_step : (part : ℕ → World → Flow) (xs : List ℕ) (i d : ℕ) (w : World) (fl whole : Flow) → i < length xs → fl ≡ part (get_or xs i d) w → for_each part (drop i xs) w ≡ whole → (fl >>= for_each part (drop (i + 1) xs)) ≡ whole
+each_step part xs i d w fl whole h step done =
+    ap (λ (f : Flow). f >>= for_each part (drop (i + 1) xs)) step ∙ (ap (λ ys. for_each part ys w) (sym (next_left xs i d h)) ∙ done)
+
+-- no more
+pub each_ends : (part : ℕ → World → Flow) (xs : List ℕ) (i : ℕ) (w : World) → length xs ≤ i → for_each part (drop i xs) w ≡ On w
+each_ends part xs i w h = ap (λ ys. for_each part ys w) (none_left xs i h)
 
 -- ---- the greatest number of stages
 
 max_in : (most n k : ℕ) → max (max most n) k ≡ max most (max n k)
 max_in most n k = omega arith
 
-most_left : (b : Behaviour) (n below : ℕ) (ss : List Seat) (found : Option Module) → Rise 0 below (standing (map instance_of ss)) → AreOfKinds b ss → module_in n ss ≡ found
-    → most_stages b (parts_left n (standing (map instance_of ss))) ≡ max (unwrap_or (stages_of found) 0) (most_stages b (parts_left (n + 1) (standing (map instance_of ss))))
-most_left b n below ss None rise kinds e =
-    let k : ℕ = most_stages b (parts_left (n + 1) (standing (map instance_of ss))) in
-    let zero_max : k ≡ max 0 k = omega arith in
-    ap (most_stages b) (left_none n 0 below (standing (map instance_of ss)) rise (no_part n ss e)) ∙ zero_max
-most_left b n below ss (Some box) rise kinds e =
-    ap (most_stages b) (left_some n 0 below (standing (map instance_of ss)) (part_for n box) rise (some_part n ss box e))
-    ∙ ap (λ k. max k (most_stages b (parts_left (n + 1) (standing (map instance_of ss))))) (sym (staged b n ss box e kinds))
-
 -- one id more
-pub most_step : (b : Behaviour) (n below most now : ℕ) (ss : List Seat) (stages : Option ℕ) (whole : ℕ) → Rise 0 below (standing (map instance_of ss)) → AreOfKinds b ss → stages ≡ stages_of (module_in n ss) → now ≡ max most (unwrap_or stages 0)
-    → max most (most_stages b (parts_left n (standing (map instance_of ss)))) ≡ whole → max now (most_stages b (parts_left (n + 1) (standing (map instance_of ss)))) ≡ whole
-most_step b n below most now ss stages whole rise kinds told is done =
-    let k : ℕ = most_stages b (parts_left (n + 1) (standing (map instance_of ss))) in
-    ap (λ x. max x k) (is ∙ ap (λ o. max most (unwrap_or o 0)) told)
-    ∙ max_in most (unwrap_or (stages_of (module_in n ss)) 0) k
-    ∙ ap (max most) (sym (most_left b n below ss (module_in n ss) rise kinds refl))
-    ∙ done
+pub most_step : (b : Behaviour) (is : List Instance) (ids : List ℕ) (i d most stages now whole : ℕ) → i < length ids → stages ≡ stages_in b (instance_in (get_or ids i d) is) → now ≡ max most stages
+    → max most (most_stages b is (drop i ids)) ≡ whole → max now (most_stages b is (drop (i + 1) ids)) ≡ whole
+most_step b is ids i d most stages now whole h told is_now done =
+    let k : ℕ = most_stages b is (drop (i + 1) ids) in
+    ap (λ x. max x k) (is_now ∙ ap (max most) told)
+    ∙ (max_in most (stages_in b (instance_in (get_or ids i d) is)) k
+    ∙ (ap (λ xs. max most (most_stages b is xs)) (sym (next_left ids i d h)) ∙ done))
 
-pub most_begins : (b : Behaviour) (ps : List Part) → max 0 (most_stages b (parts_left 0 ps)) ≡ most_stages b ps
-most_begins b ps =
-    let k : ℕ = most_stages b ps in
-    let zero_max : max 0 k ≡ k = omega arith in
-    ap (λ (qs : List Part). max 0 (most_stages b qs)) (all_left ps) ∙ zero_max
+pub most_begins : (b : Behaviour) (is : List Instance) (ids : List ℕ) → max 0 (most_stages b is ids) ≡ most_stages b is ids
+most_begins b is ids = omega arith
 
-pub most_ends : (b : Behaviour) (below n most : ℕ) (ps : List Part) (whole : ℕ) → n ≡ below → Rise 0 below ps → max most (most_stages b (parts_left n ps)) ≡ whole → most ≡ whole
-most_ends b below n most ps whole e r done =
+pub most_ends : (b : Behaviour) (is : List Instance) (ids : List ℕ) (i most whole : ℕ) → length ids ≤ i → max most (most_stages b is (drop i ids)) ≡ whole → most ≡ whole
+most_ends b is ids i most whole h done =
     let max_zero : most ≡ max most 0 = omega arith in
-    max_zero ∙ sym (ap (λ (qs : List Part). max most (most_stages b qs)) (ap (λ i. parts_left i ps) e ∙ none_left 0 below ps r)) ∙ done
+    max_zero ∙ (sym (ap (λ xs. max most (most_stages b is xs)) (none_left ids i h)) ∙ done)
+
+-- ---- stage after stage
 
 -- one stage more
-pub stages_step : (b : Behaviour) (m : Answers) (ps : List Part) (stage most : ℕ) (w : World) → stage < most → stages_from b m ps stage (most - stage) w ≡ (one_stage b m stage ps w >>= stages_from b m ps (stage + 1) (most - (stage + 1)))
-stages_step b m ps stage most w h =
+stages_step : (b : Behaviour) (m : Answers) (ids : List ℕ) (stage most : ℕ) (w : World) → stage < most → stages_from b m ids stage (most - stage) w ≡ (one_stage b m stage ids w >>= stages_from b m ids (stage + 1) (most - (stage + 1)))
+stages_step b m ids stage most w h =
     let left : most - stage ≡ suc (most - (stage + 1)) = omega arith in
     let next : suc stage ≡ stage + 1 = omega arith in
-    ap (λ n. stages_from b m ps stage n w) left ∙ ap (λ s. one_stage b m stage ps w >>= stages_from b m ps s (most - (stage + 1))) next
+    ap (λ n. stages_from b m ids stage n w) left ∙ ap (λ s. one_stage b m stage ids w >>= stages_from b m ids s (most - (stage + 1))) next
 
-pub stages_end : (b : Behaviour) (m : Answers) (ps : List Part) (stage most : ℕ) (w : World) → most ≤ stage → stages_from b m ps stage (most - stage) w ≡ On w
-stages_end b m ps stage most w h =
-    let none : most - stage ≡ 0 = omega arith in
-    ap (λ n. stages_from b m ps stage n w) none
-
--- one stage more, in the loop
-pub stages_on : (b : Behaviour) (m : Answers) (ps now : List Part) (stage most : ℕ) (w : World) (fl whole : Flow) → now ≡ ps → stage < most → fl ≡ one_stage b m stage now w → stages_from b m ps stage (most - stage) w ≡ whole → (fl >>= stages_from b m ps (stage + 1) (most - (stage + 1))) ≡ whole
-stages_on b m ps now stage most w fl whole same lt step done =
-    ap (λ (f : Flow). f >>= stages_from b m ps (stage + 1) (most - (stage + 1))) (step ∙ ap (λ (xs : List Part). one_stage b m stage xs w) same)
-    ∙ sym (stages_step b m ps stage most w lt)
+-- in the loop
+pub stages_on : (b : Behaviour) (m : Answers) (ids : List ℕ) (stage most : ℕ) (w : World) (fl whole : Flow) → stage < most → fl ≡ one_stage b m stage ids w → stages_from b m ids stage (most - stage) w ≡ whole → (fl >>= stages_from b m ids (stage + 1) (most - (stage + 1))) ≡ whole
+stages_on b m ids stage most w fl whole lt step done =
+    ap (λ (f : Flow). f >>= stages_from b m ids (stage + 1) (most - (stage + 1))) step
+    ∙ sym (stages_step b m ids stage most w lt)
     ∙ done

@@ -1,5 +1,5 @@
 -- Calls, by what they show of their modules.
-use Rattle.std.specs.Prelude.{ℕ, []}
+use Rattle.std.specs.Prelude.{ℕ}
 use Rattle.module_api.specs.declared.call.Call.{Call}
 use Rattle.module_api.specs.declared.call.Prompt.{Prompt}
 use Rattle.run_questions.specs.Records.{record_at, index_of}
@@ -15,6 +15,6 @@ call_with id prompt shown w = record {
   path = shown.path;
   index = index_of (record_at w.records id);
   parameters = shown.parameters;
-  gates = [];
+  gates = shown.gates;
   prompt = prompt;
 }

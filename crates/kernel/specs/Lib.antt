@@ -3,3 +3,4 @@ pub mod Parts
 pub mod Kernels
 pub mod Calls
 pub mod Looks
+pub mod Setups

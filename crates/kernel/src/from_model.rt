@@ -1,18 +1,19 @@
 //! What a run asks its model, and what is done with the answers.
 
 ghost use Rattle.model_answers.specs.Answering.{answers_of};
-ghost use Rattle.std.specs.Prelude.{◌≡◌, ◌+◌, ◌^◌, ◌<◌, ◌≤◌, OnOk, IfOk, length};
+ghost use Rattle.std.specs.Prelude.{◌≡◌, ◌+◌, ◌^◌, ◌<◌, suc, OnOk, IfOk, length};
 ghost use Rattle.run_questions.specs.Answers.{answer_of, parameters_of};
 ghost use Rattle.run_questions.specs.declared.answer.Answer.TheVariants as answers;
 ghost use Rattle.run_semantics.specs.World.{empty};
 ghost use Rattle.run_semantics.specs.Perform.{flow_of, question_of, fault_of_read, read_fault, answered};
 ghost use Rattle.run_semantics.specs.Ending.{answered_last};
 ghost use Rattle.run_semantics.specs.Event.{call_of};
-ghost use Rattle.run_semantics.specs.Run.{root_asked, inside_asked, prepared};
+ghost use Rattle.run_semantics.specs.Run.{root_asked, compounds_from, inside_of, set_up, prepared};
 ghost use Rattle.kernel_actions.specs.Positions.{IsGrownFrom};
 ghost use Rattle.kernel_actions.specs.Upcoming.{looked, with_injection_asked};
 ghost use Rattle.kernel.specs.Calls.{call_with};
 ghost use Rattle.kernel.specs.Looks.{injection_asked};
+ghost use Rattle.kernel.specs.Setups.{HasBuilt};
 
 use injection_order::injection::Injection;
 use kernel_actions::core_part::Core;
@@ -22,8 +23,8 @@ use model_answers::answering::answer;
 use models::model::Model;
 use module_api::call::{Call, Prompt};
 use module_api::reply::{Read, Reply};
-use run_questions::answer::Question;
-use run_questions::record::index_of;
+use run_questions::answer::{Answer, Built, Question};
+use run_questions::record::{MAX_NESTING, index_of};
 use run_semantics::outcome::{Fault, Turn};
 use shown_modules::{Shown, shown_of};
 use sim_values::NoMemory;
@@ -43,11 +44,11 @@ pub fn call(
     ensures { IfOk result (λ call. call ≡ call_of (answers_of model.now) id prompt core.now) }
 {
     let shown = shown_of(alloc, model, core.records(), id)?;
-    Ok(call_shown(core, alloc, id, prompt, shown))
+    Ok(call_shown(core, id, prompt, shown))
 }
 
 /// What a module is told, where this is what calls show of it.
-pub fn call_shown(core: &Core, alloc: Global, id: u32, prompt: Prompt, shown: Shown) -> Call
+pub fn call_shown(core: &Core, id: u32, prompt: Prompt, shown: Shown) -> Call
     ensures { result ≡ call_with id prompt shown core.now }
 {
     Call {
@@ -57,7 +58,7 @@ pub fn call_shown(core: &Core, alloc: Global, id: u32, prompt: Prompt, shown: Sh
         path: shown.path,
         index: index_of(core.records(), id),
         parameters: shown.parameters,
-        gates: Items::new(alloc),
+        gates: shown.gates,
         prompt,
     }
 }
@@ -169,31 +170,95 @@ pub fn ask_injection(
 /// Asks which network is run, and creates it.
 fn ask_root(core: &mut Core, alloc: Global, model: &Model) -> Result<Turn, NoMemory>
     requires { core.old ≡ empty }
-    ensures flow { IfOk result (λ turn. flow_of turn core.new ≡ root_asked (answers_of model.now)) }
-    ensures few { OnOk result (length core.new.records ≤ 1) }
+    ensures { IfOk result (λ turn. flow_of turn core.new ≡ root_asked (answers_of model.now)) }
 {
     core.ask(alloc, Question::Root)?;
     let found = answer(alloc, model, &[], &Question::Root)?;
     core.root(alloc, found)
 }
 
-/// Asks what is inside of the network, and creates it.
-fn ask_inside(core: &mut Core, alloc: Global, model: &Model) -> Result<Turn, NoMemory>
-    requires { length core.old.records ≤ 1 }
-    ensures { IfOk result (λ turn. flow_of turn core.new ≡ inside_asked (answers_of model.now) core.old) }
+/// What a model answered to be inside of a module.
+fn inside_of(found: &Answer) -> &[Built]
+    ensures { result.now ≡ inside_of found.now }
 {
-    let found = answer(alloc, model, core.records(), &Question::Build(1))?;
-    core.ask(alloc, Question::Build(1))?;
-    core.build(alloc, 1, found)
+    match found {
+        Answer::Inside(inside) => inside.as_slice(),
+        _ => &[],
+    }
 }
 
-/// Sets the network and its submodules up, as the model answers.
-pub fn set_up(core: &mut Core, alloc: Global, model: &Model) -> Result<Turn, NoMemory>
+/// The ids of the compound modules among these, which have the ids behind that one.
+fn compounds_behind(alloc: Global, last: usize, inside: &[Built]) -> Result<Items<u32>, NoMemory>
+    requires { last + length inside.now < 2 ^ 32 }
+    ensures { IfOk result (λ ids. ids ≡ compounds_from (suc last) inside.now) }
+{
+    let mut ids = Items::new(alloc);
+    for (index, built) in inside.iter().enumerate() {
+        if built.class.is_none() {
+            ids.push((last + index) as u32 + 1)?;
+        }
+    }
+    Ok(ids)
+}
+
+/// Asks what is inside of a module, and creates its submodules. The compound ones of them are still to be set up.
+fn build(
+    core: &mut Core,
+    alloc: Global,
+    model: &Model,
+    id: u32,
+) -> Result<(Turn, Items<u32>), NoMemory>
+    ensures { IfOk result (λ left.
+        HasBuilt (answers_of model.now) id core.old left.0 left.1 core.new) }
+{
+    let found = answer(alloc, model, core.records(), &Question::Build(id))?;
+    core.ask(alloc, Question::Build(id))?;
+    let last = core.records().len();
+    match core.build(alloc, id, &found)? {
+        Turn::GoOn => {
+            let _records = core.records();
+            let inner = compounds_behind(alloc, last, inside_of(&found))?;
+            Ok((Turn::GoOn, inner))
+        }
+        turn => Ok((turn, Items::new(alloc))),
+    }
+}
+
+/// Sets a compound module up, with so many levels from its own on. Modules are nested at most 32 deep, so a call nests no deeper.
+fn set_up(
+    core: &mut Core,
+    alloc: Global,
+    model: &Model,
+    depth: u32,
+    id: u32,
+) -> Result<Turn, NoMemory>
+    ensures { IfOk result (λ turn. flow_of turn core.new ≡ set_up depth (answers_of model.now) id core.old) }
+{
+    if depth == 0 {
+        return Ok(Turn::GoOn);
+    }
+    let (turn, inner) = build(core, alloc, model, id)?;
+    match turn {
+        Turn::GoOn => {}
+        turn => return Ok(turn),
+    }
+    for inner_id in inner.as_slice() {
+        match set_up(core, alloc, model, depth - 1, *inner_id)? {
+            Turn::GoOn => {}
+            turn => return Ok(turn),
+        }
+    }
+    Ok(Turn::GoOn)
+}
+
+/// Creates the network and all that is inside of it, as the model answers.
+#[tactic(auto, unfolding(run_semantics::specs::Run::most_nested))]
+pub fn prepare(core: &mut Core, alloc: Global, model: &Model) -> Result<Turn, NoMemory>
     requires { core.old ≡ empty }
     ensures { IfOk result (λ turn. flow_of turn core.new ≡ prepared (answers_of model.now)) }
 {
     match ask_root(core, alloc, model)? {
-        Turn::GoOn => ask_inside(core, alloc, model),
+        Turn::GoOn => set_up(core, alloc, model, MAX_NESTING, 1),
         turn => Ok(turn),
     }
 }

@@ -1,27 +1,26 @@
 //! A world in code, one event at a time.
 
 ghost use Rattle.model_answers.specs.Answering.{answers_of};
-ghost use Rattle.std.specs.Prelude.{◌≡◌, ◌+◌, ◌^◌, ◌<◌, ◌≤◌, OnOk, OnErr, IfOk, IfErr, [], length, max, slice_get, drop, option_map, unwrap_or};
+ghost use Rattle.std.specs.Prelude.{◌≡◌, ◌+◌, ◌^◌, ◌<◌, ◌≤◌, OnOk, OnErr, IfOk, IfErr, [], length, max, slice_get, drop, option_map};
 ghost use Rattle.module_api.specs.Meaning.{IsOfKind, Answered, IsSameModule};
 ghost use Rattle.module_tree.specs.Boxes.{nothing};
 ghost use Rattle.question_log.specs.Entries.{noted_in};
 ghost use Rattle.run_semantics.specs.World.{empty, HasRoom};
 ghost use Rattle.run_semantics.specs.Perform.{flow_of, On};
-ghost use Rattle.run_semantics.specs.Event.{call_module, call_of, with_state};
+ghost use Rattle.run_semantics.specs.Event.{call_module, call_of, instance_in, with_state};
 ghost use Rattle.run_semantics.specs.Upcoming.{target_of, upcoming};
 ghost use Rattle.shown_modules.specs.Tables.{AreShown};
 ghost use Rattle.kernel_actions.specs.Upcoming.{looked, upcoming_of};
 ghost use Rattle.kernel.specs.Looks.{LooksOn};
-ghost use Rattle.run_semantics.specs.Run.{Running, Part, stage_of, settled, prepared, ready, placed, standing, parts_from, most_stages, one_stage, stages_from, start, next_stage, stopped};
-ghost use Rattle.run_semantics.specs.Ending.{call_last, finish_all, ending};
+ghost use Rattle.run_semantics.specs.Run.{Running, Part, stage_of, settled, prepared, ready, placed, parts_from, initialize, most_stages, one_stage, stages_from, stages_in, start, next_stage, stopped};
+ghost use Rattle.run_semantics.specs.Ending.{call_last, finish, finish_all, ending};
 ghost use Rattle.kernel.specs.Seats.{stages_of, stands_at, AreFirst, IsServed, missing_of, missing_part};
-ghost use Rattle.kernel.specs.Parts.{part_in, initialize_at, finish_at};
 ghost use Rattle.kernel_actions.specs.Positions.{position_of, cut_to, world_back, IsGrownFrom, IsSameBesideModules};
 ghost use Rattle.saved_boxes.specs.Seats.{module_in, AreBelow};
 ghost use Rattle.saved_boxes.specs.Saved.{CanTake, Takes};
 ghost use Rattle.kernel.specs.Kernels.{seats_in, world_in, ran_in, HasKinds, IsCallable, KeepsBoxes};
 
-use crate::from_model::{ask_injection, call, call_shown, follow, follow_last, set_up};
+use crate::from_model::{ask_injection, call, call_shown, follow, follow_last, prepare};
 use crate::request::Request;
 use kernel_actions::core_part::Core;
 use kernel_actions::events::{arrival, message_of};
@@ -154,7 +153,7 @@ impl<C: Catalogue> Kernel<C> {
     {
         self.boxes.clear();
         self.core.clear(alloc);
-        let turn = set_up(&mut self.core, alloc, model)?;
+        let turn = prepare(&mut self.core, alloc, model)?;
         Ok(self.settle(turn))
     }
 
@@ -291,7 +290,7 @@ impl<C: Catalogue> Kernel<C> {
     {
         let found = shown.take(alloc, model, self.core.records(), id)?;
         let lasts = lasts(self.core.records(), id);
-        let call = call_shown(&self.core, alloc, id, prompt, found);
+        let call = call_shown(&self.core, id, prompt, found);
         let turn = self.carry_out(alloc, model, &call);
         shown.put_back(lasts, id, shown_in(call));
         turn
@@ -309,7 +308,16 @@ impl<C: Catalogue> Kernel<C> {
         }
     }
 
-    /// Initializes the module of that id, where it has a box, and that stage.
+    /// How many stages the module of that id has: none where it has no box.
+    fn stages_in(&self, id: u32) -> u8
+        requires { HasKinds C.behaviour SimpleModule-box self.now }
+        ensures { let world = world_in SimpleModule-box self.now in
+            result ≡ stages_in C.behaviour (instance_in id world.modules) }
+    {
+        self.stages_at(id).unwrap_or(0)
+    }
+
+    /// Initializes the module of that id, where it has that stage.
     fn initialize(
         &mut self,
         alloc: Global,
@@ -323,31 +331,33 @@ impl<C: Catalogue> Kernel<C> {
             OnOk result ((world_in SimpleModule-box self.new).next ≤ before.next + 1000) }
         ensures step { let before = world_in SimpleModule-box self.old in
             IfOk result (λ turn. flow_of turn (world_in SimpleModule-box self.new)
-            ≡ initialize_at C.behaviour (answers_of model.now) stage before
-            (part_in id (standing before.modules))) }
+            ≡ initialize C.behaviour (answers_of model.now) stage id before) }
     {
-        let Some(stages) = self.stages_at(id) else {
-            return Ok(Turn::GoOn);
-        };
-        if stage >= stages {
+        if stage >= self.stages_in(id) {
             return Ok(Turn::GoOn);
         }
         let turn = self.call_module(alloc, model, id, Prompt::Initialize(stage))?;
         Ok(turn)
     }
 
-    /// One stage of the initialization of all modules.
-    fn one_stage(&mut self, alloc: Global, model: &Model, stage: u8) -> Result<Turn, NoMemory>
+    /// One stage of the initialization of these modules, in this order.
+    fn one_stage(
+        &mut self,
+        alloc: Global,
+        model: &Model,
+        stage: u8,
+        ids: &[u32],
+    ) -> Result<Turn, NoMemory>
         requires callable { IsCallable C.behaviour SimpleModule-box (2 ^ 75) self.old }
         ensures kept { KeepsBoxes C.behaviour SimpleModule-box self.old self.new }
         ensures next { let before = world_in SimpleModule-box self.old in
             OnOk result ((world_in SimpleModule-box self.new).next ≤ before.next + 2 ^ 74) }
         ensures step { let before = world_in SimpleModule-box self.old in
             IfOk result (λ turn. flow_of turn (world_in SimpleModule-box self.new)
-            ≡ one_stage C.behaviour (answers_of model.now) stage (standing before.modules) before) }
+            ≡ one_stage C.behaviour (answers_of model.now) stage ids.now before) }
     {
-        for index in 0..self.boxes.room() {
-            match self.initialize(alloc, model, stage, index as u32)? {
+        for id in ids {
+            match self.initialize(alloc, model, stage, *id)? {
                 Turn::GoOn => {}
                 turn => return Ok(turn),
             }
@@ -355,31 +365,37 @@ impl<C: Catalogue> Kernel<C> {
         Ok(Turn::GoOn)
     }
 
-    /// The greatest number of stages of a module.
-    fn most_stages(&self) -> u8
+    /// The greatest number of stages of these modules.
+    fn most_stages(&self, ids: &[u32]) -> u8
         requires { HasKinds C.behaviour SimpleModule-box self.now }
         ensures { let world = world_in SimpleModule-box self.now in
-            result ≡ most_stages C.behaviour (standing world.modules) }
+            result ≡ most_stages C.behaviour world.modules ids.now }
     {
         let mut most = 0;
-        for index in 0..self.boxes.room() {
-            most = greater(most, self.stages_at(index as u32));
+        for id in ids {
+            most = greater(most, self.stages_in(*id));
         }
         most
     }
 
-    /// All stages below this number.
-    fn stages(&mut self, alloc: Global, model: &Model, most: u8) -> Result<Turn, NoMemory>
+    /// All stages below this number, of these modules.
+    fn stages(
+        &mut self,
+        alloc: Global,
+        model: &Model,
+        most: u8,
+        ids: &[u32],
+    ) -> Result<Turn, NoMemory>
         requires next { (world_in SimpleModule-box self.old).next ≡ 0 }
         requires kinds { HasKinds C.behaviour SimpleModule-box self.old }
         ensures kept { KeepsBoxes C.behaviour SimpleModule-box self.old self.new }
         ensures next { OnOk result ((world_in SimpleModule-box self.new).next ≤ 2 ^ 82) }
         ensures step { let before = world_in SimpleModule-box self.old in
             IfOk result (λ turn. flow_of turn (world_in SimpleModule-box self.new)
-            ≡ stages_from C.behaviour (answers_of model.now) (standing before.modules) 0 most before) }
+            ≡ stages_from C.behaviour (answers_of model.now) ids.now 0 most before) }
     {
         for stage in 0..most {
-            match self.one_stage(alloc, model, stage)? {
+            match self.one_stage(alloc, model, stage, ids)? {
                 Turn::GoOn => {}
                 turn => return Ok(turn),
             }
@@ -398,9 +414,10 @@ impl<C: Catalogue> Kernel<C> {
         ensures step { IfOk result (λ over.
             stage_of over (world_in SimpleModule-box self.new) ≡ start C.behaviour (answers_of model.now)) }
     {
-        let most = self.most_stages();
-        self.core.mark_started(alloc)?;
-        let turn = self.stages(alloc, model, most)?;
+        let calls = self.core.calls_of_network(alloc)?;
+        let most = self.most_stages(calls.as_slice());
+        self.core.mark_started()?;
+        let turn = self.stages(alloc, model, most, calls.as_slice())?;
         Ok(self.settle(turn))
     }
 
@@ -555,11 +572,14 @@ impl<C: Catalogue> Kernel<C> {
         ensures grown { IsGrownFrom (world_in SimpleModule-box self.old)
             (world_in SimpleModule-box self.new) }
     {
+        if self.stages_at(id).is_none() {
+            return Ok(Turn::GoOn);
+        }
         let call = call(&self.core, alloc, model, id, Prompt::Finish)?;
         self.carry_out_last(alloc, model, &call)
     }
 
-    /// Finishes the module of that id, where it has a box.
+    /// Finishes the module of that id: a simple one is told first, a compound one just counts as finished.
     #[tactic(auto, using(kernel_actions::proofs::Lasting::growth_same))]
     fn finish_one(&mut self, alloc: Global, model: &Model, id: u32) -> Result<Turn, NoMemory>
         requires callable { IsCallable C.behaviour SimpleModule-box 1000 self.old }
@@ -568,13 +588,10 @@ impl<C: Catalogue> Kernel<C> {
             OnOk result ((world_in SimpleModule-box self.new).next ≤ before.next + 1000) }
         ensures step { let before = world_in SimpleModule-box self.old in
             IfOk result (λ turn. flow_of turn (world_in SimpleModule-box self.new)
-            ≡ finish_at C.behaviour (answers_of model.now) before (part_in id (standing before.modules))) }
+            ≡ finish C.behaviour (answers_of model.now) id before) }
         ensures grown { IsGrownFrom (world_in SimpleModule-box self.old)
             (world_in SimpleModule-box self.new) }
     {
-        if self.stages_at(id).is_none() {
-            return Ok(Turn::GoOn);
-        }
         match self.call_last(alloc, model, id)? {
             Turn::GoOn => {
                 self.core.mark_finished(id)?;
@@ -584,23 +601,22 @@ impl<C: Catalogue> Kernel<C> {
         }
     }
 
-    /// Finishes all modules, the network last.
-    fn finish_all(&mut self, alloc: Global, model: &Model) -> Result<Turn, NoMemory>
+    /// Finishes these modules, in this order.
+    fn finish_all(&mut self, alloc: Global, model: &Model, ids: &[u32]) -> Result<Turn, NoMemory>
         requires callable { IsCallable C.behaviour SimpleModule-box (2 ^ 75) self.old }
         ensures kept { KeepsBoxes C.behaviour SimpleModule-box self.old self.new }
         ensures step { let before = world_in SimpleModule-box self.old in
             IfOk result (λ turn. flow_of turn (world_in SimpleModule-box self.new)
-            ≡ finish_all C.behaviour (answers_of model.now) (standing before.modules) before) }
+            ≡ finish_all C.behaviour (answers_of model.now) ids.now before) }
         ensures grown { IsGrownFrom (world_in SimpleModule-box self.old)
             (world_in SimpleModule-box self.new) }
     {
-        for index in 0..self.boxes.room() {
-            match self.finish_one(alloc, model, index as u32)? {
+        for id in ids {
+            match self.finish_one(alloc, model, *id)? {
                 Turn::GoOn => {}
                 turn => return Ok(turn),
             }
         }
-        self.core.mark_finished(1)?;
         Ok(Turn::GoOn)
     }
 
@@ -625,7 +641,8 @@ impl<C: Catalogue> Kernel<C> {
         if outcome.is_fault() {
             return Ok(outcome);
         }
-        match self.finish_all(alloc, model)? {
+        let ids = self.core.to_finish(alloc)?;
+        match self.finish_all(alloc, model, ids.as_slice())? {
             Turn::GoOn | Turn::Stop => Ok(outcome),
             Turn::Break(path, fault) => Ok(Outcome::Fault(self.core.count(), path, fault)),
         }
@@ -736,7 +753,7 @@ fn serve(held: &mut Box<dyn SimpleModule>, alloc: Global, call: &Call) -> Result
 
 /// What the call shows of its module that does not change from one call to the next.
 fn shown_in(call: Call) -> Shown
-    ensures { result ≡ record { path = call.path; parameters = call.parameters } }
+    ensures { result ≡ record { path = call.path; parameters = call.parameters; gates = call.gates } }
 {
     let Call {
         time: _,
@@ -745,10 +762,14 @@ fn shown_in(call: Call) -> Shown
         path,
         index: _,
         parameters,
-        gates: _,
+        gates,
         prompt: _,
     } = call;
-    Shown { path, parameters }
+    Shown {
+        path,
+        parameters,
+        gates,
+    }
 }
 
 /// How many stages a module has.
@@ -758,12 +779,9 @@ fn stages_of(held: &Box<dyn SimpleModule>) -> u8
     held.stages()
 }
 
-/// The greater one of two numbers of stages, where there is a second one.
-fn greater(most: u8, stages: Option<u8>) -> u8
-    ensures { result ≡ max most (unwrap_or stages 0) }
+/// The greater one of two numbers of stages.
+fn greater(most: u8, stages: u8) -> u8
+    ensures { result ≡ max most stages }
 {
-    match stages {
-        Some(stages) if stages > most => stages,
-        _ => most,
-    }
+    if stages > most { stages } else { most }
 }

@@ -1,6 +1,6 @@
 //! A world but for the modules and their states.
 
-ghost use Rattle.std.specs.Prelude.{◌≡◌, ◌+◌, ◌^◌, ◌<◌, OnOk, OnErr, IfOk, Some, true, [], ◌∷◌, ◌++◌, length, slice_get, ◌≤◌};
+ghost use Rattle.std.specs.Prelude.{◌≡◌, ◌+◌, ◌^◌, ◌<◌, OnOk, OnErr, IfOk, Some, true, [], ◌∷◌, ◌++◌, length, min, slice_get, ◌≤◌};
 ghost use Rattle.run_questions.specs.Questions.{is_of_modules};
 ghost use Rattle.question_log.specs.Entries.{noted_in};
 ghost use Rattle.run_semantics.specs.World.{empty, asked, timed};
@@ -10,7 +10,9 @@ ghost use Rattle.kernel_actions.specs.Upcoming.{asked_in, first_is_beyond, looke
 ghost use Rattle.run_semantics.specs.Upcoming.{Comes, first_due, first_of};
 ghost use Rattle.injection_order.specs.Injections.{injection_before};
 ghost use Rattle.run_questions.specs.declared.answer.Question.TheVariants.{BeyondLimit};
-ghost use Rattle.run_semantics.specs.Run.{rooted, built, unless_many, with_submodules, with_started};
+ghost use Rattle.run_semantics.specs.Run.{rooted, created, room_in, unless_many, with_submodules, with_started};
+ghost use Rattle.run_semantics.specs.Ending.{to_finish};
+ghost use Rattle.run_semantics.specs.Subtree.{outer_first};
 ghost use Rattle.kernel_actions.specs.Positions.{lengths_of, position_of, cut_to, core_back, IsGrownFrom};
 
 use crate::looks::{Look, LookedAt, Next};
@@ -35,6 +37,7 @@ use sim_values::text::Text;
 use sqlite_items::Items;
 use std::alloc::{AllocError, Global};
 use std::marker::Model;
+use subtrees::{common, inner_first, outer_first};
 
 /// How many actions a reply has at most.
 const MAX_ACTIONS: usize = 1000;
@@ -658,13 +661,22 @@ impl Core {
         Ok(())
     }
 
-    /// Creates the submodules of a module, where not too many would live.
-    fn create_few(&mut self, alloc: Global, parent: u32, inside: &[Built]) -> Result<Turn, NoMemory>
-        requires { length self.old.records + 65536 < 2 ^ 32 }
-        ensures { IfOk result (λ turn. flow_of turn self.new
-            ≡ unless_many parent inside.now self.old (slice_get inside.now 65535)) }
+    /// How many more modules can be created.
+    fn room(&self) -> usize
+        ensures { result ≡ room_in self.now }
     {
-        if let Some(built) = inside.get(MAX_SUBMODULES) {
+        lesser(
+            MAX_LIVE.saturating_sub(self.live.len()),
+            MAX_RECORDS.saturating_sub(self.records.len()),
+        )
+    }
+
+    /// Creates the submodules of a module, where they are not too many.
+    fn create_few(&mut self, alloc: Global, parent: u32, inside: &[Built]) -> Result<Turn, NoMemory>
+        ensures { IfOk result (λ turn. flow_of turn self.new
+            ≡ unless_many parent inside.now self.old (slice_get inside.now (room_in self.old))) }
+    {
+        if let Some(built) = inside.get(self.room()) {
             let records = self.records.as_slice();
             let path = submodule_path(alloc, records, parent, built.name.as_bytes(), built.index)?;
             return Ok(Turn::Break(path, Fault::TooManyModules));
@@ -674,23 +686,38 @@ impl Core {
     }
 
     /// Creates what the model answered to be inside of a module.
-    pub fn build(&mut self, alloc: Global, parent: u32, found: Answer) -> Result<Turn, NoMemory>
-        requires { length self.old.records + 65536 < 2 ^ 32 }
-        ensures { IfOk result (λ turn. flow_of turn self.new ≡ built parent found self.old) }
+    pub fn build(&mut self, alloc: Global, parent: u32, found: &Answer) -> Result<Turn, NoMemory>
+        ensures { IfOk result (λ turn. flow_of turn self.new ≡ created parent found.now self.old) }
     {
         match found {
             Answer::Inside(inside) => self.create_few(alloc, parent, inside.as_slice()),
-            Answer::Fault(path, fault) => Ok(Turn::Break(path, fault_of(fault))),
+            Answer::Fault(path, fault) => Ok(Turn::Break(path.copy(alloc)?, fault_of(*fault))),
             _ => self.broken(alloc, parent, Fault::UnknownType),
         }
     }
 
-    /// Notes that all modules that live are started.
-    pub fn mark_started(&mut self, alloc: Global) -> Result<(), NoMemory>
-        ensures { OnOk result (self.new ≡ with_started self.old) }
+    // ---- starts and ends
+
+    /// The network with all modules that live, in the order of calls.
+    pub fn calls_of_network(&self, alloc: Global) -> Result<Items<u32>, NoMemory>
+        ensures { IfOk result (λ ids. ids ≡ outer_first self.now.records self.now.live 1) }
     {
-        self.started = Items::from_slice(alloc, self.live.as_slice())?;
-        Ok(())
+        outer_first(alloc, self.records.as_slice(), self.live.as_slice(), 1)
+    }
+
+    /// All modules that live and were started, in the order of the end.
+    pub fn to_finish(&self, alloc: Global) -> Result<Items<u32>, NoMemory>
+        ensures { IfOk result (λ ids. ids ≡ to_finish self.now) }
+    {
+        let going = common(alloc, self.live.as_slice(), self.started.as_slice())?;
+        inner_first(alloc, self.records.as_slice(), going.as_slice(), 1)
+    }
+
+    /// Notes that all modules that live are started.
+    pub fn mark_started(&mut self) -> Result<(), NoMemory>
+        ensures { OnOk result (self.new ≡ with_started self.old.live self.old) }
+    {
+        push_all(&mut self.started, self.live.as_slice())
     }
 
     // ---- positions
@@ -754,8 +781,28 @@ impl Core {
     }
 }
 
-/// How many submodules the network has at most: 65,536 modules live.
-const MAX_SUBMODULES: usize = 65535;
+/// How many modules live at most.
+const MAX_LIVE: usize = 65_536;
+
+/// How many modules a run creates at most.
+const MAX_RECORDS: usize = 1_000_000;
+
+/// The lesser one of two numbers.
+fn lesser(one: usize, other: usize) -> usize
+    ensures { result ≡ min one other }
+{
+    if one < other { one } else { other }
+}
+
+/// Adds these ids at the end.
+fn push_all(ids: &mut Items<u32>, more: &[u32]) -> Result<(), NoMemory>
+    ensures { OnOk result (ids.new ≡ ids.old ++ more.now) }
+{
+    for id in more {
+        ids.push(*id)?;
+    }
+    Ok(())
+}
 
 /// An equal class, where there is one.
 fn copy_class(alloc: Global, class: &Option<Text>) -> Result<Option<Text>, AllocError>

@@ -37,6 +37,7 @@ pub fn fault_of_read(read: &Read, answer: &Answer) -> Option<Fault>
     ensures { result ≡ fault_of_read read.now answer.now }
 {
     match (read, answer) {
+        (Read::Gate(_), Answer::Gate(_)) => None,
         (Read::Gate(_), _) => Some(Fault::NoGate),
         (Read::Parameter(_), Answer::Value(_)) => None,
         (Read::Parameter(_), Answer::Fault(_, fault)) => Some(fault_of(*fault)),

@@ -86,13 +86,16 @@ abbrev pub lines_of : Option TypeDeclaration → List SectionLine
 lines_of None = []
 lines_of (Some t) = t.lines
 
--- THE ANSWERS of a model: all that a run takes from it
+-- THE ANSWERS of a model: all that a run takes from it; modules have no gates yet
 unfoldable pub answers_of : Model → Answers
 answers_of m = record {
   root = root_answer m (network_of m);
   inside = λ p. inside_answer m p.path (type_in m p);
   names = λ p. names_by (site_in m p);
   value = λ p. value_by (site_in m p);
+  gates = λ p. [];
+  hop = λ p name index. answer.Absent;
+  hop_back = λ p name index. answer.Absent;
   time_limit = time_limit_of m;
   injections = m.injections;
 }

@@ -3,7 +3,7 @@
 ghost use Rattle.std.specs.Prelude.{◌≡◌, ◌++◌, [], ◌∷◌, Some, IfOk, OnOk};
 ghost use Rattle.answer_engine.specs.Tables.{IsKept};
 ghost use Rattle.model_answers.specs.Answering.{answer_in, answers_of, root_answer, inside_answer, inside_of, names_in, param_answer, value_in};
-ghost use Rattle.run_questions.specs.Answers.{answer_of, is_declared, parameters_of, place_of, with_values};
+ghost use Rattle.run_questions.specs.Answers.{answer_of, gates_of, is_declared, parameters_of, place_of, with_values};
 ghost use Rattle.injection_order.specs.Injections.{injection_before};
 ghost use Rattle.run_questions.specs.declared.answer.Answer.TheVariants as answer;
 ghost use Rattle.models.specs.Models.{network_of, type_at};
@@ -18,7 +18,7 @@ use crate::scene::{Placed, Told};
 use answer_engine::table::Table;
 use injection_order::injection::{Due, Turn, injection_before};
 use models::model::Model;
-use module_api::call::Parameter;
+use module_api::call::{Gate, Parameter};
 use ned_trees::declarations::{SectionLine, TypeDeclaration, TypeKind};
 use ned_types::flat::declaration_named;
 use parameter_values::key::Key;
@@ -44,7 +44,9 @@ pub fn answer(
         Question::Root => root_answer(alloc, model),
         Question::Build(id) => inside_answer(alloc, model, records, *id),
         Question::Param(id, name) => param_answer(alloc, model, records, *id, name.as_bytes()),
-        Question::GateSize(_, _) => Ok(Answer::Absent),
+        Question::GateSize(_, _) | Question::Hop(_, _, _) | Question::HopBack(_, _, _) => {
+            Ok(Answer::Absent)
+        }
         Question::BeyondLimit(time) => Ok(Answer::Beyond(is_beyond(model.time_limit(), *time))),
         Question::InjectionBefore(due, last) => injection_answer(alloc, model, *due, *last),
     }
@@ -192,6 +194,17 @@ pub fn parameters_of(
     };
     push_lines(&mut parameters, alloc, &placed)?;
     Ok(parameters)
+}
+
+/// All gates of the module of that id, in the order of their declaration.
+#[tactic(auto, unfolding(crate::specs::Answering::answers_of))]
+pub fn gates_of(alloc: Global, model: &Model, records: &[Record], id: u32) -> Items<Gate>
+    ensures { result ≡ gates_of (answers_of model.now) records.now id }
+{
+    let _model = model;
+    let _records = records;
+    let _id = id;
+    Items::new(alloc)
 }
 
 /// Adds all parameters of that module. What one of them comes to is noted for those that refer to it.

@@ -3,7 +3,7 @@ use Rattle.std.proofs.Common.{◌≡◌, Bool, true, false, ◌||◌, List, [], 
 use Rattle.std.specs.List.{list_any}
 use Rattle.run_questions.specs.contracts.answer.QuestionPartialEq as equality
 use Rattle.run_questions.specs.declared.answer.Question.{Question}
-use Rattle.run_questions.specs.declared.answer.Question.TheVariants.{Root, Build, Param, GateSize, BeyondLimit, InjectionBefore}
+use Rattle.run_questions.specs.declared.answer.Question.TheVariants.{Root, Build, Param, GateSize, Hop, HopBack, BeyondLimit, InjectionBefore}
 use Rattle.run_questions.specs.Questions.{same_question, is_of_modules}
 use Rattle.run_questions.proofs.QuestionLemmas.{same_is}
 
@@ -17,26 +17,50 @@ equal_is Root Root e = refl
 equal_is Root (Build j) e = refl
 equal_is Root (Param j m) e = refl
 equal_is Root (GateSize j m) e = refl
+equal_is Root (Hop j m y) e = refl
+equal_is Root (HopBack j m y) e = refl
 equal_is Root (BeyondLimit t) e = refl
 equal_is Root (InjectionBefore d l) e = refl
 equal_is (Build i) Root e = refl
 equal_is (Build i) (Build j) e = refl
 equal_is (Build i) (Param j m) e = refl
 equal_is (Build i) (GateSize j m) e = refl
+equal_is (Build i) (Hop j m y) e = refl
+equal_is (Build i) (HopBack j m y) e = refl
 equal_is (Build i) (BeyondLimit t) e = refl
 equal_is (Build i) (InjectionBefore d l) e = refl
 equal_is (Param i n) Root e = refl
 equal_is (Param i n) (Build j) e = refl
 equal_is (Param i n) (Param j m) e = refl
 equal_is (Param i n) (GateSize j m) e = refl
+equal_is (Param i n) (Hop j m y) e = refl
+equal_is (Param i n) (HopBack j m y) e = refl
 equal_is (Param i n) (BeyondLimit t) e = refl
 equal_is (Param i n) (InjectionBefore d l) e = refl
 equal_is (GateSize i n) Root e = refl
 equal_is (GateSize i n) (Build j) e = refl
 equal_is (GateSize i n) (Param j m) e = refl
 equal_is (GateSize i n) (GateSize j m) e = refl
+equal_is (GateSize i n) (Hop j m y) e = refl
+equal_is (GateSize i n) (HopBack j m y) e = refl
 equal_is (GateSize i n) (BeyondLimit t) e = refl
 equal_is (GateSize i n) (InjectionBefore d l) e = refl
+equal_is (Hop i n x) Root e = refl
+equal_is (Hop i n x) (Build j) e = refl
+equal_is (Hop i n x) (Param j m) e = refl
+equal_is (Hop i n x) (GateSize j m) e = refl
+equal_is (Hop i n x) (Hop j m y) e = refl
+equal_is (Hop i n x) (HopBack j m y) e = refl
+equal_is (Hop i n x) (BeyondLimit t) e = refl
+equal_is (Hop i n x) (InjectionBefore d l) e = refl
+equal_is (HopBack i n x) Root e = refl
+equal_is (HopBack i n x) (Build j) e = refl
+equal_is (HopBack i n x) (Param j m) e = refl
+equal_is (HopBack i n x) (GateSize j m) e = refl
+equal_is (HopBack i n x) (Hop j m y) e = refl
+equal_is (HopBack i n x) (HopBack j m y) e = refl
+equal_is (HopBack i n x) (BeyondLimit t) e = refl
+equal_is (HopBack i n x) (InjectionBefore d l) e = refl
 equal_is (BeyondLimit t) _ e = cc
 equal_is (InjectionBefore d l) _ e = cc
 
@@ -61,5 +85,7 @@ never_same Root k e = cc
 never_same (Build i) k e = cc
 never_same (Param i n) k e = cc
 never_same (GateSize i n) k e = cc
+never_same (Hop i n x) k e = cc
+never_same (HopBack i n x) k e = cc
 never_same (BeyondLimit t) k e = refl
 never_same (InjectionBefore d l) k e = refl

@@ -129,9 +129,12 @@ fn is_of_modules(question: &Question) -> bool
     ensures { result ≡ is_of_modules question.now }
 {
     match question {
-        Question::Root | Question::Build(_) | Question::Param(_, _) | Question::GateSize(_, _) => {
-            true
-        }
+        Question::Root
+        | Question::Build(_)
+        | Question::Param(_, _)
+        | Question::GateSize(_, _)
+        | Question::Hop(_, _, _)
+        | Question::HopBack(_, _, _) => true,
         Question::BeyondLimit(_) | Question::InjectionBefore(_, _) => false,
     }
 }

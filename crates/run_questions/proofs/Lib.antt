@@ -1,3 +1,4 @@
 pub mod AnswerLemmas
 pub mod RecordLemmas
 pub mod QuestionLemmas
+pub mod HopLemmas

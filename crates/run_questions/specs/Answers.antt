@@ -2,32 +2,45 @@
 use Rattle.std.specs.Prelude.{ℕ, nat_lt, Bool, true, false, List, [], ◌∷◌, Option, Some, None, bytes_eq, if◌then◌else◌}
 use Rattle.injection_order.specs.declared.injection.Injection.{Injection}
 use Rattle.injection_order.specs.Injections.{injection_before}
+use Rattle.module_api.specs.declared.call.Gate.{Gate}
 use Rattle.module_api.specs.declared.call.Parameter.{Parameter}
 use Rattle.run_questions.specs.declared.answer.Answer.{Answer}
 use Rattle.run_questions.specs.declared.answer.Answer.TheVariants as answer
 use Rattle.run_questions.specs.declared.answer.Question.{Question}
 use Rattle.run_questions.specs.declared.answer.Question.TheVariants as question
 use Rattle.run_questions.specs.declared.record.Record.{Record}
-use Rattle.run_questions.specs.Records.{path_around, path_of, record_at}
+use Rattle.run_questions.specs.Gates.{gate_named}
+use Rattle.run_questions.specs.Records.{enclosing, path_around, path_of, record_at}
 
--- Where a module stands: its full path, that of the module around it, and its record, none where there is no such module.
+-- Where a module stands: its full path, that of the module around it, its record, none where there is no such module, and the records of the
+-- modules around it, from the inside outwards. No more of the records is known to what answers about it.
 pub record Place : Type 0 where
   pub path : List ℕ
   pub around : List ℕ
   pub record_there : Option Record
+  pub enclosing : List Record
 
 -- where the module of that id stands
 abbrev pub place_of : List Record → ℕ → Place
-place_of records id = record { path = path_of records id; around = path_around records id; record_there = record_at records id }
+place_of records id = record {
+  path = path_of records id;
+  around = path_around records id;
+  record_there = record_at records id;
+  enclosing = enclosing records id;
+}
 
 -- THE ANSWERS of a model are all that a run takes from it: which network is run; what is inside of a module, which parameters it declares, by
--- their names and in their order, and the value of one of these, each by where the module stands; the time after which no event is executed,
--- in picoseconds; and the injections.
+-- their names and in their order, the value of one of these, its gates, in their order, each with its size, and for a gate of that name and index the
+-- next gate that a message comes to, with the channel on the way, and the one from which a message comes from outside, each by where the module
+-- stands; the time after which no event is executed, in picoseconds; and the injections.
 pub record Answers : Type 0 where
   pub root : Answer
   pub inside : Place → Answer
   pub names : Place → List (List ℕ)
   pub value : Place → List ℕ → Answer
+  pub gates : Place → List Gate
+  pub hop : Place → List ℕ → ℕ → Answer
+  pub hop_back : Place → List ℕ → ℕ → Answer
   pub time_limit : Option ℕ
   pub injections : List Injection
 
@@ -45,12 +58,14 @@ abbrev pub is_beyond : Option ℕ → ℕ → Bool
 is_beyond None time = false
 is_beyond (Some limit) time = nat_lt limit time
 
--- THE ANSWER to a question, with the modules of these records; modules have no gates yet
+-- THE ANSWER to a question, with the modules of these records
 abbrev pub answer_of : Answers → List Record → Question → Answer
 answer_of a records question.Root = a.root
 answer_of a records (question.Build id) = a.inside (place_of records id)
 answer_of a records (question.Param id name) = value_at a (place_of records id) name
-answer_of a records (question.GateSize id name) = answer.Absent
+answer_of a records (question.GateSize id name) = gate_named name (a.gates (place_of records id))
+answer_of a records (question.Hop id name index) = a.hop (place_of records id) name index
+answer_of a records (question.HopBack id name index) = a.hop_back (place_of records id) name index
 answer_of a records (question.BeyondLimit time) = answer.Beyond (is_beyond a.time_limit time)
 answer_of a records (question.InjectionBefore due last) = answer.Injection (injection_before due last a.injections)
 
@@ -67,3 +82,7 @@ with_values values (n ∷ ns) = with_value n (values n) (with_values values ns)
 -- all parameters of a module, in the order of their declaration, each where it has a value
 abbrev pub parameters_of : Answers → List Record → ℕ → List Parameter
 parameters_of a records id = with_values (a.value (place_of records id)) (a.names (place_of records id))
+
+-- all gates of a module, in the order of their declaration, as a call shows them
+abbrev pub gates_of : Answers → List Record → ℕ → List Gate
+gates_of a records id = a.gates (place_of records id)

@@ -1,3 +1,5 @@
 pub mod Records
 pub mod Questions
+pub mod Gates
+pub mod Hops
 pub mod Answers

@@ -4,6 +4,8 @@ ghost use Rattle.std.specs.Prelude.{◌≡◌, IfOk};
 ghost use Rattle.run_questions.specs.Answers.{is_beyond};
 
 use injection_order::injection::{Due, Injection, Turn};
+use module_api::call::Gate;
+use sim_time::SimTime;
 use sim_values::text::Text;
 use sim_values::value::Value;
 use sqlite_items::Items;
@@ -20,6 +22,10 @@ pub enum Question {
     Param(u32, Text),
     /// The direction and size of a gate of the module of that id.
     GateSize(u32, Text),
+    /// The next gate behind a gate of the module of that id, by its name and index, and the channel on the way.
+    Hop(u32, Text, u32),
+    /// The gate from which a message comes from outside to a gate of the module of that id, by its name and index.
+    HopBack(u32, Text, u32),
     /// Whether an event at that time, in picoseconds, is later than the option sim-time-limit allows.
     BeyondLimit(u64),
     /// The injection that goes before an event that is due then, or that goes where no event is left;
@@ -37,6 +43,10 @@ impl Question {
             Question::Build(id) => Ok(Question::Build(*id)),
             Question::Param(id, name) => Ok(Question::Param(*id, name.copy(alloc)?)),
             Question::GateSize(id, name) => Ok(Question::GateSize(*id, name.copy(alloc)?)),
+            Question::Hop(id, name, index) => Ok(Question::Hop(*id, name.copy(alloc)?, *index)),
+            Question::HopBack(id, name, index) => {
+                Ok(Question::HopBack(*id, name.copy(alloc)?, *index))
+            }
             Question::BeyondLimit(time) => Ok(Question::BeyondLimit(*time)),
             Question::InjectionBefore(due, last) => Ok(Question::InjectionBefore(*due, *last)),
         }
@@ -78,6 +88,53 @@ pub struct Built {
     pub class: Option<Text>,
 }
 
+/// Which module a hop leads to, seen from the one whose gate was asked about.
+#[derive(Drop)]
+pub enum Neighbour {
+    /// The module itself.
+    Itself,
+    /// The module around it.
+    Around,
+    /// A submodule of the module around it, by its name and index.
+    Beside(Text, Option<u32>),
+    /// A submodule of its own, by its name and index.
+    Inside(Text, Option<u32>),
+}
+
+/// The three kinds of channels (OMNeT++ Simulation Manual, "Channels").
+#[derive(Clone, Copy, PartialEq, Eq)]
+pub enum ChannelKind {
+    /// No delay.
+    Ideal,
+    /// A delay.
+    Delay,
+    /// A delay, and a rate at which bits are transmitted.
+    Datarate,
+}
+
+/// The channel of a connection.
+#[derive(Clone, Copy, Drop)]
+pub struct Channel {
+    pub kind: ChannelKind,
+    /// How long a message is on the way, zero at an ideal channel.
+    pub delay: SimTime,
+    /// In bits per second; 0: a transmission takes no time.
+    pub datarate: u64,
+    /// Whether it loses each message.
+    pub disabled: bool,
+}
+
+/// A gate that a hop leads to, and the channel on the way.
+#[derive(Drop)]
+pub struct NextGate {
+    pub neighbour: Neighbour,
+    /// The gate's name; that of a half has its mark, as `port$i`.
+    pub gate: Text,
+    /// Its place in its vector, 0 of a scalar gate.
+    pub index: u32,
+    pub channel: Channel,
+}
+
 /// What a model answers.
 #[derive(Drop)]
 pub enum Answer {
@@ -86,6 +143,10 @@ pub enum Answer {
     /// The submodules, in the order in which they are created.
     Inside(Items<Built>),
     Value(Value),
+    /// A gate, or a half of one: its own name, its direction and its size.
+    Gate(Gate),
+    /// The gate at the other end of a hop, none where the gate is not connected.
+    Next(Option<NextGate>),
     /// The fault, with the path that it is told with.
     Fault(Text, ModelFault),
     /// Whether the time is later than the limit.

@@ -2,4 +2,5 @@
 #![tactic(auto)]
 
 pub mod answer;
+pub mod hops;
 pub mod record;

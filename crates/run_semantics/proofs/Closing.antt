@@ -12,10 +12,10 @@ use Rattle.run_semantics.specs.declared.outcome.Fault.TheVariants as fault
 use Rattle.run_semantics.specs.declared.outcome.Outcome.{Outcome}
 use Rattle.run_semantics.specs.declared.traces.Instance.{Instance}
 use Rattle.run_semantics.specs.World.{World}
-use Rattle.run_semantics.specs.Perform.{Flow, On, Stopped, Broken, ◌>>=◌, broken, read_fault, unless_fault, with_scalar}
-use Rattle.run_semantics.specs.Event.{call_of, instance_in, changed}
-use Rattle.run_semantics.specs.Run.{Part, standing, Ran, is_fault}
-use Rattle.run_semantics.specs.Ending.{perform_last, perform_last_all, acted_last, answered_last, called_last, call_last, with_finished, finish, finish_all, concluded, ending}
+use Rattle.run_semantics.specs.Perform.{Flow, On, Stopped, Broken, ◌>>=◌, broken, for_each, read_fault, unless_fault, with_scalar}
+use Rattle.run_semantics.specs.Event.{call_of, called, instance_in, changed}
+use Rattle.run_semantics.specs.Run.{Ran, is_fault}
+use Rattle.run_semantics.specs.Ending.{perform_last, perform_last_all, acted_last, answered_last, call_last, marked, with_finished, finish, finish_all, to_finish, concluded, ending}
 use Rattle.run_semantics.specs.Laws.{GoesOn}
 use Rattle.run_semantics.proofs.Sound.{in_flow}
 use Rattle.run_semantics.proofs.Orderly.{on_same, on_more}
@@ -81,7 +81,7 @@ unless_closed id None go w h = h
 answered_closed : (m : Answers) (id : ℕ) (reply : Reply) (w : World) → IsClosed w (in_flow (answered_last m id reply w))
 answered_closed m id reply w = unless_closed id (read_fault m w.records id reply.reads) (acted_last id reply.actions) w (acted_closed id reply.actions w)
 
-called_closed : (b : Behaviour) (m : Answers) (id : ℕ) (w : World) (found : Option Instance) → IsClosed w (in_flow (called_last b m id w found))
+called_closed : (b : Behaviour) (m : Answers) (id : ℕ) (w : World) (found : Option Instance) → IsClosed w (in_flow (called b m (answered_last m id) id prompt.Finish w found))
 called_closed b m id w None = closed_same w
 called_closed b m id w (Some i) =
     let r = (b.naming i.kind).reply i.state (call_of m id prompt.Finish w) in
@@ -89,12 +89,12 @@ called_closed b m id w (Some i) =
     (record { questions = refl; records = refl; count = refl; live = refl; started = refl; finished = on_same w.finished; emissions = on_same w.emissions; scalars = on_same w.scalars })
     (answered_closed m id r.reply (changed id r.state w))
 
-finish_closed : (b : Behaviour) (m : Answers) (p : Part) (w : World) → IsClosed w (in_flow (finish b m p w))
-finish_closed b m p w = closed_then w (call_last b m p.id w) _ (called_closed b m p.id w (instance_in p.id w.modules)) (closed_marked p.id)
+finish_closed : (b : Behaviour) (m : Answers) (id : ℕ) (w : World) → IsClosed w (in_flow (finish b m id w))
+finish_closed b m id w = closed_then w (call_last b m id w) (marked id) (called_closed b m id w (instance_in id w.modules)) (closed_marked id)
 
-finish_all_closed : (b : Behaviour) (m : Answers) (ps : List Part) (w : World) → IsClosed w (in_flow (finish_all b m ps w))
-finish_all_closed b m [] w = closed_marked 1 w
-finish_all_closed b m (p ∷ ps) w = closed_then w (finish b m p w) (finish_all b m ps) (finish_closed b m p w) (finish_all_closed b m ps)
+finish_all_closed : (b : Behaviour) (m : Answers) (ids : List ℕ) (w : World) → IsClosed w (in_flow (finish_all b m ids w))
+finish_all_closed b m [] w = closed_same w
+finish_all_closed b m (id ∷ ids) w = closed_then w (finish b m id w) (for_each (finish b m) ids) (finish_closed b m id w) (finish_all_closed b m ids)
 
 concluded_closed : (outcome : Outcome) (fl : Flow) (w : World) → IsClosed w (in_flow fl) → IsClosed w (concluded outcome fl).world
 concluded_closed outcome (On u) w h = h
@@ -107,5 +107,5 @@ either_ran false x y w f g = g
 
 pub ending_closed : (b : Behaviour) (m : Answers) (ran : Ran) → IsClosed ran.world (ending b m ran).world
 ending_closed b m ran =
-    either_ran (is_fault ran.outcome) ran (concluded ran.outcome (finish_all b m (standing ran.world.modules) ran.world)) ran.world (closed_same ran.world)
-    (concluded_closed ran.outcome (finish_all b m (standing ran.world.modules) ran.world) ran.world (finish_all_closed b m (standing ran.world.modules) ran.world))
+    either_ran (is_fault ran.outcome) ran (concluded ran.outcome (finish_all b m (to_finish ran.world) ran.world)) ran.world (closed_same ran.world)
+    (concluded_closed ran.outcome (finish_all b m (to_finish ran.world) ran.world) ran.world (finish_all_closed b m (to_finish ran.world) ran.world))

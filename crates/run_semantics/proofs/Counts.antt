@@ -1,21 +1,19 @@
 -- How many events a run has executed.
-use Rattle.std.proofs.Common.{◌≡◌, ℕ, zero, suc, ◌+◌, ◌≤◌, nat_lt, Bool, true, false, List, [], ◌∷◌, Option, Some, None, refl, sym, ◌∙◌, ap, arith, slice_get, if◌then◌else◌}
+use Rattle.std.proofs.Common.{◌≡◌, ℕ, zero, suc, ◌+◌, ◌≤◌, nat_lt, Bool, true, false, List, [], ◌∷◌, Option, Some, None, refl, sym, ◌∙◌, ap, arith, if◌then◌else◌}
 use Rattle.module_api.specs.Behaviour.{Behaviour}
 use Rattle.module_api.specs.declared.call.Prompt.TheVariants as prompt
-use Rattle.run_questions.specs.declared.answer.Answer.{Answer}
-use Rattle.run_questions.specs.declared.answer.Answer.TheVariants as answer
-use Rattle.run_questions.specs.declared.answer.Built.{Built}
-use Rattle.run_questions.specs.declared.answer.Question.TheVariants.{Root, Build}
-use Rattle.run_questions.specs.Answers.{Answers, answer_of}
+use Rattle.run_questions.specs.Answers.{Answers}
 use Rattle.run_semantics.specs.declared.outcome.Outcome.{Outcome}
 use Rattle.run_semantics.specs.declared.outcome.Outcome.TheVariants.{Ended, TimeLimit}
 use Rattle.event_set.specs.declared.pending.Pending.{Pending}
-use Rattle.run_semantics.specs.World.{World, empty, asked}
-use Rattle.run_semantics.specs.Perform.{Flow, On, Stopped, Broken, ◌>>=◌}
-use Rattle.run_semantics.specs.Event.{begun, event, message_of}
-use Rattle.run_semantics.specs.Run.{rooted, built, unless_many, root_asked, inside_asked, prepared, Part, parts_of, place, place_all, place_parts, ready, standing, most_stages, initialize, one_stage, stages_from, initialize_all, with_started, Stage, Running, Over, world_at, settled, start, is_after_limit, went, next_stage, after, IsReached}
+use Rattle.run_semantics.specs.World.{World}
+use Rattle.run_semantics.specs.Perform.{Flow, On, Stopped, Broken, ◌>>=◌, for_each}
+use Rattle.run_semantics.specs.Event.{begun, event, instance_in, message_of}
+use Rattle.run_semantics.specs.Subtree.{outer_first}
+use Rattle.run_semantics.specs.Run.{prepared, Part, parts_of, place, place_all, place_parts, ready, stages_in, most_stages, initialize, one_stage, stages_from, initialize_all, with_started, Stage, Running, Over, world_at, settled, start, is_after_limit, went, next_stage, after, IsReached}
 use Rattle.run_semantics.specs.Upcoming.{Upcoming, Comes, Nothing, upcoming}
 use Rattle.run_semantics.proofs.Looking.{beside, looked_count, upcoming_looks}
+use Rattle.run_semantics.proofs.Setting.{IsLasting, stays_in, prepared_stays}
 use Rattle.run_semantics.proofs.Sound.{in_flow, call_keeps}
 
 pub then_count : (n : ℕ) (fl : Flow) (k : World → Flow) → (in_flow fl).count ≡ n → ((w : World) → w.count ≡ n → (in_flow (k w)).count ≡ n) → (in_flow (fl >>= k)).count ≡ n
@@ -29,32 +27,12 @@ either_count n false f g e d = d
 
 -- ---- setup
 
-root_count : (found : Answer) (w : World) → (in_flow (rooted found w)).count ≡ w.count
-root_count (answer.Root name) w = refl
-root_count (answer.Inside bs) w = refl
-root_count (answer.Value v) w = refl
-root_count (answer.Fault path f) w = refl
-root_count (answer.Beyond beyond) w = refl
-root_count (answer.Injection next) w = refl
-root_count answer.Absent w = refl
-
-many_count : (parent : ℕ) (bs : List Built) (w : World) (one : Option Built) → (in_flow (unless_many parent bs w one)).count ≡ w.count
-many_count parent bs w (Some b) = refl
-many_count parent bs w None = refl
-
-built_count : (parent : ℕ) (found : Answer) (w : World) → (in_flow (built parent found w)).count ≡ w.count
-built_count parent (answer.Inside bs) w = many_count parent bs w (slice_get bs 65535)
-built_count parent (answer.Root name) w = refl
-built_count parent (answer.Value v) w = refl
-built_count parent (answer.Fault path f) w = refl
-built_count parent (answer.Beyond beyond) w = refl
-built_count parent (answer.Injection next) w = refl
-built_count parent answer.Absent w = refl
+-- a setup counts no event
+count_lasts : IsLasting (λ w. w.count ≡ 0)
+count_lasts = record { asked = λ id w e l. e; created = λ parent bs w e l few. e }
 
 pub prepared_count : (m : Answers) → (in_flow (prepared m)).count ≡ 0
-prepared_count m =
-    then_count 0 (root_asked m) (inside_asked m) (root_count (answer_of m [] Root) (asked Root empty))
-    (λ w e. built_count 1 (answer_of m w.records (Build 1)) (asked (Build 1) w) ∙ e)
+prepared_count m = stays_in (λ w. w.count ≡ 0) (prepared m) (prepared_stays (λ w. w.count ≡ 0) m count_lasts refl (λ name. refl))
 
 -- ---- boxes and initialization
 
@@ -68,22 +46,24 @@ place_all_count b n (p ∷ ps) w e = then_count n (place b p w) (place_all b ps)
 pub ready_count : (b : Behaviour) (m : Answers) → (in_flow (ready b m)).count ≡ 0
 ready_count b m = then_count 0 (prepared m) (place_parts b) (prepared_count m) (λ w e. place_all_count b 0 (parts_of w) w e)
 
-initialize_count : (b : Behaviour) (m : Answers) (stage : ℕ) (p : Part) (w : World) → (in_flow (initialize b m stage p w)).count ≡ w.count
-initialize_count b m stage p w =
-    either_count w.count (nat_lt stage (b.naming p.kind).stages) _ _ (call_keeps b m p.id (prompt.Initialize stage) w).count refl
+initialize_count : (b : Behaviour) (m : Answers) (stage id : ℕ) (w : World) → (in_flow (initialize b m stage id w)).count ≡ w.count
+initialize_count b m stage id w =
+    either_count w.count (nat_lt stage (stages_in b (instance_in id w.modules))) _ _ (call_keeps b m id (prompt.Initialize stage) w).count refl
 
-one_stage_count : (b : Behaviour) (m : Answers) (stage n : ℕ) (ps : List Part) (w : World) → w.count ≡ n → (in_flow (one_stage b m stage ps w)).count ≡ n
+one_stage_count : (b : Behaviour) (m : Answers) (stage n : ℕ) (ids : List ℕ) (w : World) → w.count ≡ n → (in_flow (one_stage b m stage ids w)).count ≡ n
 one_stage_count b m stage n [] w e = e
-one_stage_count b m stage n (p ∷ ps) w e =
-    then_count n (initialize b m stage p w) (one_stage b m stage ps) (initialize_count b m stage p w ∙ e) (one_stage_count b m stage n ps)
+one_stage_count b m stage n (id ∷ ids) w e =
+    then_count n (initialize b m stage id w) (for_each (initialize b m stage) ids) (initialize_count b m stage id w ∙ e) (one_stage_count b m stage n ids)
 
-stages_count : (b : Behaviour) (m : Answers) (ps : List Part) (n stage left : ℕ) (w : World) → w.count ≡ n → (in_flow (stages_from b m ps stage left w)).count ≡ n
-stages_count b m ps n stage zero w e = e
-stages_count b m ps n stage (suc left) w e =
-    then_count n (one_stage b m stage ps w) (stages_from b m ps (suc stage) left) (one_stage_count b m stage n ps w e) (stages_count b m ps n (suc stage) left)
+stages_count : (b : Behaviour) (m : Answers) (ids : List ℕ) (n stage left : ℕ) (w : World) → w.count ≡ n → (in_flow (stages_from b m ids stage left w)).count ≡ n
+stages_count b m ids n stage zero w e = e
+stages_count b m ids n stage (suc left) w e =
+    then_count n (one_stage b m stage ids w) (stages_from b m ids (suc stage) left) (one_stage_count b m stage n ids w e) (stages_count b m ids n (suc stage) left)
 
 initialize_all_count : (b : Behaviour) (m : Answers) (w : World) → w.count ≡ 0 → (in_flow (initialize_all b m w)).count ≡ 0
-initialize_all_count b m w e = stages_count b m (standing w.modules) 0 0 (most_stages b (standing w.modules)) (with_started w) e
+initialize_all_count b m w e =
+    let calls : List ℕ = outer_first w.records w.live 1 in
+    stages_count b m calls 0 0 (most_stages b w.modules calls) (with_started w.live w) e
 
 pub settled_count : (fl : Flow) → (world_at (settled fl)).count ≡ (in_flow fl).count
 settled_count (On w) = refl

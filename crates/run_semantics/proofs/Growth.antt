@@ -9,22 +9,25 @@ use Rattle.module_api.specs.Names.{is_scalar_name}
 use Rattle.module_api.specs.declared.reply.Action.TheVariants.{Emit, RecordScalar, ScheduleAfter, Fail}
 use Rattle.module_api.specs.declared.reply.Read.{Read}
 use Rattle.module_api.specs.declared.reply.Read.TheVariants as read
+use Rattle.module_api.specs.declared.reply.Reply.{Reply}
 use Rattle.module_api.specs.declared.reply.Schedule.{Schedule}
 use Rattle.run_questions.specs.declared.answer.Answer.{Answer}
 use Rattle.run_questions.specs.declared.answer.Answer.TheVariants as answer
 use Rattle.run_questions.specs.declared.answer.Asked.{Asked}
 use Rattle.run_questions.specs.declared.answer.Built.{Built}
 use Rattle.run_questions.specs.declared.answer.Question.{Question}
-use Rattle.run_questions.specs.declared.answer.Question.TheVariants.{Root}
+use Rattle.run_questions.specs.declared.answer.Question.TheVariants.{Root, Build}
 use Rattle.run_questions.specs.Answers.{Answers, answer_of}
 use Rattle.run_questions.specs.declared.record.Record.{Record}
 use Rattle.run_semantics.specs.declared.outcome.Fault.{Fault}
 use Rattle.run_semantics.specs.declared.traces.Instance.{Instance}
 use Rattle.run_semantics.specs.World.{World, empty, asked, is_asked, timed}
 use Rattle.event_set.specs.Timers.{has_timer}
-use Rattle.run_semantics.specs.Perform.{Flow, On, Stopped, Broken, ◌>>=◌, asking, scheduled, perform, perform_all, ask_all, question_of, acted, read_fault, unless_fault}
+use Rattle.run_semantics.specs.Perform.{Flow, On, Stopped, Broken, ◌>>=◌, asking, for_each, scheduled, perform, perform_all, ask_all, question_of, acted, read_fault, unless_fault, answered}
 use Rattle.run_semantics.specs.Event.{call_of, instance_in, with_state, changed, replied, called, call_module, event}
-use Rattle.run_semantics.specs.Run.{rooted, record_under, built, unless_many, Part, with_class, parts_from, parts_of, place, place_all, place_parts, standing, most_stages, initialize, one_stage, stages_from, initialize_all, with_started}
+use Rattle.run_semantics.specs.Run.{with_network, rooted, record_under, with_submodules, room_in, unless_many, created, set_up, Part, with_class, parts_from, parts_of, place, place_all, place_parts, stages_in, most_stages, initialize, one_stage, stages_from, started, initialize_all, with_started}
+use Rattle.run_semantics.specs.Subtree.{outer_first}
+use Rattle.run_semantics.proofs.Setting.{IsLasting, stays_in, set_up_stays}
 use Rattle.run_semantics.proofs.Sound.{in_flow}
 use Rattle.run_questions.proofs.AnswerLemmas.{AreNested, about}
 
@@ -252,11 +255,15 @@ fits_changed id state w f = record {
 }
 
 -- what follows a reply asks for its reads
-pub replied_grows : (m : Answers) (id : ℕ) (r : Replied) (w : World) → Fits w → id ≤ length w.records → IsGrown w (in_flow (replied m id r w))
-replied_grows m id r w f l =
-    let v : World = changed id r.state w in
-    let asks = ask_all_grows id r.reply.reads v (fits_changed id r.state w f) l in
-    let g = grown_on asks (answered_on id (read_fault m w.records id r.reply.reads) r.reply.actions (ask_all id r.reply.reads v) asks.fits) in
+pub answered_grows : (m : Answers) (id : ℕ) (reply : Reply) (w : World) → Fits w → id ≤ length w.records → IsGrown w (in_flow (answered m id reply w))
+answered_grows m id reply w f l =
+    let asks = ask_all_grows id reply.reads w f l in
+    grown_on asks (answered_on id (read_fault m w.records id reply.reads) reply.actions (ask_all id reply.reads w) asks.fits)
+
+-- it is done where the module has its new state
+pub replied_grows : (follow : Reply → World → Flow) (id : ℕ) (r : Replied) (w : World) → Fits w → ((v : World) → Fits v → v.records ≡ w.records → IsGrown v (in_flow (follow r.reply v))) → IsGrown w (in_flow (replied follow id r w))
+replied_grows follow id r w f h =
+    let g = h (changed id r.state w) (fits_changed id r.state w f) refl in
     record { rest = g.rest; joined = g.joined; present = g.present; count = g.count; more = g.more; records = g.records; fits = g.fits }
 
 -- a module that stands is one that was created
@@ -264,9 +271,11 @@ pub within_of_found : (id : ℕ) (i : Instance) (w : World) → Fits w → insta
 within_of_found id i w f e = found_within (length w.records) id w.modules i f.modules e
 
 -- so does a call of a module that may stand
-called_grows : (b : Behaviour) (m : Answers) (id : ℕ) (p : Prompt) (w : World) (found : Option Instance) → Fits w → instance_in id w.modules ≡ found → IsGrown w (in_flow (called b m id p w found))
+called_grows : (b : Behaviour) (m : Answers) (id : ℕ) (p : Prompt) (w : World) (found : Option Instance) → Fits w → instance_in id w.modules ≡ found → IsGrown w (in_flow (called b m (answered m id) id p w found))
 called_grows b m id p w None f e = grown_same w f
-called_grows b m id p w (Some i) f e = replied_grows m id ((b.naming i.kind).reply i.state (call_of m id p w)) w f (within_of_found id i w f e)
+called_grows b m id p w (Some i) f e =
+    let r : Replied = (b.naming i.kind).reply i.state (call_of m id p w) in
+    replied_grows (answered m id) id r w f (λ v fits same. answered_grows m id r.reply v fits (omega (arith, within_of_found id i w f e, ap (λ (rs : List Record). length rs) same)))
 
 -- one call
 pub call_grows : (b : Behaviour) (m : Answers) (id : ℕ) (p : Prompt) (w : World) → Fits w → IsGrown w (in_flow (call_module b m id p w))
@@ -322,25 +331,29 @@ pub place_parts_grows : (b : Behaviour) (w : World) → Fits w → IsGrown w (in
 place_parts_grows b w f = place_all_grows b (length w.records) (parts_of w) w (parts_within 1 w.records (length w.records) (omega arith)) f (omega arith)
 
 -- one module is initialized, where it has the stage
-initialize_grows : (b : Behaviour) (m : Answers) (stage : ℕ) (p : Part) (w : World) → Fits w → IsGrown w (in_flow (initialize b m stage p w))
-initialize_grows b m stage p w f = either_grows w (nat_lt stage (b.naming p.kind).stages) _ _ (call_grows b m p.id (prompt.Initialize stage) w f) (grown_same w f)
+initialize_grows : (b : Behaviour) (m : Answers) (stage id : ℕ) (w : World) → Fits w → IsGrown w (in_flow (initialize b m stage id w))
+initialize_grows b m stage id w f = either_grows w (nat_lt stage (stages_in b (instance_in id w.modules))) _ _ (call_grows b m id (prompt.Initialize stage) w f) (grown_same w f)
 
--- one stage of all modules
-one_stage_grows : (b : Behaviour) (m : Answers) (stage : ℕ) (ps : List Part) (w : World) → Fits w → IsGrown w (in_flow (one_stage b m stage ps w))
+-- one stage of these modules
+one_stage_grows : (b : Behaviour) (m : Answers) (stage : ℕ) (ids : List ℕ) (w : World) → Fits w → IsGrown w (in_flow (one_stage b m stage ids w))
 one_stage_grows b m stage [] w f = grown_same w f
-one_stage_grows b m stage (p ∷ ps) w f = grown_then w (initialize b m stage p w) (one_stage b m stage ps) (initialize_grows b m stage p w f) (one_stage_grows b m stage ps)
+one_stage_grows b m stage (id ∷ ids) w f = grown_then w (initialize b m stage id w) (for_each (initialize b m stage) ids) (initialize_grows b m stage id w f) (one_stage_grows b m stage ids)
 
 -- the stages that are left
-stages_grow : (b : Behaviour) (m : Answers) (ps : List Part) (stage left : ℕ) (w : World) → Fits w → IsGrown w (in_flow (stages_from b m ps stage left w))
-stages_grow b m ps stage zero w f = grown_same w f
-stages_grow b m ps stage (suc left) w f = grown_then w (one_stage b m stage ps w) (stages_from b m ps (suc stage) left) (one_stage_grows b m stage ps w f) (stages_grow b m ps (suc stage) left)
+stages_grow : (b : Behaviour) (m : Answers) (ids : List ℕ) (stage left : ℕ) (w : World) → Fits w → IsGrown w (in_flow (stages_from b m ids stage left w))
+stages_grow b m ids stage zero w f = grown_same w f
+stages_grow b m ids stage (suc left) w f = grown_then w (one_stage b m stage ids w) (stages_from b m ids (suc stage) left) (one_stage_grows b m stage ids w f) (stages_grow b m ids (suc stage) left)
 
--- all stages
-pub initialize_all_grows : (b : Behaviour) (m : Answers) (w : World) → Fits w → IsGrown w (in_flow (initialize_all b m w))
-initialize_all_grows b m w f =
-    let fits : Fits (with_started w) = record { nested = f.nested; modules = f.modules; questions = f.questions } in
-    let g = stages_grow b m (standing w.modules) 0 (most_stages b (standing w.modules)) (with_started w) fits in
+-- a start of modules
+pub started_grows : (b : Behaviour) (m : Answers) (ids calls : List ℕ) (w : World) → Fits w → IsGrown w (in_flow (started b m ids calls w))
+started_grows b m ids calls w f =
+    let fits : Fits (with_started ids w) = record { nested = f.nested; modules = f.modules; questions = f.questions } in
+    let g = stages_grow b m calls 0 (most_stages b w.modules calls) (with_started ids w) fits in
     record { rest = g.rest; joined = g.joined; present = g.present; count = g.count; more = g.more; records = g.records; fits = g.fits }
+
+-- that of the network
+pub initialize_all_grows : (b : Behaviour) (m : Answers) (w : World) → Fits w → IsGrown w (in_flow (initialize_all b m w))
+initialize_all_grows b m w f = started_grows b m w.live (outer_first w.records w.live 1) w f
 
 -- ---- setup
 
@@ -348,9 +361,9 @@ initialize_all_grows b m w f =
 pub fits_empty : Fits empty
 fits_empty = record { nested = tt; modules = tt; questions = tt }
 
--- the network is created, as was answered
-pub rooted_grows : (found : Answer) → IsGrown (asked Root empty) (in_flow (rooted found (asked Root empty)))
-rooted_grows (answer.Root name) = record {
+-- the network is created
+pub network_grows : (name : List ℕ) → IsGrown (asked Root empty) (with_network name (asked Root empty))
+network_grows name = record {
   rest = [];
   joined = refl;
   present = tt;
@@ -359,8 +372,14 @@ rooted_grows (answer.Root name) = record {
   records = refl;
   fits = record { nested = (omega arith, tt); modules = tt; questions = (omega arith, tt) };
 }
+
+-- as was answered
+pub rooted_grows : (found : Answer) → IsGrown (asked Root empty) (in_flow (rooted found (asked Root empty)))
+rooted_grows (answer.Root name) = network_grows name
 rooted_grows (answer.Inside bs) = grown_same _ (asked_grows Root empty fits_empty (omega arith)).fits
 rooted_grows (answer.Value v) = grown_same _ (asked_grows Root empty fits_empty (omega arith)).fits
+rooted_grows (answer.Gate g) = grown_same _ (asked_grows Root empty fits_empty (omega arith)).fits
+rooted_grows (answer.Next next) = grown_same _ (asked_grows Root empty fits_empty (omega arith)).fits
 rooted_grows (answer.Fault path f) = grown_same _ (asked_grows Root empty fits_empty (omega arith)).fits
 rooted_grows (answer.Beyond beyond) = grown_same _ (asked_grows Root empty fits_empty (omega arith)).fits
 rooted_grows (answer.Injection next) = grown_same _ (asked_grows Root empty fits_empty (omega arith)).fits
@@ -372,10 +391,9 @@ nested_more k [] parent [] h l = tt
 nested_more k [] parent (b ∷ bs) h l = (omega (arith, l), nested_more (suc k) [] parent bs tt (omega (arith, l)))
 nested_more k (r ∷ rs) parent bs h l = (h.0, nested_more (suc k) rs parent bs h.1 (omega (arith, l)))
 
--- submodules are created, unless they are too many
-many_grows : (parent : ℕ) (bs : List Built) (w : World) (one : Option Built) → Fits w → parent ≤ length w.records → IsGrown w (in_flow (unless_many parent bs w one))
-many_grows parent bs w (Some b) f l = grown_same w f
-many_grows parent bs w None f l =
+-- submodules are created
+pub submodules_grow : (parent : ℕ) (bs : List Built) (w : World) → Fits w → parent ≤ length w.records → IsGrown w (with_submodules parent bs w)
+submodules_grow parent bs w f l =
     let rises = length-append w.records (map (record_under parent) bs) in
     record {
       rest = [];
@@ -391,12 +409,30 @@ many_grows parent bs w None f l =
       };
     }
 
--- submodules are created, as was answered
-pub built_grows : (parent : ℕ) (found : Answer) (w : World) → Fits w → parent ≤ length w.records → IsGrown w (in_flow (built parent found w))
-built_grows parent (answer.Inside bs) w f l = many_grows parent bs w (slice_get bs 65535) f l
-built_grows parent (answer.Root name) w f l = grown_same w f
-built_grows parent (answer.Value v) w f l = grown_same w f
-built_grows parent (answer.Fault path fault) w f l = grown_same w f
-built_grows parent (answer.Beyond beyond) w f l = grown_same w f
-built_grows parent (answer.Injection next) w f l = grown_same w f
-built_grows parent answer.Absent w f l = grown_same w f
+-- unless they are too many
+many_grow : (parent : ℕ) (bs : List Built) (w : World) (one : Option Built) → Fits w → parent ≤ length w.records → IsGrown w (in_flow (unless_many parent bs w one))
+many_grow parent bs w (Some b) f l = grown_same w f
+many_grow parent bs w None f l = submodules_grow parent bs w f l
+
+-- as was answered
+pub created_grows : (parent : ℕ) (found : Answer) (w : World) → Fits w → parent ≤ length w.records → IsGrown w (in_flow (created parent found w))
+created_grows parent (answer.Inside bs) w f l = many_grow parent bs w (slice_get bs (room_in w)) f l
+created_grows parent (answer.Root name) w f l = grown_same w f
+created_grows parent (answer.Value v) w f l = grown_same w f
+created_grows parent (answer.Gate g) w f l = grown_same w f
+created_grows parent (answer.Next next) w f l = grown_same w f
+created_grows parent (answer.Fault path fault) w f l = grown_same w f
+created_grows parent (answer.Beyond beyond) w f l = grown_same w f
+created_grows parent (answer.Injection next) w f l = grown_same w f
+created_grows parent answer.Absent w f l = grown_same w f
+
+-- a setup only asks and creates
+pub growth_lasts : (u : World) → IsLasting (IsGrown u)
+growth_lasts u = record {
+  asked = λ id w g l. grown_on g (asked_grows (Build id) w g.fits l);
+  created = λ parent bs w g l e. grown_on g (submodules_grow parent bs w g.fits l);
+}
+
+-- so does that of one module
+pub set_up_grows : (m : Answers) (depth id : ℕ) (w : World) → Fits w → id ≤ length w.records → IsGrown w (in_flow (set_up depth m id w))
+set_up_grows m depth id w f l = (stays_in _ (set_up depth m id w) (set_up_stays (IsGrown w) (growth_lasts w) depth m 0 id w (grown_same w f) (omega arith) l)).0

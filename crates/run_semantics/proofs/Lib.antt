@@ -1,5 +1,6 @@
 pub mod Ahead
 pub mod Agreeing
+pub mod Bounds
 pub mod Closing
 pub mod Counts
 pub mod Ends
@@ -9,6 +10,7 @@ pub mod Looking
 pub mod Orderly
 pub mod Reached
 pub mod Reuse
+pub mod Setting
 pub mod Setup
 pub mod Sound
 pub mod States

@@ -1,6 +1,6 @@
 -- In every world of a run the events to come are in order, none is late, each has a number of its own, and each is for a
 -- module that stands; and what was emitted stands in the order of events.
-use Rattle.std.proofs.Common.{◌≡◌, ◌≢◌, ◌⊎◌, inl, inr, ℕ, zero, suc, ◌+◌, ◌≤◌, ◌<◌, ◌==◌, cond, Bool, true, false, List, [], ◌∷◌, ◌++◌, Option, Some, None, refl, sym, ap, ◌∙◌, arith, subst, append_assoc, append-nil, slice_get, length, map, if◌then◌else◌, nat_lt, nat_le, eqb-true}
+use Rattle.std.proofs.Common.{◌≡◌, ◌≢◌, ◌⊎◌, inl, inr, ℕ, zero, suc, ◌+◌, ◌≤◌, ◌<◌, ◌==◌, cond, Bool, true, false, List, [], ◌∷◌, ◌++◌, Option, Some, None, refl, sym, ap, ◌∙◌, arith, subst, append_assoc, append-nil, length, map, if◌then◌else◌, nat_lt, nat_le, eqb-true}
 use Rattle.sim_time.specs.Time.{time_sum}
 use Rattle.module_api.specs.Behaviour.{Behaviour, Replied}
 use Rattle.module_api.specs.declared.call.Prompt.{Prompt}
@@ -11,11 +11,7 @@ use Rattle.module_api.specs.declared.reply.Action.TheVariants.{Emit, RecordScala
 use Rattle.module_api.specs.declared.reply.Read.{Read}
 use Rattle.module_api.specs.declared.reply.Reply.{Reply}
 use Rattle.module_api.specs.declared.reply.Schedule.{Schedule}
-use Rattle.run_questions.specs.declared.answer.Answer.{Answer}
-use Rattle.run_questions.specs.declared.answer.Answer.TheVariants as answer
-use Rattle.run_questions.specs.declared.answer.Built.{Built}
-use Rattle.run_questions.specs.declared.answer.Question.TheVariants.{Root, Build}
-use Rattle.run_questions.specs.Answers.{Answers, answer_of}
+use Rattle.run_questions.specs.Answers.{Answers}
 use Rattle.run_semantics.specs.declared.outcome.Fault.{Fault}
 use Rattle.run_semantics.specs.declared.outcome.Fault.TheVariants as fault
 use Rattle.run_semantics.specs.declared.outcome.Outcome.{Outcome}
@@ -24,16 +20,18 @@ use Rattle.event_set.specs.declared.pending.Happening.TheVariants.{Timer}
 use Rattle.event_set.specs.declared.pending.Pending.{Pending}
 use Rattle.run_semantics.specs.declared.traces.Emission.{Emission}
 use Rattle.run_semantics.specs.declared.traces.Instance.{Instance}
-use Rattle.run_semantics.specs.World.{World, empty, asked}
+use Rattle.run_semantics.specs.World.{World, asked}
 use Rattle.event_set.specs.Order.{inserted}
 use Rattle.event_set.specs.Timers.{has_timer}
-use Rattle.run_semantics.specs.Perform.{Flow, On, Stopped, Broken, ◌>>=◌, broken, with_scalar, scheduled, perform, perform_all, ask_all, question_of, acted, read_fault, unless_fault, answered}
+use Rattle.run_semantics.specs.Perform.{Flow, On, Stopped, Broken, ◌>>=◌, broken, for_each, with_scalar, scheduled, perform, perform_all, ask_all, question_of, acted, read_fault, unless_fault, answered}
 use Rattle.run_semantics.specs.Event.{call_of, instance_in, with_state, changed, called, call_module, begun, event, message_of}
-use Rattle.run_semantics.specs.Run.{rooted, built, unless_many, root_asked, inside_asked, prepared, Part, parts_of, place, place_all, place_parts, ready, standing, most_stages, initialize, one_stage, stages_from, initialize_all, with_started, part_of, Stage, Running, Over, world_at, settled, is_after_limit, went, next_stage, after}
+use Rattle.run_semantics.specs.Run.{prepared, Part, parts_of, place, place_all, place_parts, ready, standing, stages_in, most_stages, initialize, one_stage, stages_from, started, initialize_all, with_started, part_of, Stage, Running, Over, world_at, settled, is_after_limit, went, next_stage, after}
 use Rattle.run_semantics.specs.Laws.{Each, AreInOrder, AreInTurn, HaveOwnNumbers, IsAmong, ids_of, GoesOn}
+use Rattle.run_semantics.specs.Subtree.{outer_first}
 use Rattle.run_semantics.specs.Upcoming.{Upcoming, Comes, Nothing, upcoming}
 use Rattle.run_semantics.proofs.Ahead.{IsAhead, MayCome, ComesWell, ahead_at_zero, upcoming_well}
 use Rattle.run_semantics.proofs.Looking.{beside, looking, HasLooked, upcoming_looks}
+use Rattle.run_semantics.proofs.Setting.{IsLasting, stays_in, prepared_stays}
 use Rattle.run_semantics.proofs.Sound.{in_flow}
 use Rattle.run_semantics.proofs.Counts.{event_count}
 use Rattle.event_set.proofs.Order.{each_map, each_append, each_inserted, ordered_inserted, own_inserted}
@@ -285,7 +283,7 @@ found_stands id (j ∷ js) i e = by (j.id == id) refl (found_stands id js i) e
     by false t later e = inr (later e)
 
 -- a call of a module that may stand
-called_leads : (b : Behaviour) (m : Answers) (id : ℕ) (p : Prompt) (w : World) (found : Option Instance) → instance_in id w.modules ≡ found → IsOrderly w → Leads w (in_flow (called b m id p w found))
+called_leads : (b : Behaviour) (m : Answers) (id : ℕ) (p : Prompt) (w : World) (found : Option Instance) → instance_in id w.modules ≡ found → IsOrderly w → Leads w (in_flow (called b m (answered m id) id p w found))
 called_leads b m id p w None e f = leads_same w f
 called_leads b m id p w (Some i) e f =
     let r : Replied = (b.naming i.kind).reply i.state (call_of m id p w) in
@@ -300,28 +298,28 @@ call_leads b m id p w f = called_leads b m id p w (instance_in id w.modules) ref
 -- ---- initialization
 
 -- one module is initialized, where it has the stage
-initialize_leads : (b : Behaviour) (m : Answers) (stage : ℕ) (p : Part) (w : World) → IsOrderly w → Leads w (in_flow (initialize b m stage p w))
-initialize_leads b m stage p w f = either_leads w (nat_lt stage (b.naming p.kind).stages) _ _ (call_leads b m p.id (prompt.Initialize stage) w f) (leads_same w f)
+initialize_leads : (b : Behaviour) (m : Answers) (stage id : ℕ) (w : World) → IsOrderly w → Leads w (in_flow (initialize b m stage id w))
+initialize_leads b m stage id w f = either_leads w (nat_lt stage (stages_in b (instance_in id w.modules))) _ _ (call_leads b m id (prompt.Initialize stage) w f) (leads_same w f)
 
--- one stage of all modules
-one_stage_leads : (b : Behaviour) (m : Answers) (stage : ℕ) (ps : List Part) (w : World) → IsOrderly w → Leads w (in_flow (one_stage b m stage ps w))
+-- one stage of these modules
+one_stage_leads : (b : Behaviour) (m : Answers) (stage : ℕ) (ids : List ℕ) (w : World) → IsOrderly w → Leads w (in_flow (one_stage b m stage ids w))
 one_stage_leads b m stage [] w f = leads_same w f
-one_stage_leads b m stage (p ∷ ps) w f =
-    leads_then (λ v. Unit {0}) w (initialize b m stage p w) (one_stage b m stage ps) (initialize_leads b m stage p w f) tt (λ v g u. one_stage_leads b m stage ps v g)
+one_stage_leads b m stage (id ∷ ids) w f =
+    leads_then (λ v. Unit {0}) w (initialize b m stage id w) (for_each (initialize b m stage) ids) (initialize_leads b m stage id w f) tt (λ v g u. one_stage_leads b m stage ids v g)
 
 -- the stages that are left
-stages_lead : (b : Behaviour) (m : Answers) (ps : List Part) (stage left : ℕ) (w : World) → IsOrderly w → Leads w (in_flow (stages_from b m ps stage left w))
-stages_lead b m ps stage zero w f = leads_same w f
-stages_lead b m ps stage (suc left) w f =
-    leads_then (λ v. Unit {0}) w (one_stage b m stage ps w) (stages_from b m ps (suc stage) left) (one_stage_leads b m stage ps w f) tt (λ v g u. stages_lead b m ps (suc stage) left v g)
+stages_lead : (b : Behaviour) (m : Answers) (ids : List ℕ) (stage left : ℕ) (w : World) → IsOrderly w → Leads w (in_flow (stages_from b m ids stage left w))
+stages_lead b m ids stage zero w f = leads_same w f
+stages_lead b m ids stage (suc left) w f =
+    leads_then (λ v. Unit {0}) w (one_stage b m stage ids w) (stages_from b m ids (suc stage) left) (one_stage_leads b m stage ids w f) tt (λ v g u. stages_lead b m ids (suc stage) left v g)
 
--- modules that count as started change no event
-orderly_started : (w : World) → IsOrderly w → IsOrderly (with_started w)
-orderly_started w f = record { order = f.order; own = f.own; below = f.below; due = f.due; modules = f.modules }
+-- a start of modules, once they count as started
+pub started_leads : (b : Behaviour) (m : Answers) (ids calls : List ℕ) (w : World) → IsOrderly w → Leads (with_started ids w) (in_flow (started b m ids calls w))
+started_leads b m ids calls w f = stages_lead b m calls 0 (most_stages b w.modules calls) (with_started ids w) (record { order = f.order; own = f.own; below = f.below; due = f.due; modules = f.modules })
 
--- all stages
-pub initialize_all_leads : (b : Behaviour) (m : Answers) (w : World) → IsOrderly w → Leads (with_started w) (in_flow (initialize_all b m w))
-initialize_all_leads b m w f = stages_lead b m (standing w.modules) 0 (most_stages b (standing w.modules)) (with_started w) (orderly_started w f)
+-- that of the network
+pub initialize_all_leads : (b : Behaviour) (m : Answers) (w : World) → IsOrderly w → Leads (with_started w.live w) (in_flow (initialize_all b m w))
+initialize_all_leads b m w f = started_leads b m w.live (outer_first w.records w.live 1) w f
 
 -- ---- setup: no event is to come, nothing was emitted, and no module is finished
 
@@ -340,30 +338,9 @@ either_none : (c : Bool) (f g : Flow) → IsQuiet (in_flow f) → IsQuiet (in_fl
 either_none true f g e d = e
 either_none false f g e d = d
 
--- the network is created
-root_none : (found : Answer) → IsQuiet (in_flow (rooted found (asked Root empty)))
-root_none (answer.Root name) = (refl, refl, refl, refl)
-root_none (answer.Inside bs) = (refl, refl, refl, refl)
-root_none (answer.Value v) = (refl, refl, refl, refl)
-root_none (answer.Fault path f) = (refl, refl, refl, refl)
-root_none (answer.Beyond beyond) = (refl, refl, refl, refl)
-root_none (answer.Injection next) = (refl, refl, refl, refl)
-root_none answer.Absent = (refl, refl, refl, refl)
-
--- submodules are created, unless they are too many
-many_none : (parent : ℕ) (bs : List Built) (w : World) (one : Option Built) → IsQuiet w → IsQuiet (in_flow (unless_many parent bs w one))
-many_none parent bs w (Some b) e = e
-many_none parent bs w None e = e
-
--- submodules are created, as was answered
-built_none : (parent : ℕ) (found : Answer) (w : World) → IsQuiet w → IsQuiet (in_flow (built parent found w))
-built_none parent (answer.Inside bs) w e = many_none parent bs w (slice_get bs 65535) e
-built_none parent (answer.Root name) w e = e
-built_none parent (answer.Value v) w e = e
-built_none parent (answer.Fault path f) w e = e
-built_none parent (answer.Beyond beyond) w e = e
-built_none parent (answer.Injection next) w e = e
-built_none parent answer.Absent w e = e
+-- a setup leaves it so
+quiet_lasts : IsLasting IsQuiet
+quiet_lasts = record { asked = λ id w e l. e; created = λ parent bs w e l few. e }
 
 -- modules are placed
 place_all_none : (b : Behaviour) (ps : List Part) (w : World) → IsQuiet w → IsQuiet (in_flow (place_all b ps w))
@@ -373,9 +350,7 @@ place_all_none b (p ∷ ps) w e = then_none (place b p w) (place_all b ps) (eith
 -- so it is when all boxes are there
 pub ready_none : (b : Behaviour) (m : Answers) → IsQuiet (in_flow (ready b m))
 ready_none b m =
-    then_none (prepared m) (place_parts b)
-    (then_none (root_asked m) (inside_asked m) (root_none (answer_of m [] Root)) (λ w e. built_none 1 (answer_of m w.records (Build 1)) (asked (Build 1) w) e))
-    (λ w e. place_all_none b (parts_of w) w e)
+    then_none (prepared m) (place_parts b) (stays_in IsQuiet (prepared m) (prepared_stays IsQuiet m quiet_lasts (refl, refl, refl, refl) (λ name. (refl, refl, refl, refl)))) (λ w e. place_all_none b (parts_of w) w e)
 
 -- with no event to come all is in order
 pub orderly_none : (w : World) → w.pending ≡ [] → IsOrderly w

@@ -1,6 +1,6 @@
 -- A run takes nothing from its model but answers to the questions that it notes: models that answer them alike have the
 -- same run.
-use Rattle.std.proofs.Common.{◌≡◌, ℕ, zero, suc, ◌+◌, ◌≤◌, ◌<◌, Bool, true, false, List, [], ◌∷◌, ◌++◌, ◌||◌, Option, Some, None, refl, sym, ap, ◌∙◌, arith, subst, append_assoc, append-nil, length, if◌then◌else◌, nat_lt, ⊎_elim}
+use Rattle.std.proofs.Common.{◌≡◌, ℕ, zero, suc, ◌+◌, ◌≤◌, ◌<◌, Bool, true, false, List, [], ◌∷◌, ◌++◌, ◌||◌, Option, Some, None, refl, sym, ap, ◌∙◌, arith, subst, append_assoc, append-nil, length, slice_get, if◌then◌else◌, nat_lt, ⊎_elim}
 use Rattle.std.proofs.Math.Nat.{eq-or-lt_of_le}
 use Rattle.module_api.specs.Behaviour.{Behaviour, Replied}
 use Rattle.module_api.specs.Laws.{AgreesOn, IsLawful}
@@ -11,13 +11,14 @@ use Rattle.module_api.specs.declared.reply.Read.TheVariants as read
 use Rattle.run_questions.specs.declared.answer.Answer.{Answer}
 use Rattle.run_questions.specs.declared.answer.Answer.TheVariants as answer
 use Rattle.run_questions.specs.declared.answer.Asked.{Asked}
+use Rattle.run_questions.specs.declared.answer.Built.{Built}
 use Rattle.run_questions.specs.declared.answer.Question.{Question}
 use Rattle.run_questions.specs.declared.answer.Question.TheVariants.{Root, Build, BeyondLimit, InjectionBefore}
 use Rattle.injection_order.specs.declared.injection.Injection.{Injection}
-use Rattle.run_questions.specs.Answers.{Answers, answer_of, parameters_of}
+use Rattle.run_questions.specs.Answers.{Answers, answer_of, gates_of, parameters_of}
 use Rattle.run_questions.specs.declared.record.Record.{Record}
 use Rattle.run_questions.specs.Questions.{same_question}
-use Rattle.run_questions.proofs.AnswerLemmas.{AreNested, about, answer_more, same_value}
+use Rattle.run_questions.proofs.AnswerLemmas.{AreNested, about, answer_more, same_gate, same_value}
 use Rattle.run_questions.proofs.QuestionLemmas.{same_is}
 use Rattle.run_semantics.specs.declared.outcome.Outcome.{Outcome}
 use Rattle.run_semantics.specs.declared.outcome.Outcome.TheVariants.{Ended, EventLimit, NoMoreEvents, TimeLimit, Fault}
@@ -26,15 +27,17 @@ use Rattle.run_semantics.specs.declared.traces.Instance.{Instance}
 use Rattle.run_semantics.specs.Agreement.{Agrees, AgreesUpTo, tried, questions_of}
 use Rattle.run_semantics.specs.Laws.{Each, GoesOn}
 use Rattle.run_semantics.specs.World.{World, empty, asked, asked_next, is_asked, noted}
-use Rattle.run_semantics.specs.Perform.{Flow, On, Stopped, Broken, ◌>>=◌, asking, ask_all, question_of, acted, first_fault, fault_of_read, read_fault, unless_fault}
+use Rattle.run_semantics.specs.Perform.{Flow, On, Stopped, Broken, ◌>>=◌, answered, asking, ask_all, for_each, question_of, acted, first_fault, fault_of_read, read_fault, unless_fault}
 use Rattle.run_semantics.specs.Event.{call_of, instance_in, changed, replied, called, call_module, counted, begun, event, message_of}
-use Rattle.run_semantics.specs.Run.{rooted, built, root_asked, inside_asked, prepared, Part, place_parts, ready, standing, most_stages, initialize, one_stage, stages_from, initialize_all, with_started, Stage, Running, Over, world_at, settled, start, says_beyond, is_after_limit, went, next_stage, after, IsReached}
+use Rattle.run_semantics.specs.Subtree.{outer_first}
+use Rattle.run_semantics.specs.Run.{rooted, room_in, unless_many, created, inside_of, compounds_from, built, set_up, most_nested, root_asked, prepared, place_parts, ready, stages_in, most_stages, initialize, one_stage, stages_from, started, initialize_all, with_started, Stage, Running, Over, world_at, settled, start, says_beyond, is_after_limit, went, next_stage, after, IsReached}
 use Rattle.run_semantics.specs.Upcoming.{first_due, delivered, target_of, Upcoming, Comes, Nothing, aimed, chosen, upcoming_in, most_injections, upcoming}
 use Rattle.run_semantics.proofs.Looking.{beside, HasLooked, looked_same, looked_count, looked_joined, looked_questions, chosen_looks, coming_looks, upcoming_looks, upcoming_tried, first_asked, upcoming_asks}
 use Rattle.run_semantics.proofs.Sound.{in_flow}
 use Rattle.run_semantics.proofs.Counts.{RunsOn, runs_on}
 use Rattle.run_semantics.proofs.Ends.{over_stays}
-use Rattle.run_semantics.proofs.Growth.{AllOfEvent, AllAbout, AllOfEvent-append, AllAbout-append, AllAbout-more, Fits, IsGrown, grown_same, grown_on, fits_empty, rooted_grows, built_grows, then_grows, asked_grows, timed_grows, asked_read_grows, ask_all_grows, answered_on, fits_changed, replied_grows, within_of_found, call_grows, place_parts_grows, initialize_all_grows}
+use Rattle.run_semantics.proofs.Growth.{AllOfEvent, AllAbout, AllOfEvent-append, AllAbout-append, AllAbout-more, Fits, IsGrown, grown_same, grown_on, fits_empty, longer, rooted_grows, created_grows, then_grows, asked_grows, timed_grows, asked_read_grows, ask_all_grows, answered_on, answered_grows, fits_changed, replied_grows, within_of_found, call_grows, place_parts_grows, started_grows, initialize_all_grows}
+use Rattle.run_semantics.proofs.Setting.{AreUpTo, compounds_within, length_created}
 
 -- ---- agreement on fewer questions
 
@@ -176,13 +179,13 @@ fault_alike m n records id (r ∷ rs) h =
     ∙ ap (first_fault (fault_of_read r (answer_of n records (question_of id r)))) (fault_alike m n records id rs h.1)
 
 -- a call shows the same there
-shown_alike : (m n : Answers) (id : ℕ) (p : Prompt) (w : World) (reads : List Read) → AnswerAlike m n w.records id reads → AgreesOn reads (call_of m id p w) (parameters_of n w.records id) []
+shown_alike : (m n : Answers) (id : ℕ) (p : Prompt) (w : World) (reads : List Read) → AnswerAlike m n w.records id reads → AgreesOn reads (call_of m id p w) (parameters_of n w.records id) (gates_of n w.records id)
 shown_alike m n id p w [] h = tt
 shown_alike m n id p w (read.Parameter name ∷ rs) h = (same_value m n w.records id name h.0, shown_alike m n id p w rs h.1)
-shown_alike m n id p w (read.Gate name ∷ rs) h = (refl, shown_alike m n id p w rs h.1)
+shown_alike m n id p w (read.Gate name ∷ rs) h = (same_gate m n w.records id name h.0, shown_alike m n id p w rs h.1)
 
 -- a call has the same reply, since the law of reads holds, and the same follows
-called_same : (b : Behaviour) → IsLawful b → (m n : Answers) (id : ℕ) (p : Prompt) (w : World) (found : Option Instance) → Fits w → instance_in id w.modules ≡ found → DoesSame m n w (called b m id p w found) (called b n id p w found)
+called_same : (b : Behaviour) → IsLawful b → (m n : Answers) (id : ℕ) (p : Prompt) (w : World) (found : Option Instance) → Fits w → instance_in id w.modules ≡ found → DoesSame m n w (called b m (answered m id) id p w found) (called b n (answered n id) id p w found)
 called_same b law m n id p w None f e = does_itself m n w (On w) (grown_same w f)
 called_same b law m n id p w (Some i) f e =
     let r : Replied = (b.naming i.kind).reply i.state (call_of m id p w) in
@@ -191,13 +194,13 @@ called_same b law m n id p w (Some i) f e =
     let fits = fits_changed id r.state w f in
     let asks = ask_all_grows id r.reply.reads v fits l in
     record {
-      grows = replied_grows m id r w f l;
+      grows = replied_grows (answered m id) id r w f (λ u g same. answered_grows m id r.reply u g (omega (arith, l, ap (λ (rs : List Record). length rs) same)));
       same = λ h.
           let before : AgreesIn m n (ask_all id r.reply.reads v) = Agrees-before m n (ask_all id r.reply.reads v) _ asks.fits (answered_on id (read_fault m w.records id r.reply.reads) r.reply.actions (ask_all id r.reply.reads v) asks.fits) h in
           let alike : AnswerAlike m n w.records id r.reply.reads = alike_asked m n id r.reply.reads v fits l before in
-          let reply : (b.naming i.kind).reply i.state (call_of n id p w) ≡ r = (law.reads i.kind) i.state (call_of m id p w) (parameters_of n w.records id) [] (shown_alike m n id p w r.reply.reads alike) in
+          let reply : (b.naming i.kind).reply i.state (call_of n id p w) ≡ r = (law.reads i.kind) i.state (call_of m id p w) (parameters_of n w.records id) (gates_of n w.records id) (shown_alike m n id p w r.reply.reads alike) in
           ap (λ found. unless_fault id found (acted id r.reply.actions) (ask_all id r.reply.reads v)) (fault_alike m n w.records id r.reply.reads alike)
-          ∙ ap (λ (x : Replied). replied n id x w) (sym reply);
+          ∙ ap (λ (x : Replied). replied (answered n id) id x w) (sym reply);
     }
 
 -- one call
@@ -219,18 +222,63 @@ rooted_on : (found : Answer) → IfOn HasRecord (rooted found (asked Root empty)
 rooted_on (answer.Root name) = omega arith
 rooted_on (answer.Inside bs) = tt
 rooted_on (answer.Value v) = tt
+rooted_on (answer.Gate g) = tt
+rooted_on (answer.Next next) = tt
 rooted_on (answer.Fault path f) = tt
 rooted_on (answer.Beyond beyond) = tt
 rooted_on (answer.Injection next) = tt
 rooted_on answer.Absent = tt
 
--- the second question, and what follows it
-inside_same : (m n : Answers) (w : World) → Fits w → HasRecord w → DoesSame m n w (inside_asked m w) (inside_asked n w)
-inside_same m n w f l = asking_same m n (Build 1) (built 1) (built 1) w f l (λ a fits. does_itself m n (asked (Build 1) w) (built 1 a (asked (Build 1) w)) (built_grows 1 a (asked (Build 1) w) fits l))
+-- where so many records are, they are behind a part too
+if_longer : (k : ℕ) (w : World) (fl : Flow) → k ≤ length w.records → IsGrown w (in_flow fl) → IfOn (λ v. k ≤ length v.records) fl
+if_longer k w (On v) l g = omega (arith, l, longer w v g)
+if_longer k w (Stopped v) l g = tt
+if_longer k w (Broken v path f) l g = tt
+
+-- some modules, one after another, each of which is the same
+each_same : (m n : Answers) (part other : ℕ → World → Flow) (k : ℕ) (ids : List ℕ) (w : World) → ((id : ℕ) (v : World) → Fits v → id ≤ length v.records → DoesSame m n v (part id v) (other id v)) → AreUpTo k ids → Fits w → k ≤ length w.records
+    → DoesSame m n w (for_each part ids w) (for_each other ids w)
+each_same m n part other k [] w h all f l = does_itself m n w (On w) (grown_same w f)
+each_same m n part other k (id ∷ ids) w h all f l =
+    let d = h id w f (omega (arith, all.0, l)) in
+    does_then_where m n (λ v. k ≤ length v.records) w (part id w) (other id w) (for_each part ids) (for_each other ids) d (if_longer k w (part id w) l d.grows)
+    (λ v g p. each_same m n part other k ids v h all.1 g p)
+
+-- submodules are created, where they are not too many
+many_on : (parent : ℕ) (bs : List Built) (w : World) (one : Option Built) → IfOn (λ v. length w.records + length bs ≤ length v.records) (unless_many parent bs w one)
+many_on parent bs w (Some b) = tt
+many_on parent bs w None = omega (arith, length_created parent bs w)
+
+created_on : (parent : ℕ) (found : Answer) (w : World) → IfOn (λ v. length w.records + length (inside_of found) ≤ length v.records) (created parent found w)
+created_on parent (answer.Inside bs) w = many_on parent bs w (slice_get bs (room_in w))
+created_on parent (answer.Root name) w = tt
+created_on parent (answer.Value v) w = tt
+created_on parent (answer.Gate g) w = tt
+created_on parent (answer.Next next) w = tt
+created_on parent (answer.Fault path fault) w = tt
+created_on parent (answer.Beyond beyond) w = tt
+created_on parent (answer.Injection next) w = tt
+created_on parent answer.Absent w = tt
+
+-- what follows an answer
+built_same : (m n : Answers) (inner other : ℕ → World → Flow) (parent : ℕ) (found : Answer) (w : World) → ((id : ℕ) (v : World) → Fits v → id ≤ length v.records → DoesSame m n v (inner id v) (other id v)) → Fits w → parent ≤ length w.records
+    → DoesSame m n w (built inner parent found w) (built other parent found w)
+built_same m n inner other parent found w h f l =
+    let k : ℕ = length w.records + length (inside_of found) in
+    let ids : List ℕ = compounds_from (suc (length w.records)) (inside_of found) in
+    does_then_where m n (λ v. k ≤ length v.records) w (created parent found w) (created parent found w) (for_each inner ids) (for_each other ids)
+    (does_itself m n w (created parent found w) (created_grows parent found w f l)) (created_on parent found w)
+    (λ v g p. each_same m n inner other k ids v h (compounds_within (suc (length w.records)) k (inside_of found) (omega arith)) g p)
+
+-- the setup of a compound module
+set_up_same : (m n : Answers) (depth id : ℕ) (w : World) → Fits w → id ≤ length w.records → DoesSame m n w (set_up depth m id w) (set_up depth n id w)
+set_up_same m n zero id w f l = does_itself m n w (On w) (grown_same w f)
+set_up_same m n (suc depth) id w f l =
+    asking_same m n (Build id) (built (set_up depth m) id) (built (set_up depth n) id) w f l (λ a fits. built_same m n (set_up depth m) (set_up depth n) id a (asked (Build id) w) (set_up_same m n depth) fits l)
 
 -- setup
 prepared_same : (m n : Answers) → DoesSame m n empty (prepared m) (prepared n)
-prepared_same m n = does_then_where m n HasRecord empty (root_asked m) (root_asked n) (inside_asked m) (inside_asked n) (root_same m n) (rooted_on (answer_of m [] Root)) (inside_same m n)
+prepared_same m n = does_then_where m n HasRecord empty (root_asked m) (root_asked n) (set_up most_nested m 1) (set_up most_nested n 1) (root_same m n) (rooted_on (answer_of m [] Root)) (set_up_same m n most_nested 1)
 
 -- setup and the boxes
 ready_same : (b : Behaviour) (m n : Answers) → DoesSame m n empty (ready b m) (ready b n)
@@ -238,30 +286,34 @@ ready_same b m n =
     does_then m n empty (prepared m) (prepared n) (place_parts b) (place_parts b) (prepared_same m n) (λ w f. does_itself m n w (place_parts b w) (place_parts_grows b w f))
 
 -- one module is initialized, where it has the stage
-initialize_same : (b : Behaviour) → IsLawful b → (m n : Answers) (stage : ℕ) (p : Part) (w : World) → Fits w → DoesSame m n w (initialize b m stage p w) (initialize b n stage p w)
-initialize_same b law m n stage p w f =
-    either_does m n w (nat_lt stage (b.naming p.kind).stages) _ _ (On w) (On w) (call_same b law m n p.id (prompt.Initialize stage) w f) (does_itself m n w (On w) (grown_same w f))
+initialize_same : (b : Behaviour) → IsLawful b → (m n : Answers) (stage id : ℕ) (w : World) → Fits w → DoesSame m n w (initialize b m stage id w) (initialize b n stage id w)
+initialize_same b law m n stage id w f =
+    either_does m n w (nat_lt stage (stages_in b (instance_in id w.modules))) _ _ (On w) (On w) (call_same b law m n id (prompt.Initialize stage) w f) (does_itself m n w (On w) (grown_same w f))
 
--- one stage of all modules
-one_stage_same : (b : Behaviour) → IsLawful b → (m n : Answers) (stage : ℕ) (ps : List Part) (w : World) → Fits w → DoesSame m n w (one_stage b m stage ps w) (one_stage b n stage ps w)
+-- one stage of these modules
+one_stage_same : (b : Behaviour) → IsLawful b → (m n : Answers) (stage : ℕ) (ids : List ℕ) (w : World) → Fits w → DoesSame m n w (one_stage b m stage ids w) (one_stage b n stage ids w)
 one_stage_same b law m n stage [] w f = does_itself m n w (On w) (grown_same w f)
-one_stage_same b law m n stage (p ∷ ps) w f =
-    does_then m n w (initialize b m stage p w) (initialize b n stage p w) (one_stage b m stage ps) (one_stage b n stage ps) (initialize_same b law m n stage p w f) (one_stage_same b law m n stage ps)
+one_stage_same b law m n stage (id ∷ ids) w f =
+    does_then m n w (initialize b m stage id w) (initialize b n stage id w) (for_each (initialize b m stage) ids) (for_each (initialize b n stage) ids) (initialize_same b law m n stage id w f) (one_stage_same b law m n stage ids)
 
 -- the stages that are left
-stages_same : (b : Behaviour) → IsLawful b → (m n : Answers) (ps : List Part) (stage left : ℕ) (w : World) → Fits w → DoesSame m n w (stages_from b m ps stage left w) (stages_from b n ps stage left w)
-stages_same b law m n ps stage zero w f = does_itself m n w (On w) (grown_same w f)
-stages_same b law m n ps stage (suc left) w f =
-    does_then m n w (one_stage b m stage ps w) (one_stage b n stage ps w) (stages_from b m ps (suc stage) left) (stages_from b n ps (suc stage) left) (one_stage_same b law m n stage ps w f) (stages_same b law m n ps (suc stage) left)
+stages_same : (b : Behaviour) → IsLawful b → (m n : Answers) (ids : List ℕ) (stage left : ℕ) (w : World) → Fits w → DoesSame m n w (stages_from b m ids stage left w) (stages_from b n ids stage left w)
+stages_same b law m n ids stage zero w f = does_itself m n w (On w) (grown_same w f)
+stages_same b law m n ids stage (suc left) w f =
+    does_then m n w (one_stage b m stage ids w) (one_stage b n stage ids w) (stages_from b m ids (suc stage) left) (stages_from b n ids (suc stage) left) (one_stage_same b law m n stage ids w f) (stages_same b law m n ids (suc stage) left)
 
--- all stages
-initialize_all_same : (b : Behaviour) → IsLawful b → (m n : Answers) (w : World) → Fits w → DoesSame m n w (initialize_all b m w) (initialize_all b n w)
-initialize_all_same b law m n w f =
-    let fits : Fits (with_started w) = record { nested = f.nested; modules = f.modules; questions = f.questions } in
+-- a start of modules
+started_same : (b : Behaviour) → IsLawful b → (m n : Answers) (ids calls : List ℕ) (w : World) → Fits w → DoesSame m n w (started b m ids calls w) (started b n ids calls w)
+started_same b law m n ids calls w f =
+    let fits : Fits (with_started ids w) = record { nested = f.nested; modules = f.modules; questions = f.questions } in
     record {
-      grows = initialize_all_grows b m w f;
-      same = (stages_same b law m n (standing w.modules) 0 (most_stages b (standing w.modules)) (with_started w) fits).same;
+      grows = started_grows b m ids calls w f;
+      same = (stages_same b law m n calls 0 (most_stages b w.modules calls) (with_started ids w) fits).same;
     }
+
+-- that of the network
+initialize_all_same : (b : Behaviour) → IsLawful b → (m n : Answers) (w : World) → Fits w → DoesSame m n w (initialize_all b m w) (initialize_all b n w)
+initialize_all_same b law m n w f = started_same b law m n w.live (outer_first w.records w.live 1) w f
 
 -- event zero, before it is settled
 abbrev pub begins : Behaviour → Answers → Flow

@@ -20,7 +20,7 @@ use Rattle.run_semantics.specs.World.{World, asked}
 use Rattle.event_set.specs.Timers.{has_timer}
 use Rattle.run_semantics.specs.Perform.{Flow, flow_of, On, Stopped, Broken, ◌>>=◌, scheduled, perform, perform_all, ask_all, question_of, acted, read_fault, unless_fault, answered}
 use Rattle.run_semantics.specs.Event.{call_of, instance_in, changed, called, call_module}
-use Rattle.run_semantics.specs.Ending.{is_last_action, perform_last, perform_last_all, acted_last, answered_last, called_last, call_last}
+use Rattle.run_semantics.specs.Ending.{is_last_action, perform_last, perform_last_all, acted_last, answered_last, call_last}
 
 -- the world of a flow
 abbrev pub in_flow : Flow → World
@@ -106,15 +106,16 @@ answered_keeps m id reply w =
     let v : World = ask_all id reply.reads w in
     keeps_on 0 1000 w v _ (ask_all_keeps id reply.reads w) (unless_keeps 1000 id (read_fault m w.records id reply.reads) (acted id reply.actions) v (acted_keeps id reply.actions v))
 
-called_keeps : (b : Behaviour) (m : Answers) (id : ℕ) (p : Prompt) (w : World) (i : Option Instance) → Keeps 1000 w (in_flow (called b m id p w i))
-called_keeps b m id p w None = keeps_same 1000 w
-called_keeps b m id p w (Some i) =
+-- so many insertions follow a call as follow a reply
+called_keeps : (n : ℕ) (b : Behaviour) (m : Answers) (follow : Reply → World → Flow) (id : ℕ) (p : Prompt) (w : World) (i : Option Instance) → ((reply : Reply) (v : World) → Keeps n v (in_flow (follow reply v))) → Keeps n w (in_flow (called b m follow id p w i))
+called_keeps n b m follow id p w None h = keeps_same n w
+called_keeps n b m follow id p w (Some i) h =
     let r : Replied = (b.naming i.kind).reply i.state (call_of m id p w) in
-    let f = answered_keeps m id r.reply (changed id r.state w) in
+    let f = h r.reply (changed id r.state w) in
     record { count = f.count; next = f.next }
 
 pub call_keeps : (b : Behaviour) (m : Answers) (id : ℕ) (p : Prompt) (w : World) → Keeps 1000 w (in_flow (call_module b m id p w))
-call_keeps b m id p w = called_keeps b m id p w (instance_in id w.modules)
+call_keeps b m id p w = called_keeps 1000 b m (answered m id) id p w (instance_in id w.modules) (answered_keeps m id)
 
 -- what a call leaves, by what the code says of it
 pub call_leaves : (b : Behaviour) (m : Answers) (id : ℕ) (p : Prompt) (turn : Turn) (w v : World) → flow_of turn v ≡ call_module b m id p w → Keeps 1000 w v
@@ -141,15 +142,8 @@ acted_last_keeps id actions w =
 answered_last_keeps : (m : Answers) (id : ℕ) (reply : Reply) (w : World) → Keeps 1000 w (in_flow (answered_last m id reply w))
 answered_last_keeps m id reply w = unless_keeps 1000 id (read_fault m w.records id reply.reads) (acted_last id reply.actions) w (acted_last_keeps id reply.actions w)
 
-called_last_keeps : (b : Behaviour) (m : Answers) (id : ℕ) (w : World) (i : Option Instance) → Keeps 1000 w (in_flow (called_last b m id w i))
-called_last_keeps b m id w None = keeps_same 1000 w
-called_last_keeps b m id w (Some i) =
-    let r : Replied = (b.naming i.kind).reply i.state (call_of m id prompt.Finish w) in
-    let f = answered_last_keeps m id r.reply (changed id r.state w) in
-    record { count = f.count; next = f.next }
-
 call_last_keeps : (b : Behaviour) (m : Answers) (id : ℕ) (w : World) → Keeps 1000 w (in_flow (call_last b m id w))
-call_last_keeps b m id w = called_last_keeps b m id w (instance_in id w.modules)
+call_last_keeps b m id w = called_keeps 1000 b m (answered_last m id) id prompt.Finish w (instance_in id w.modules) (answered_last_keeps m id)
 
 pub call_last_leaves : (b : Behaviour) (m : Answers) (id : ℕ) (turn : Turn) (w v : World) → flow_of turn v ≡ call_last b m id w → Keeps 1000 w v
 call_last_leaves b m id turn w v e =

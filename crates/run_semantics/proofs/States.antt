@@ -1,5 +1,5 @@
 -- In every world of a run each module's state is one of its kind.
-use Rattle.std.proofs.Common.{◌≡◌, ℕ, zero, suc, ◌==◌, cond, Bool, true, false, List, [], ◌∷◌, Option, Some, None, IsTrue, refl, subst, slice_get, length, if◌then◌else◌, nat_lt}
+use Rattle.std.proofs.Common.{◌≡◌, ℕ, zero, suc, ◌==◌, cond, Bool, true, false, List, [], ◌∷◌, Option, Some, None, IsTrue, refl, subst, length, if◌then◌else◌, nat_lt}
 use Rattle.sim_time.specs.Time.{time_sum}
 use Rattle.module_api.specs.Behaviour.{Behaviour, Replied}
 use Rattle.module_api.specs.Laws.{IsLawful}
@@ -11,11 +11,7 @@ use Rattle.module_api.specs.declared.reply.Read.{Read}
 use Rattle.module_api.specs.declared.reply.Reply.{Reply}
 use Rattle.module_api.specs.declared.reply.Schedule.{Schedule}
 use Rattle.module_api.specs.Names.{is_scalar_name}
-use Rattle.run_questions.specs.declared.answer.Answer.{Answer}
-use Rattle.run_questions.specs.declared.answer.Answer.TheVariants as answer
-use Rattle.run_questions.specs.declared.answer.Built.{Built}
-use Rattle.run_questions.specs.declared.answer.Question.TheVariants.{Root, Build}
-use Rattle.run_questions.specs.Answers.{Answers, answer_of}
+use Rattle.run_questions.specs.Answers.{Answers}
 use Rattle.event_set.specs.declared.pending.Pending.{Pending}
 use Rattle.event_set.specs.Timers.{has_timer}
 use Rattle.event_set.proofs.Order.{each_append}
@@ -24,13 +20,15 @@ use Rattle.run_semantics.specs.declared.outcome.Fault.TheVariants as fault
 use Rattle.run_semantics.specs.declared.outcome.Outcome.{Outcome}
 use Rattle.run_semantics.specs.declared.outcome.Outcome.TheVariants.{Ended, TimeLimit}
 use Rattle.run_semantics.specs.declared.traces.Instance.{Instance}
-use Rattle.run_semantics.specs.World.{World, empty, asked}
-use Rattle.run_semantics.specs.Perform.{Flow, On, Stopped, Broken, ◌>>=◌, broken, scheduled, perform, perform_all, ask_all, question_of, acted, read_fault, unless_fault, answered}
+use Rattle.run_semantics.specs.World.{World, asked}
+use Rattle.run_semantics.specs.Perform.{Flow, On, Stopped, Broken, ◌>>=◌, broken, for_each, scheduled, perform, perform_all, ask_all, question_of, acted, read_fault, unless_fault, answered}
 use Rattle.run_semantics.specs.Event.{call_of, instance_in, with_state, changed, called, call_module, begun, event, message_of}
-use Rattle.run_semantics.specs.Run.{rooted, built, unless_many, root_asked, inside_asked, prepared, Part, parts_of, placed, place, place_all, place_parts, ready, standing, most_stages, initialize, one_stage, stages_from, initialize_all, with_started, Stage, Running, Over, world_at, settled, is_after_limit, went, next_stage, after}
+use Rattle.run_semantics.specs.Run.{prepared, Part, parts_of, placed, place, place_all, place_parts, ready, stages_in, most_stages, initialize, one_stage, stages_from, started, initialize_all, with_started, Stage, Running, Over, world_at, settled, is_after_limit, went, next_stage, after}
 use Rattle.run_semantics.specs.Laws.{Each, AreStates}
+use Rattle.run_semantics.specs.Subtree.{outer_first}
 use Rattle.run_semantics.specs.Upcoming.{Upcoming, Comes, Nothing, upcoming}
 use Rattle.run_semantics.proofs.Looking.{beside, HasLooked, upcoming_looks}
+use Rattle.run_semantics.proofs.Setting.{IsLasting, stays_in, prepared_stays}
 use Rattle.run_semantics.proofs.Sound.{in_flow}
 
 -- a module's kind is known, and its state is one of that kind
@@ -107,7 +105,7 @@ changed_in b id state (j ∷ js) i e s h = by (j.id == id) (λ x. changed_in b i
     by false later e = (h.0, later e)
 
 -- a call of a module that may stand
-called_in : (b : Behaviour) → IsLawful b → (m : Answers) (id : ℕ) (p : Prompt) (w : World) (found : Option Instance) → instance_in id w.modules ≡ found → AllIn b w → AllIn b (in_flow (called b m id p w found))
+called_in : (b : Behaviour) → IsLawful b → (m : Answers) (id : ℕ) (p : Prompt) (w : World) (found : Option Instance) → instance_in id w.modules ≡ found → AllIn b w → AllIn b (in_flow (called b m (answered m id) id p w found))
 called_in b l m id p w None e h = h
 called_in b l m id p w (Some i) e h =
     let f = found_in b id w.modules i e h in
@@ -121,30 +119,11 @@ call_in b l m id p w h = called_in b l m id p w (instance_in id w.modules) refl 
 
 -- ---- setup: no module stands, and then each is placed in its state at first
 
-root_in : (b : Behaviour) (found : Answer) → AllIn b (in_flow (rooted found (asked Root empty)))
-root_in b (answer.Root name) = tt
-root_in b (answer.Inside bs) = tt
-root_in b (answer.Value v) = tt
-root_in b (answer.Fault path f) = tt
-root_in b (answer.Beyond beyond) = tt
-root_in b (answer.Injection next) = tt
-root_in b answer.Absent = tt
-
-many_in : (b : Behaviour) (parent : ℕ) (bs : List Built) (w : World) (one : Option Built) → AllIn b w → AllIn b (in_flow (unless_many parent bs w one))
-many_in b parent bs w (Some one) h = h
-many_in b parent bs w None h = h
-
-built_in : (b : Behaviour) (parent : ℕ) (found : Answer) (w : World) → AllIn b w → AllIn b (in_flow (built parent found w))
-built_in b parent (answer.Inside bs) w h = many_in b parent bs w (slice_get bs 65535) h
-built_in b parent (answer.Root name) w h = h
-built_in b parent (answer.Value v) w h = h
-built_in b parent (answer.Fault path f) w h = h
-built_in b parent (answer.Beyond beyond) w h = h
-built_in b parent (answer.Injection next) w h = h
-built_in b parent answer.Absent w h = h
+states_last : (b : Behaviour) → IsLasting (AllIn b)
+states_last b = record { asked = λ id w h l. h; created = λ parent bs w h l few. h }
 
 prepared_in : (b : Behaviour) (m : Answers) → AllIn b (in_flow (prepared m))
-prepared_in b m = then_in b (root_asked m) (inside_asked m) (root_in b (answer_of m [] Root)) (λ w h. built_in b 1 (answer_of m w.records (Build 1)) (asked (Build 1) w) h)
+prepared_in b m = stays_in (AllIn b) (prepared m) (prepared_stays (AllIn b) m (states_last b) tt (λ name. tt))
 
 -- only a module of a known kind is placed
 place_in : (b : Behaviour) → IsLawful b → (p : Part) (w : World) → AllIn b w → AllIn b (in_flow (place b p w))
@@ -163,19 +142,22 @@ ready_in b l m = then_in b (prepared m) (place_parts b) (prepared_in b m) (λ w 
 
 -- ---- initialization
 
-initialize_in : (b : Behaviour) → IsLawful b → (m : Answers) (stage : ℕ) (p : Part) (w : World) → AllIn b w → AllIn b (in_flow (initialize b m stage p w))
-initialize_in b l m stage p w h = either_in b (nat_lt stage (b.naming p.kind).stages) _ _ (call_in b l m p.id (prompt.Initialize stage) w h) h
+initialize_in : (b : Behaviour) → IsLawful b → (m : Answers) (stage id : ℕ) (w : World) → AllIn b w → AllIn b (in_flow (initialize b m stage id w))
+initialize_in b l m stage id w h = either_in b (nat_lt stage (stages_in b (instance_in id w.modules))) _ _ (call_in b l m id (prompt.Initialize stage) w h) h
 
-one_stage_in : (b : Behaviour) → IsLawful b → (m : Answers) (stage : ℕ) (ps : List Part) (w : World) → AllIn b w → AllIn b (in_flow (one_stage b m stage ps w))
+one_stage_in : (b : Behaviour) → IsLawful b → (m : Answers) (stage : ℕ) (ids : List ℕ) (w : World) → AllIn b w → AllIn b (in_flow (one_stage b m stage ids w))
 one_stage_in b l m stage [] w h = h
-one_stage_in b l m stage (p ∷ ps) w h = then_in b (initialize b m stage p w) (one_stage b m stage ps) (initialize_in b l m stage p w h) (one_stage_in b l m stage ps)
+one_stage_in b l m stage (id ∷ ids) w h = then_in b (initialize b m stage id w) (for_each (initialize b m stage) ids) (initialize_in b l m stage id w h) (one_stage_in b l m stage ids)
 
-stages_in : (b : Behaviour) → IsLawful b → (m : Answers) (ps : List Part) (stage left : ℕ) (w : World) → AllIn b w → AllIn b (in_flow (stages_from b m ps stage left w))
-stages_in b l m ps stage zero w h = h
-stages_in b l m ps stage (suc left) w h = then_in b (one_stage b m stage ps w) (stages_from b m ps (suc stage) left) (one_stage_in b l m stage ps w h) (stages_in b l m ps (suc stage) left)
+all_stages_in : (b : Behaviour) → IsLawful b → (m : Answers) (ids : List ℕ) (stage left : ℕ) (w : World) → AllIn b w → AllIn b (in_flow (stages_from b m ids stage left w))
+all_stages_in b l m ids stage zero w h = h
+all_stages_in b l m ids stage (suc left) w h = then_in b (one_stage b m stage ids w) (stages_from b m ids (suc stage) left) (one_stage_in b l m stage ids w h) (all_stages_in b l m ids (suc stage) left)
+
+started_in : (b : Behaviour) → IsLawful b → (m : Answers) (ids calls : List ℕ) (w : World) → AllIn b w → AllIn b (in_flow (started b m ids calls w))
+started_in b l m ids calls w h = all_stages_in b l m calls 0 (most_stages b w.modules calls) (with_started ids w) h
 
 initialize_all_in : (b : Behaviour) → IsLawful b → (m : Answers) (w : World) → AllIn b w → AllIn b (in_flow (initialize_all b m w))
-initialize_all_in b l m w h = stages_in b l m (standing w.modules) 0 (most_stages b (standing w.modules)) (with_started w) h
+initialize_all_in b l m w h = started_in b l m w.live (outer_first w.records w.live 1) w h
 
 -- ---- runs
 

@@ -4,16 +4,16 @@ use Rattle.module_api.specs.declared.call.Prompt.TheVariants as prompt
 use Rattle.module_api.specs.declared.reply.Action.{Action}
 use Rattle.module_api.specs.declared.reply.Action.TheVariants.{Emit, RecordScalar, ScheduleAfter, Fail}
 use Rattle.module_api.specs.declared.reply.Reply.{Reply}
-use Rattle.module_api.specs.Behaviour.{Behaviour, Replied}
+use Rattle.module_api.specs.Behaviour.{Behaviour}
 use Rattle.run_questions.specs.Answers.{Answers}
 use Rattle.run_semantics.specs.declared.outcome.Fault.TheVariants as fault
 use Rattle.run_semantics.specs.declared.outcome.Outcome.{Outcome}
 use Rattle.run_semantics.specs.declared.outcome.Outcome.TheVariants.{Fault}
-use Rattle.run_semantics.specs.declared.traces.Instance.{Instance}
 use Rattle.run_semantics.specs.World.{World}
-use Rattle.run_semantics.specs.Perform.{Flow, On, Stopped, Broken, ◌>>=◌, broken, perform, read_fault, unless_fault}
-use Rattle.run_semantics.specs.Event.{call_of, instance_in, changed}
-use Rattle.run_semantics.specs.Run.{Part, standing, Ran, is_fault}
+use Rattle.run_semantics.specs.Perform.{Flow, On, Stopped, Broken, ◌>>=◌, broken, for_each, perform, read_fault, unless_fault}
+use Rattle.run_semantics.specs.Event.{calling}
+use Rattle.run_semantics.specs.Run.{Ran, is_fault}
+use Rattle.run_semantics.specs.Subtree.{common, inner_first}
 
 -- whether an action is for a reply to the end
 abbrev pub is_last_action : Action → Bool
@@ -36,31 +36,27 @@ acted_last id actions w = if nat_lt 1000 (length actions) then broken id fault.T
 abbrev pub answered_last : Answers → ℕ → Reply → World → Flow
 answered_last m id reply w = unless_fault id (read_fault m w.records id reply.reads) (acted_last id reply.actions) w
 
-abbrev pub replied_last : Answers → ℕ → Replied → World → Flow
-replied_last m id r w = answered_last m id r.reply (changed id r.state w)
-
-abbrev pub called_last : Behaviour → Answers → ℕ → World → Option Instance → Flow
-called_last b m id w None = On w
-called_last b m id w (Some i) = replied_last m id ((b.naming i.kind).reply i.state (call_of m id prompt.Finish w)) w
-
 -- ONE CALL for the end
 abbrev pub call_last : Behaviour → Answers → ℕ → World → Flow
-call_last b m id w = called_last b m id w (instance_in id w.modules)
+call_last b m id w = calling b m (answered_last m id) id prompt.Finish w
 
--- a module counts as finished when its reply is done without a fault
+-- a module counts as finished at its turn, a simple one when its reply is done without a fault
 abbrev pub with_finished : ℕ → World → World
 with_finished id w = record w { finished = w.finished ++ id ∷ [] }
 
 abbrev pub marked : ℕ → World → Flow
 marked id w = On (with_finished id w)
 
-abbrev pub finish : Behaviour → Answers → Part → World → Flow
-finish b m p w = call_last b m p.id w >>= marked p.id
+abbrev pub finish : Behaviour → Answers → ℕ → World → Flow
+finish b m id w = call_last b m id w >>= marked id
 
--- the submodules by id, and then the network
-abbrev pub finish_all : Behaviour → Answers → List Part → World → Flow
-finish_all b m [] w = On (with_finished 1 w)
-finish_all b m (p ∷ ps) w = finish b m p w >>= finish_all b m ps
+-- these modules, in this order
+abbrev pub finish_all : Behaviour → Answers → List ℕ → World → Flow
+finish_all b m ids w = for_each (finish b m) ids w
+
+-- all modules that live and were started, submodules before the enclosing module
+abbrev pub to_finish : World → List ℕ
+to_finish w = inner_first w.records (common w.live w.started) 1
 
 -- a fault in the end has the number of the last event
 abbrev pub concluded : Outcome → Flow → Ran
@@ -72,4 +68,4 @@ concluded outcome (Broken w path f) = record { world = w; outcome = Fault w.coun
 abbrev pub ending : Behaviour → Answers → Ran → Ran
 ending b m ran =
     if is_fault ran.outcome then ran
-    else concluded ran.outcome (finish_all b m (standing ran.world.modules) ran.world)
+    else concluded ran.outcome (finish_all b m (to_finish ran.world) ran.world)

@@ -5,9 +5,10 @@ use Rattle.module_api.specs.declared.call.Prompt.{Prompt}
 use Rattle.module_api.specs.declared.call.Prompt.TheVariants as prompt
 use Rattle.module_api.specs.declared.message.Message.{Message}
 use Rattle.module_api.specs.declared.message.Origin.TheVariants as origin
+use Rattle.module_api.specs.declared.reply.Reply.{Reply}
 use Rattle.module_api.specs.Behaviour.{Behaviour, Replied}
 use Rattle.run_questions.specs.declared.answer.Question.TheVariants.{BeyondLimit}
-use Rattle.run_questions.specs.Answers.{Answers, parameters_of}
+use Rattle.run_questions.specs.Answers.{Answers, gates_of, parameters_of}
 use Rattle.run_questions.specs.Records.{path_of, record_at, index_of}
 use Rattle.event_set.specs.declared.pending.Happening.{Happening}
 use Rattle.event_set.specs.declared.pending.Happening.TheVariants.{Arrival, Timer}
@@ -27,7 +28,7 @@ call_of m id prompt w = record {
   path = path_of w.records id;
   index = index_of (record_at w.records id);
   parameters = parameters_of m w.records id;
-  gates = [];
+  gates = gates_of m w.records id;
   prompt = prompt;
 }
 
@@ -44,17 +45,21 @@ with_state id state (i ∷ is) = if i.id == id then record i { state = state } �
 abbrev pub changed : ℕ → List ℕ → World → World
 changed id state w = record w { modules = with_state id state w.modules }
 
-abbrev pub replied : Answers → ℕ → Replied → World → Flow
-replied m id r w = answered m id r.reply (changed id r.state w)
+-- what a reply leads to is done where the module has its new state
+abbrev pub replied : (Reply → World → Flow) → ℕ → Replied → World → Flow
+replied follow id r w = follow r.reply (changed id r.state w)
 
--- the module of that id, where it stands, is called
-abbrev pub called : Behaviour → Answers → ℕ → Prompt → World → Option Instance → Flow
-called b m id prompt w None = On w
-called b m id prompt w (Some i) = replied m id ((b.naming i.kind).reply i.state (call_of m id prompt w)) w
+abbrev pub called : Behaviour → Answers → (Reply → World → Flow) → ℕ → Prompt → World → Option Instance → Flow
+called b m follow id prompt w None = On w
+called b m follow id prompt w (Some i) = replied follow id ((b.naming i.kind).reply i.state (call_of m id prompt w)) w
 
--- ONE CALL of the module of that id; a call of what isn't there is passed over
+-- a call of the module of that id, and what follows its reply; a call of what isn't there is passed over
+abbrev pub calling : Behaviour → Answers → (Reply → World → Flow) → ℕ → Prompt → World → Flow
+calling b m follow id prompt w = called b m follow id prompt w (instance_in id w.modules)
+
+-- ONE CALL of the module of that id
 abbrev pub call_module : Behaviour → Answers → ℕ → Prompt → World → Flow
-call_module b m id prompt w = called b m id prompt w (instance_in id w.modules)
+call_module b m id prompt w = calling b m (answered m id) id prompt w
 
 -- ---- events
 

@@ -1,6 +1,6 @@
 -- Words for what holds of the worlds that a run reaches.
 pub use Rattle.event_set.specs.Order.{Each, AreInOrder, HaveOwnNumbers}
-use Rattle.std.specs.Prelude.{◌≡◌, ◌⊎◌, ℕ, zero, suc, ◌≤◌, List, [], ◌∷◌, ◌++◌, IsSome, IsTrue, map}
+use Rattle.std.specs.Prelude.{◌≡◌, ◌⊎◌, ℕ, zero, suc, ◌≤◌, List, [], ◌∷◌, ◌++◌, IsSome, IsTrue, length, map}
 use Rattle.module_api.specs.Behaviour.{Behaviour}
 use Rattle.run_questions.specs.Answers.{Answers}
 use Rattle.run_semantics.specs.declared.traces.Emission.{Emission}
@@ -43,6 +43,11 @@ pub record HasGrown (old new : World) : Type 0 where
   pub emissions : GoesOn old.emissions new.emissions
   pub scalars : GoesOn old.scalars new.scalars
   pub questions : GoesOn old.questions new.questions
+
+-- at most 65,536 modules live, and at most 1,000,000 were created
+pub record IsBounded (w : World) : Type 0 where
+  pub live : length w.live ≤ 65536
+  pub created : length w.records ≤ 1000000
 
 -- each state is one of its kind
 abbrev pub AreStates : Behaviour → List Instance → Type 0

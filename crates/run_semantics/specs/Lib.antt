@@ -1,8 +1,10 @@
 pub mod World
 pub mod Perform
 pub mod Event
+pub mod Subtree
 pub mod Upcoming
 pub mod Run
 pub mod Ending
 pub mod Agreement
 pub mod Laws
+pub mod Example

@@ -45,6 +45,11 @@ On w >>= f = f w
 Stopped w >>= f = Stopped w
 Broken w path fault >>= f = Broken w path fault
 
+-- one part for each of these, in order
+abbrev pub for_each : {X : Type 0} → (X → World → Flow) → List X → World → Flow
+for_each part [] w = On w
+for_each part (x ∷ xs) w = part x w >>= for_each part xs
+
 -- A QUESTION that a run asks of its model: it is noted, and what goes on is told the answer
 abbrev pub asking : Answers → Question → (Answer → World → Flow) → World → Flow
 asking m q next w = next (answer_of m w.records q) (asked q w)
@@ -111,10 +116,14 @@ parameter_fault (answer.Value v) = None
 parameter_fault (answer.Fault path f) = Some (model_fault f)
 parameter_fault _ = Some fault.NoParameter
 
+abbrev pub gate_fault : Answer → Option Fault
+gate_fault (answer.Gate g) = None
+gate_fault _ = Some fault.NoGate
+
 -- what is wrong with a read, by its answer
 abbrev pub fault_of_read : Read → Answer → Option Fault
 fault_of_read (read.Parameter name) a = parameter_fault a
-fault_of_read (read.Gate name) a = Some fault.NoGate
+fault_of_read (read.Gate name) a = gate_fault a
 
 abbrev pub first_fault : Option Fault → Option Fault → Option Fault
 first_fault (Some f) other = Some f

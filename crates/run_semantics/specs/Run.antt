@@ -1,5 +1,5 @@
 -- Whole runs.
-use Rattle.std.specs.Prelude.{◌≡◌, ℕ, suc, zero, nat_lt, max, Bool, true, false, List, [], ◌∷◌, ◌++◌, Option, Some, None, map, length, slice_get, if◌then◌else◌}
+use Rattle.std.specs.Prelude.{◌≡◌, ℕ, suc, zero, ◌-◌, nat_lt, max, min, Bool, true, false, List, [], ◌∷◌, ◌++◌, Option, Some, None, map, length, slice_get, if◌then◌else◌}
 use Rattle.module_api.specs.declared.call.Prompt.TheVariants as prompt
 use Rattle.module_api.specs.Behaviour.{Behaviour}
 use Rattle.run_questions.specs.declared.answer.Answer.{Answer}
@@ -15,19 +15,23 @@ use Rattle.run_semantics.specs.declared.outcome.Outcome.TheVariants.{Ended, Even
 use Rattle.event_set.specs.declared.pending.Pending.{Pending}
 use Rattle.run_semantics.specs.declared.traces.Instance.{Instance}
 use Rattle.run_semantics.specs.World.{World, empty}
-use Rattle.run_semantics.specs.Perform.{Flow, On, Stopped, Broken, ◌>>=◌, asking, broken, model_fault}
-use Rattle.run_semantics.specs.Event.{call_module, event}
+use Rattle.run_semantics.specs.Perform.{Flow, On, Stopped, Broken, ◌>>=◌, asking, broken, for_each, model_fault}
+use Rattle.run_semantics.specs.Event.{call_module, event, instance_in}
+use Rattle.run_semantics.specs.Subtree.{outer_first}
 use Rattle.run_semantics.specs.Upcoming.{Upcoming, Comes, Nothing, upcoming}
 
--- ---- setup: the network, and its submodules in the order of their declaration
+-- ---- setup
 
 -- the network has the id 1
 abbrev pub network_record : List ℕ → Record
 network_record name = record { parent = 0; name = name; index = None; class = None }
 
+abbrev pub with_network : List ℕ → World → World
+with_network name w = record w { records = network_record name ∷ []; live = 1 ∷ [] }
+
 -- the network, or the fault of one of its parameters
 abbrev pub rooted : Answer → World → Flow
-rooted (answer.Root name) w = On (record w { records = network_record name ∷ []; live = 1 ∷ [] })
+rooted (answer.Root name) w = On (with_network name w)
 rooted (answer.Fault path f) w = Broken w path (model_fault f)
 rooted _ w = Broken w [] fault.UnknownType
 
@@ -43,25 +47,53 @@ abbrev pub with_submodules : ℕ → List Built → World → World
 with_submodules parent bs w =
     record w { records = w.records ++ map (record_under parent) bs; live = w.live ++ ids_from (suc (length w.records)) bs }
 
--- at most 65,536 modules live: the one that would be one too many is told
+-- how many more modules can be created: at most 65,536 live, and a run creates at most 1,000,000
+abbrev pub room_in : World → ℕ
+room_in w = min (65536 - length w.live) (1000000 - length w.records)
+
+-- the module that would be one too many is told
 abbrev pub unless_many : ℕ → List Built → World → Option Built → Flow
 unless_many parent bs w (Some b) = Broken w (path_under (path_of w.records parent) (own_name b.name b.index)) fault.TooManyModules
 unless_many parent bs w None = On (with_submodules parent bs w)
 
-abbrev pub built : ℕ → Answer → World → Flow
-built parent (answer.Inside bs) w = unless_many parent bs w (slice_get bs 65535)
-built parent (answer.Fault path f) w = Broken w path (model_fault f)
-built parent _ w = broken parent fault.UnknownType w
+-- submodules are created, in their order, as was answered
+abbrev pub created : ℕ → Answer → World → Flow
+created parent (answer.Inside bs) w = unless_many parent bs w (slice_get bs (room_in w))
+created parent (answer.Fault path f) w = Broken w path (model_fault f)
+created parent _ w = broken parent fault.UnknownType w
 
--- the network and its submodules are created, as the model answers
+abbrev pub inside_of : Answer → List Built
+inside_of (answer.Inside bs) = bs
+inside_of _ = []
+
+abbrev pub if_compound : ℕ → Option (List ℕ) → List ℕ → List ℕ
+if_compound id None ids = id ∷ ids
+if_compound id (Some class) ids = ids
+
+-- the compound ones of these modules, the first of which has that id
+abbrev pub compounds_from : ℕ → List Built → List ℕ
+compounds_from id [] = []
+compounds_from id (b ∷ bs) = if_compound id b.class (compounds_from (suc id) bs)
+
+-- what is inside of a module: its submodules are created, and then each compound one of them is set up, in this order
+abbrev pub built : (ℕ → World → Flow) → ℕ → Answer → World → Flow
+built inner parent found w = created parent found w >>= for_each inner (compounds_from (suc (length w.records)) (inside_of found))
+
+-- THE SETUP of a compound module, with so many levels from its own on: it is asked what is inside of it
+abbrev pub set_up : ℕ → Answers → ℕ → World → Flow
+set_up zero m id w = On w
+set_up (suc depth) m id w = asking m (Build id) (built (set_up depth m) id) w
+
+-- modules are nested at most 32 deep: a model answers a fault in the place of what is inside of those below
+unfoldable pub most_nested : ℕ
+most_nested = 32
+
+-- the network is created and set up, as the model answers
 abbrev pub root_asked : Answers → Flow
 root_asked m = asking m Root rooted empty
 
-abbrev pub inside_asked : Answers → World → Flow
-inside_asked m w = asking m (Build 1) (built 1) w
-
 abbrev pub prepared : Answers → Flow
-prepared m = root_asked m >>= inside_asked m
+prepared m = root_asked m >>= set_up most_nested m 1
 
 -- ---- the start: every simple module has a box in its state at first, and is initialized
 
@@ -100,32 +132,41 @@ part_of i = record { id = i.id; kind = i.kind }
 abbrev pub standing : List Instance → List Part
 standing is = map part_of is
 
--- the greatest number of stages
-abbrev pub most_stages : Behaviour → List Part → ℕ
-most_stages b [] = 0
-most_stages b (p ∷ ps) = max (b.naming p.kind).stages (most_stages b ps)
+-- how many stages a module has, where it stands
+abbrev pub stages_in : Behaviour → Option Instance → ℕ
+stages_in b None = 0
+stages_in b (Some i) = (b.naming i.kind).stages
 
--- a module is called for the stages below its own number
-abbrev pub initialize : Behaviour → Answers → ℕ → Part → World → Flow
-initialize b m stage p w = if nat_lt stage (b.naming p.kind).stages then call_module b m p.id (prompt.Initialize stage) w else On w
+-- the greatest number of stages of these
+abbrev pub most_stages : Behaviour → List Instance → List ℕ → ℕ
+most_stages b is [] = 0
+most_stages b is (id ∷ ids) = max (stages_in b (instance_in id is)) (most_stages b is ids)
 
--- one stage of all modules, siblings by id
-abbrev pub one_stage : Behaviour → Answers → ℕ → List Part → World → Flow
-one_stage b m stage [] w = On w
-one_stage b m stage (p ∷ ps) w = initialize b m stage p w >>= one_stage b m stage ps
+-- a module is called for the stages below its own number; one that has no box, as a compound module, or is dead has none
+abbrev pub initialize : Behaviour → Answers → ℕ → ℕ → World → Flow
+initialize b m stage id w = if nat_lt stage (stages_in b (instance_in id w.modules)) then call_module b m id (prompt.Initialize stage) w else On w
+
+-- one stage of these modules, in this order
+abbrev pub one_stage : Behaviour → Answers → ℕ → List ℕ → World → Flow
+one_stage b m stage ids w = for_each (initialize b m stage) ids w
 
 -- as many stages, from this one on
-abbrev pub stages_from : Behaviour → Answers → List Part → ℕ → ℕ → World → Flow
-stages_from b m ps stage zero w = On w
-stages_from b m ps stage (suc left) w = one_stage b m stage ps w >>= stages_from b m ps (suc stage) left
+abbrev pub stages_from : Behaviour → Answers → List ℕ → ℕ → ℕ → World → Flow
+stages_from b m ids stage zero w = On w
+stages_from b m ids stage (suc left) w = one_stage b m stage ids w >>= stages_from b m ids (suc stage) left
 
--- all modules that live count as started
-abbrev pub with_started : World → World
-with_started w = record w { started = w.live }
+-- these modules count as started
+abbrev pub with_started : List ℕ → World → World
+with_started ids w = record w { started = w.started ++ ids }
 
--- stage 0 of all modules, stage 1, and so on (OMNeT++ Simulation Manual, "Multi-Stage Initialization")
+-- A START of some modules: they count as started, and are called in that order, stage 0 of all, stage 1, and so on (OMNeT++ Simulation Manual,
+-- "Multi-Stage Initialization")
+abbrev pub started : Behaviour → Answers → List ℕ → List ℕ → World → Flow
+started b m ids calls w = stages_from b m calls 0 (most_stages b w.modules calls) (with_started ids w)
+
+-- the network is started, with all modules that live
 abbrev pub initialize_all : Behaviour → Answers → World → Flow
-initialize_all b m w = stages_from b m (standing w.modules) 0 (most_stages b (standing w.modules)) (with_started w)
+initialize_all b m w = started b m w.live (outer_first w.records w.live 1) w
 
 abbrev pub place_parts : Behaviour → World → Flow
 place_parts b w = place_all b (parts_of w) w

@@ -8,7 +8,8 @@ ghost use Rattle.run_semantics.specs.declared.outcome.Outcome.{Outcome};
 ghost use Rattle.run_semantics.specs.Agreement.{Agrees, AgreesUpTo, questions_of};
 ghost use Rattle.run_semantics.specs.Ending.{ending};
 ghost use Rattle.run_semantics.specs.Event.{instance_in};
-ghost use Rattle.run_semantics.specs.Laws.{Each, AreInOrder, AreInTurn, HaveOwnNumbers, HasGrown, GoesOn, CanBeCalled, AreStates, gone_on};
+ghost use Rattle.run_semantics.specs.Example.{ExampleNests};
+ghost use Rattle.run_semantics.specs.Laws.{Each, AreInOrder, AreInTurn, HaveOwnNumbers, HasGrown, GoesOn, CanBeCalled, AreStates, IsBounded, gone_on};
 ghost use Rattle.run_semantics.specs.World.{World};
 ghost use Rattle.run_semantics.specs.Run.{Ran, Running, Over, IsReached, next_stage, after, stopped, run_to, world_at, standing, parts_of};
 
@@ -179,4 +180,14 @@ pub fn the_end_only_adds()
     ensures finished { (b : Behaviour) (m : Answers) (ran : Ran) → GoesOn ran.world.finished (ending b m ran).world.finished }
     ensures emissions { (b : Behaviour) (m : Answers) (ran : Ran) → GoesOn ran.world.emissions (ending b m ran).world.emissions }
     ensures scalars { (b : Behaviour) (m : Answers) (ran : Ran) → GoesOn ran.world.scalars (ending b m ran).world.scalars }
+{}
+
+/// At each moment of a run at most 65,536 modules live, and at most 1,000,000 were created.
+pub fn modules_are_bounded()
+    ensures { (b : Behaviour) (m : Answers) (n : ℕ) → IsBounded (world_at (after b m n)) }
+{}
+
+/// A network with compound modules, worked by hand: its setup, and the orders of its calls and of its end.
+pub fn nested_example()
+    ensures { ExampleNests }
 {}

@@ -1,7 +1,7 @@
 -- What calls show of modules, and tables of it.
 use Rattle.std.specs.Prelude.{◌≡◌, ℕ, zero, suc, ◌==◌, Bool, true, false, List, [], ◌∷◌, ◌++◌, Option, Some, None, if◌then◌else◌}
 use Rattle.run_questions.specs.declared.record.Record.{Record}
-use Rattle.run_questions.specs.Answers.{Answers, parameters_of}
+use Rattle.run_questions.specs.Answers.{Answers, gates_of, parameters_of}
 use Rattle.run_questions.specs.Records.{path_of, record_at}
 use Rattle.module_tree.specs.Boxes.{Seated}
 use Rattle.shown_modules.specs.declared.Shown.{Shown}
@@ -9,7 +9,7 @@ use Rattle.shown_modules.specs.declared.ShownModules.{ShownModules}
 
 -- WHAT CALLS SHOW of the module of that id, but for what changes from one call to the next
 abbrev pub shown_of : Answers → List Record → ℕ → Shown
-shown_of m records id = record { path = path_of records id; parameters = parameters_of m records id }
+shown_of m records id = record { path = path_of records id; parameters = parameters_of m records id; gates = gates_of m records id }
 
 -- it is that, and stays so whatever modules are created besides
 abbrev pub IsShown : Answers → List Record → ℕ → Shown → Type 0

@@ -9,9 +9,9 @@ ghost use Rattle.module_tree.specs.Boxes.{with_box, without_box};
 ghost use Rattle.shown_modules.specs.declared.ShownModules.{ShownModules};
 ghost use Rattle.shown_modules.specs.Tables.{entries_in, is_whole, shown_of, AreShown, IsShown};
 
-use model_answers::answering::parameters_of;
+use model_answers::answering::{gates_of, parameters_of};
 use models::model::Model;
-use module_api::call::Parameter;
+use module_api::call::{Gate, Parameter};
 use module_tree::Tree;
 use run_questions::record::{MAX_NESTING, Record, path_of, record_at};
 use sim_values::NoMemory;
@@ -26,6 +26,8 @@ pub struct Shown {
     pub path: Text,
     /// All of its own parameters, in the order of their declaration.
     pub parameters: Items<Parameter>,
+    /// All of its own gates, in the order of their declaration.
+    pub gates: Items<Gate>,
 }
 
 /// What calls show of the module of that id, found anew.
@@ -40,6 +42,7 @@ pub fn shown_of(
     Ok(Shown {
         path: path_of(alloc, records, id)?,
         parameters: parameters_of(alloc, model, records, id)?,
+        gates: gates_of(alloc, model, records, id),
     })
 }
 

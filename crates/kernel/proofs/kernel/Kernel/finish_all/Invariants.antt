@@ -1,19 +1,17 @@
 use Rattle.model_answers.specs.Answering.{answers_of}
-use Rattle.std.proofs.Common.{◌≡◌, ◌+◌, ◌*◌, ◌≤◌}
-use Rattle.run_semantics.specs.Run.{standing}
+use Rattle.std.proofs.Common.{◌≡◌, ◌+◌, ◌*◌, ◌≤◌, drop}
 use Rattle.run_semantics.specs.Ending.{finish_all}
 use Rattle.kernel.specs.Kernels.{world_in, KeepsBoxes}
 use Rattle.kernel_actions.specs.Positions.{IsGrownFrom}
-use Rattle.kernel.proofs.Rising.{parts_left}
 use Rattle.kernel.proofs.kernel.Kernel.finish_all.Given as goal
 
-abbrev pub invariant-loop-index : goal.invariant-loop-index
-invariant-loop-index g l =
+abbrev pub invariant-loop-id : goal.invariant-loop-id
+invariant-loop-id g l =
     let old = world_in (λ b. (g.dyn-1.0.entry b.vtable).1) l.fn.self in
     let world = world_in (λ b. (g.dyn-1.0.entry b.vtable).1) l.self in
     record {
-      flow : finish_all g.C.Catalogue.behaviour (answers_of l.model) (parts_left l.index (standing old.modules)) world ≡ finish_all g.C.Catalogue.behaviour (answers_of l.model) (standing old.modules) old;
-      next : world.next ≤ old.next + 1000 * l.index;
+      flow : finish_all g.C.Catalogue.behaviour (answers_of l.model) (drop l.id-index l.ids) world ≡ finish_all g.C.Catalogue.behaviour (answers_of l.model) l.ids old;
+      next : world.next ≤ old.next + 1000 * l.id-index;
       grown : IsGrownFrom old world;
       kept : KeepsBoxes g.C.Catalogue.behaviour (λ b. (g.dyn-1.0.entry b.vtable).1) l.fn.self l.self;
     }

@@ -1,18 +1,13 @@
 use Rattle.model_answers.specs.Answering.{answers_of}
 use Rattle.std.proofs.Common.{ap, sym, ◌∙◌, arith}
 use Rattle.run_semantics.specs.World.{World}
-use Rattle.run_semantics.specs.Perform.{On, flow_of}
+use Rattle.run_semantics.specs.Perform.{Flow, On, ◌>>=◌, flow_of}
 use Rattle.run_semantics.specs.Ending.{marked}
 use Rattle.run_semantics.proofs.Sound.{call_last_leaves}
 use Rattle.kernel.specs.Seats.{world_of}
 use Rattle.kernel.specs.Kernels.{seats_in, world_in}
 use Rattle.kernel.proofs.Starting.{stops}
-use Rattle.kernel.proofs.Ending.{is_away, is_there, finish-none, finish-called}
 use Rattle.kernel.proofs.kernel.Kernel.finish_one.Goals as goal
-
-pub returns-then-is_none-clause-step : goal.returns-then-is_none-clause-step
-returns-then-is_none-clause-step g c =
-    finish-none g.C.Catalogue.behaviour (answers_of c.args.model.now) c.args.id (seats_in (λ b. (g.dyn-1.0.entry b.vtable).1) c.args.self.now) (world_in (λ b. (g.dyn-1.0.entry b.vtable).1) c.args.self.now) c.stages_at.result c.stages_at.ensures (is_away c.stages_at.result c.is_none.result c.is_none.ensures c.if-is_none.true)
 
 pub returns-in_ok-mark_finished-in-GoOn-clause-next : goal.returns-in_ok-mark_finished-in-GoOn-clause-next
 returns-in_ok-mark_finished-in-GoOn-clause-next g c =
@@ -22,8 +17,7 @@ returns-in_ok-mark_finished-in-GoOn-clause-next g c =
 pub returns-in_ok-mark_finished-in-GoOn-clause-step : goal.returns-in_ok-mark_finished-in-GoOn-clause-step
 returns-in_ok-mark_finished-in-GoOn-clause-step g c =
     ap (λ (core : World). On (world_of core (seats_in (λ b. (g.dyn-1.0.entry b.vtable).1) c.call_last.new.self))) c.in_ok-mark_finished-in-GoOn.ensures.marked
-    ∙ finish-called g.C.Catalogue.behaviour (answers_of c.args.model.now) c.args.id (seats_in (λ b. (g.dyn-1.0.entry b.vtable).1) c.args.self.now) (world_in (λ b. (g.dyn-1.0.entry b.vtable).1) c.args.self.now) c.stages_at.result (On (world_in (λ b. (g.dyn-1.0.entry b.vtable).1) c.call_last.new.self)) c.stages_at.ensures (is_there c.stages_at.result c.is_none.result c.is_none.ensures c.if-is_none.false)
-    (rw c.in-GoOn.is at c.in_ok-turn.ensures.step)
+    ∙ ap (λ (fl : Flow). fl >>= marked c.args.id) (rw c.in-GoOn.is at c.in_ok-turn.ensures.step)
 
 pub returns-in_default-clause-next : goal.returns-in_default-clause-next
 returns-in_default-clause-next g c =
@@ -32,4 +26,4 @@ returns-in_default-clause-next g c =
 pub returns-in_default-clause-step : goal.returns-in_default-clause-step
 returns-in_default-clause-step g c =
     sym (stops c.in_ok-turn.turn (world_in (λ b. (g.dyn-1.0.entry b.vtable).1) c.call_last.new.self) (marked c.args.id) c.in_default.not-GoOn)
-    ∙ finish-called g.C.Catalogue.behaviour (answers_of c.args.model.now) c.args.id (seats_in (λ b. (g.dyn-1.0.entry b.vtable).1) c.args.self.now) (world_in (λ b. (g.dyn-1.0.entry b.vtable).1) c.args.self.now) c.stages_at.result (flow_of c.in_ok-turn.turn (world_in (λ b. (g.dyn-1.0.entry b.vtable).1) c.call_last.new.self)) c.stages_at.ensures (is_there c.stages_at.result c.is_none.result c.is_none.ensures c.if-is_none.false) c.in_ok-turn.ensures.step
+    ∙ ap (λ (fl : Flow). fl >>= marked c.args.id) c.in_ok-turn.ensures.step

@@ -1,16 +1,15 @@
 use Rattle.model_answers.specs.Answering.{answers_of}
-use Rattle.std.proofs.Common.{◌≡◌, ◌+◌, ◌*◌, ◌≤◌}
-use Rattle.run_semantics.specs.Run.{standing, one_stage}
+use Rattle.std.proofs.Common.{◌≡◌, ◌+◌, ◌*◌, ◌≤◌, drop}
+use Rattle.run_semantics.specs.Run.{one_stage}
 use Rattle.kernel.specs.Kernels.{world_in, KeepsBoxes}
-use Rattle.kernel.proofs.Rising.{parts_left}
 use Rattle.kernel.proofs.kernel.Kernel.one_stage.Given as goal
 
-abbrev pub invariant-loop-index : goal.invariant-loop-index
-invariant-loop-index g l =
+abbrev pub invariant-loop-id : goal.invariant-loop-id
+invariant-loop-id g l =
     let old = world_in (λ b. (g.dyn-1.0.entry b.vtable).1) l.fn.self in
     let world = world_in (λ b. (g.dyn-1.0.entry b.vtable).1) l.self in
     record {
-      flow : one_stage g.C.Catalogue.behaviour (answers_of l.model) l.stage (parts_left l.index (standing old.modules)) world ≡ one_stage g.C.Catalogue.behaviour (answers_of l.model) l.stage (standing old.modules) old;
-      next : world.next ≤ old.next + 1000 * l.index;
+      flow : one_stage g.C.Catalogue.behaviour (answers_of l.model) l.stage (drop l.id-index l.ids) world ≡ one_stage g.C.Catalogue.behaviour (answers_of l.model) l.stage l.ids old;
+      next : world.next ≤ old.next + 1000 * l.id-index;
       kept : KeepsBoxes g.C.Catalogue.behaviour (λ b. (g.dyn-1.0.entry b.vtable).1) l.fn.self l.self;
     }

@@ -7,4 +7,4 @@ use Rattle.kernel.proofs.kernel.Kernel.setup.Goals as goal
 pub returns-clause-step : goal.returns-clause-step
 returns-clause-step g c =
     c.settle.ensures
-    ∙ rw c.clear.ensures (ap settled (flow_of_with [] c.in_ok-turn.turn c.set_up.new.core ∙ ap (flow_with []) c.in_ok-turn.ensures ∙ prepared_apart (answers_of c.args.model.now)))
+    ∙ rw c.clear.ensures (ap settled (flow_of_with [] c.in_ok-turn.turn c.prepare.new.core ∙ ap (flow_with []) c.in_ok-turn.ensures ∙ prepared_apart (answers_of c.args.model.now)))

@@ -1,0 +1,45 @@
+-- A module and all below it.
+use Rattle.std.specs.Prelude.{ℕ, zero, suc, ◌==◌, Bool, false, List, [], ◌∷◌, ◌++◌, Option, Some, None}
+use Rattle.std.specs.List.{filter, list_any}
+use Rattle.run_questions.specs.declared.record.Record.{Record}
+use Rattle.run_questions.specs.Records.{record_at}
+
+abbrev pub is_under : ℕ → Option Record → Bool
+is_under parent None = false
+is_under parent (Some r) = r.parent == parent
+
+-- those of these modules that are submodules of that one, by their ids
+abbrev pub submodules : List Record → List ℕ → ℕ → List ℕ
+submodules records ids parent = filter (λ id. is_under parent (record_at records id)) ids
+
+-- lists one after another
+abbrev pub each_of : (ℕ → List ℕ) → List ℕ → List ℕ
+each_of f [] = []
+each_of f (x ∷ xs) = f x ++ each_of f xs
+
+-- a module, and then the subtrees of its submodules, one after another; so many levels at most
+abbrev pub outer_first_to : ℕ → (ℕ → List ℕ) → ℕ → List ℕ
+outer_first_to zero below id = []
+outer_first_to (suc depth) below id = id ∷ each_of (outer_first_to depth below) (below id)
+
+-- the subtrees of the submodules of a module, one after another, and then it; so many levels at most
+abbrev pub inner_first_to : ℕ → (ℕ → List ℕ) → ℕ → List ℕ
+inner_first_to zero below id = []
+inner_first_to (suc depth) below id = each_of (inner_first_to depth below) (below id) ++ id ∷ []
+
+-- THE ORDER OF CALLS: a module and those of the others that are below it, each before its submodules, siblings in their order, the whole subtree of
+-- one before the next. There are at most 33 levels: the 32 that are set up, and what is inside of the last.
+unfoldable pub outer_first : List Record → List ℕ → ℕ → List ℕ
+outer_first records ids id = outer_first_to 33 (submodules records ids) id
+
+-- THE ORDER OF THE END: the same, but each stands behind its submodules
+unfoldable pub inner_first : List Record → List ℕ → ℕ → List ℕ
+inner_first records ids id = inner_first_to 33 (submodules records ids) id
+
+-- whether it is one of these ids
+abbrev pub among : ℕ → List ℕ → Bool
+among id ids = list_any (λ n. n == id) ids
+
+-- those of the first ids that are among the others
+abbrev pub common : List ℕ → List ℕ → List ℕ
+common ids others = filter (λ id. among id others) ids
