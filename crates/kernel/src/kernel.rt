@@ -43,9 +43,6 @@ use sim_values::text::Text;
 use std::alloc::{AllocFailed, Global};
 use std::marker::PhantomData;
 
-/// How many injections are looked at for one event at most: one more than a model has.
-const MOST_LOOKS: usize = 10_001;
-
 /// A world in code.
 pub struct Kernel<C: Catalogue> {
     core: Core,
@@ -476,7 +473,9 @@ impl<C: Catalogue> Kernel<C> {
             IfOk result (λ r. upcoming (answers_of model.now) world ≡ upcoming_of r.1 (looked world r.0)) }
     {
         let mut look = self.core.look(alloc);
-        for _ in 0..MOST_LOOKS {
+        // Each look but the last delivers an injection.
+        let looks = model.injections.as_slice().len() + 1;
+        for _ in 0..looks {
             if let Some(next) = self.look_on(alloc, model, &mut look)? {
                 return Ok((look, next));
             }
