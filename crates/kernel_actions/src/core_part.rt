@@ -489,15 +489,18 @@ impl Core {
         ensures begun { let world = looked self.old look in
             OnOk result (self.new ≡ timed (BeyondLimit time)
             (record world { clock = time; count = world.count + 1 })) }
+        ensures err { OnErr result (self.new.count ≡ self.old.count) }
         ensures grown { IsGrownFrom self.old self.new }
     {
         let Look { delivered, asked } = look;
         self.note_looks(alloc, asked.as_slice())?;
+        let event = self.count + 1;
+        self.questions
+            .note_time(alloc, event, Question::BeyondLimit(time.ps()))?;
         self.delivered = delivered;
         self.clock = time;
-        self.count += 1;
-        self.questions
-            .note_time(alloc, self.count, Question::BeyondLimit(time.ps()))
+        self.count = event;
+        Ok(())
     }
 
     /// Notes the questions of these looks, which are of the event behind.
@@ -508,6 +511,7 @@ impl Core {
               questions = self.old.questions
                   ++ asked_in (self.old.count + 1) looks.now;
             }) }
+        ensures count { self.new.count ≡ self.old.count }
         ensures grown { IsGrownFrom self.old self.new }
     {
         for look in looks {
