@@ -413,7 +413,7 @@ impl<C: Catalogue> Kernel<C> {
     {
         let calls = self.core.calls_of_network(alloc)?;
         let most = self.most_stages(calls.as_slice());
-        self.core.mark_started()?;
+        self.core.mark_started(alloc)?;
         let turn = self.stages(alloc, model, most, calls.as_slice())?;
         Ok(self.settle(turn))
     }
