@@ -48,9 +48,6 @@ use std::marker::PhantomData;
 /// How many actions a reply has at most.
 const MAX_ACTIONS: usize = 1000;
 
-/// How many injections are looked at for one event at most: one more than a model has.
-const MOST_LOOKS: usize = 10_001;
-
 /// A world in code.
 pub struct Kernel<C: Catalogue> {
     core: Core,
@@ -546,7 +543,7 @@ impl<C: Catalogue> Kernel<C> {
     {
         let calls = self.core.calls_of_network(alloc)?;
         let most = self.most_stages(calls.as_slice());
-        self.core.mark_started()?;
+        self.core.mark_started(alloc)?;
         let turn = self.stages(alloc, model, most, calls.as_slice())?;
         Ok(self.settle(turn))
     }
@@ -606,7 +603,9 @@ impl<C: Catalogue> Kernel<C> {
             IfOk result (λ r. upcoming (answers_of model.now) world ≡ upcoming_of r.1 (looked world r.0)) }
     {
         let mut look = self.core.look(alloc);
-        for _ in 0..MOST_LOOKS {
+        // Each look but the last delivers an injection.
+        let looks = model.injections.as_slice().len() + 1;
+        for _ in 0..looks {
             if let Some(next) = self.look_on(alloc, model, &mut look)? {
                 return Ok((look, next));
             }

@@ -1,6 +1,6 @@
 //! A world but for the modules and their states.
 
-ghost use Rattle.std.specs.Prelude.{◌≡◌, ◌+◌, ◌^◌, ◌<◌, OnOk, OnErr, IfOk, Some, true, [], ◌∷◌, ◌++◌, length, min, slice_get, ◌≤◌};
+ghost use Rattle.std.specs.Prelude.{◌≡◌, ◌+◌, ◌^◌, ◌<◌, OnOk, OnErr, IfOk, Some, true, [], ◌∷◌, ◌++◌, length, slice_get, ◌≤◌};
 ghost use Rattle.run_questions.specs.Questions.{is_of_modules};
 ghost use Rattle.question_log.specs.Entries.{noted_in};
 ghost use Rattle.run_semantics.specs.World.{empty, asked, timed};
@@ -15,6 +15,7 @@ ghost use Rattle.run_semantics.specs.Ending.{to_finish};
 ghost use Rattle.run_semantics.specs.Subtree.{outer_first};
 ghost use Rattle.kernel_actions.specs.Positions.{lengths_of, position_of, cut_to, core_back, IsGrownFrom};
 
+use crate::classes::copy_class;
 use crate::looks::{Look, LookedAt, Next};
 use crate::position::{Lengths, Position};
 use crate::reads::question_of;
@@ -36,9 +37,15 @@ use sim_time::SimTime;
 use sim_values::NoMemory;
 use sim_values::text::Text;
 use sqlite_items::Items;
-use std::alloc::{AllocError, Global};
+use std::alloc::Global;
 use std::marker::Model;
 use subtrees::{common, inner_first, outer_first};
+
+/// How many modules live at most.
+const MAX_LIVE: usize = 65_536;
+
+/// How many modules a run creates at most.
+const MAX_RECORDS: usize = 1_000_000;
 
 /// A world but for the modules, which contracts see as a world with none.
 pub struct Core {
@@ -384,15 +391,18 @@ impl Core {
         ensures begun { let world = looked self.old look in
             OnOk result (self.new ≡ timed (BeyondLimit time)
             (record world { clock = time; count = world.count + 1 })) }
+        ensures err { OnErr result (self.new.count ≡ self.old.count) }
         ensures grown { IsGrownFrom self.old self.new }
     {
         let Look { delivered, asked } = look;
         self.note_looks(alloc, asked.as_slice())?;
+        let event = self.count + 1;
+        self.questions
+            .note_time(alloc, event, Question::BeyondLimit(time.ps()))?;
         self.delivered = delivered;
         self.clock = time;
-        self.count += 1;
-        self.questions
-            .note_time(alloc, self.count, Question::BeyondLimit(time.ps()))
+        self.count = event;
+        Ok(())
     }
 
     /// Notes the questions of these looks, which are of the event behind.
@@ -403,6 +413,7 @@ impl Core {
               questions = self.old.questions
                   ++ asked_in (self.old.count + 1) looks.now;
             }) }
+        ensures count { self.new.count ≡ self.old.count }
         ensures grown { IsGrownFrom self.old self.new }
     {
         for look in looks {
@@ -560,10 +571,8 @@ impl Core {
     fn room(&self) -> usize
         ensures { result ≡ room_in self.now }
     {
-        lesser(
-            MAX_LIVE.saturating_sub(self.live.len()),
-            MAX_RECORDS.saturating_sub(self.records.len()),
-        )
+        let live = MAX_LIVE.saturating_sub(self.live.len());
+        live.min(MAX_RECORDS.saturating_sub(self.records.len()))
     }
 
     /// Creates the submodules of a module, where they are not too many.
@@ -609,10 +618,12 @@ impl Core {
     }
 
     /// Notes that all modules that live are started.
-    pub fn mark_started(&mut self) -> Result<(), NoMemory>
+    pub fn mark_started(&mut self, alloc: Global) -> Result<(), NoMemory>
         ensures { OnOk result (self.new ≡ with_started self.old.live self.old) }
     {
-        push_all(&mut self.started, self.live.as_slice())
+        let live = Items::from_slice(alloc, self.live.as_slice())?;
+        self.started.append(live)?;
+        Ok(())
     }
 
     // ---- positions
@@ -673,38 +684,5 @@ impl Core {
         self.pending = coming;
         self.ended = position.ended;
         self.delivered = position.delivered;
-    }
-}
-
-/// How many modules live at most.
-const MAX_LIVE: usize = 65_536;
-
-/// How many modules a run creates at most.
-const MAX_RECORDS: usize = 1_000_000;
-
-/// The lesser one of two numbers.
-fn lesser(one: usize, other: usize) -> usize
-    ensures { result ≡ min one other }
-{
-    if one < other { one } else { other }
-}
-
-/// Adds these ids at the end.
-fn push_all(ids: &mut Items<u32>, more: &[u32]) -> Result<(), NoMemory>
-    ensures { OnOk result (ids.new ≡ ids.old ++ more.now) }
-{
-    for id in more {
-        ids.push(*id)?;
-    }
-    Ok(())
-}
-
-/// An equal class, where there is one.
-fn copy_class(alloc: Global, class: &Option<Text>) -> Result<Option<Text>, AllocError>
-    ensures { IfOk result (λ copy. copy ≡ class.now) }
-{
-    match class {
-        Some(name) => Ok(Some(name.copy(alloc)?)),
-        None => Ok(None),
     }
 }

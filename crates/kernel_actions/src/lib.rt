@@ -1,6 +1,7 @@
 //! A world but for its modules: what actions, reads and setup do to it, what comes next in it, and positions to which it can go back.
 #![tactic(auto)]
 
+mod classes;
 pub mod core_part;
 pub mod events;
 pub mod laws;

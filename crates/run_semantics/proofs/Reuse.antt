@@ -36,8 +36,9 @@ use Rattle.run_semantics.specs.Perform.{Flow, On, Stopped, Broken, ◌>>=◌, ac
 use Rattle.run_semantics.specs.Event.{call_of, instance_in, changed, replied, called, call_module, counted, begun, event, message_of}
 use Rattle.run_semantics.specs.Subtree.{outer_first}
 use Rattle.run_semantics.specs.Run.{rooted, room_in, unless_many, created, inside_of, compounds_from, built, set_up, most_nested, root_asked, prepared, place_parts, ready, stages_in, most_stages, initialize, one_stage, stages_from, started, initialize_all, with_started, Stage, Running, Over, world_at, settled, start, says_beyond, is_after_limit, went, next_stage, after, IsReached}
-use Rattle.run_semantics.specs.Upcoming.{first_due, delivered, target_of, Upcoming, Comes, Nothing, aimed, chosen, upcoming_in, most_injections, upcoming}
+use Rattle.run_semantics.specs.Upcoming.{first_due, delivered, target_of, Upcoming, Comes, Nothing, aimed, chosen, upcoming_in, upcoming}
 use Rattle.run_semantics.proofs.Looking.{beside, HasLooked, looked_same, looked_count, looked_joined, looked_questions, chosen_looks, coming_looks, upcoming_looks, upcoming_tried, first_asked, upcoming_asks}
+use Rattle.run_semantics.proofs.Looks.{upcoming_more}
 use Rattle.run_semantics.proofs.Sound.{in_flow}
 use Rattle.run_semantics.proofs.Counts.{RunsOn, runs_on}
 use Rattle.run_semantics.proofs.Ends.{over_stays}
@@ -490,10 +491,15 @@ tried_first (Nothing u) = ([], append-nil u.questions)
 
 -- so it is of all that was tried
 upcoming_same : (m n : Answers) (w : World) → Agrees m n w.records (tried (upcoming m w)) → upcoming m w ≡ upcoming n w
-unfolding upcoming
 upcoming_same m n w h =
     let t = tried_first (upcoming m w) in
-    coming_same (suc most_injections) m n w.pending w (Agrees-front m n w.records (beside (upcoming m w)).questions t.0 (subst (Agrees m n w.records) (sym t.1) h))
+    let one = upcoming_more m w (length n.injections) in
+    let other = upcoming_more n w (length m.injections) in
+    let sum : length n.injections + length m.injections ≡ length m.injections + length n.injections = omega arith in
+    one
+    ∙ coming_same (suc (length m.injections + length n.injections)) m n w.pending w
+    (subst (λ (up : Upcoming). Agrees m n w.records (beside up).questions) one (Agrees-front m n w.records (beside (upcoming m w)).questions t.0 (subst (Agrees m n w.records) (sym t.1) h)))
+    ∙ ap (λ (k : ℕ). upcoming_in (suc k) n w.pending w) (sym sum) ∙ sym other
 
 -- an event that begins has asked all that was tried
 begun_agreed : (b : Behaviour) (m n : Answers) (p : Pending) (rest : List Pending) (u : World) → Fits u → AgreesAt m n (settled (event b m p rest u)) → AgreesIn m n (begun p rest u)

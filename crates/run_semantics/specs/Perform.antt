@@ -112,11 +112,24 @@ ask_all id (r ∷ rs) w = ask_all id rs (asked (question_of id r) w)
 abbrev pub parameter_fault : Answer → Option Fault
 parameter_fault (answer.Value v) = None
 parameter_fault (answer.Fault path f) = Some (model_fault f)
-parameter_fault _ = Some fault.NoParameter
+parameter_fault (answer.Root name) = Some fault.NoParameter
+parameter_fault (answer.Inside bs) = Some fault.NoParameter
+parameter_fault (answer.Gate g) = Some fault.NoParameter
+parameter_fault (answer.Next next) = Some fault.NoParameter
+parameter_fault (answer.Beyond beyond) = Some fault.NoParameter
+parameter_fault (answer.Injection i) = Some fault.NoParameter
+parameter_fault answer.Absent = Some fault.NoParameter
 
 abbrev pub gate_fault : Answer → Option Fault
 gate_fault (answer.Gate g) = None
-gate_fault _ = Some fault.NoGate
+gate_fault (answer.Root name) = Some fault.NoGate
+gate_fault (answer.Inside bs) = Some fault.NoGate
+gate_fault (answer.Value v) = Some fault.NoGate
+gate_fault (answer.Next next) = Some fault.NoGate
+gate_fault (answer.Fault path f) = Some fault.NoGate
+gate_fault (answer.Beyond beyond) = Some fault.NoGate
+gate_fault (answer.Injection i) = Some fault.NoGate
+gate_fault answer.Absent = Some fault.NoGate
 
 -- what is wrong with a read, by its answer
 abbrev pub fault_of_read : Read → Answer → Option Fault

@@ -1,0 +1,50 @@
+-- What holds behind setup of the records and of the modules that live holds all through a run.
+use Rattle.std.proofs.Common.{◌≡◌, ℕ, zero, suc, Bool, true, false, List, [], ◌∷◌, if◌then◌else◌}
+use Rattle.module_api.specs.Behaviour.{Behaviour}
+use Rattle.run_questions.specs.declared.record.Record.{Record}
+use Rattle.run_questions.specs.Answers.{Answers}
+use Rattle.run_semantics.specs.World.{World}
+use Rattle.run_semantics.specs.Perform.{Flow, On, Stopped, Broken, ◌>>=◌}
+use Rattle.run_semantics.specs.Run.{Part, prepared, parts_of, place, place_all, place_parts, ready, initialize_all, world_at, settled, after}
+use Rattle.run_semantics.proofs.Sound.{in_flow}
+use Rattle.run_semantics.proofs.Setting.{Stays, stays_in}
+use Rattle.run_semantics.proofs.Orderly.{initialize_all_leads, orderly_none, ready_none, after_follows}
+
+-- the property of a world
+abbrev pub Holds : (List Record → List ℕ → Type 0) → World → Type 0
+Holds Q w = Q w.records w.live
+
+holds_same : (Q : List Record → List ℕ → Type 0) (u v : World) → v.records ≡ u.records → v.live ≡ u.live → Holds Q u → Holds Q v
+holds_same Q u v records live f = rw (records, live) f
+
+then_holds : (Q : List Record → List ℕ → Type 0) (fl : Flow) (k : World → Flow) → Holds Q (in_flow fl) → ((w : World) → Holds Q w → Holds Q (in_flow (k w))) → Holds Q (in_flow (fl >>= k))
+then_holds Q (On w) k f h = h w f
+then_holds Q (Stopped w) k f h = f
+then_holds Q (Broken w path e) k f h = f
+
+-- boxes create nothing
+either_holds : (Q : List Record → List ℕ → Type 0) (c : Bool) (f g : Flow) → Holds Q (in_flow f) → Holds Q (in_flow g) → Holds Q (in_flow (if c then f else g))
+either_holds Q true f g x y = x
+either_holds Q false f g x y = y
+
+place_all_holds : (Q : List Record → List ℕ → Type 0) (b : Behaviour) (ps : List Part) (w : World) → Holds Q w → Holds Q (in_flow (place_all b ps w))
+place_all_holds Q b [] w f = f
+place_all_holds Q b (p ∷ ps) w f = then_holds Q (place b p w) (place_all b ps) (either_holds Q (b.known p.kind) _ _ f f) (place_all_holds Q b ps)
+
+ready_holds : (Q : List Record → List ℕ → Type 0) (b : Behaviour) (m : Answers) → Stays (Holds Q) (prepared m) → Holds Q (in_flow (ready b m))
+ready_holds Q b m h = then_holds Q (prepared m) (place_parts b) (stays_in (Holds Q) (prepared m) h) (λ w f. place_all_holds Q b (parts_of w) w f)
+
+-- nor does an initialization, or an event
+begun_holds : (Q : List Record → List ℕ → Type 0) (b : Behaviour) (m : Answers) (fl : Flow) → Holds Q (in_flow fl) → (in_flow fl).pending ≡ [] → Holds Q (in_flow (fl >>= initialize_all b m))
+begun_holds Q b m (On w) f e = let g = initialize_all_leads b m w (orderly_none w e) in holds_same Q w (in_flow (initialize_all b m w)) g.records g.live f
+begun_holds Q b m (Stopped w) f e = f
+begun_holds Q b m (Broken w path fault) f e = f
+
+settled_holds : (Q : List Record → List ℕ → Type 0) (fl : Flow) → Holds Q (in_flow fl) → Holds Q (world_at (settled fl))
+settled_holds Q (On w) f = f
+settled_holds Q (Stopped w) f = f
+settled_holds Q (Broken w path e) f = f
+
+pub kept_after : (Q : List Record → List ℕ → Type 0) (b : Behaviour) (m : Answers) → Stays (Holds Q) (prepared m) → (n : ℕ) → Holds Q (world_at (after b m n))
+kept_after Q b m h zero = settled_holds Q (ready b m >>= initialize_all b m) (begun_holds Q b m (ready b m) (ready_holds Q b m h) (ready_none b m).0)
+kept_after Q b m h (suc n) = let g = after_follows b m n in holds_same Q (world_at (after b m n)) (world_at (after b m (suc n))) g.records g.live (kept_after Q b m h n)
