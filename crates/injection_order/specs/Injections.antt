@@ -1,5 +1,5 @@
 -- Injections: messages from outside, and the order in which they go.
-use Rattle.std.specs.Prelude.{◌==◌, nat_lt, int_lt, Bool, true, false, List, [], ◌∷◌, Option, Some, None, if◌then◌else◌}
+use Rattle.std.specs.Prelude.{◌≡◌, ◌↔◌, ◌==◌, nat_lt, int_lt, Bool, true, false, List, [], ◌∷◌, Option, Some, None, if◌then◌else◌}
 use Rattle.injection_order.specs.declared.injection.Due.{Due}
 use Rattle.injection_order.specs.declared.injection.Injection.{Injection}
 use Rattle.injection_order.specs.declared.injection.Turn.{Turn}
@@ -46,3 +46,14 @@ if_first due (Some i) = if goes_first due i then Some i else None
 -- THE INJECTION that goes before an event that is due then, where this one was delivered last
 abbrev pub injection_before : Option Due → Option Turn → List Injection → Option Injection
 injection_before due last is = if_first due (first_undelivered last is)
+
+-- ---- what a delivery changes
+
+-- it holds of each
+abbrev pub OfEach : (Injection → Type 0) → List Injection → Type 0
+OfEach P [] = Unit {0}
+OfEach P (i ∷ is) = P i × OfEach P is
+
+-- Where the one is delivered behind what was, exactly those others are left that were left before.
+abbrev pub DeliversOne : Option Turn → Injection → Injection → Type 0
+DeliversOne last one i = is_undelivered (Some (turn_of one)) i ≡ true ↔ (is_undelivered last i ≡ true) × (turn_of i ≡ turn_of one → ⊥)

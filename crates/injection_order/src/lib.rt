@@ -2,3 +2,4 @@
 #![tactic(auto)]
 
 pub mod injection;
+pub mod laws;

@@ -1,4 +1,4 @@
--- What a reply leads to neither reads nor changes modules.
+-- Deeds and questions neither read nor change modules.
 use Rattle.std.proofs.Common.{◌≡◌, ℕ, List, [], ◌∷◌, refl, sym, ap, ◌∙◌, Bool, true, false, Option, Some, None, length, nat_lt, if◌then◌else◌}
 use Rattle.sim_time.specs.Time.{time_sum}
 use Rattle.module_api.specs.declared.reply.Action.{Action}
@@ -8,16 +8,17 @@ use Rattle.module_api.specs.declared.reply.Read.{Read}
 use Rattle.module_api.specs.declared.reply.Reply.{Reply}
 use Rattle.module_api.specs.declared.reply.Schedule.{Schedule}
 use Rattle.run_questions.specs.Answers.{Answers}
+use Rattle.run_semantics.specs.declared.occasions.Occasion.{Occasion}
+use Rattle.run_semantics.specs.declared.occasions.Occasion.TheVariants as occasion
 use Rattle.run_semantics.specs.declared.outcome.Fault.{Fault}
 use Rattle.run_semantics.specs.declared.outcome.Turn.{Turn}
 use Rattle.run_semantics.specs.declared.outcome.Turn.TheVariants.{GoOn, Stop, Break}
 use Rattle.run_semantics.specs.declared.traces.Instance.{Instance}
 use Rattle.run_semantics.specs.World.{World, asked}
 use Rattle.event_set.specs.Timers.{has_timer}
-use Rattle.run_semantics.specs.Perform.{Flow, On, Stopped, Broken, ◌>>=◌, flow_of, scheduled, perform, perform_all, ask_all, question_of, acted, read_fault, unless_fault, answered}
+use Rattle.run_semantics.specs.Perform.{Flow, On, Stopped, Broken, ◌>>=◌, flow_of, scheduled, deed, ask_all, ask_noted, question_of, broken}
 use Rattle.run_semantics.specs.Run.{prepared}
 use Rattle.run_semantics.proofs.Setting.{IsLasting, Stays, prepared_stays}
-use Rattle.run_semantics.specs.Ending.{is_last_action, perform_last, perform_last_all, acted_last, answered_last}
 
 -- the world, with these modules
 abbrev pub with_modules : List Instance → World → World
@@ -33,70 +34,41 @@ flow_of_with ms GoOn w = refl
 flow_of_with ms Stop w = refl
 flow_of_with ms (Break path f) w = refl
 
-then_apart : (ms : List Instance) (fl : Flow) (k : World → Flow) → ((w : World) → k (with_modules ms w) ≡ flow_with ms (k w)) → (flow_with ms fl >>= k) ≡ flow_with ms (fl >>= k)
-then_apart ms (On w) k h = h w
-then_apart ms (Stopped w) k h = refl
-then_apart ms (Broken w path f) k h = refl
-
 either_apart : (ms : List Instance) (c : Bool) (f g h k : Flow) → f ≡ flow_with ms h → g ≡ flow_with ms k → (if c then f else g) ≡ flow_with ms (if c then h else k)
 either_apart ms true f g h k e d = e
 either_apart ms false f g h k e d = d
 
--- ---- actions: one line for each
+-- ---- deeds: one line for each
 
 scheduled_apart : (ms : List Instance) (id : ℕ) (s : Schedule) (w : World) (time : Option ℕ) → scheduled id s (with_modules ms w) time ≡ flow_with ms (scheduled id s w time)
 scheduled_apart ms id s w None = refl
 scheduled_apart ms id s w (Some time) = either_apart ms (has_timer id s.timer w.pending) _ _ _ _ refl refl
 
-perform_apart : (ms : List Instance) (id : ℕ) (action : Action) (w : World) → perform id action (with_modules ms w) ≡ flow_with ms (perform id action w)
-perform_apart ms id (Emit signal value) w = refl
-perform_apart ms id (RecordScalar name value) w = either_apart ms (is_scalar_name name) _ _ _ _ refl refl
-perform_apart ms id (ScheduleAfter s) w = scheduled_apart ms id s w (time_sum w.clock s.delay)
-perform_apart ms id (Fail text) w = refl
+deed_apart : (ms : List Instance) (id : ℕ) (action : Action) (w : World) → deed id action (with_modules ms w) ≡ flow_with ms (deed id action w)
+deed_apart ms id (Emit signal value) w = refl
+deed_apart ms id (RecordScalar name value) w = either_apart ms (is_scalar_name name) _ _ _ _ refl refl
+deed_apart ms id (ScheduleAfter s) w = scheduled_apart ms id s w (time_sum w.clock s.delay)
+deed_apart ms id (Fail text) w = refl
 
-perform_all_apart : (ms : List Instance) (id : ℕ) (actions : List Action) (w : World) → perform_all id actions (with_modules ms w) ≡ flow_with ms (perform_all id actions w)
-perform_all_apart ms id [] w = refl
-perform_all_apart ms id (action ∷ actions) w =
-    ap (λ (fl : Flow). fl >>= perform_all id actions) (perform_apart ms id action w)
-    ∙ then_apart ms (perform id action w) (perform_all id actions) (perform_all_apart ms id actions)
+-- ---- what the code of a core does to the world with these modules
 
-acted_apart : (ms : List Instance) (id : ℕ) (actions : List Action) (w : World) → acted id actions (with_modules ms w) ≡ flow_with ms (acted id actions w)
-acted_apart ms id actions w = either_apart ms (nat_lt 1000 (length actions)) _ _ _ _ refl (perform_all_apart ms id actions w)
+-- the fault of a module
+pub broken_is : (ms : List Instance) (id : ℕ) (f : Fault) (core core' : World) (turn : Turn) → core' ≡ core → flow_of turn core ≡ broken id f core → flow_of turn (with_modules ms core') ≡ broken id f (with_modules ms core)
+broken_is ms id f core core' turn same e =
+    ap (λ w. flow_of turn (with_modules ms w)) same ∙ flow_of_with ms turn core ∙ ap (flow_with ms) e
 
--- ---- replies
+-- a deed
+pub deed_is : (ms : List Instance) (id : ℕ) (action : Action) (core core' : World) (turn : Turn) → flow_of turn core' ≡ deed id action core → flow_of turn (with_modules ms core') ≡ deed id action (with_modules ms core)
+deed_is ms id action core core' turn e = flow_of_with ms turn core' ∙ ap (flow_with ms) e ∙ sym (deed_apart ms id action core)
 
+-- the questions of reads
 ask_all_apart : (ms : List Instance) (id : ℕ) (reads : List Read) (w : World) → ask_all id reads (with_modules ms w) ≡ with_modules ms (ask_all id reads w)
 ask_all_apart ms id [] w = refl
 ask_all_apart ms id (r ∷ rs) w = ask_all_apart ms id rs (asked (question_of id r) w)
 
-unless_apart : (ms : List Instance) (id : ℕ) (found : Option Fault) (go : World → Flow) (w : World) → go (with_modules ms w) ≡ flow_with ms (go w) → unless_fault id found go (with_modules ms w) ≡ flow_with ms (unless_fault id found go w)
-unless_apart ms id (Some f) go w h = refl
-unless_apart ms id None go w h = h
-
-pub answered_apart : (ms : List Instance) (m : Answers) (id : ℕ) (reply : Reply) (w : World) → answered m id reply (with_modules ms w) ≡ flow_with ms (answered m id reply w)
-answered_apart ms m id reply w =
-    let v : World = ask_all id reply.reads w in
-    let found : Option Fault = read_fault m w.records id reply.reads in
-    ap (unless_fault id found (acted id reply.actions)) (ask_all_apart ms id reply.reads w)
-    ∙ unless_apart ms id found (acted id reply.actions) v (acted_apart ms id reply.actions v)
-
--- ---- replies to the end
-
-perform_last_apart : (ms : List Instance) (id : ℕ) (action : Action) (w : World) → perform_last id action (with_modules ms w) ≡ flow_with ms (perform_last id action w)
-perform_last_apart ms id action w = either_apart ms (is_last_action action) _ _ _ _ (perform_apart ms id action w) refl
-
-perform_last_all_apart : (ms : List Instance) (id : ℕ) (actions : List Action) (w : World) → perform_last_all id actions (with_modules ms w) ≡ flow_with ms (perform_last_all id actions w)
-perform_last_all_apart ms id [] w = refl
-perform_last_all_apart ms id (action ∷ actions) w =
-    ap (λ (fl : Flow). fl >>= perform_last_all id actions) (perform_last_apart ms id action w)
-    ∙ then_apart ms (perform_last id action w) (perform_last_all id actions) (perform_last_all_apart ms id actions)
-
-acted_last_apart : (ms : List Instance) (id : ℕ) (actions : List Action) (w : World) → acted_last id actions (with_modules ms w) ≡ flow_with ms (acted_last id actions w)
-acted_last_apart ms id actions w = either_apart ms (nat_lt 1000 (length actions)) _ _ _ _ refl (perform_last_all_apart ms id actions w)
-
-pub answered_last_apart : (ms : List Instance) (m : Answers) (id : ℕ) (reply : Reply) (w : World) → answered_last m id reply (with_modules ms w) ≡ flow_with ms (answered_last m id reply w)
-answered_last_apart ms m id reply w =
-    unless_apart ms id (read_fault m w.records id reply.reads) (acted_last id reply.actions) w (acted_last_apart ms id reply.actions w)
+pub ask_noted_apart : (ms : List Instance) (o : Occasion) (id : ℕ) (reads : List Read) (w : World) → ask_noted o id reads (with_modules ms w) ≡ with_modules ms (ask_noted o id reads w)
+ask_noted_apart ms occasion.Event id reads w = ask_all_apart ms id reads w
+ask_noted_apart ms occasion.End id reads w = refl
 
 -- ---- setup
 

@@ -1,25 +1,26 @@
 -- A call of a box is a call of the definitions.
-use Rattle.std.proofs.Common.{◌≡◌, ℕ, ◌==◌, Bool, true, false, cond, List, [], ◌∷◌, Option, Some, None, IfOk, Result, Ok, Err, refl, sym, ap, ◌∙◌, subst, map}
+use Rattle.std.proofs.Common.{◌≡◌, ℕ, ◌+◌, ◌≤◌, ◌==◌, Bool, true, false, cond, List, [], ◌∷◌, Option, Some, None, IfOk, Result, Ok, Err, refl, sym, ap, ◌∙◌, subst, map}
 use Rattle.sim_values.specs.declared.NoMemory.{NoMemory}
 use Rattle.module_api.specs.declared.call.Call.{Call}
 use Rattle.module_api.specs.declared.call.Prompt.{Prompt}
-use Rattle.module_api.specs.declared.call.Prompt.TheVariants as prompt
+use Rattle.module_api.specs.declared.reply.Action.{Action}
 use Rattle.module_api.specs.declared.reply.Reply.{Reply}
 use Rattle.module_api.specs.Behaviour.{Behaviour, Replied}
 use Rattle.module_api.specs.Meaning.{Module, IsOfKind}
 use Rattle.run_questions.specs.Answers.{Answers}
+use Rattle.run_semantics.specs.declared.occasions.Occasion.{Occasion}
 use Rattle.run_semantics.specs.declared.outcome.Turn.{Turn}
 use Rattle.run_semantics.specs.declared.traces.Instance.{Instance}
 use Rattle.run_semantics.specs.World.{World}
-use Rattle.run_semantics.specs.Perform.{Flow, On, flow_of, answered}
-use Rattle.run_semantics.specs.Event.{call_of, instance_in, with_state, changed, replied, called, calling, call_module}
+use Rattle.run_semantics.specs.Perform.{Flow, On, flow_of, act, answered}
+use Rattle.run_semantics.specs.Event.{call_of, instance_in, with_state, changed, replied, called, calling, call_at}
 use Rattle.run_semantics.specs.Run.{standing}
-use Rattle.run_semantics.specs.Ending.{answered_last, call_last}
+use Rattle.run_semantics.proofs.Sound.{in_flow, in_flow-of, Keeps, act_keeps}
 use Rattle.saved_boxes.specs.Seats.{Seat, instance_of, module_in, AreOfKinds, AreKept}
 use Rattle.saved_boxes.proofs.Keeping.{kind_same, kind_in, kinds_with, standing_with, states_with}
 use Rattle.kernel_actions.specs.Positions.{IsGrownFrom}
 use Rattle.kernel.specs.Seats.{world_of, IsCalled, IsServed}
-use Rattle.kernel.proofs.Apart.{with_modules, flow_with, flow_of_with, answered_apart, answered_last_apart}
+use Rattle.kernel.proofs.Apart.{with_modules}
 
 -- what holds of an answer, where there is one, by what another fact says of it
 pub ok_step : {A E : Type 0} {P Q : A → Type 0} (result : Result A E) → IfOk result P → ((x : A) → P x → Q x) → IfOk result Q
@@ -94,29 +95,22 @@ module _ (b : Behaviour) (m : Answers) (follow : Reply → World → Flow) (id :
       ap (λ (ms : List Instance). follow reply (with_modules ms core)) modules_after
       ∙ ap (λ (x : Reply). follow x (changed id said.state (world_of core old))) told_reply
 
--- A CALL in code is a call of the definitions, where what follows its reply neither reads nor changes modules
-calling_is : (b : Behaviour) (m : Answers) (follow : Reply → World → Flow) (id : ℕ) (p : Prompt) (core core' : World) (old new : List Seat) (reply : Reply) (turn : Turn) → ((ms : List Instance) → follow reply (with_modules ms core) ≡ flow_with ms (follow reply core))
-    → AreOfKinds b old → IsCalled id old new (call_of m id p core) (Ok reply) → flow_of turn core' ≡ follow reply core → flow_of turn (world_of core' new) ≡ calling b m follow id p (world_of core old)
-calling_is b m follow id p core core' old new reply turn apart kinds s e =
-    flow_of_with (map instance_of new) turn core'
-    ∙ ap (flow_with (map instance_of new)) e
-    ∙ sym (apart (map instance_of new))
-    ∙ called_is_step b m follow id p core old new reply kinds s
-    ∙ sym (found_called b m follow id p (world_of core old) old s.before s.found)
+-- A CALL in code is a call of the definitions, where what follows its reply is what follows it there
+calling_is : (b : Behaviour) (m : Answers) (follow : Reply → World → Flow) (id : ℕ) (p : Prompt) (core left : World) (old new : List Seat) (reply : Reply) (turn : Turn) → AreOfKinds b old → IsCalled id old new (call_of m id p core) (Ok reply)
+    → flow_of turn left ≡ follow reply (world_of core new) → flow_of turn left ≡ calling b m follow id p (world_of core old)
+calling_is b m follow id p core left old new reply turn kinds s e =
+    e ∙ called_is_step b m follow id p core old new reply kinds s ∙ sym (found_called b m follow id p (world_of core old) old s.before s.found)
 
 calling_none : (b : Behaviour) (m : Answers) (follow : Reply → World → Flow) (id : ℕ) (p : Prompt) (core : World) (old new : List Seat) → (module_in id old ≡ None) × (new ≡ old) → On (world_of core new) ≡ calling b m follow id p (world_of core old)
 calling_none b m follow id p core old new h = ap (λ (ss : List Seat). On (world_of core ss)) h.1 ∙ none_called b m follow id p (world_of core old) old h.0
 
-pub called_is : (b : Behaviour) (m : Answers) (id : ℕ) (p : Prompt) (core core' : World) (old new : List Seat) (reply : Reply) (turn : Turn) → AreOfKinds b old → IsCalled id old new (call_of m id p core) (Ok reply) → flow_of turn core' ≡ answered m id reply core
-    → flow_of turn (world_of core' new) ≡ call_module b m id p (world_of core old)
-called_is b m id p core core' old new reply turn kinds s e = calling_is b m (answered m id) id p core core' old new reply turn (λ ms. answered_apart ms m id reply core) kinds s e
+pub called_is : (b : Behaviour) (m : Answers) (o : Occasion) (id : ℕ) (p : Prompt) (core left : World) (old new : List Seat) (reply : Reply) (turn : Turn) → AreOfKinds b old → IsCalled id old new (call_of m id p core) (Ok reply)
+    → flow_of turn left ≡ answered b m o id reply (world_of core new) → flow_of turn left ≡ call_at b m o id p (world_of core old)
+called_is b m o id p core left old new reply turn kinds s e = calling_is b m (answered b m o id) id p core left old new reply turn kinds s e
 
-pub passed_over : (b : Behaviour) (m : Answers) (id : ℕ) (p : Prompt) (core : World) (old new : List Seat) → (module_in id old ≡ None) × (new ≡ old) → On (world_of core new) ≡ call_module b m id p (world_of core old)
-passed_over b m id p core old new h = calling_none b m (answered m id) id p core old new h
+pub passed_over : (b : Behaviour) (m : Answers) (o : Occasion) (id : ℕ) (p : Prompt) (core : World) (old new : List Seat) → (module_in id old ≡ None) × (new ≡ old) → On (world_of core new) ≡ call_at b m o id p (world_of core old)
+passed_over b m o id p core old new h = calling_none b m (answered b m o id) id p core old new h
 
-pub called_last_is : (b : Behaviour) (m : Answers) (id : ℕ) (core core' : World) (old new : List Seat) (reply : Reply) (turn : Turn) → AreOfKinds b old → IsCalled id old new (call_of m id prompt.Finish core) (Ok reply) → flow_of turn core' ≡ answered_last m id reply core
-    → flow_of turn (world_of core' new) ≡ call_last b m id (world_of core old)
-called_last_is b m id core core' old new reply turn kinds s e = calling_is b m (answered_last m id) id prompt.Finish core core' old new reply turn (λ ms. answered_last_apart ms m id reply core) kinds s e
-
-pub passed_over_last : (b : Behaviour) (m : Answers) (id : ℕ) (core : World) (old new : List Seat) → (module_in id old ≡ None) × (new ≡ old) → On (world_of core new) ≡ call_last b m id (world_of core old)
-passed_over_last b m id core old new h = calling_none b m (answered_last m id) id prompt.Finish core old new h
+-- an action inserts one event at most, by what the code says of it
+pub act_next : (b : Behaviour) (m : Answers) (o : Occasion) (id : ℕ) (action : Action) (turn : Turn) (w v : World) → flow_of turn v ≡ act b m o id action w → v.next ≤ w.next + 1
+act_next b m o id action turn w v e = (subst (Keeps 1 w) (ap in_flow (sym e) ∙ in_flow-of turn v) (act_keeps b m o id action w)).next

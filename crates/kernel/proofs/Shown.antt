@@ -5,9 +5,9 @@ use Rattle.module_api.specs.declared.call.Prompt.{Prompt}
 use Rattle.module_api.specs.Behaviour.{Behaviour}
 use Rattle.run_questions.specs.Answers.{Answers}
 use Rattle.run_questions.specs.declared.record.Record.{Record}
+use Rattle.run_semantics.specs.declared.occasions.Occasion.{Occasion}
 use Rattle.run_semantics.specs.declared.outcome.Turn.{Turn}
-use Rattle.run_semantics.specs.Event.{call_of, call_module}
-use Rattle.run_semantics.specs.Ending.{call_last}
+use Rattle.run_semantics.specs.Event.{call_of, call_at}
 use Rattle.run_semantics.specs.Perform.{flow_of}
 use Rattle.run_semantics.specs.World.{World}
 use Rattle.shown_modules.specs.declared.Shown.{Shown}
@@ -22,18 +22,10 @@ pub told_itself : (m : Answers) (id : ℕ) (p : Prompt) (w : World) (call : Call
 told_itself m id p w call e =
     e ∙ (ap (λ i. call_of m i p w) (sym (ap (λ (k : Call). k.id) e)) ∙ ap (λ q. call_of m call.id q w) (sym (ap (λ (k : Call). k.prompt) e)))
 
--- of the same id
-pub told_for : (m : Answers) (id : ℕ) (p : Prompt) (w : World) (call : Call) → call ≡ call_of m id p w → call ≡ call_of m call.id p w
-told_for m id p w call e = e ∙ ap (λ i. call_of m i p w) (sym (ap (λ (k : Call). k.id) e))
-
-pub named_last : (b : Behaviour) (m : Answers) (id : ℕ) (p : Prompt) (v w : World) (call : Call) (turn : Turn) → call ≡ call_of m id p v
-    → flow_of turn w ≡ call_last b m call.id v → flow_of turn w ≡ call_last b m id v
-named_last b m id p v w call turn e step = step ∙ ap (λ i. call_last b m i v) (ap (λ (k : Call). k.id) e)
-
-pub named_step : (b : Behaviour) (m : Answers) (id : ℕ) (p : Prompt) (v w : World) (call : Call) (turn : Turn) → call ≡ call_of m id p v
-    → flow_of turn w ≡ call_module b m call.id call.prompt v → flow_of turn w ≡ call_module b m id p v
-named_step b m id p v w call turn e step =
-    step ∙ (ap (λ i. call_module b m i call.prompt v) (ap (λ (k : Call). k.id) e) ∙ ap (λ q. call_module b m id q v) (ap (λ (k : Call). k.prompt) e))
+pub named_step : (b : Behaviour) (m : Answers) (o : Occasion) (id : ℕ) (p : Prompt) (v w : World) (call : Call) (turn : Turn) → call ≡ call_of m id p v
+    → flow_of turn w ≡ call_at b m o call.id call.prompt v → flow_of turn w ≡ call_at b m o id p v
+named_step b m o id p v w call turn e step =
+    step ∙ (ap (λ i. call_at b m o i call.prompt v) (ap (λ (k : Call). k.id) e) ∙ ap (λ q. call_at b m o id q v) (ap (λ (k : Call). k.prompt) e))
 
 -- a call that shows what was found is the call of the definitions
 pub told_shown : (m : Answers) (id : ℕ) (p : Prompt) (w : World) (shown : Shown) (call : Call) → shown ≡ shown_of m w.records id → call ≡ call_with id p shown w → call ≡ call_of m id p w

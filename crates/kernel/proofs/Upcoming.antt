@@ -1,5 +1,5 @@
 -- What comes next in a run, step by step.
-use Rattle.std.proofs.Common.{◌≡◌, ℕ, suc, zero, ◌+◌, ◌<◌, true, false, Bool, List, [], ◌∷◌, Option, Some, None, refl, ap, ◌∙◌, sym, arith, append-nil, if◌then◌else◌}
+use Rattle.std.proofs.Common.{◌≡◌, ℕ, suc, zero, ◌+◌, ◌<◌, true, false, Bool, List, [], ◌∷◌, Option, Some, None, length, refl, ap, ◌∙◌, sym, arith, append-nil, if◌then◌else◌}
 use Rattle.run_questions.specs.Answers.{Answers, is_beyond}
 use Rattle.module_api.specs.Behaviour.{Behaviour}
 use Rattle.run_semantics.specs.declared.outcome.Outcome.TheVariants.{Ended, NoMoreEvents, TimeLimit}
@@ -7,7 +7,7 @@ use Rattle.event_set.specs.declared.pending.Pending.{Pending}
 use Rattle.run_semantics.specs.World.{World}
 use Rattle.run_semantics.specs.Event.{event}
 use Rattle.run_questions.specs.declared.answer.Asked.{Asked}
-use Rattle.run_semantics.specs.Upcoming.{first_of, most_injections, upcoming, upcoming_in}
+use Rattle.run_semantics.specs.Upcoming.{first_of, upcoming, upcoming_in}
 use Rattle.run_semantics.proofs.Looking.{beside}
 use Rattle.run_semantics.specs.Run.{Stage, Running, Over, settled, is_after_limit, next_stage, went}
 use Rattle.kernel_actions.specs.declared.looks.Look.{Look}
@@ -47,19 +47,19 @@ next_too_late b m limit w after of_model going h =
 -- ---- looks
 
 -- before the first look
-pub first_look : (m : Answers) (w : World) (look : Look) → look ≡ record { delivered = w.delivered; asked = [] } → upcoming_in 10001 m w.pending (looked w look) ≡ upcoming m w
-unfolding upcoming most_injections
+pub first_look : (m : Answers) (w : World) (look : Look) → look ≡ record { delivered = w.delivered; asked = [] } → upcoming_in (suc (length m.injections)) m w.pending (looked w look) ≡ upcoming m w
+unfolding upcoming
 first_look m w look e =
-    ap (λ (l : Look). upcoming_in 10001 m w.pending (looked w l)) e
-    ∙ ap (λ (qs : List Asked). upcoming_in 10001 m w.pending (record w { questions = qs })) (append-nil w.questions)
+    ap (λ (l : Look). upcoming_in (suc (length m.injections)) m w.pending (looked w l)) e
+    ∙ ap (λ (qs : List Asked). upcoming_in (suc (length m.injections)) m w.pending (record w { questions = qs })) (append-nil w.questions)
 
 -- an injection was discarded
-pub next_look : (m : Answers) (w : World) (before after : Look) (n : Option Next) (counter left : ℕ) → counter < 10001 → left + counter ≡ 10001
+pub next_look : (m : Answers) (w : World) (before after : Look) (n : Option Next) (most counter left : ℕ) → counter < most → left + counter ≡ most
     → upcoming_in left m w.pending (looked w before) ≡ upcoming m w → n ≡ None → LooksOn m (looked w before) n (looked w after)
-    → (x : ℕ) × (x + (counter + 1) ≡ 10001) × (upcoming_in x m w.pending (looked w after) ≡ upcoming m w)
-next_look m w before after (Some x) counter left few sum inv none looks = absurd cc
-next_look m w before after None counter zero few sum inv none looks = absurd (omega (arith, few, sum))
-next_look m w before after None counter (suc left) few sum inv none looks = (left, omega (arith, sum), sym (looks left) ∙ inv)
+    → (x : ℕ) × (x + (counter + 1) ≡ most) × (upcoming_in x m w.pending (looked w after) ≡ upcoming m w)
+next_look m w before after (Some x) most counter left few sum inv none looks = absurd cc
+next_look m w before after None most counter zero few sum inv none looks = absurd (omega (arith, few, sum))
+next_look m w before after None most counter (suc left) few sum inv none looks = (left, omega (arith, sum), sym (looks left) ∙ inv)
 
 -- ---- an event that begins
 

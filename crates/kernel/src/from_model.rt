@@ -5,11 +5,9 @@ ghost use Rattle.std.specs.Prelude.{◌≡◌, ◌+◌, ◌^◌, ◌<◌, suc, O
 ghost use Rattle.run_questions.specs.Answers.{answer_of, parameters_of};
 ghost use Rattle.run_questions.specs.declared.answer.Answer.TheVariants as answers;
 ghost use Rattle.run_semantics.specs.World.{empty};
-ghost use Rattle.run_semantics.specs.Perform.{flow_of, question_of, fault_of_read, read_fault, answered};
-ghost use Rattle.run_semantics.specs.Ending.{answered_last};
+ghost use Rattle.run_semantics.specs.Perform.{flow_of, question_of, fault_of_read, read_fault};
 ghost use Rattle.run_semantics.specs.Event.{call_of};
 ghost use Rattle.run_semantics.specs.Run.{root_asked, compounds_from, inside_of, set_up, prepared};
-ghost use Rattle.kernel_actions.specs.Positions.{IsGrownFrom};
 ghost use Rattle.kernel_actions.specs.Upcoming.{looked, with_injection_asked};
 ghost use Rattle.kernel.specs.Calls.{call_with};
 ghost use Rattle.kernel.specs.Looks.{injection_asked};
@@ -22,7 +20,7 @@ use kernel_actions::reads::{fault_of_read, question_of, was_told};
 use model_answers::answering::answer;
 use models::model::Model;
 use module_api::call::{Call, Prompt};
-use module_api::reply::{Read, Reply};
+use module_api::reply::Read;
 use run_questions::answer::{Answer, Built, Question};
 use run_questions::record::{MAX_NESTING, index_of};
 use run_semantics::outcome::{Fault, Turn};
@@ -87,7 +85,7 @@ fn fault_at(
 }
 
 /// The fault of the first read that has one.
-fn read_fault(
+pub fn read_fault(
     core: &Core,
     alloc: Global,
     model: &Model,
@@ -104,46 +102,6 @@ fn read_fault(
         }
     }
     Ok(None)
-}
-
-/// Carries out the reply to a call.
-#[tactic(auto, using(kernel_actions::proofs::Lasting::growth_same))]
-pub fn follow(
-    core: &mut Core,
-    alloc: Global,
-    model: &Model,
-    call: &Call,
-    reply: &Reply,
-) -> Result<Turn, NoMemory>
-    requires next { core.old.next + 1000 < 2 ^ 128 }
-    requires told { call.now.parameters
-        ≡ parameters_of (answers_of model.now) core.old.records call.now.id }
-    ensures flow { IfOk result (λ turn. flow_of turn core.new
-        ≡ answered (answers_of model.now) call.now.id reply.now core.old) }
-    ensures grown { IsGrownFrom core.old core.new }
-{
-    let fault = read_fault(core, alloc, model, call, reply.reads.as_slice())?;
-    core.follow(alloc, call.id, fault, reply)
-}
-
-/// Carries out the reply to a call for the end.
-#[tactic(auto, using(kernel_actions::proofs::Lasting::growth_same))]
-pub fn follow_last(
-    core: &mut Core,
-    alloc: Global,
-    model: &Model,
-    call: &Call,
-    reply: &Reply,
-) -> Result<Turn, NoMemory>
-    requires next { core.old.next + 1000 < 2 ^ 128 }
-    requires told { call.now.parameters
-        ≡ parameters_of (answers_of model.now) core.old.records call.now.id }
-    ensures flow { IfOk result (λ turn. flow_of turn core.new
-        ≡ answered_last (answers_of model.now) call.now.id reply.now core.old) }
-    ensures grown { IsGrownFrom core.old core.new }
-{
-    let fault = read_fault(core, alloc, model, call, reply.reads.as_slice())?;
-    core.follow_last(alloc, call.id, fault, reply)
 }
 
 // ---- what comes next

@@ -6,8 +6,9 @@ ghost use Rattle.module_api.specs.Meaning.{IsOfKind, Answered, IsSameModule};
 ghost use Rattle.module_tree.specs.Boxes.{nothing};
 ghost use Rattle.question_log.specs.Entries.{noted_in};
 ghost use Rattle.run_semantics.specs.World.{empty, HasRoom};
-ghost use Rattle.run_semantics.specs.Perform.{flow_of, On};
-ghost use Rattle.run_semantics.specs.Event.{call_module, call_of, instance_in, with_state};
+ghost use Rattle.run_semantics.specs.Perform.{flow_of, On, perform, act, act_all, acted, answered};
+ghost use Rattle.run_semantics.specs.Event.{call_at, call_module, call_of, instance_in, with_state};
+ghost use Rattle.run_questions.specs.Answers.{parameters_of};
 ghost use Rattle.run_semantics.specs.Upcoming.{target_of, upcoming};
 ghost use Rattle.shown_modules.specs.Tables.{AreShown};
 ghost use Rattle.kernel_actions.specs.Upcoming.{looked, upcoming_of};
@@ -20,7 +21,7 @@ ghost use Rattle.saved_boxes.specs.Seats.{module_in, AreBelow};
 ghost use Rattle.saved_boxes.specs.Saved.{CanTake, Takes};
 ghost use Rattle.kernel.specs.Kernels.{seats_in, world_in, ran_in, HasKinds, IsCallable, KeepsBoxes};
 
-use crate::from_model::{ask_injection, call, call_shown, follow, follow_last, prepare};
+use crate::from_model::{ask_injection, call, call_shown, prepare, read_fault};
 use crate::request::Request;
 use kernel_actions::core_part::Core;
 use kernel_actions::events::{arrival, message_of};
@@ -29,11 +30,12 @@ use kernel_actions::position::Position;
 use models::model::Model;
 use module_api::call::{Call, Prompt};
 use module_api::catalogue::Catalogue;
-use module_api::reply::Reply;
+use module_api::reply::{Action, Reply};
 use module_api::simple_module::SimpleModule;
 use module_tree::Tree;
 use question_log::entry::Entry;
 use run_questions::record::{Record, path_of};
+use run_semantics::occasions::{Occasion, is_allowed};
 use run_semantics::outcome::{Fault, Outcome, Turn};
 use run_semantics::traces::{Emission, Instance, Scalar};
 use saved_boxes::boxes_saved::{load_one, save_all};
@@ -43,8 +45,8 @@ use sim_values::text::Text;
 use std::alloc::{AllocFailed, Global};
 use std::marker::PhantomData;
 
-/// How many injections are looked at for one event at most: one more than a model has.
-const MOST_LOOKS: usize = 10_001;
+/// How many actions a reply has at most.
+const MAX_ACTIONS: usize = 1000;
 
 /// A world in code.
 pub struct Kernel<C: Catalogue> {
@@ -213,6 +215,123 @@ impl<C: Catalogue> Kernel<C> {
         self.boxes.place(id, held)
     }
 
+    // ---- replies
+
+    /// One action of the module of that id.
+    #[tactic(auto, using(kernel_actions::proofs::Lasting::growth_same))]
+    fn perform(
+        &mut self,
+        alloc: Global,
+        model: &Model,
+        id: u32,
+        action: &Action,
+    ) -> Result<Turn, NoMemory>
+        requires { (world_in SimpleModule-box self.old).next + 1 < 2 ^ 128 }
+        ensures boxes { self.new.boxes ≡ self.old.boxes }
+        ensures step { IfOk result (λ turn. flow_of turn (world_in SimpleModule-box self.new)
+            ≡ perform C.behaviour (answers_of model.now) id action.now (world_in SimpleModule-box self.old)) }
+        ensures grown { IsGrownFrom self.old.core self.new.core }
+    {
+        let _model = model;
+        self.core.deed(alloc, id, action)
+    }
+
+    /// An action of a reply, where it may have that.
+    #[tactic(auto, using(kernel_actions::proofs::Lasting::growth_same))]
+    fn act(
+        &mut self,
+        alloc: Global,
+        model: &Model,
+        occasion: Occasion,
+        id: u32,
+        action: &Action,
+    ) -> Result<Turn, NoMemory>
+        requires { (world_in SimpleModule-box self.old).next + 1 < 2 ^ 128 }
+        ensures boxes { self.new.boxes ≡ self.old.boxes }
+        ensures step { IfOk result (λ turn. flow_of turn (world_in SimpleModule-box self.new)
+            ≡ act C.behaviour (answers_of model.now) occasion id action.now (world_in SimpleModule-box self.old)) }
+        ensures grown { IsGrownFrom self.old.core self.new.core }
+    {
+        if !is_allowed(occasion, action) {
+            return self.core.broken(alloc, id, Fault::NotInFinish);
+        }
+        self.perform(alloc, model, id, action)
+    }
+
+    /// The actions of a reply, in order.
+    fn act_all(
+        &mut self,
+        alloc: Global,
+        model: &Model,
+        occasion: Occasion,
+        id: u32,
+        actions: &[Action],
+    ) -> Result<Turn, NoMemory>
+        requires { (world_in SimpleModule-box self.old).next + length actions.now < 2 ^ 128 }
+        ensures boxes { self.new.boxes ≡ self.old.boxes }
+        ensures step { IfOk result (λ turn. flow_of turn (world_in SimpleModule-box self.new)
+            ≡ act_all C.behaviour (answers_of model.now) occasion id actions.now (world_in SimpleModule-box self.old)) }
+        ensures grown { IsGrownFrom self.old.core self.new.core }
+    {
+        for action in actions {
+            match self.act(alloc, model, occasion, id, action)? {
+                Turn::GoOn => {}
+                turn => return Ok(turn),
+            }
+        }
+        Ok(Turn::GoOn)
+    }
+
+    /// The actions of a reply, where there are at most 1,000.
+    #[tactic(auto, using(kernel_actions::proofs::Lasting::growth_same))]
+    fn act_few(
+        &mut self,
+        alloc: Global,
+        model: &Model,
+        occasion: Occasion,
+        id: u32,
+        actions: &[Action],
+    ) -> Result<Turn, NoMemory>
+        requires { (world_in SimpleModule-box self.old).next + 1000 < 2 ^ 128 }
+        ensures boxes { self.new.boxes ≡ self.old.boxes }
+        ensures step { IfOk result (λ turn. flow_of turn (world_in SimpleModule-box self.new)
+            ≡ acted C.behaviour (answers_of model.now) occasion id actions.now (world_in SimpleModule-box self.old)) }
+        ensures grown { IsGrownFrom self.old.core self.new.core }
+    {
+        if actions.len() > MAX_ACTIONS {
+            return self.core.broken(alloc, id, Fault::TooManyActions);
+        }
+        self.act_all(alloc, model, occasion, id, actions)
+    }
+
+    /// Carries out the reply to a call: its reads are asked, and then its actions are performed, unless a read has a fault.
+    #[tactic(auto, using(kernel_actions::proofs::Lasting::growth_same))]
+    fn follow(
+        &mut self,
+        alloc: Global,
+        model: &Model,
+        occasion: Occasion,
+        call: &Call,
+        reply: &Reply,
+    ) -> Result<Turn, NoMemory>
+        requires next { (world_in SimpleModule-box self.old).next + 1000 < 2 ^ 128 }
+        requires told { call.now.parameters
+            ≡ parameters_of (answers_of model.now) self.old.core.records call.now.id }
+        ensures boxes { self.new.boxes ≡ self.old.boxes }
+        ensures step { IfOk result (λ turn. flow_of turn (world_in SimpleModule-box self.new)
+            ≡ answered C.behaviour (answers_of model.now) occasion call.now.id reply.now
+            (world_in SimpleModule-box self.old)) }
+        ensures grown { IsGrownFrom self.old.core self.new.core }
+    {
+        let reads = reply.reads.as_slice();
+        let fault = read_fault(&self.core, alloc, model, call, reads)?;
+        self.core.ask_noted(alloc, occasion, call.id, reads)?;
+        match fault {
+            Some(fault) => self.core.broken(alloc, call.id, fault),
+            None => self.act_few(alloc, model, occasion, call.id, reply.actions.as_slice()),
+        }
+    }
+
     // ---- calls
 
     /// What the module that is called replies, where it has a box. The box is taken out for the call, and put back behind it.
@@ -231,13 +350,19 @@ impl<C: Catalogue> Kernel<C> {
 
     /// Calls the module that the call names, and does what its reply says. A call of what isn't there is passed over.
     #[tactic(auto, using(kernel_actions::proofs::Lasting::growth_same))]
-    fn carry_out(&mut self, alloc: Global, model: &Model, call: &Call) -> Result<Turn, NoMemory>
+    fn carry_out(
+        &mut self,
+        alloc: Global,
+        model: &Model,
+        occasion: Occasion,
+        call: &Call,
+    ) -> Result<Turn, NoMemory>
         requires callable { IsCallable C.behaviour SimpleModule-box 1000 self.old }
         requires told { call.now
             ≡ call_of (answers_of model.now) call.now.id call.now.prompt (world_in SimpleModule-box self.old) }
         ensures kept { KeepsBoxes C.behaviour SimpleModule-box self.old self.new }
         ensures step { IfOk result (λ turn. flow_of turn (world_in SimpleModule-box self.new)
-            ≡ call_module C.behaviour (answers_of model.now) call.now.id call.now.prompt
+            ≡ call_at C.behaviour (answers_of model.now) occasion call.now.id call.now.prompt
             (world_in SimpleModule-box self.old)) }
         ensures grown { IsGrownFrom (world_in SimpleModule-box self.old)
             (world_in SimpleModule-box self.new) }
@@ -246,7 +371,7 @@ impl<C: Catalogue> Kernel<C> {
             return Ok(Turn::GoOn);
         };
         let reply = reply?;
-        follow(&mut self.core, alloc, model, call, &reply)
+        self.follow(alloc, model, occasion, call, &reply)
     }
 
     /// One call of the module of that id.
@@ -255,18 +380,19 @@ impl<C: Catalogue> Kernel<C> {
         &mut self,
         alloc: Global,
         model: &Model,
+        occasion: Occasion,
         id: u32,
         prompt: Prompt,
     ) -> Result<Turn, NoMemory>
         requires callable { IsCallable C.behaviour SimpleModule-box 1000 self.old }
         ensures kept { KeepsBoxes C.behaviour SimpleModule-box self.old self.new }
         ensures step { IfOk result (λ turn. flow_of turn (world_in SimpleModule-box self.new)
-            ≡ call_module C.behaviour (answers_of model.now) id prompt (world_in SimpleModule-box self.old)) }
+            ≡ call_at C.behaviour (answers_of model.now) occasion id prompt (world_in SimpleModule-box self.old)) }
         ensures grown { IsGrownFrom (world_in SimpleModule-box self.old)
             (world_in SimpleModule-box self.new) }
     {
         let call = call(&self.core, alloc, model, id, prompt)?;
-        self.carry_out(alloc, model, &call)
+        self.carry_out(alloc, model, occasion, &call)
     }
 
     /// One call of the module of that id. What calls show of it is taken out of the table for the call, and put back behind it.
@@ -291,7 +417,7 @@ impl<C: Catalogue> Kernel<C> {
         let found = shown.take(alloc, model, self.core.records(), id)?;
         let lasts = lasts(self.core.records(), id);
         let call = call_shown(&self.core, id, prompt, found);
-        let turn = self.carry_out(alloc, model, &call);
+        let turn = self.carry_out(alloc, model, Occasion::Event, &call);
         shown.put_back(lasts, id, shown_in(call));
         turn
     }
@@ -336,7 +462,8 @@ impl<C: Catalogue> Kernel<C> {
         if stage >= self.stages_in(id) {
             return Ok(Turn::GoOn);
         }
-        let turn = self.call_module(alloc, model, id, Prompt::Initialize(stage))?;
+        let prompt = Prompt::Initialize(stage);
+        let turn = self.call_module(alloc, model, Occasion::Event, id, prompt)?;
         Ok(turn)
     }
 
@@ -476,7 +603,9 @@ impl<C: Catalogue> Kernel<C> {
             IfOk result (λ r. upcoming (answers_of model.now) world ≡ upcoming_of r.1 (looked world r.0)) }
     {
         let mut look = self.core.look(alloc);
-        for _ in 0..MOST_LOOKS {
+        // Each look but the last delivers an injection.
+        let looks = model.injections.as_slice().len() + 1;
+        for _ in 0..looks {
             if let Some(next) = self.look_on(alloc, model, &mut look)? {
                 return Ok((look, next));
             }
@@ -537,30 +666,6 @@ impl<C: Catalogue> Kernel<C> {
 
     // ---- the end
 
-    /// Calls the module that the call for the end names, and does what its reply says. A call of what isn't there is passed over.
-    #[tactic(auto, using(kernel_actions::proofs::Lasting::growth_same))]
-    fn carry_out_last(
-        &mut self,
-        alloc: Global,
-        model: &Model,
-        call: &Call,
-    ) -> Result<Turn, NoMemory>
-        requires callable { IsCallable C.behaviour SimpleModule-box 1000 self.old }
-        requires told { call.now
-            ≡ call_of (answers_of model.now) call.now.id Prompt.Finish (world_in SimpleModule-box self.old) }
-        ensures kept { KeepsBoxes C.behaviour SimpleModule-box self.old self.new }
-        ensures step { IfOk result (λ turn. flow_of turn (world_in SimpleModule-box self.new)
-            ≡ call_last C.behaviour (answers_of model.now) call.now.id (world_in SimpleModule-box self.old)) }
-        ensures grown { IsGrownFrom (world_in SimpleModule-box self.old)
-            (world_in SimpleModule-box self.new) }
-    {
-        let Some(reply) = self.reply_of(alloc, call) else {
-            return Ok(Turn::GoOn);
-        };
-        let reply = reply?;
-        follow_last(&mut self.core, alloc, model, call, &reply)
-    }
-
     /// Tells the module of that id that the run is over, where it has a box.
     #[tactic(auto, using(kernel_actions::proofs::Lasting::growth_same))]
     fn call_last(&mut self, alloc: Global, model: &Model, id: u32) -> Result<Turn, NoMemory>
@@ -575,8 +680,7 @@ impl<C: Catalogue> Kernel<C> {
         if self.stages_at(id).is_none() {
             return Ok(Turn::GoOn);
         }
-        let call = call(&self.core, alloc, model, id, Prompt::Finish)?;
-        self.carry_out_last(alloc, model, &call)
+        self.call_module(alloc, model, Occasion::End, id, Prompt::Finish)
     }
 
     /// Finishes the module of that id: a simple one is told first, a compound one just counts as finished.

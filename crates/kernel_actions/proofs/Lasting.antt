@@ -11,10 +11,9 @@ use Rattle.event_set.specs.Timers.{has_timer}
 use Rattle.run_semantics.specs.declared.outcome.Fault.TheVariants as fault
 use Rattle.run_semantics.specs.declared.outcome.Turn.{Turn}
 use Rattle.run_semantics.specs.World.{World}
-use Rattle.run_semantics.specs.Perform.{Flow, On, flow_of, ◌>>=◌, broken, with_scalar, scheduled, perform, perform_all}
-use Rattle.run_semantics.specs.Ending.{is_last_action, perform_last, perform_last_all}
+use Rattle.run_semantics.specs.Perform.{Flow, On, flow_of, broken, with_scalar, scheduled, deed}
 use Rattle.run_semantics.proofs.Orderly.{on_same}
-use Rattle.run_semantics.proofs.Sound.{in_flow, in_flow-of, Keeps, keeps_same, either_keeps, perform_keeps}
+use Rattle.run_semantics.proofs.Sound.{in_flow, in_flow-of}
 use Rattle.kernel_actions.specs.declared.looks.LookedAt.{LookedAt}
 use Rattle.kernel_actions.specs.Positions.{IsGrownFrom}
 use Rattle.kernel_actions.specs.Upcoming.{asked_in}
@@ -41,7 +40,7 @@ either_grows : (w : World) (c : Bool) (f g : Flow) → IsGrownFrom w (in_flow f)
 either_grows w true f g h k = h
 either_grows w false f g h k = k
 
--- ---- actions: one line for each
+-- ---- deeds: one line for each
 
 scheduled_grows : (id : ℕ) (s : Schedule) (w : World) (time : Option ℕ) → IsGrownFrom w (in_flow (scheduled id s w time))
 scheduled_grows id s w None = growth_same w
@@ -55,8 +54,8 @@ scheduled_grows id s w (Some time) = either_grows w (has_timer id s.timer w.pend
   questions = on_same w.questions;
 })
 
-pub perform_grows : (id : ℕ) (action : Action) (w : World) → IsGrownFrom w (in_flow (perform id action w))
-perform_grows id (Emit signal value) w = record {
+pub deed_grows : (id : ℕ) (action : Action) (w : World) → IsGrownFrom w (in_flow (deed id action w))
+deed_grows id (Emit signal value) w = record {
   records = on_same w.records;
   live = on_same w.live;
   started = on_same w.started;
@@ -65,7 +64,7 @@ perform_grows id (Emit signal value) w = record {
   scalars = on_same w.scalars;
   questions = on_same w.questions;
 }
-perform_grows id (RecordScalar name value) w = either_grows w (is_scalar_name name) (On (with_scalar id name value w)) (broken id fault.BadName w) (record {
+deed_grows id (RecordScalar name value) w = either_grows w (is_scalar_name name) (On (with_scalar id name value w)) (broken id fault.BadName w) (record {
   records = on_same w.records;
   live = on_same w.live;
   started = on_same w.started;
@@ -74,32 +73,16 @@ perform_grows id (RecordScalar name value) w = either_grows w (is_scalar_name na
   scalars = (_, refl);
   questions = on_same w.questions;
 }) (growth_same w)
-perform_grows id (ScheduleAfter s) w = scheduled_grows id s w (time_sum w.clock s.delay)
-perform_grows id (Fail text) w = growth_same w
-
-pub perform_last_grows : (id : ℕ) (action : Action) (w : World) → IsGrownFrom w (in_flow (perform_last id action w))
-perform_last_grows id action w = either_grows w (is_last_action action) _ _ (perform_grows id action w) (growth_same w)
+deed_grows id (ScheduleAfter s) w = scheduled_grows id s w (time_sum w.clock s.delay)
+deed_grows id (Fail text) w = growth_same w
 
 -- what a flow leaves, by what the code says of it
 pub flow_grows : (turn : Turn) (w v : World) (fl : Flow) → IsGrownFrom w (in_flow fl) → flow_of turn v ≡ fl → IsGrownFrom w v
 flow_grows turn w v fl g e = subst (IsGrownFrom w) (ap in_flow (sym e) ∙ in_flow-of turn v) g
 
--- an action, by what the code says of it
-pub performed_grows : (turn : Turn) (id : ℕ) (action : Action) (w v : World) → flow_of turn v ≡ perform id action w → IsGrownFrom w v
-performed_grows turn id action w v e = flow_grows turn w v (perform id action w) (perform_grows id action w) e
-
-pub performed_last_grows : (turn : Turn) (id : ℕ) (action : Action) (w v : World) → flow_of turn v ≡ perform_last id action w → IsGrownFrom w v
-performed_last_grows turn id action w v e = flow_grows turn w v (perform_last id action w) (perform_last_grows id action w) e
-
--- it inserts one event at most
-performed_keeps : (turn : Turn) (w v : World) (fl : Flow) → Keeps 1 w (in_flow fl) → flow_of turn v ≡ fl → v.next ≤ w.next + 1
-performed_keeps turn w v fl k e = (subst (Keeps 1 w) (ap in_flow (sym e) ∙ in_flow-of turn v) k).next
-
-pub performed_next : (turn : Turn) (id : ℕ) (action : Action) (w v : World) → flow_of turn v ≡ perform id action w → v.next ≤ w.next + 1
-performed_next turn id action w v e = performed_keeps turn w v (perform id action w) (perform_keeps id action w) e
-
-pub performed_last_next : (turn : Turn) (id : ℕ) (action : Action) (w v : World) → flow_of turn v ≡ perform_last id action w → v.next ≤ w.next + 1
-performed_last_next turn id action w v e = performed_keeps turn w v (perform_last id action w) (either_keeps 1 (is_last_action action) _ _ w (perform_keeps id action w) (λ x. keeps_same 1 w)) e
+-- a deed, by what the code says of it
+pub done_grows : (turn : Turn) (id : ℕ) (action : Action) (w v : World) → flow_of turn v ≡ deed id action w → IsGrownFrom w v
+done_grows turn id action w v e = flow_grows turn w v (deed id action w) (deed_grows id action w) e
 
 -- ---- loops: one more of a list
 
@@ -108,20 +91,6 @@ split_at : {X : Type 0} (index : ℕ) (xs : List X) (x : X) → index < length x
 split_at index xs x less e =
     let next : suc index ≡ index + 1 = omega arith in
     drop-cons xs index x less ∙ ap (λ y. y ∷ drop (suc index) xs) (sym e) ∙ ap (λ n. x ∷ drop n xs) next
-
-pub performed_on : (id index : ℕ) (actions : List Action) (action : Action) (w v : World) (whole : Flow) → index < length actions → action ≡ get_or actions index action → On v ≡ perform id action w
-    → perform_all id (drop index actions) w ≡ whole → perform_all id (drop (index + 1) actions) v ≡ whole
-performed_on id index actions action w v whole less e step done =
-    ap (λ (fl : Flow). fl >>= perform_all id (drop (index + 1) actions)) step
-    ∙ sym (ap (λ (xs : List Action). perform_all id xs w) (split_at index actions action less e))
-    ∙ done
-
-pub performed_last_on : (id index : ℕ) (actions : List Action) (action : Action) (w v : World) (whole : Flow) → index < length actions → action ≡ get_or actions index action → On v ≡ perform_last id action w
-    → perform_last_all id (drop index actions) w ≡ whole → perform_last_all id (drop (index + 1) actions) v ≡ whole
-performed_last_on id index actions action w v whole less e step done =
-    ap (λ (fl : Flow). fl >>= perform_last_all id (drop (index + 1) actions)) step
-    ∙ sym (ap (λ (xs : List Action). perform_last_all id xs w) (split_at index actions action less e))
-    ∙ done
 
 -- ---- an event that begins
 

@@ -4,8 +4,8 @@ ghost use Rattle.std.specs.Prelude.{◌≡◌, ◌+◌, ◌^◌, ◌<◌, OnOk, 
 ghost use Rattle.run_questions.specs.Questions.{is_of_modules};
 ghost use Rattle.question_log.specs.Entries.{noted_in};
 ghost use Rattle.run_semantics.specs.World.{empty, asked, timed};
-ghost use Rattle.run_semantics.specs.Perform.{flow_of, perform, perform_all, scheduled_at, ask_all, question_of, acted, unless_fault, broken};
-ghost use Rattle.run_semantics.specs.Ending.{is_last_action, perform_last, perform_last_all, acted_last, with_finished};
+ghost use Rattle.run_semantics.specs.Perform.{flow_of, deed, scheduled_at, ask_all, ask_noted, question_of, broken};
+ghost use Rattle.run_semantics.specs.Ending.{with_finished};
 ghost use Rattle.kernel_actions.specs.Upcoming.{asked_in, first_is_beyond, looked, with_injection_asked, upcoming_of, Begins};
 ghost use Rattle.run_semantics.specs.Upcoming.{Comes, first_due, first_of};
 ghost use Rattle.injection_order.specs.Injections.{injection_before};
@@ -23,12 +23,13 @@ use event_set::pending::{Happening, Pending};
 use event_set::set::EventSet;
 use injection_order::injection::{Due, Injection, Turn as InjectionTurn, injection_before};
 use module_api::names::is_scalar_name;
-use module_api::reply::{Action, Read, Reply, Schedule};
+use module_api::reply::{Action, Read, Schedule};
 use question_log::cutting::cut_items;
 use question_log::entry::Entry;
 use question_log::log::QuestionLog;
 use run_questions::answer::{Answer, Built, Question, is_beyond};
 use run_questions::record::{Record, path_of, submodule_path};
+use run_semantics::occasions::{Occasion, is_noted};
 use run_semantics::outcome::{Fault, Outcome, Turn, fault_of};
 use run_semantics::signals::SignalNames;
 use run_semantics::traces::{Emission, Instance, Scalar};
@@ -39,9 +40,6 @@ use sqlite_items::Items;
 use std::alloc::Global;
 use std::marker::Model;
 use subtrees::{common, inner_first, outer_first};
-
-/// How many actions a reply has at most.
-const MAX_ACTIONS: usize = 1000;
 
 /// How many modules live at most.
 const MAX_LIVE: usize = 65_536;
@@ -196,10 +194,10 @@ impl Core {
         self.ended
     }
 
-    // ---- actions
+    // ---- deeds: actions that ask nothing and call no module
 
     /// A fault of the module of that id.
-    fn broken(&self, alloc: Global, id: u32, fault: Fault) -> Result<Turn, NoMemory>
+    pub fn broken(&self, alloc: Global, id: u32, fault: Fault) -> Result<Turn, NoMemory>
         ensures { IfOk result (λ turn. flow_of turn self.now ≡ broken id fault self.now) }
     {
         let path = path_of(alloc, self.records.as_slice(), id)?;
@@ -231,7 +229,7 @@ impl Core {
     fn schedule(&mut self, alloc: Global, id: u32, schedule: &Schedule) -> Result<Turn, NoMemory>
         requires { self.old.next + 1 < 2 ^ 128 }
         ensures flow { IfOk result (λ turn. flow_of turn self.new
-            ≡ perform id (Action.ScheduleAfter schedule.now) self.old) }
+            ≡ deed id (Action.ScheduleAfter schedule.now) self.old) }
         ensures err { OnErr result (self.new ≡ self.old) }
     {
         match self.clock.checked_add(schedule.delay) {
@@ -243,7 +241,7 @@ impl Core {
     /// Notes an emission.
     fn emit(&mut self, alloc: Global, id: u32, signal: &Text, value: i64) -> Result<Turn, NoMemory>
         ensures flow { IfOk result (λ turn. flow_of turn self.new
-            ≡ perform id (Action.Emit signal.now value) self.old) }
+            ≡ deed id (Action.Emit signal.now value) self.old) }
         ensures err { OnErr result (self.new ≡ self.old) }
     {
         let signal = self.names.shared(alloc, signal)?;
@@ -260,7 +258,7 @@ impl Core {
     /// Notes a scalar, where it has a name.
     fn record(&mut self, alloc: Global, id: u32, name: &Text, value: i64) -> Result<Turn, NoMemory>
         ensures flow { IfOk result (λ turn. flow_of turn self.new
-            ≡ perform id (Action.RecordScalar name.now value) self.old) }
+            ≡ deed id (Action.RecordScalar name.now value) self.old) }
         ensures err { OnErr result (self.new ≡ self.old) }
     {
         if !is_scalar_name(name.as_bytes()) {
@@ -271,11 +269,10 @@ impl Core {
         Ok(Turn::GoOn)
     }
 
-    /// One action of the module of that id.
-    fn perform(&mut self, alloc: Global, id: u32, action: &Action) -> Result<Turn, NoMemory>
+    /// One deed of the module of that id.
+    pub fn deed(&mut self, alloc: Global, id: u32, action: &Action) -> Result<Turn, NoMemory>
         requires { self.old.next + 1 < 2 ^ 128 }
-        ensures flow { IfOk result (λ turn.
-            flow_of turn self.new ≡ perform id action.now self.old) }
+        ensures flow { IfOk result (λ turn. flow_of turn self.new ≡ deed id action.now self.old) }
         ensures err { OnErr result (self.new ≡ self.old) }
     {
         match action {
@@ -287,22 +284,6 @@ impl Core {
                 self.broken(alloc, id, Fault::ModuleFailed(text))
             }
         }
-    }
-
-    /// The actions of a reply, in order.
-    fn perform_all(&mut self, alloc: Global, id: u32, actions: &[Action]) -> Result<Turn, NoMemory>
-        requires { self.old.next + length actions.now < 2 ^ 128 }
-        ensures flow { IfOk result (λ turn. flow_of turn self.new
-            ≡ perform_all id actions.now self.old) }
-        ensures grown { IsGrownFrom self.old self.new }
-    {
-        for action in actions {
-            match self.perform(alloc, id, action)? {
-                Turn::GoOn => {}
-                turn => return Ok(turn),
-            }
-        }
-        Ok(Turn::GoOn)
     }
 
     // ---- reads
@@ -327,111 +308,25 @@ impl Core {
         Ok(())
     }
 
-    // ---- replies
-
-    /// The actions of a reply, where there are at most 1,000.
+    /// Notes the questions of all values that a reply used, where they are noted.
     #[tactic(auto, using(crate::proofs::Lasting::growth_same))]
-    fn act(&mut self, alloc: Global, id: u32, actions: &[Action]) -> Result<Turn, NoMemory>
-        requires { self.old.next + 1000 < 2 ^ 128 }
-        ensures flow { IfOk result (λ turn. flow_of turn self.new ≡ acted id actions.now self.old) }
-        ensures grown { IsGrownFrom self.old self.new }
-    {
-        if actions.len() > MAX_ACTIONS {
-            return self.broken(alloc, id, Fault::TooManyActions);
-        }
-        self.perform_all(alloc, id, actions)
-    }
-
-    /// Carries out a reply, whose reads have this fault, or none: they are asked in any case.
-    #[tactic(auto, using(crate::proofs::Lasting::growth_same))]
-    pub fn follow(
+    pub fn ask_noted(
         &mut self,
         alloc: Global,
+        occasion: Occasion,
         id: u32,
-        fault: Option<Fault>,
-        reply: &Reply,
-    ) -> Result<Turn, NoMemory>
-        requires { self.old.next + 1000 < 2 ^ 128 }
-        ensures flow { IfOk result (λ turn. flow_of turn self.new
-            ≡ unless_fault id fault (acted id reply.now.actions)
-            (ask_all id reply.now.reads self.old)) }
+        reads: &[Read],
+    ) -> Result<(), NoMemory>
+        ensures noted { OnOk result (self.new ≡ ask_noted occasion id reads.now self.old) }
         ensures grown { IsGrownFrom self.old self.new }
     {
-        self.ask_all(alloc, id, reply.reads.as_slice())?;
-        match fault {
-            Some(fault) => self.broken(alloc, id, fault),
-            None => self.act(alloc, id, reply.actions.as_slice()),
+        if is_noted(occasion) {
+            return self.ask_all(alloc, id, reads);
         }
+        Ok(())
     }
 
     // ---- the end
-
-    /// One action of a reply to the end.
-    fn perform_last(&mut self, alloc: Global, id: u32, action: &Action) -> Result<Turn, NoMemory>
-        requires { self.old.next + 1 < 2 ^ 128 }
-        ensures flow { IfOk result (λ turn. flow_of turn self.new
-            ≡ perform_last id action.now self.old) }
-        ensures err { OnErr result (self.new ≡ self.old) }
-    {
-        if !is_last_action(action) {
-            return self.broken(alloc, id, Fault::NotInFinish);
-        }
-        self.perform(alloc, id, action)
-    }
-
-    /// The actions of a reply to the end, in order.
-    fn perform_last_all(
-        &mut self,
-        alloc: Global,
-        id: u32,
-        last_actions: &[Action],
-    ) -> Result<Turn, NoMemory>
-        requires { self.old.next + length last_actions.now < 2 ^ 128 }
-        ensures flow { IfOk result (λ turn. flow_of turn self.new
-            ≡ perform_last_all id last_actions.now self.old) }
-        ensures grown { IsGrownFrom self.old self.new }
-    {
-        for action in last_actions {
-            match self.perform_last(alloc, id, action)? {
-                Turn::GoOn => {}
-                turn => return Ok(turn),
-            }
-        }
-        Ok(Turn::GoOn)
-    }
-
-    #[tactic(auto, using(crate::proofs::Lasting::growth_same))]
-    fn act_last(&mut self, alloc: Global, id: u32, actions: &[Action]) -> Result<Turn, NoMemory>
-        requires { self.old.next + 1000 < 2 ^ 128 }
-        ensures flow { IfOk result (λ turn.
-            flow_of turn self.new ≡ acted_last id actions.now self.old) }
-        ensures grown { IsGrownFrom self.old self.new }
-    {
-        if actions.len() > MAX_ACTIONS {
-            return self.broken(alloc, id, Fault::TooManyActions);
-        }
-        self.perform_last_all(alloc, id, actions)
-    }
-
-    /// Carries out a reply to a call for the end, whose reads have this fault, or none.
-    #[tactic(auto, using(crate::proofs::Lasting::growth_same))]
-    pub fn follow_last(
-        &mut self,
-        alloc: Global,
-        id: u32,
-        fault: Option<Fault>,
-        reply: &Reply,
-    ) -> Result<Turn, NoMemory>
-        requires { self.old.next + 1000 < 2 ^ 128 }
-        ensures flow { IfOk result (λ turn. flow_of turn self.new
-            ≡ unless_fault id fault (acted_last id reply.now.actions) self.old) }
-        ensures grown { IsGrownFrom self.old self.new }
-    {
-        match fault {
-            Some(fault) => self.broken(alloc, id, fault),
-            None => self.act_last(alloc, id, reply.actions.as_slice()),
-        }
-    }
 
     /// Notes that a module is finished.
     pub fn mark_finished(&mut self, id: u32) -> Result<(), NoMemory>
@@ -496,15 +391,18 @@ impl Core {
         ensures begun { let world = looked self.old look in
             OnOk result (self.new ≡ timed (BeyondLimit time)
             (record world { clock = time; count = world.count + 1 })) }
+        ensures err { OnErr result (self.new.count ≡ self.old.count) }
         ensures grown { IsGrownFrom self.old self.new }
     {
         let Look { delivered, asked } = look;
         self.note_looks(alloc, asked.as_slice())?;
+        let event = self.count + 1;
+        self.questions
+            .note_time(alloc, event, Question::BeyondLimit(time.ps()))?;
         self.delivered = delivered;
         self.clock = time;
-        self.count += 1;
-        self.questions
-            .note_time(alloc, self.count, Question::BeyondLimit(time.ps()))
+        self.count = event;
+        Ok(())
     }
 
     /// Notes the questions of these looks, which are of the event behind.
@@ -515,6 +413,7 @@ impl Core {
               questions = self.old.questions
                   ++ asked_in (self.old.count + 1) looks.now;
             }) }
+        ensures count { self.new.count ≡ self.old.count }
         ensures grown { IsGrownFrom self.old self.new }
     {
         for look in looks {
@@ -785,15 +684,5 @@ impl Core {
         self.pending = coming;
         self.ended = position.ended;
         self.delivered = position.delivered;
-    }
-}
-
-/// Whether an action is for a reply to the end.
-fn is_last_action(action: &Action) -> bool
-    ensures { result ≡ is_last_action action.now }
-{
-    match action {
-        Action::Emit(_, _) | Action::RecordScalar(_, _) | Action::Fail(_) => true,
-        Action::ScheduleAfter(_) => false,
     }
 }

@@ -5,7 +5,7 @@ use Rattle.ned_trees.specs.declared.declarations.SectionLine.{SectionLine}
 use Rattle.ned_trees.specs.declared.declarations.SectionLine.TheVariants as line
 use Rattle.ned_trees.specs.declared.declarations.TypeDeclaration.{TypeDeclaration}
 use Rattle.ned_trees.specs.declared.declarations.TypeKind.{TypeKind}
-use Rattle.ned_trees.specs.declared.declarations.TypeKind.TheVariants.{Network}
+use Rattle.ned_trees.specs.declared.declarations.TypeKind.TheVariants.{Simple, Network, Channel, ModuleInterface, ChannelInterface}
 use Rattle.sim_values.specs.declared.value.Value.{Value}
 use Rattle.run_questions.specs.declared.answer.Answer.{Answer}
 use Rattle.run_questions.specs.declared.answer.Answer.TheVariants as answer
@@ -39,7 +39,10 @@ inside_of m path t = built_answer (built_all m (told_by_type path t) t.submodule
 
 abbrev pub inside_by : Model → List ℕ → TypeDeclaration → TypeKind → Answer
 inside_by m path t Network = inside_of m path t
-inside_by m path t _ = answer.Absent
+inside_by m path t Simple = answer.Absent
+inside_by m path t Channel = answer.Absent
+inside_by m path t ModuleInterface = answer.Absent
+inside_by m path t ChannelInterface = answer.Absent
 
 abbrev pub inside_answer : Model → List ℕ → Option TypeDeclaration → Answer
 inside_answer m path None = answer.Absent
@@ -57,7 +60,10 @@ value_in site name = value_answer site.own.path (parameter_value site name)
 abbrev pub names_in : List SectionLine → List (List ℕ)
 names_in [] = []
 names_in (line.Declaration d ∷ ls) = d.name ∷ names_in ls
-names_in (_ ∷ ls) = names_in ls
+names_in (line.Assignment a ∷ ls) = names_in ls
+names_in (line.Statistic s ∷ ls) = names_in ls
+names_in (line.Class name ∷ ls) = names_in ls
+names_in (line.Ignored ∷ ls) = names_in ls
 
 -- the value of a parameter of the module that stands there
 abbrev pub answer_in : Site → List ℕ → Answer

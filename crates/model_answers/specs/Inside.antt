@@ -5,7 +5,7 @@ use Rattle.ned_trees.specs.declared.declarations.SectionLine.TheVariants as line
 use Rattle.ned_trees.specs.declared.declarations.Submodule.{Submodule}
 use Rattle.ned_trees.specs.declared.declarations.TypeDeclaration.{TypeDeclaration}
 use Rattle.ned_trees.specs.declared.declarations.TypeKind.{TypeKind}
-use Rattle.ned_trees.specs.declared.declarations.TypeKind.TheVariants.{Simple}
+use Rattle.ned_trees.specs.declared.declarations.TypeKind.TheVariants.{Simple, Network, Channel, ModuleInterface, ChannelInterface}
 use Rattle.sim_values.specs.declared.value.Value.{Value}
 use Rattle.ned_types.specs.Flat.{class_of}
 use Rattle.run_questions.specs.declared.answer.Built.{Built}
@@ -26,7 +26,10 @@ fault_of_value (Err fault) = Some fault
 -- the fault of the parameter that a line declares, in a module that stands there
 abbrev pub fault_at : Site → SectionLine → Option ModelFault
 fault_at site (line.Declaration d) = fault_of_value (parameter_value site d.name)
-fault_at site _ = None
+fault_at site (line.Assignment a) = None
+fault_at site (line.Statistic s) = None
+fault_at site (line.Class name) = None
+fault_at site line.Ignored = None
 
 abbrev pub first_of : Option ModelFault → Option ModelFault → Option ModelFault
 first_of (Some fault) other = Some fault
@@ -43,7 +46,10 @@ fault_of_site site = fault_in site site.own.lines
 
 abbrev pub class_by : TypeKind → List ℕ → Option (List ℕ)
 class_by Simple class = Some class
-class_by _ class = None
+class_by Network class = None
+class_by Channel class = None
+class_by ModuleInterface class = None
+class_by ChannelInterface class = None
 
 -- the class that a module of the type has, none for a compound module
 abbrev pub class_to_build : TypeDeclaration → Option (List ℕ)

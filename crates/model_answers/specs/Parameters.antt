@@ -16,7 +16,8 @@ fault_of eval_fault.Overflow = Overflow
 fault_of eval_fault.Inexact = Inexact
 fault_of eval_fault.Mismatch = Mismatch
 fault_of eval_fault.Circle = Circle
-fault_of _ = Unassigned
+fault_of eval_fault.Unassigned = Unassigned
+fault_of eval_fault.TooDeep = Unassigned
 
 abbrev pub told : Evaluated → Result Value ModelFault
 told (Ok v) = Ok v

@@ -7,7 +7,7 @@ use Rattle.ini_texts.specs.Sections.{entries_along}
 use Rattle.ned_trees.specs.declared.declarations.Submodule.{Submodule}
 use Rattle.ned_trees.specs.declared.declarations.TypeDeclaration.{TypeDeclaration}
 use Rattle.ned_trees.specs.declared.declarations.TypeKind.{TypeKind}
-use Rattle.ned_trees.specs.declared.declarations.TypeKind.TheVariants.{Network}
+use Rattle.ned_trees.specs.declared.declarations.TypeKind.TheVariants.{Simple, Network, Channel, ModuleInterface, ChannelInterface}
 use Rattle.ned_types.specs.Types.{type_named}
 use Rattle.ned_types.specs.Flat.{submodule_named}
 use Rattle.models.specs.declared.model.Model.{Model}
@@ -20,7 +20,10 @@ entries_in m = entries_along m.chain m.ini
 
 abbrev pub of_kind : TypeKind → TypeDeclaration → Option TypeDeclaration
 of_kind Network t = Some t
-of_kind _ t = None
+of_kind Simple t = None
+of_kind Channel t = None
+of_kind ModuleInterface t = None
+of_kind ChannelInterface t = None
 
 abbrev pub as_network : TypeDeclaration → Option TypeDeclaration
 as_network t = of_kind t.kind t

@@ -73,7 +73,14 @@ answer_of a records (question.InjectionBefore due last) = answer.Injection (inje
 
 abbrev pub with_value : List ℕ → Answer → List Parameter → List Parameter
 with_value name (answer.Value v) rest = record { name = name; value = v } ∷ rest
-with_value name _ rest = rest
+with_value name (answer.Root network) rest = rest
+with_value name (answer.Inside bs) rest = rest
+with_value name (answer.Gate g) rest = rest
+with_value name (answer.Next next) rest = rest
+with_value name (answer.Fault path f) rest = rest
+with_value name (answer.Beyond beyond) rest = rest
+with_value name (answer.Injection i) rest = rest
+with_value name answer.Absent rest = rest
 
 abbrev pub with_values : (List ℕ → Answer) → List (List ℕ) → List Parameter
 with_values values [] = []

@@ -6,12 +6,19 @@ use Rattle.run_questions.specs.declared.answer.Question.TheVariants.{Root, Build
 -- Whether both ask the same of the model's modules. What is asked of a time is asked of one event, and never the same.
 abbrev pub same_question : Question → Question → Bool
 same_question Root Root = true
+same_question Root _ = false
 same_question (Build id) (Build other) = id == other
+same_question (Build id) _ = false
 same_question (Param id name) (Param other named) = (id == other) && bytes_eq name named
+same_question (Param id name) _ = false
 same_question (GateSize id name) (GateSize other named) = (id == other) && bytes_eq name named
+same_question (GateSize id name) _ = false
 same_question (Hop id name index) (Hop other named place) = (id == other) && (bytes_eq name named && (index == place))
+same_question (Hop id name index) _ = false
 same_question (HopBack id name index) (HopBack other named place) = (id == other) && (bytes_eq name named && (index == place))
-same_question _ _ = false
+same_question (HopBack id name index) _ = false
+same_question (BeyondLimit time) _ = false
+same_question (InjectionBefore due last) _ = false
 
 -- whether it is asked of the model's modules; any other is asked of a time
 abbrev pub is_of_modules : Question → Bool

@@ -63,8 +63,9 @@ enclosing records id = around_by (lineage_up 31 records) (record_at records id)
 
 abbrev pub same_index : Option ℕ → Option ℕ → Bool
 same_index None None = true
+same_index None (Some k) = false
+same_index (Some i) None = false
 same_index (Some i) (Some k) = i == k
-same_index _ _ = false
 
 -- whether a record is of a submodule of that name and index
 abbrev pub is_named : ℕ → List ℕ → Option ℕ → Record → Bool

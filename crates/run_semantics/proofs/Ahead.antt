@@ -1,5 +1,5 @@
 -- The order of injections: none that is not delivered is due before the clock, and none before what comes next.
-use Rattle.std.proofs.Common.{◌≡◌, ◌⊎◌, inl, inr, ℕ, zero, suc, ◌≤◌, ◌==◌, nat_lt, int_lt, Bool, true, false, true≢false, List, [], ◌∷◌, Option, Some, None, refl, sym, ◌∙◌, arith, subst, if◌then◌else◌, ltb-true, eqb-true}
+use Rattle.std.proofs.Common.{◌≡◌, ◌⊎◌, inl, inr, ℕ, zero, suc, ◌≤◌, ◌==◌, nat_lt, int_lt, Bool, true, false, true≢false, List, [], ◌∷◌, Option, Some, None, length, refl, sym, ◌∙◌, arith, subst, if◌then◌else◌, ltb-true, eqb-true}
 use Rattle.std.proofs.lemmas.Bool.Decides.{nat_tests}
 use Rattle.run_questions.specs.declared.answer.Answer.TheVariants as answer
 use Rattle.run_questions.specs.declared.answer.Question.TheVariants.{InjectionBefore}
@@ -11,7 +11,7 @@ use Rattle.injection_order.specs.Injections.{due_before, goes_before, turn_of, i
 use Rattle.event_set.specs.declared.pending.Pending.{Pending}
 use Rattle.run_semantics.specs.Laws.{Each, AreInOrder}
 use Rattle.run_semantics.specs.World.{World, asked_next}
-use Rattle.run_semantics.specs.Upcoming.{first_due, delivered, target_of, Upcoming, Comes, Nothing, first_of, aimed, chosen, upcoming_in, most_injections, upcoming}
+use Rattle.run_semantics.specs.Upcoming.{first_due, delivered, target_of, Upcoming, Comes, Nothing, first_of, aimed, chosen, upcoming_in, upcoming}
 use Rattle.event_set.proofs.Order.{before_time, each_map}
 
 -- ---- times
@@ -177,4 +177,4 @@ coming_well (suc left) m time ps v order due ahead =
 -- what comes next
 pub upcoming_well : (m : Answers) (w : World) → AreInOrder w.pending → Each (λ g. w.clock ≤ g.time) w.pending → IsAhead w.clock w.delivered m.injections → ComesWell m w.clock w.pending (upcoming m w)
 unfolding upcoming
-upcoming_well m w order due ahead = coming_well (suc most_injections) m w.clock w.pending w order due ahead
+upcoming_well m w order due ahead = coming_well (suc (length m.injections)) m w.clock w.pending w order due ahead

@@ -7,15 +7,16 @@ use Rattle.module_api.specs.declared.call.Prompt.TheVariants as prompt
 use Rattle.module_api.specs.Behaviour.{Behaviour}
 use Rattle.module_api.specs.Names.{is_scalar_name}
 use Rattle.run_questions.specs.Answers.{Answers}
+use Rattle.run_semantics.specs.declared.occasions.Occasion.TheVariants as occasion
 use Rattle.run_semantics.specs.declared.outcome.Fault.{Fault}
 use Rattle.run_semantics.specs.declared.outcome.Fault.TheVariants as fault
 use Rattle.run_semantics.specs.declared.outcome.Outcome.{Outcome}
 use Rattle.run_semantics.specs.declared.traces.Instance.{Instance}
 use Rattle.run_semantics.specs.World.{World}
-use Rattle.run_semantics.specs.Perform.{Flow, On, Stopped, Broken, ◌>>=◌, broken, for_each, read_fault, unless_fault, with_scalar}
+use Rattle.run_semantics.specs.Perform.{Flow, On, Stopped, Broken, ◌>>=◌, act, act_all, acted, answered, broken, for_each, read_fault, unless_fault, with_scalar}
 use Rattle.run_semantics.specs.Event.{call_of, called, instance_in, changed}
 use Rattle.run_semantics.specs.Run.{Ran, is_fault}
-use Rattle.run_semantics.specs.Ending.{perform_last, perform_last_all, acted_last, answered_last, call_last, marked, with_finished, finish, finish_all, to_finish, concluded, ending}
+use Rattle.run_semantics.specs.Ending.{call_last, marked, with_finished, finish, finish_all, to_finish, concluded, ending}
 use Rattle.run_semantics.specs.Laws.{GoesOn}
 use Rattle.run_semantics.proofs.Sound.{in_flow}
 use Rattle.run_semantics.proofs.Orderly.{on_same, on_more}
@@ -58,36 +59,38 @@ either_closed : (c : Bool) (f g : Flow) (w : World) → IsClosed w (in_flow f) �
 either_closed true f g w x y = x
 either_closed false f g w x y = y
 
-perform_closed : (id : ℕ) (action : Action) (w : World) → IsClosed w (in_flow (perform_last id action w))
-perform_closed id (Emit signal value) w = record { questions = refl; records = refl; count = refl; live = refl; started = refl; finished = on_same w.finished; emissions = (_, refl); scalars = on_same w.scalars }
-perform_closed id (RecordScalar name value) w =
+act_closed : (b : Behaviour) (m : Answers) (id : ℕ) (action : Action) (w : World) → IsClosed w (in_flow (act b m occasion.End id action w))
+act_closed b m id (Emit signal value) w = record { questions = refl; records = refl; count = refl; live = refl; started = refl; finished = on_same w.finished; emissions = (_, refl); scalars = on_same w.scalars }
+act_closed b m id (RecordScalar name value) w =
     either_closed (is_scalar_name name) (On (with_scalar id name value w)) (broken id fault.BadName w) w
     (record { questions = refl; records = refl; count = refl; live = refl; started = refl; finished = on_same w.finished; emissions = on_same w.emissions; scalars = (_, refl) })
     (closed_same w)
-perform_closed id (ScheduleAfter s) w = closed_same w
-perform_closed id (Fail text) w = closed_same w
+act_closed b m id (ScheduleAfter s) w = closed_same w
+act_closed b m id (Fail text) w = closed_same w
 
-perform_all_closed : (id : ℕ) (actions : List Action) (w : World) → IsClosed w (in_flow (perform_last_all id actions w))
-perform_all_closed id [] w = closed_same w
-perform_all_closed id (action ∷ actions) w = closed_then w (perform_last id action w) (perform_last_all id actions) (perform_closed id action w) (perform_all_closed id actions)
+act_all_closed : (b : Behaviour) (m : Answers) (id : ℕ) (actions : List Action) (w : World) → IsClosed w (in_flow (act_all b m occasion.End id actions w))
+act_all_closed b m id [] w = closed_same w
+act_all_closed b m id (action ∷ actions) w =
+    closed_then w (act b m occasion.End id action w) (for_each (act b m occasion.End id) actions) (act_closed b m id action w) (act_all_closed b m id actions)
 
-acted_closed : (id : ℕ) (actions : List Action) (w : World) → IsClosed w (in_flow (acted_last id actions w))
-acted_closed id actions w = either_closed (nat_lt 1000 (length actions)) (broken id fault.TooManyActions w) (perform_last_all id actions w) w (closed_same w) (perform_all_closed id actions w)
+acted_closed : (b : Behaviour) (m : Answers) (id : ℕ) (actions : List Action) (w : World) → IsClosed w (in_flow (acted b m occasion.End id actions w))
+acted_closed b m id actions w =
+    either_closed (nat_lt 1000 (length actions)) (broken id fault.TooManyActions w) (act_all b m occasion.End id actions w) w (closed_same w) (act_all_closed b m id actions w)
 
 unless_closed : (id : ℕ) (found : Option Fault) (go : World → Flow) (w : World) → IsClosed w (in_flow (go w)) → IsClosed w (in_flow (unless_fault id found go w))
 unless_closed id (Some f) go w h = closed_same w
 unless_closed id None go w h = h
 
-answered_closed : (m : Answers) (id : ℕ) (reply : Reply) (w : World) → IsClosed w (in_flow (answered_last m id reply w))
-answered_closed m id reply w = unless_closed id (read_fault m w.records id reply.reads) (acted_last id reply.actions) w (acted_closed id reply.actions w)
+answered_closed : (b : Behaviour) (m : Answers) (id : ℕ) (reply : Reply) (w : World) → IsClosed w (in_flow (answered b m occasion.End id reply w))
+answered_closed b m id reply w = unless_closed id (read_fault m w.records id reply.reads) (acted b m occasion.End id reply.actions) w (acted_closed b m id reply.actions w)
 
-called_closed : (b : Behaviour) (m : Answers) (id : ℕ) (w : World) (found : Option Instance) → IsClosed w (in_flow (called b m (answered_last m id) id prompt.Finish w found))
+called_closed : (b : Behaviour) (m : Answers) (id : ℕ) (w : World) (found : Option Instance) → IsClosed w (in_flow (called b m (answered b m occasion.End id) id prompt.Finish w found))
 called_closed b m id w None = closed_same w
 called_closed b m id w (Some i) =
     let r = (b.naming i.kind).reply i.state (call_of m id prompt.Finish w) in
-    closed_on w (changed id r.state w) (in_flow (answered_last m id r.reply (changed id r.state w)))
+    closed_on w (changed id r.state w) (in_flow (answered b m occasion.End id r.reply (changed id r.state w)))
     (record { questions = refl; records = refl; count = refl; live = refl; started = refl; finished = on_same w.finished; emissions = on_same w.emissions; scalars = on_same w.scalars })
-    (answered_closed m id r.reply (changed id r.state w))
+    (answered_closed b m id r.reply (changed id r.state w))
 
 finish_closed : (b : Behaviour) (m : Answers) (id : ℕ) (w : World) → IsClosed w (in_flow (finish b m id w))
 finish_closed b m id w = closed_then w (call_last b m id w) (marked id) (called_closed b m id w (instance_in id w.modules)) (closed_marked id)

@@ -19,11 +19,13 @@ use Rattle.run_questions.specs.declared.answer.Question.{Question}
 use Rattle.run_questions.specs.declared.answer.Question.TheVariants.{Root, Build}
 use Rattle.run_questions.specs.Answers.{Answers, answer_of}
 use Rattle.run_questions.specs.declared.record.Record.{Record}
+use Rattle.run_semantics.specs.declared.occasions.Occasion.{Occasion}
+use Rattle.run_semantics.specs.declared.occasions.Occasion.TheVariants as occasion
 use Rattle.run_semantics.specs.declared.outcome.Fault.{Fault}
 use Rattle.run_semantics.specs.declared.traces.Instance.{Instance}
 use Rattle.run_semantics.specs.World.{World, empty, asked, is_asked, timed}
 use Rattle.event_set.specs.Timers.{has_timer}
-use Rattle.run_semantics.specs.Perform.{Flow, On, Stopped, Broken, ◌>>=◌, asking, for_each, scheduled, perform, perform_all, ask_all, question_of, acted, read_fault, unless_fault, answered}
+use Rattle.run_semantics.specs.Perform.{Flow, On, Stopped, Broken, ◌>>=◌, asking, for_each, scheduled, deed, is_allowed, act, act_all, ask_all, question_of, acted, read_fault, unless_fault, answered}
 use Rattle.run_semantics.specs.Event.{call_of, instance_in, with_state, changed, replied, called, call_module, event}
 use Rattle.run_semantics.specs.Run.{with_network, rooted, record_under, with_submodules, room_in, unless_many, created, set_up, Part, with_class, parts_from, parts_of, place, place_all, place_parts, stages_in, most_stages, initialize, one_stage, stages_from, started, initialize_all, with_started}
 use Rattle.run_semantics.specs.Subtree.{outer_first}
@@ -169,21 +171,25 @@ scheduled_grows : (id : ℕ) (s : Schedule) (w : World) (time : Option ℕ) → 
 scheduled_grows id s w None f = grown_same w f
 scheduled_grows id s w (Some time) f = either_grows w (has_timer id s.timer w.pending) _ _ (grown_same w f) (grown_beside w _ f refl refl refl refl)
 
--- an action asks nothing
-perform_grows : (id : ℕ) (action : Action) (w : World) → Fits w → IsGrown w (in_flow (perform id action w))
-perform_grows id (Emit signal value) w f = grown_beside w _ f refl refl refl refl
-perform_grows id (RecordScalar name value) w f = either_grows w (is_scalar_name name) _ _ (grown_beside w _ f refl refl refl refl) (grown_same w f)
-perform_grows id (ScheduleAfter s) w f = scheduled_grows id s w (time_sum w.clock s.delay) f
-perform_grows id (Fail text) w f = grown_same w f
+-- a deed asks nothing
+deed_grows : (id : ℕ) (action : Action) (w : World) → Fits w → IsGrown w (in_flow (deed id action w))
+deed_grows id (Emit signal value) w f = grown_beside w _ f refl refl refl refl
+deed_grows id (RecordScalar name value) w f = either_grows w (is_scalar_name name) _ _ (grown_beside w _ f refl refl refl refl) (grown_same w f)
+deed_grows id (ScheduleAfter s) w f = scheduled_grows id s w (time_sum w.clock s.delay) f
+deed_grows id (Fail text) w f = grown_same w f
+
+-- nor does an action, which is a deed
+pub act_grows : (b : Behaviour) (m : Answers) (o : Occasion) (id : ℕ) (action : Action) (w : World) → Fits w → IsGrown w (in_flow (act b m o id action w))
+act_grows b m o id action w f = either_grows w (is_allowed o action) _ _ (deed_grows id action w f) (grown_same w f)
 
 -- nor do all actions of a reply
-perform_all_grows : (id : ℕ) (actions : List Action) (w : World) → Fits w → IsGrown w (in_flow (perform_all id actions w))
-perform_all_grows id [] w f = grown_same w f
-perform_all_grows id (action ∷ actions) w f = grown_then w (perform id action w) (perform_all id actions) (perform_grows id action w f) (perform_all_grows id actions)
+act_all_grows : (b : Behaviour) (m : Answers) (o : Occasion) (id : ℕ) (actions : List Action) (w : World) → Fits w → IsGrown w (in_flow (act_all b m o id actions w))
+act_all_grows b m o id [] w f = grown_same w f
+act_all_grows b m o id (action ∷ actions) w f = grown_then w (act b m o id action w) (for_each (act b m o id) actions) (act_grows b m o id action w f) (act_all_grows b m o id actions)
 
 -- nor do they where there may be too many
-acted_grows : (id : ℕ) (actions : List Action) (w : World) → Fits w → IsGrown w (in_flow (acted id actions w))
-acted_grows id actions w f = either_grows w (nat_lt 1000 (length actions)) _ _ (grown_same w f) (perform_all_grows id actions w f)
+acted_grows : (b : Behaviour) (m : Answers) (o : Occasion) (id : ℕ) (actions : List Action) (w : World) → Fits w → IsGrown w (in_flow (acted b m o id actions w))
+acted_grows b m o id actions w f = either_grows w (nat_lt 1000 (length actions)) _ _ (grown_same w f) (act_all_grows b m o id actions w f)
 
 -- ---- questions
 
@@ -243,8 +249,8 @@ unless_grows w id (Some fault) go f h = grown_same w f
 unless_grows w id None go f h = h
 
 -- what follows the questions
-pub answered_on : (id : ℕ) (found : Option Fault) (actions : List Action) (w : World) → Fits w → IsGrown w (in_flow (unless_fault id found (acted id actions) w))
-answered_on id found actions w f = unless_grows w id found (acted id actions) f (acted_grows id actions w f)
+pub answered_on : (b : Behaviour) (m : Answers) (o : Occasion) (id : ℕ) (found : Option Fault) (actions : List Action) (w : World) → Fits w → IsGrown w (in_flow (unless_fault id found (acted b m o id actions) w))
+answered_on b m o id found actions w f = unless_grows w id found (acted b m o id actions) f (acted_grows b m o id actions w f)
 
 -- a new state leaves the ids
 pub fits_changed : (id : ℕ) (state : List ℕ) (w : World) → Fits w → Fits (changed id state w)
@@ -255,10 +261,10 @@ fits_changed id state w f = record {
 }
 
 -- what follows a reply asks for its reads
-pub answered_grows : (m : Answers) (id : ℕ) (reply : Reply) (w : World) → Fits w → id ≤ length w.records → IsGrown w (in_flow (answered m id reply w))
-answered_grows m id reply w f l =
+pub answered_grows : (b : Behaviour) (m : Answers) (id : ℕ) (reply : Reply) (w : World) → Fits w → id ≤ length w.records → IsGrown w (in_flow (answered b m occasion.Event id reply w))
+answered_grows b m id reply w f l =
     let asks = ask_all_grows id reply.reads w f l in
-    grown_on asks (answered_on id (read_fault m w.records id reply.reads) reply.actions (ask_all id reply.reads w) asks.fits)
+    grown_on asks (answered_on b m occasion.Event id (read_fault m w.records id reply.reads) reply.actions (ask_all id reply.reads w) asks.fits)
 
 -- it is done where the module has its new state
 pub replied_grows : (follow : Reply → World → Flow) (id : ℕ) (r : Replied) (w : World) → Fits w → ((v : World) → Fits v → v.records ≡ w.records → IsGrown v (in_flow (follow r.reply v))) → IsGrown w (in_flow (replied follow id r w))
@@ -271,11 +277,11 @@ pub within_of_found : (id : ℕ) (i : Instance) (w : World) → Fits w → insta
 within_of_found id i w f e = found_within (length w.records) id w.modules i f.modules e
 
 -- so does a call of a module that may stand
-called_grows : (b : Behaviour) (m : Answers) (id : ℕ) (p : Prompt) (w : World) (found : Option Instance) → Fits w → instance_in id w.modules ≡ found → IsGrown w (in_flow (called b m (answered m id) id p w found))
+called_grows : (b : Behaviour) (m : Answers) (id : ℕ) (p : Prompt) (w : World) (found : Option Instance) → Fits w → instance_in id w.modules ≡ found → IsGrown w (in_flow (called b m (answered b m occasion.Event id) id p w found))
 called_grows b m id p w None f e = grown_same w f
 called_grows b m id p w (Some i) f e =
     let r : Replied = (b.naming i.kind).reply i.state (call_of m id p w) in
-    replied_grows (answered m id) id r w f (λ v fits same. answered_grows m id r.reply v fits (omega (arith, within_of_found id i w f e, ap (λ (rs : List Record). length rs) same)))
+    replied_grows (answered b m occasion.Event id) id r w f (λ v fits same. answered_grows b m id r.reply v fits (omega (arith, within_of_found id i w f e, ap (λ (rs : List Record). length rs) same)))
 
 -- one call
 pub call_grows : (b : Behaviour) (m : Answers) (id : ℕ) (p : Prompt) (w : World) → Fits w → IsGrown w (in_flow (call_module b m id p w))

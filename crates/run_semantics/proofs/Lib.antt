@@ -7,6 +7,8 @@ pub mod Ends
 pub mod Grown
 pub mod Growth
 pub mod Looking
+pub mod Looks
+pub mod Once
 pub mod Orderly
 pub mod Reached
 pub mod Reuse

@@ -1,5 +1,5 @@
 -- In the world beside what comes next all that is new is what was asked to know it, and which injection was delivered last.
-use Rattle.std.proofs.Common.{◌≡◌, ℕ, zero, suc, ◌+◌, List, [], ◌∷◌, ◌++◌, Option, Some, None, refl, sym, ap, arith, subst, append_assoc, append-nil}
+use Rattle.std.proofs.Common.{◌≡◌, ℕ, zero, suc, ◌+◌, List, [], ◌∷◌, ◌++◌, Option, Some, None, length, refl, sym, ap, arith, subst, append_assoc, append-nil}
 use Rattle.run_questions.specs.declared.answer.Answer.{Answer}
 use Rattle.run_questions.specs.declared.answer.Answer.TheVariants as answer
 use Rattle.run_questions.specs.declared.answer.Asked.{Asked}
@@ -14,7 +14,7 @@ use Rattle.event_set.specs.declared.pending.Pending.{Pending}
 use Rattle.run_semantics.specs.Agreement.{tried}
 use Rattle.run_semantics.specs.Laws.{GoesOn}
 use Rattle.run_semantics.specs.World.{World, asked_next}
-use Rattle.run_semantics.specs.Upcoming.{first_due, delivered, target_of, Upcoming, Comes, Nothing, first_of, aimed, chosen, upcoming_in, most_injections, upcoming}
+use Rattle.run_semantics.specs.Upcoming.{first_due, delivered, target_of, Upcoming, Comes, Nothing, first_of, aimed, chosen, upcoming_in, upcoming}
 use Rattle.run_semantics.proofs.Growth.{AllOfEvent, AllAbout, AllOfEvent-append, AllAbout-append}
 
 -- a world in which more was asked, and that injection was delivered last
@@ -95,7 +95,7 @@ coming_looks (suc left) m ps w v h =
 -- what comes next
 pub upcoming_looks : (m : Answers) (w : World) → HasLooked w (beside (upcoming m w))
 unfolding upcoming
-upcoming_looks m w = coming_looks (suc most_injections) m w.pending w w (looked_same w)
+upcoming_looks m w = coming_looks (suc (length m.injections)) m w.pending w w (looked_same w)
 
 -- ---- what was tried
 
@@ -138,4 +138,4 @@ upcoming_asks m w =
     let q : Question = InjectionBefore (first_due w.pending) w.delivered in
     let v : World = asked_next q w in
     looked_questions v (beside (upcoming m w))
-    (chosen_looks v v (upcoming_in most_injections m w.pending) w.pending (answer_of m w.records q) (λ x f. coming_looks most_injections m w.pending v x f) (looked_same v))
+    (chosen_looks v v (upcoming_in (length m.injections) m w.pending) w.pending (answer_of m w.records q) (λ x f. coming_looks (length m.injections) m w.pending v x f) (looked_same v))

@@ -12,6 +12,8 @@ use Rattle.module_api.specs.declared.reply.Read.{Read}
 use Rattle.module_api.specs.declared.reply.Reply.{Reply}
 use Rattle.module_api.specs.declared.reply.Schedule.{Schedule}
 use Rattle.run_questions.specs.Answers.{Answers}
+use Rattle.run_semantics.specs.declared.occasions.Occasion.{Occasion}
+use Rattle.run_semantics.specs.declared.occasions.Occasion.TheVariants as occasion
 use Rattle.run_semantics.specs.declared.outcome.Fault.{Fault}
 use Rattle.run_semantics.specs.declared.outcome.Fault.TheVariants as fault
 use Rattle.run_semantics.specs.declared.outcome.Outcome.{Outcome}
@@ -23,7 +25,7 @@ use Rattle.run_semantics.specs.declared.traces.Instance.{Instance}
 use Rattle.run_semantics.specs.World.{World, asked}
 use Rattle.event_set.specs.Order.{inserted}
 use Rattle.event_set.specs.Timers.{has_timer}
-use Rattle.run_semantics.specs.Perform.{Flow, On, Stopped, Broken, ◌>>=◌, broken, for_each, with_scalar, scheduled, perform, perform_all, ask_all, question_of, acted, read_fault, unless_fault, answered}
+use Rattle.run_semantics.specs.Perform.{Flow, On, Stopped, Broken, ◌>>=◌, broken, for_each, with_scalar, scheduled, deed, is_allowed, act, act_all, ask_all, question_of, acted, read_fault, unless_fault, answered}
 use Rattle.run_semantics.specs.Event.{call_of, instance_in, with_state, changed, called, call_module, begun, event, message_of}
 use Rattle.run_semantics.specs.Run.{prepared, Part, parts_of, place, place_all, place_parts, ready, standing, stages_in, most_stages, initialize, one_stage, stages_from, started, initialize_all, with_started, part_of, Stage, Running, Over, world_at, settled, is_after_limit, went, next_stage, after}
 use Rattle.run_semantics.specs.Laws.{Each, AreInOrder, AreInTurn, HaveOwnNumbers, IsAmong, ids_of, GoesOn}
@@ -170,9 +172,9 @@ scheduled_leads id s w (Some time) e f h =
     either_leads w (has_timer id s.timer w.pending) _ _ (leads_same w f)
     (leads_inserted (record { time = time; priority = s.priority; number = w.next; id = id; what = Timer s.timer s.kind }) w f refl (sum_is_after w.clock s.delay time e) h)
 
--- one action
-perform_leads : (id : ℕ) (action : Action) (w : World) → IsOrderly w → StandsIn id w → Leads w (in_flow (perform id action w))
-perform_leads id (Emit signal value) w f h = record {
+-- one deed
+deed_leads : (id : ℕ) (action : Action) (w : World) → IsOrderly w → StandsIn id w → Leads w (in_flow (deed id action w))
+deed_leads id (Emit signal value) w f h = record {
   clock = refl;
   count = refl;
   present = ((refl, refl), tt);
@@ -187,7 +189,7 @@ perform_leads id (Emit signal value) w f h = record {
   scalars = on_same w.scalars;
   orderly = record { order = f.order; own = f.own; below = f.below; due = f.due; modules = f.modules };
 }
-perform_leads id (RecordScalar name value) w f h =
+deed_leads id (RecordScalar name value) w f h =
     either_leads w (is_scalar_name name) (On (with_scalar id name value w)) (broken id fault.BadName w)
     (record {
       clock = refl;
@@ -205,19 +207,23 @@ perform_leads id (RecordScalar name value) w f h =
       orderly = record { order = f.order; own = f.own; below = f.below; due = f.due; modules = f.modules };
     })
     (leads_same w f)
-perform_leads id (ScheduleAfter s) w f h = scheduled_leads id s w (time_sum w.clock s.delay) refl f h
-perform_leads id (Fail text) w f h = leads_same w f
+deed_leads id (ScheduleAfter s) w f h = scheduled_leads id s w (time_sum w.clock s.delay) refl f h
+deed_leads id (Fail text) w f h = leads_same w f
+
+-- one action of a reply
+act_leads : (b : Behaviour) (m : Answers) (o : Occasion) (id : ℕ) (action : Action) (w : World) → IsOrderly w → StandsIn id w → Leads w (in_flow (act b m o id action w))
+act_leads b m o id action w f h = either_leads w (is_allowed o action) _ _ (deed_leads id action w f h) (leads_same w f)
 
 -- all actions of a reply
-perform_all_leads : (id : ℕ) (actions : List Action) (w : World) → IsOrderly w → StandsIn id w → Leads w (in_flow (perform_all id actions w))
-perform_all_leads id [] w f h = leads_same w f
-perform_all_leads id (action ∷ actions) w f h =
-    let g = perform_leads id action w f h in
-    leads_then (StandsIn id) w (perform id action w) (perform_all id actions) g (stands_on id w (in_flow (perform id action w)) g h) (perform_all_leads id actions)
+act_all_leads : (b : Behaviour) (m : Answers) (o : Occasion) (id : ℕ) (actions : List Action) (w : World) → IsOrderly w → StandsIn id w → Leads w (in_flow (act_all b m o id actions w))
+act_all_leads b m o id [] w f h = leads_same w f
+act_all_leads b m o id (action ∷ actions) w f h =
+    let g = act_leads b m o id action w f h in
+    leads_then (StandsIn id) w (act b m o id action w) (for_each (act b m o id) actions) g (stands_on id w (in_flow (act b m o id action w)) g h) (act_all_leads b m o id actions)
 
 -- unless they are too many
-acted_leads : (id : ℕ) (actions : List Action) (w : World) → IsOrderly w → StandsIn id w → Leads w (in_flow (acted id actions w))
-acted_leads id actions w f h = either_leads w (nat_lt 1000 (length actions)) _ _ (leads_same w f) (perform_all_leads id actions w f h)
+acted_leads : (b : Behaviour) (m : Answers) (o : Occasion) (id : ℕ) (actions : List Action) (w : World) → IsOrderly w → StandsIn id w → Leads w (in_flow (acted b m o id actions w))
+acted_leads b m o id actions w f h = either_leads w (nat_lt 1000 (length actions)) _ _ (leads_same w f) (act_all_leads b m o id actions w f h)
 
 -- ---- replies and calls
 
@@ -258,11 +264,11 @@ unless_leads w id (Some fault) go f h = leads_same w f
 unless_leads w id None go f h = h
 
 -- what follows a reply
-answered_leads : (m : Answers) (id : ℕ) (reply : Reply) (w : World) → IsOrderly w → StandsIn id w → Leads w (in_flow (answered m id reply w))
-answered_leads m id reply w f h =
+answered_leads : (b : Behaviour) (m : Answers) (id : ℕ) (reply : Reply) (w : World) → IsOrderly w → StandsIn id w → Leads w (in_flow (answered b m occasion.Event id reply w))
+answered_leads b m id reply w f h =
     let v : World = ask_all id reply.reads w in
     let g = ask_all_leads id reply.reads w f in
-    leads_on g (unless_leads v id (read_fault m w.records id reply.reads) (acted id reply.actions) g.orderly (acted_leads id reply.actions v g.orderly (stands_on id w v g h)))
+    leads_on g (unless_leads v id (read_fault m w.records id reply.reads) (acted b m occasion.Event id reply.actions) g.orderly (acted_leads b m occasion.Event id reply.actions v g.orderly (stands_on id w v g h)))
 
 -- a new state leaves what stands
 standing_state : (id : ℕ) (state : List ℕ) (is : List Instance) → standing (with_state id state is) ≡ standing is
@@ -283,13 +289,13 @@ found_stands id (j ∷ js) i e = by (j.id == id) refl (found_stands id js i) e
     by false t later e = inr (later e)
 
 -- a call of a module that may stand
-called_leads : (b : Behaviour) (m : Answers) (id : ℕ) (p : Prompt) (w : World) (found : Option Instance) → instance_in id w.modules ≡ found → IsOrderly w → Leads w (in_flow (called b m (answered m id) id p w found))
+called_leads : (b : Behaviour) (m : Answers) (id : ℕ) (p : Prompt) (w : World) (found : Option Instance) → instance_in id w.modules ≡ found → IsOrderly w → Leads w (in_flow (called b m (answered b m occasion.Event id) id p w found))
 called_leads b m id p w None e f = leads_same w f
 called_leads b m id p w (Some i) e f =
     let r : Replied = (b.naming i.kind).reply i.state (call_of m id p w) in
     let v : World = changed id r.state w in
     let g : Leads w v = leads_beside w v f refl refl refl refl (standing_state id r.state w.modules) refl refl refl refl refl refl refl in
-    leads_on g (answered_leads m id r.reply v g.orderly (stands_on id w v g (found_stands id w.modules i e)))
+    leads_on g (answered_leads b m id r.reply v g.orderly (stands_on id w v g (found_stands id w.modules i e)))
 
 -- one call
 pub call_leads : (b : Behaviour) (m : Answers) (id : ℕ) (p : Prompt) (w : World) → IsOrderly w → Leads w (in_flow (call_module b m id p w))

@@ -20,6 +20,11 @@ use Rattle.run_questions.specs.declared.record.Record.{Record}
 use Rattle.run_questions.specs.Questions.{same_question}
 use Rattle.run_questions.proofs.AnswerLemmas.{AreNested, about, answer_more, same_gate, same_value}
 use Rattle.run_questions.proofs.QuestionLemmas.{same_is}
+use Rattle.module_api.specs.declared.reply.Action.{Action}
+use Rattle.run_semantics.specs.declared.occasions.Occasion.{Occasion}
+use Rattle.run_semantics.specs.declared.occasions.Occasion.TheVariants as occasion
+use Rattle.run_semantics.specs.declared.outcome.Fault.{Fault as FaultValue}
+use Rattle.run_semantics.specs.declared.outcome.Fault.TheVariants as fault
 use Rattle.run_semantics.specs.declared.outcome.Outcome.{Outcome}
 use Rattle.run_semantics.specs.declared.outcome.Outcome.TheVariants.{Ended, EventLimit, NoMoreEvents, TimeLimit, Fault}
 use Rattle.event_set.specs.declared.pending.Pending.{Pending}
@@ -27,16 +32,17 @@ use Rattle.run_semantics.specs.declared.traces.Instance.{Instance}
 use Rattle.run_semantics.specs.Agreement.{Agrees, AgreesUpTo, tried, questions_of}
 use Rattle.run_semantics.specs.Laws.{Each, GoesOn}
 use Rattle.run_semantics.specs.World.{World, empty, asked, asked_next, is_asked, noted}
-use Rattle.run_semantics.specs.Perform.{Flow, On, Stopped, Broken, ◌>>=◌, answered, asking, ask_all, for_each, question_of, acted, first_fault, fault_of_read, read_fault, unless_fault}
+use Rattle.run_semantics.specs.Perform.{Flow, On, Stopped, Broken, ◌>>=◌, act, act_all, answered, asking, broken, ask_all, for_each, is_allowed, question_of, acted, first_fault, fault_of_read, read_fault, unless_fault}
 use Rattle.run_semantics.specs.Event.{call_of, instance_in, changed, replied, called, call_module, counted, begun, event, message_of}
 use Rattle.run_semantics.specs.Subtree.{outer_first}
 use Rattle.run_semantics.specs.Run.{rooted, room_in, unless_many, created, inside_of, compounds_from, built, set_up, most_nested, root_asked, prepared, place_parts, ready, stages_in, most_stages, initialize, one_stage, stages_from, started, initialize_all, with_started, Stage, Running, Over, world_at, settled, start, says_beyond, is_after_limit, went, next_stage, after, IsReached}
-use Rattle.run_semantics.specs.Upcoming.{first_due, delivered, target_of, Upcoming, Comes, Nothing, aimed, chosen, upcoming_in, most_injections, upcoming}
+use Rattle.run_semantics.specs.Upcoming.{first_due, delivered, target_of, Upcoming, Comes, Nothing, aimed, chosen, upcoming_in, upcoming}
 use Rattle.run_semantics.proofs.Looking.{beside, HasLooked, looked_same, looked_count, looked_joined, looked_questions, chosen_looks, coming_looks, upcoming_looks, upcoming_tried, first_asked, upcoming_asks}
+use Rattle.run_semantics.proofs.Looks.{upcoming_more}
 use Rattle.run_semantics.proofs.Sound.{in_flow}
 use Rattle.run_semantics.proofs.Counts.{RunsOn, runs_on}
 use Rattle.run_semantics.proofs.Ends.{over_stays}
-use Rattle.run_semantics.proofs.Growth.{AllOfEvent, AllAbout, AllOfEvent-append, AllAbout-append, AllAbout-more, Fits, IsGrown, grown_same, grown_on, fits_empty, longer, rooted_grows, created_grows, then_grows, asked_grows, timed_grows, asked_read_grows, ask_all_grows, answered_on, answered_grows, fits_changed, replied_grows, within_of_found, call_grows, place_parts_grows, started_grows, initialize_all_grows}
+use Rattle.run_semantics.proofs.Growth.{AllOfEvent, AllAbout, AllOfEvent-append, AllAbout-append, AllAbout-more, Fits, IsGrown, grown_same, grown_on, fits_empty, longer, rooted_grows, created_grows, then_grows, asked_grows, timed_grows, asked_read_grows, ask_all_grows, act_grows, answered_grows, fits_changed, replied_grows, within_of_found, call_grows, place_parts_grows, started_grows, initialize_all_grows}
 use Rattle.run_semantics.proofs.Setting.{AreUpTo, compounds_within, length_created}
 
 -- ---- agreement on fewer questions
@@ -184,8 +190,31 @@ shown_alike m n id p w [] h = tt
 shown_alike m n id p w (read.Parameter name ∷ rs) h = (same_value m n w.records id name h.0, shown_alike m n id p w rs h.1)
 shown_alike m n id p w (read.Gate name ∷ rs) h = (same_gate m n w.records id name h.0, shown_alike m n id p w rs h.1)
 
+-- an action is the same: a deed asks nothing
+act_same : (b : Behaviour) (m n : Answers) (o : Occasion) (id : ℕ) (action : Action) (w : World) → Fits w → DoesSame m n w (act b m o id action w) (act b n o id action w)
+act_same b m n o id action w f = does_itself m n w (act b m o id action w) (act_grows b m o id action w f)
+
+-- so are all actions of a reply
+act_all_same : (b : Behaviour) (m n : Answers) (o : Occasion) (id : ℕ) (actions : List Action) (w : World) → Fits w → DoesSame m n w (act_all b m o id actions w) (act_all b n o id actions w)
+act_all_same b m n o id [] w f = does_itself m n w (On w) (grown_same w f)
+act_all_same b m n o id (action ∷ actions) w f =
+    does_then m n w (act b m o id action w) (act b n o id action w) (for_each (act b m o id) actions) (for_each (act b n o id) actions) (act_same b m n o id action w f) (act_all_same b m n o id actions)
+
+-- unless they are too many
+acted_same : (b : Behaviour) (m n : Answers) (o : Occasion) (id : ℕ) (actions : List Action) (w : World) → Fits w → DoesSame m n w (acted b m o id actions w) (acted b n o id actions w)
+acted_same b m n o id actions w f =
+    let many : Flow = broken id fault.TooManyActions w in
+    either_does m n w (nat_lt 1000 (length actions)) many many _ _ (does_itself m n w many (grown_same w f)) (act_all_same b m n o id actions w f)
+
+-- unless a read has a fault
+unless_same : (b : Behaviour) (m n : Answers) (o : Occasion) (id : ℕ) (found : Option FaultValue) (actions : List Action) (w : World) → Fits w
+    → DoesSame m n w (unless_fault id found (acted b m o id actions) w) (unless_fault id found (acted b n o id actions) w)
+unless_same b m n o id (Some e) actions w f = does_itself m n w (broken id e w) (grown_same w f)
+unless_same b m n o id None actions w f = acted_same b m n o id actions w f
+
 -- a call has the same reply, since the law of reads holds, and the same follows
-called_same : (b : Behaviour) → IsLawful b → (m n : Answers) (id : ℕ) (p : Prompt) (w : World) (found : Option Instance) → Fits w → instance_in id w.modules ≡ found → DoesSame m n w (called b m (answered m id) id p w found) (called b n (answered n id) id p w found)
+called_same : (b : Behaviour) → IsLawful b → (m n : Answers) (id : ℕ) (p : Prompt) (w : World) (found : Option Instance) → Fits w → instance_in id w.modules ≡ found
+    → DoesSame m n w (called b m (answered b m occasion.Event id) id p w found) (called b n (answered b n occasion.Event id) id p w found)
 called_same b law m n id p w None f e = does_itself m n w (On w) (grown_same w f)
 called_same b law m n id p w (Some i) f e =
     let r : Replied = (b.naming i.kind).reply i.state (call_of m id p w) in
@@ -193,14 +222,18 @@ called_same b law m n id p w (Some i) f e =
     let l = within_of_found id i w f e in
     let fits = fits_changed id r.state w f in
     let asks = ask_all_grows id r.reply.reads v fits l in
+    let u : World = ask_all id r.reply.reads v in
+    let found = read_fault m w.records id r.reply.reads in
+    let does = unless_same b m n occasion.Event id found r.reply.actions u asks.fits in
     record {
-      grows = replied_grows (answered m id) id r w f (λ u g same. answered_grows m id r.reply u g (omega (arith, l, ap (λ (rs : List Record). length rs) same)));
+      grows = replied_grows (answered b m occasion.Event id) id r w f (λ u g same. answered_grows b m id r.reply u g (omega (arith, l, ap (λ (rs : List Record). length rs) same)));
       same = λ h.
-          let before : AgreesIn m n (ask_all id r.reply.reads v) = Agrees-before m n (ask_all id r.reply.reads v) _ asks.fits (answered_on id (read_fault m w.records id r.reply.reads) r.reply.actions (ask_all id r.reply.reads v) asks.fits) h in
+          let before : AgreesIn m n u = Agrees-before m n u _ asks.fits does.grows h in
           let alike : AnswerAlike m n w.records id r.reply.reads = alike_asked m n id r.reply.reads v fits l before in
           let reply : (b.naming i.kind).reply i.state (call_of n id p w) ≡ r = (law.reads i.kind) i.state (call_of m id p w) (parameters_of n w.records id) (gates_of n w.records id) (shown_alike m n id p w r.reply.reads alike) in
-          ap (λ found. unless_fault id found (acted id r.reply.actions) (ask_all id r.reply.reads v)) (fault_alike m n w.records id r.reply.reads alike)
-          ∙ ap (λ (x : Replied). replied (answered n id) id x w) (sym reply);
+          does.same h
+          ∙ ap (λ found. unless_fault id found (acted b n occasion.Event id r.reply.actions) u) (fault_alike m n w.records id r.reply.reads alike)
+          ∙ ap (λ (x : Replied). replied (answered b n occasion.Event id) id x w) (sym reply);
     }
 
 -- one call
@@ -458,10 +491,15 @@ tried_first (Nothing u) = ([], append-nil u.questions)
 
 -- so it is of all that was tried
 upcoming_same : (m n : Answers) (w : World) → Agrees m n w.records (tried (upcoming m w)) → upcoming m w ≡ upcoming n w
-unfolding upcoming
 upcoming_same m n w h =
     let t = tried_first (upcoming m w) in
-    coming_same (suc most_injections) m n w.pending w (Agrees-front m n w.records (beside (upcoming m w)).questions t.0 (subst (Agrees m n w.records) (sym t.1) h))
+    let one = upcoming_more m w (length n.injections) in
+    let other = upcoming_more n w (length m.injections) in
+    let sum : length n.injections + length m.injections ≡ length m.injections + length n.injections = omega arith in
+    one
+    ∙ coming_same (suc (length m.injections + length n.injections)) m n w.pending w
+    (subst (λ (up : Upcoming). Agrees m n w.records (beside up).questions) one (Agrees-front m n w.records (beside (upcoming m w)).questions t.0 (subst (Agrees m n w.records) (sym t.1) h)))
+    ∙ ap (λ (k : ℕ). upcoming_in (suc k) n w.pending w) (sym sum) ∙ sym other
 
 -- an event that begins has asked all that was tried
 begun_agreed : (b : Behaviour) (m n : Answers) (p : Pending) (rest : List Pending) (u : World) → Fits u → AgreesAt m n (settled (event b m p rest u)) → AgreesIn m n (begun p rest u)

@@ -4,7 +4,6 @@ use Rattle.std.proofs.lemmas.Bool.Decides.{nat_tests}
 use Rattle.sim_time.specs.Time.{time_sum}
 use Rattle.module_api.specs.Behaviour.{Behaviour, Replied}
 use Rattle.module_api.specs.declared.call.Prompt.{Prompt}
-use Rattle.module_api.specs.declared.call.Prompt.TheVariants as prompt
 use Rattle.module_api.specs.declared.reply.Action.{Action}
 use Rattle.module_api.specs.Names.{is_scalar_name}
 use Rattle.module_api.specs.declared.reply.Action.TheVariants.{Emit, RecordScalar, ScheduleAfter, Fail}
@@ -12,15 +11,16 @@ use Rattle.module_api.specs.declared.reply.Read.{Read}
 use Rattle.module_api.specs.declared.reply.Reply.{Reply}
 use Rattle.module_api.specs.declared.reply.Schedule.{Schedule}
 use Rattle.run_questions.specs.Answers.{Answers}
+use Rattle.run_semantics.specs.declared.occasions.Occasion.{Occasion}
+use Rattle.run_semantics.specs.declared.occasions.Occasion.TheVariants as occasion
 use Rattle.run_semantics.specs.declared.outcome.Fault.{Fault}
 use Rattle.run_semantics.specs.declared.outcome.Turn.{Turn}
 use Rattle.run_semantics.specs.declared.outcome.Turn.TheVariants.{GoOn, Stop, Break}
 use Rattle.run_semantics.specs.declared.traces.Instance.{Instance}
 use Rattle.run_semantics.specs.World.{World, asked}
 use Rattle.event_set.specs.Timers.{has_timer}
-use Rattle.run_semantics.specs.Perform.{Flow, flow_of, On, Stopped, Broken, ◌>>=◌, scheduled, perform, perform_all, ask_all, question_of, acted, read_fault, unless_fault, answered}
-use Rattle.run_semantics.specs.Event.{call_of, instance_in, changed, called, call_module}
-use Rattle.run_semantics.specs.Ending.{is_last_action, perform_last, perform_last_all, acted_last, answered_last, call_last}
+use Rattle.run_semantics.specs.Perform.{Flow, flow_of, On, Stopped, Broken, ◌>>=◌, for_each, scheduled, deed, is_allowed, act, act_all, ask_all, ask_noted, question_of, acted, read_fault, unless_fault, answered}
+use Rattle.run_semantics.specs.Event.{call_of, instance_in, changed, called, call_at, call_module}
 
 -- the world of a flow
 abbrev pub in_flow : Flow → World
@@ -64,34 +64,38 @@ scheduled_keeps id s w None = keeps_same 1 w
 scheduled_keeps id s w (Some time) =
     either_keeps 1 (has_timer id s.timer w.pending) _ _ w (keeps_same 1 w) (λ e. record { count = refl; next = omega arith })
 
-pub perform_keeps : (id : ℕ) (action : Action) (w : World) → Keeps 1 w (in_flow (perform id action w))
-perform_keeps id (Emit signal value) w = record { count = refl; next = omega arith }
-perform_keeps id (RecordScalar name value) w = either_keeps 1 (is_scalar_name name) _ _ w (record { count = refl; next = omega arith }) (λ e. keeps_same 1 w)
-perform_keeps id (ScheduleAfter s) w = scheduled_keeps id s w (time_sum w.clock s.delay)
-perform_keeps id (Fail text) w = keeps_same 1 w
+pub deed_keeps : (id : ℕ) (action : Action) (w : World) → Keeps 1 w (in_flow (deed id action w))
+deed_keeps id (Emit signal value) w = record { count = refl; next = omega arith }
+deed_keeps id (RecordScalar name value) w = either_keeps 1 (is_scalar_name name) _ _ w (record { count = refl; next = omega arith }) (λ e. keeps_same 1 w)
+deed_keeps id (ScheduleAfter s) w = scheduled_keeps id s w (time_sum w.clock s.delay)
+deed_keeps id (Fail text) w = keeps_same 1 w
 
-perform_all_keeps : (id : ℕ) (actions : List Action) (w : World) → Keeps (length actions) w (in_flow (perform_all id actions w))
-perform_all_keeps id [] w = keeps_same 0 w
-perform_all_keeps id (action ∷ actions) w =
+pub act_keeps : (b : Behaviour) (m : Answers) (o : Occasion) (id : ℕ) (action : Action) (w : World) → Keeps 1 w (in_flow (act b m o id action w))
+act_keeps b m o id action w = either_keeps 1 (is_allowed o action) _ _ w (deed_keeps id action w) (λ e. keeps_same 1 w)
+
+act_all_keeps : (b : Behaviour) (m : Answers) (o : Occasion) (id : ℕ) (actions : List Action) (w : World) → Keeps (length actions) w (in_flow (act_all b m o id actions w))
+act_all_keeps b m o id [] w = keeps_same 0 w
+act_all_keeps b m o id (action ∷ actions) w =
     keeps_more (1 + length actions) (suc (length actions)) w _ (omega arith)
-    (keeps_on 1 (length actions) w (in_flow (perform id action w)) _ (perform_keeps id action w) (then_keeps (length actions) (perform id action w) (perform_all id actions) (perform_all_keeps id actions)))
+    (keeps_on 1 (length actions) w (in_flow (act b m o id action w)) _ (act_keeps b m o id action w) (then_keeps (length actions) (act b m o id action w) (for_each (act b m o id) actions) (act_all_keeps b m o id actions)))
 
 few : (n m : ℕ) → nat_lt n m ≡ false → m ≤ n
 few n m e = grind (arith, nat_tests)
 
-acted_keeps : (id : ℕ) (actions : List Action) (w : World) → Keeps 1000 w (in_flow (acted id actions w))
-acted_keeps id actions w =
+acted_keeps : (b : Behaviour) (m : Answers) (o : Occasion) (id : ℕ) (actions : List Action) (w : World) → Keeps 1000 w (in_flow (acted b m o id actions w))
+acted_keeps b m o id actions w =
     either_keeps 1000 (nat_lt 1000 (length actions)) _ _ w (keeps_same 1000 w)
-    (λ e. keeps_more (length actions) 1000 w _ (few 1000 (length actions) e) (perform_all_keeps id actions w))
+    (λ e. keeps_more (length actions) 1000 w _ (few 1000 (length actions) e) (act_all_keeps b m o id actions w))
 
 -- ---- replies and calls
 
-pub ask_all-next : (id : ℕ) (reads : List Read) (w : World) → (ask_all id reads w).next ≡ w.next
+ask_all-next : (id : ℕ) (reads : List Read) (w : World) → (ask_all id reads w).next ≡ w.next
 ask_all-next id [] w = refl
 ask_all-next id (r ∷ rs) w = ask_all-next id rs (asked (question_of id r) w)
 
-pub asked_next : (id : ℕ) (reads : List Read) (w v : World) → v ≡ ask_all id reads w → v.next ≡ w.next
-asked_next id reads w v e = rw e (ask_all-next id reads w)
+pub ask_noted-next : (o : Occasion) (id : ℕ) (reads : List Read) (w : World) → (ask_noted o id reads w).next ≡ w.next
+ask_noted-next occasion.Event id reads w = ask_all-next id reads w
+ask_noted-next occasion.End id reads w = refl
 
 ask_all_keeps : (id : ℕ) (reads : List Read) (w : World) → Keeps 0 w (ask_all id reads w)
 ask_all_keeps id [] w = keeps_same 0 w
@@ -101,10 +105,14 @@ unless_keeps : (n id : ℕ) (found : Option Fault) (go : World → Flow) (w : Wo
 unless_keeps n id (Some f) go w h = keeps_same n w
 unless_keeps n id None go w h = h
 
-pub answered_keeps : (m : Answers) (id : ℕ) (reply : Reply) (w : World) → Keeps 1000 w (in_flow (answered m id reply w))
-answered_keeps m id reply w =
-    let v : World = ask_all id reply.reads w in
-    keeps_on 0 1000 w v _ (ask_all_keeps id reply.reads w) (unless_keeps 1000 id (read_fault m w.records id reply.reads) (acted id reply.actions) v (acted_keeps id reply.actions v))
+ask_noted_keeps : (o : Occasion) (id : ℕ) (reads : List Read) (w : World) → Keeps 0 w (ask_noted o id reads w)
+ask_noted_keeps occasion.Event id reads w = ask_all_keeps id reads w
+ask_noted_keeps occasion.End id reads w = keeps_same 0 w
+
+pub answered_keeps : (b : Behaviour) (m : Answers) (o : Occasion) (id : ℕ) (reply : Reply) (w : World) → Keeps 1000 w (in_flow (answered b m o id reply w))
+answered_keeps b m o id reply w =
+    let v : World = ask_noted o id reply.reads w in
+    keeps_on 0 1000 w v _ (ask_noted_keeps o id reply.reads w) (unless_keeps 1000 id (read_fault m w.records id reply.reads) (acted b m o id reply.actions) v (acted_keeps b m o id reply.actions v))
 
 -- so many insertions follow a call as follow a reply
 called_keeps : (n : ℕ) (b : Behaviour) (m : Answers) (follow : Reply → World → Flow) (id : ℕ) (p : Prompt) (w : World) (i : Option Instance) → ((reply : Reply) (v : World) → Keeps n v (in_flow (follow reply v))) → Keeps n w (in_flow (called b m follow id p w i))
@@ -114,38 +122,14 @@ called_keeps n b m follow id p w (Some i) h =
     let f = h r.reply (changed id r.state w) in
     record { count = f.count; next = f.next }
 
+pub call_at_keeps : (b : Behaviour) (m : Answers) (o : Occasion) (id : ℕ) (p : Prompt) (w : World) → Keeps 1000 w (in_flow (call_at b m o id p w))
+call_at_keeps b m o id p w = called_keeps 1000 b m (answered b m o id) id p w (instance_in id w.modules) (answered_keeps b m o id)
+
 pub call_keeps : (b : Behaviour) (m : Answers) (id : ℕ) (p : Prompt) (w : World) → Keeps 1000 w (in_flow (call_module b m id p w))
-call_keeps b m id p w = called_keeps 1000 b m (answered m id) id p w (instance_in id w.modules) (answered_keeps m id)
+call_keeps b m id p w = call_at_keeps b m occasion.Event id p w
 
 -- what a call leaves, by what the code says of it
-pub call_leaves : (b : Behaviour) (m : Answers) (id : ℕ) (p : Prompt) (turn : Turn) (w v : World) → flow_of turn v ≡ call_module b m id p w → Keeps 1000 w v
-call_leaves b m id p turn w v e =
-    let same : in_flow (call_module b m id p w) ≡ v = ap in_flow (sym e) ∙ in_flow-of turn v in
-    subst (λ (u : World). Keeps 1000 w u) same (call_keeps b m id p w)
-
--- ---- the end
-
-perform_last_keeps : (id : ℕ) (action : Action) (w : World) → Keeps 1 w (in_flow (perform_last id action w))
-perform_last_keeps id action w = either_keeps 1 (is_last_action action) _ _ w (perform_keeps id action w) (λ e. keeps_same 1 w)
-
-perform_last_all_keeps : (id : ℕ) (actions : List Action) (w : World) → Keeps (length actions) w (in_flow (perform_last_all id actions w))
-perform_last_all_keeps id [] w = keeps_same 0 w
-perform_last_all_keeps id (action ∷ actions) w =
-    keeps_more (1 + length actions) (suc (length actions)) w _ (omega arith)
-    (keeps_on 1 (length actions) w (in_flow (perform_last id action w)) _ (perform_last_keeps id action w) (then_keeps (length actions) (perform_last id action w) (perform_last_all id actions) (perform_last_all_keeps id actions)))
-
-acted_last_keeps : (id : ℕ) (actions : List Action) (w : World) → Keeps 1000 w (in_flow (acted_last id actions w))
-acted_last_keeps id actions w =
-    either_keeps 1000 (nat_lt 1000 (length actions)) _ _ w (keeps_same 1000 w)
-    (λ e. keeps_more (length actions) 1000 w _ (few 1000 (length actions) e) (perform_last_all_keeps id actions w))
-
-answered_last_keeps : (m : Answers) (id : ℕ) (reply : Reply) (w : World) → Keeps 1000 w (in_flow (answered_last m id reply w))
-answered_last_keeps m id reply w = unless_keeps 1000 id (read_fault m w.records id reply.reads) (acted_last id reply.actions) w (acted_last_keeps id reply.actions w)
-
-call_last_keeps : (b : Behaviour) (m : Answers) (id : ℕ) (w : World) → Keeps 1000 w (in_flow (call_last b m id w))
-call_last_keeps b m id w = called_keeps 1000 b m (answered_last m id) id prompt.Finish w (instance_in id w.modules) (answered_last_keeps m id)
-
-pub call_last_leaves : (b : Behaviour) (m : Answers) (id : ℕ) (turn : Turn) (w v : World) → flow_of turn v ≡ call_last b m id w → Keeps 1000 w v
-call_last_leaves b m id turn w v e =
-    let same : in_flow (call_last b m id w) ≡ v = ap in_flow (sym e) ∙ in_flow-of turn v in
-    subst (λ (u : World). Keeps 1000 w u) same (call_last_keeps b m id w)
+pub call_leaves : (b : Behaviour) (m : Answers) (o : Occasion) (id : ℕ) (p : Prompt) (turn : Turn) (w v : World) → flow_of turn v ≡ call_at b m o id p w → Keeps 1000 w v
+call_leaves b m o id p turn w v e =
+    let same : in_flow (call_at b m o id p w) ≡ v = ap in_flow (sym e) ∙ in_flow-of turn v in
+    subst (λ (u : World). Keeps 1000 w u) same (call_at_keeps b m o id p w)

@@ -15,13 +15,15 @@ use Rattle.run_questions.specs.Answers.{Answers}
 use Rattle.event_set.specs.declared.pending.Pending.{Pending}
 use Rattle.event_set.specs.Timers.{has_timer}
 use Rattle.event_set.proofs.Order.{each_append}
+use Rattle.run_semantics.specs.declared.occasions.Occasion.{Occasion}
+use Rattle.run_semantics.specs.declared.occasions.Occasion.TheVariants as occasion
 use Rattle.run_semantics.specs.declared.outcome.Fault.{Fault}
 use Rattle.run_semantics.specs.declared.outcome.Fault.TheVariants as fault
 use Rattle.run_semantics.specs.declared.outcome.Outcome.{Outcome}
 use Rattle.run_semantics.specs.declared.outcome.Outcome.TheVariants.{Ended, TimeLimit}
 use Rattle.run_semantics.specs.declared.traces.Instance.{Instance}
 use Rattle.run_semantics.specs.World.{World, asked}
-use Rattle.run_semantics.specs.Perform.{Flow, On, Stopped, Broken, ◌>>=◌, broken, for_each, scheduled, perform, perform_all, ask_all, question_of, acted, read_fault, unless_fault, answered}
+use Rattle.run_semantics.specs.Perform.{Flow, On, Stopped, Broken, ◌>>=◌, broken, for_each, scheduled, deed, is_allowed, act, act_all, ask_all, question_of, acted, read_fault, unless_fault, answered}
 use Rattle.run_semantics.specs.Event.{call_of, instance_in, with_state, changed, called, call_module, begun, event, message_of}
 use Rattle.run_semantics.specs.Run.{prepared, Part, parts_of, placed, place, place_all, place_parts, ready, stages_in, most_stages, initialize, one_stage, stages_from, started, initialize_all, with_started, Stage, Running, Over, world_at, settled, is_after_limit, went, next_stage, after}
 use Rattle.run_semantics.specs.Laws.{Each, AreStates}
@@ -57,18 +59,21 @@ scheduled_in : (b : Behaviour) (id : ℕ) (s : Schedule) (w : World) (time : Opt
 scheduled_in b id s w None h = h
 scheduled_in b id s w (Some time) h = either_in b (has_timer id s.timer w.pending) _ _ h h
 
-perform_in : (b : Behaviour) (id : ℕ) (action : Action) (w : World) → AllIn b w → AllIn b (in_flow (perform id action w))
-perform_in b id (Emit signal value) w h = h
-perform_in b id (RecordScalar name value) w h = either_in b (is_scalar_name name) _ _ h h
-perform_in b id (ScheduleAfter s) w h = scheduled_in b id s w (time_sum w.clock s.delay) h
-perform_in b id (Fail text) w h = h
+deed_in : (b : Behaviour) (id : ℕ) (action : Action) (w : World) → AllIn b w → AllIn b (in_flow (deed id action w))
+deed_in b id (Emit signal value) w h = h
+deed_in b id (RecordScalar name value) w h = either_in b (is_scalar_name name) _ _ h h
+deed_in b id (ScheduleAfter s) w h = scheduled_in b id s w (time_sum w.clock s.delay) h
+deed_in b id (Fail text) w h = h
 
-perform_all_in : (b : Behaviour) (id : ℕ) (actions : List Action) (w : World) → AllIn b w → AllIn b (in_flow (perform_all id actions w))
-perform_all_in b id [] w h = h
-perform_all_in b id (action ∷ actions) w h = then_in b (perform id action w) (perform_all id actions) (perform_in b id action w h) (perform_all_in b id actions)
+act_in : (b : Behaviour) (m : Answers) (o : Occasion) (id : ℕ) (action : Action) (w : World) → AllIn b w → AllIn b (in_flow (act b m o id action w))
+act_in b m o id action w h = either_in b (is_allowed o action) _ _ (deed_in b id action w h) h
 
-acted_in : (b : Behaviour) (id : ℕ) (actions : List Action) (w : World) → AllIn b w → AllIn b (in_flow (acted id actions w))
-acted_in b id actions w h = either_in b (nat_lt 1000 (length actions)) _ _ h (perform_all_in b id actions w h)
+act_all_in : (b : Behaviour) (m : Answers) (o : Occasion) (id : ℕ) (actions : List Action) (w : World) → AllIn b w → AllIn b (in_flow (act_all b m o id actions w))
+act_all_in b m o id [] w h = h
+act_all_in b m o id (action ∷ actions) w h = then_in b (act b m o id action w) (for_each (act b m o id) actions) (act_in b m o id action w h) (act_all_in b m o id actions)
+
+acted_in : (b : Behaviour) (m : Answers) (o : Occasion) (id : ℕ) (actions : List Action) (w : World) → AllIn b w → AllIn b (in_flow (acted b m o id actions w))
+acted_in b m o id actions w h = either_in b (nat_lt 1000 (length actions)) _ _ h (act_all_in b m o id actions w h)
 
 ask_all_in : (b : Behaviour) (id : ℕ) (reads : List Read) (w : World) → AllIn b w → AllIn b (ask_all id reads w)
 ask_all_in b id [] w h = h
@@ -78,11 +83,11 @@ unless_in : (b : Behaviour) (id : ℕ) (found : Option Fault) (go : World → Fl
 unless_in b id (Some f) go w h k = h
 unless_in b id None go w h k = k
 
-answered_in : (b : Behaviour) (m : Answers) (id : ℕ) (reply : Reply) (w : World) → AllIn b w → AllIn b (in_flow (answered m id reply w))
+answered_in : (b : Behaviour) (m : Answers) (id : ℕ) (reply : Reply) (w : World) → AllIn b w → AllIn b (in_flow (answered b m occasion.Event id reply w))
 answered_in b m id reply w h =
     let v : World = ask_all id reply.reads w in
     let k : AllIn b v = ask_all_in b id reply.reads w h in
-    unless_in b id (read_fault m w.records id reply.reads) (acted id reply.actions) v k (acted_in b id reply.actions v k)
+    unless_in b id (read_fault m w.records id reply.reads) (acted b m occasion.Event id reply.actions) v k (acted_in b m occasion.Event id reply.actions v k)
 
 -- ---- a call changes the state of one module, to the one that it leaves
 
@@ -105,7 +110,7 @@ changed_in b id state (j ∷ js) i e s h = by (j.id == id) (λ x. changed_in b i
     by false later e = (h.0, later e)
 
 -- a call of a module that may stand
-called_in : (b : Behaviour) → IsLawful b → (m : Answers) (id : ℕ) (p : Prompt) (w : World) (found : Option Instance) → instance_in id w.modules ≡ found → AllIn b w → AllIn b (in_flow (called b m (answered m id) id p w found))
+called_in : (b : Behaviour) → IsLawful b → (m : Answers) (id : ℕ) (p : Prompt) (w : World) (found : Option Instance) → instance_in id w.modules ≡ found → AllIn b w → AllIn b (in_flow (called b m (answered b m occasion.Event id) id p w found))
 called_in b l m id p w None e h = h
 called_in b l m id p w (Some i) e h =
     let f = found_in b id w.modules i e h in

@@ -5,7 +5,7 @@ use Rattle.run_questions.specs.declared.answer.Question.TheVariants.{BeyondLimit
 use Rattle.run_questions.specs.Answers.{Answers, answer_of}
 use Rattle.run_questions.specs.declared.record.Record.{Record}
 use Rattle.run_semantics.specs.declared.outcome.Outcome.{Outcome}
-use Rattle.run_semantics.specs.declared.outcome.Outcome.TheVariants.{NoMoreEvents, TimeLimit}
+use Rattle.run_semantics.specs.declared.outcome.Outcome.TheVariants.{Ended, EventLimit, NoMoreEvents, TimeLimit, Fault}
 use Rattle.run_semantics.specs.World.{World, asked_next}
 use Rattle.run_semantics.specs.Upcoming.{Upcoming, Comes, Nothing, upcoming}
 use Rattle.run_semantics.specs.Run.{Stage, Running, Over}
@@ -19,7 +19,9 @@ tried (Comes w p rest) = (asked_next (BeyondLimit p.time) w).questions
 abbrev pub questions_over : Answers → World → Outcome → List Asked
 questions_over m w NoMoreEvents = tried (upcoming m w)
 questions_over m w TimeLimit = tried (upcoming m w)
-questions_over m w _ = w.questions
+questions_over m w Ended = w.questions
+questions_over m w EventLimit = w.questions
+questions_over m w (Fault event path f) = w.questions
 
 -- ALL THAT A RUN HAS ASKED: what is noted; and where no event was left or the time limit ended it, what was asked for the event that did not
 -- begin

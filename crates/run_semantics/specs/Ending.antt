@@ -1,44 +1,20 @@
 -- The end of a run: the modules that were started are finished.
-use Rattle.std.specs.Prelude.{ℕ, nat_lt, Bool, true, false, List, [], ◌∷◌, ◌++◌, Option, Some, None, length, if◌then◌else◌}
+use Rattle.std.specs.Prelude.{ℕ, List, [], ◌∷◌, ◌++◌, if◌then◌else◌}
 use Rattle.module_api.specs.declared.call.Prompt.TheVariants as prompt
-use Rattle.module_api.specs.declared.reply.Action.{Action}
-use Rattle.module_api.specs.declared.reply.Action.TheVariants.{Emit, RecordScalar, ScheduleAfter, Fail}
-use Rattle.module_api.specs.declared.reply.Reply.{Reply}
 use Rattle.module_api.specs.Behaviour.{Behaviour}
 use Rattle.run_questions.specs.Answers.{Answers}
-use Rattle.run_semantics.specs.declared.outcome.Fault.TheVariants as fault
+use Rattle.run_semantics.specs.declared.occasions.Occasion.TheVariants as occasion
 use Rattle.run_semantics.specs.declared.outcome.Outcome.{Outcome}
 use Rattle.run_semantics.specs.declared.outcome.Outcome.TheVariants.{Fault}
 use Rattle.run_semantics.specs.World.{World}
-use Rattle.run_semantics.specs.Perform.{Flow, On, Stopped, Broken, ◌>>=◌, broken, for_each, perform, read_fault, unless_fault}
-use Rattle.run_semantics.specs.Event.{calling}
+use Rattle.run_semantics.specs.Perform.{Flow, On, Stopped, Broken, ◌>>=◌, for_each}
+use Rattle.run_semantics.specs.Event.{call_at}
 use Rattle.run_semantics.specs.Run.{Ran, is_fault}
 use Rattle.run_semantics.specs.Subtree.{common, inner_first}
 
--- whether an action is for a reply to the end
-abbrev pub is_last_action : Action → Bool
-is_last_action (Emit signal value) = true
-is_last_action (RecordScalar name value) = true
-is_last_action (ScheduleAfter s) = false
-is_last_action (Fail text) = true
-
-abbrev pub perform_last : ℕ → Action → World → Flow
-perform_last id action w = if is_last_action action then perform id action w else broken id fault.NotInFinish w
-
-abbrev pub perform_last_all : ℕ → List Action → World → Flow
-perform_last_all id [] w = On w
-perform_last_all id (action ∷ actions) w = perform_last id action w >>= perform_last_all id actions
-
-abbrev pub acted_last : ℕ → List Action → World → Flow
-acted_last id actions w = if nat_lt 1000 (length actions) then broken id fault.TooManyActions w else perform_last_all id actions w
-
--- what follows a reply to the end: its questions belong to no event, so they are not noted
-abbrev pub answered_last : Answers → ℕ → Reply → World → Flow
-answered_last m id reply w = unless_fault id (read_fault m w.records id reply.reads) (acted_last id reply.actions) w
-
 -- ONE CALL for the end
 abbrev pub call_last : Behaviour → Answers → ℕ → World → Flow
-call_last b m id w = calling b m (answered_last m id) id prompt.Finish w
+call_last b m id w = call_at b m occasion.End id prompt.Finish w
 
 -- a module counts as finished at its turn, a simple one when its reply is done without a fault
 abbrev pub with_finished : ℕ → World → World

@@ -13,6 +13,8 @@ use Rattle.run_questions.specs.Records.{path_of, record_at, index_of}
 use Rattle.event_set.specs.declared.pending.Happening.{Happening}
 use Rattle.event_set.specs.declared.pending.Happening.TheVariants.{Arrival, Timer}
 use Rattle.event_set.specs.declared.pending.Pending.{Pending}
+use Rattle.run_semantics.specs.declared.occasions.Occasion.{Occasion}
+use Rattle.run_semantics.specs.declared.occasions.Occasion.TheVariants as occasion
 use Rattle.run_semantics.specs.declared.traces.Instance.{Instance}
 use Rattle.run_semantics.specs.World.{World, timed}
 use Rattle.run_semantics.specs.Perform.{Flow, On, answered}
@@ -58,8 +60,12 @@ abbrev pub calling : Behaviour → Answers → (Reply → World → Flow) → �
 calling b m follow id prompt w = called b m follow id prompt w (instance_in id w.modules)
 
 -- ONE CALL of the module of that id
+abbrev pub call_at : Behaviour → Answers → Occasion → ℕ → Prompt → World → Flow
+call_at b m o id prompt w = calling b m (answered b m o id) id prompt w
+
+-- one within an event
 abbrev pub call_module : Behaviour → Answers → ℕ → Prompt → World → Flow
-call_module b m id prompt w = calling b m (answered m id) id prompt w
+call_module b m id prompt w = call_at b m occasion.Event id prompt w
 
 -- ---- events
 

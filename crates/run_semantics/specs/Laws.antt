@@ -1,11 +1,14 @@
 -- Words for what holds of the worlds that a run reaches.
 pub use Rattle.event_set.specs.Order.{Each, AreInOrder, HaveOwnNumbers}
-use Rattle.std.specs.Prelude.{◌≡◌, ◌⊎◌, ℕ, zero, suc, ◌≤◌, List, [], ◌∷◌, ◌++◌, IsSome, IsTrue, length, map}
+use Rattle.std.specs.Prelude.{◌≡◌, ◌⊎◌, ℕ, zero, suc, ◌≤◌, List, [], ◌∷◌, ◌++◌, None, IsSome, IsTrue, length, map}
 use Rattle.module_api.specs.Behaviour.{Behaviour}
+use Rattle.injection_order.specs.Injections.{first_undelivered}
 use Rattle.run_questions.specs.Answers.{Answers}
+use Rattle.run_questions.specs.declared.answer.Asked.{Asked}
+use Rattle.event_set.specs.declared.pending.Pending.{Pending}
 use Rattle.run_semantics.specs.declared.traces.Emission.{Emission}
 use Rattle.run_semantics.specs.declared.traces.Instance.{Instance}
-use Rattle.run_semantics.specs.World.{World}
+use Rattle.run_semantics.specs.World.{World, noted}
 use Rattle.run_semantics.specs.Event.{instance_in}
 use Rattle.run_semantics.specs.Run.{Stage, next_stage}
 
@@ -53,6 +56,22 @@ pub record IsBounded (w : World) : Type 0 where
 abbrev pub AreStates : Behaviour → List Instance → Type 0
 AreStates b [] = Unit {0}
 AreStates b (i ∷ is) = IsTrue ((b.naming i.kind).is_state i.state) × AreStates b is
+
+-- no event is to come, and no injection is left behind the last one that was delivered
+abbrev pub HasEnded : Answers → List Pending → World → Type 0
+HasEnded m ps w = (ps ≡ []) × (first_undelivered w.delivered m.injections ≡ None)
+
+-- ---- questions
+
+-- all of these are asked, one after another, and each is noted where it was not noted before
+abbrev pub noted_all : List Asked → List Asked → List Asked
+noted_all [] qs = qs
+noted_all (a ∷ rest) qs = noted_all rest (noted a.event a.question qs)
+
+-- along them the numbers of events do not fall, from this one on
+abbrev pub AreFrom : ℕ → List Asked → Type 0
+AreFrom event [] = Unit {0}
+AreFrom event (a ∷ rest) = (event ≤ a.event) × AreFrom a.event rest
 
 -- so many more events from a stage on
 abbrev pub gone_on : Behaviour → Answers → ℕ → Stage → Stage

@@ -1,5 +1,5 @@
 -- What a reply leads to.
-use Rattle.std.specs.Prelude.{ℕ, ℤ, ◌+◌, nat_lt, List, [], ◌∷◌, ◌++◌, Option, Some, None, if◌then◌else◌, length}
+use Rattle.std.specs.Prelude.{ℕ, ℤ, ◌+◌, nat_lt, Bool, true, false, List, [], ◌∷◌, ◌++◌, Option, Some, None, if◌then◌else◌, length}
 use Rattle.sim_time.specs.Time.{time_sum}
 use Rattle.module_api.specs.declared.reply.Action.{Action}
 use Rattle.module_api.specs.declared.reply.Action.TheVariants.{Emit, RecordScalar, ScheduleAfter, Fail}
@@ -7,6 +7,7 @@ use Rattle.module_api.specs.declared.reply.Read.{Read}
 use Rattle.module_api.specs.declared.reply.Read.TheVariants as read
 use Rattle.module_api.specs.declared.reply.Reply.{Reply}
 use Rattle.module_api.specs.declared.reply.Schedule.{Schedule}
+use Rattle.module_api.specs.Behaviour.{Behaviour}
 use Rattle.module_api.specs.Names.{is_scalar_name}
 use Rattle.run_questions.specs.declared.answer.Answer.{Answer}
 use Rattle.run_questions.specs.declared.answer.Answer.TheVariants as answer
@@ -19,6 +20,8 @@ use Rattle.run_questions.specs.declared.record.Record.{Record}
 use Rattle.run_questions.specs.Records.{path_of}
 use Rattle.run_semantics.specs.declared.outcome.Fault.{Fault}
 use Rattle.run_semantics.specs.declared.outcome.Fault.TheVariants as fault
+use Rattle.run_semantics.specs.declared.occasions.Occasion.{Occasion}
+use Rattle.run_semantics.specs.declared.occasions.Occasion.TheVariants as occasion
 use Rattle.run_semantics.specs.declared.outcome.Turn.{Turn}
 use Rattle.run_semantics.specs.declared.outcome.Turn.TheVariants.{GoOn, Stop, Break}
 use Rattle.event_set.specs.declared.pending.Happening.TheVariants.{Timer}
@@ -67,7 +70,7 @@ model_fault model_fault_kind.Inexact = fault.Inexact
 model_fault model_fault_kind.Mismatch = fault.Mismatch
 model_fault model_fault_kind.Circle = fault.Circle
 
--- ---- actions
+-- ---- deeds: actions that ask nothing and call no module
 
 -- an event at a time, where there is one
 abbrev pub scheduled_at : ℕ → Schedule → World → ℕ → Flow
@@ -86,18 +89,13 @@ scheduled id s w (Some time) = scheduled_at id s w time
 abbrev pub with_scalar : ℕ → List ℕ → ℤ → World → World
 with_scalar id name value w = record w { scalars = w.scalars ++ record { id = id; name = name; value = value } ∷ [] }
 
--- ONE ACTION of the module of that id
-abbrev pub perform : ℕ → Action → World → Flow
-perform id (Emit signal value) w =
+-- ONE DEED of the module of that id
+abbrev pub deed : ℕ → Action → World → Flow
+deed id (Emit signal value) w =
     On (record w { emissions = w.emissions ++ record { id = id; signal = signal; event = w.count; time = w.clock; value = value } ∷ [] })
-perform id (RecordScalar name value) w = if is_scalar_name name then On (with_scalar id name value w) else broken id fault.BadName w
-perform id (ScheduleAfter s) w = scheduled id s w (time_sum w.clock s.delay)
-perform id (Fail text) w = broken id (fault.ModuleFailed text) w
-
--- its actions, in order
-abbrev pub perform_all : ℕ → List Action → World → Flow
-perform_all id [] w = On w
-perform_all id (action ∷ actions) w = perform id action w >>= perform_all id actions
+deed id (RecordScalar name value) w = if is_scalar_name name then On (with_scalar id name value w) else broken id fault.BadName w
+deed id (ScheduleAfter s) w = scheduled id s w (time_sum w.clock s.delay)
+deed id (Fail text) w = broken id (fault.ModuleFailed text) w
 
 -- ---- reads
 
@@ -114,11 +112,24 @@ ask_all id (r ∷ rs) w = ask_all id rs (asked (question_of id r) w)
 abbrev pub parameter_fault : Answer → Option Fault
 parameter_fault (answer.Value v) = None
 parameter_fault (answer.Fault path f) = Some (model_fault f)
-parameter_fault _ = Some fault.NoParameter
+parameter_fault (answer.Root name) = Some fault.NoParameter
+parameter_fault (answer.Inside bs) = Some fault.NoParameter
+parameter_fault (answer.Gate g) = Some fault.NoParameter
+parameter_fault (answer.Next next) = Some fault.NoParameter
+parameter_fault (answer.Beyond beyond) = Some fault.NoParameter
+parameter_fault (answer.Injection i) = Some fault.NoParameter
+parameter_fault answer.Absent = Some fault.NoParameter
 
 abbrev pub gate_fault : Answer → Option Fault
 gate_fault (answer.Gate g) = None
-gate_fault _ = Some fault.NoGate
+gate_fault (answer.Root name) = Some fault.NoGate
+gate_fault (answer.Inside bs) = Some fault.NoGate
+gate_fault (answer.Value v) = Some fault.NoGate
+gate_fault (answer.Next next) = Some fault.NoGate
+gate_fault (answer.Fault path f) = Some fault.NoGate
+gate_fault (answer.Beyond beyond) = Some fault.NoGate
+gate_fault (answer.Injection i) = Some fault.NoGate
+gate_fault answer.Absent = Some fault.NoGate
 
 -- what is wrong with a read, by its answer
 abbrev pub fault_of_read : Read → Answer → Option Fault
@@ -135,11 +146,45 @@ read_fault m records id [] = None
 read_fault m records id (r ∷ rs) =
     first_fault (fault_of_read r (answer_of m records (question_of id r))) (read_fault m records id rs)
 
+-- ---- actions
+
+-- ONE ACTION of the module of that id, in a catalogue and with what its model answers
+abbrev pub perform : Behaviour → Answers → ℕ → Action → World → Flow
+perform b m id action w = deed id action w
+
+-- whether an action is for a reply to the end
+abbrev pub is_last_action : Action → Bool
+is_last_action (Emit signal value) = true
+is_last_action (RecordScalar name value) = true
+is_last_action (ScheduleAfter s) = false
+is_last_action (Fail text) = true
+
+-- whether a reply may have that action, by what the module is called for
+abbrev pub is_allowed : Occasion → Action → Bool
+is_allowed occasion.Event action = true
+is_allowed occasion.End action = is_last_action action
+
+-- an action of a reply, where it may have that
+abbrev pub act : Behaviour → Answers → Occasion → ℕ → Action → World → Flow
+act b m o id action w = if is_allowed o action then perform b m id action w else broken id fault.NotInFinish w
+
+-- its actions, in order
+abbrev pub act_all : Behaviour → Answers → Occasion → ℕ → List Action → World → Flow
+act_all b m o id actions w = for_each (act b m o id) actions w
+
 -- ---- a reply
 
 -- its actions, where there are at most 1,000
-abbrev pub acted : ℕ → List Action → World → Flow
-acted id actions w = if nat_lt 1000 (length actions) then broken id fault.TooManyActions w else perform_all id actions w
+abbrev pub acted : Behaviour → Answers → Occasion → ℕ → List Action → World → Flow
+acted b m o id actions w = if nat_lt 1000 (length actions) then broken id fault.TooManyActions w else act_all b m o id actions w
+
+-- whether the questions of what a reply read are noted: those of the end belong to no event
+abbrev pub is_noted : Occasion → Bool
+is_noted occasion.Event = true
+is_noted occasion.End = false
+
+abbrev pub ask_noted : Occasion → ℕ → List Read → World → World
+ask_noted o id reads w = if is_noted o then ask_all id reads w else w
 
 abbrev pub unless_fault : ℕ → Option Fault → (World → Flow) → World → Flow
 unless_fault id (Some f) go w = broken id f w
@@ -147,6 +192,6 @@ unless_fault id None go w = go w
 
 -- WHAT FOLLOWS A REPLY: all its reads are asked, then the first that has no value is the fault, then its actions are
 -- performed in order
-abbrev pub answered : Answers → ℕ → Reply → World → Flow
-answered m id reply w =
-    unless_fault id (read_fault m w.records id reply.reads) (acted id reply.actions) (ask_all id reply.reads w)
+abbrev pub answered : Behaviour → Answers → Occasion → ℕ → Reply → World → Flow
+answered b m o id reply w =
+    unless_fault id (read_fault m w.records id reply.reads) (acted b m o id reply.actions) (ask_noted o id reply.reads w)

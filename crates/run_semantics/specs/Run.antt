@@ -33,7 +33,13 @@ with_network name w = record w { records = network_record name ∷ []; live = 1 
 abbrev pub rooted : Answer → World → Flow
 rooted (answer.Root name) w = On (with_network name w)
 rooted (answer.Fault path f) w = Broken w path (model_fault f)
-rooted _ w = Broken w [] fault.UnknownType
+rooted (answer.Inside bs) w = Broken w [] fault.UnknownType
+rooted (answer.Value v) w = Broken w [] fault.UnknownType
+rooted (answer.Gate g) w = Broken w [] fault.UnknownType
+rooted (answer.Next next) w = Broken w [] fault.UnknownType
+rooted (answer.Beyond beyond) w = Broken w [] fault.UnknownType
+rooted (answer.Injection i) w = Broken w [] fault.UnknownType
+rooted answer.Absent w = Broken w [] fault.UnknownType
 
 abbrev pub record_under : ℕ → Built → Record
 record_under parent b = record { parent = parent; name = b.name; index = b.index; class = b.class }
@@ -60,11 +66,24 @@ unless_many parent bs w None = On (with_submodules parent bs w)
 abbrev pub created : ℕ → Answer → World → Flow
 created parent (answer.Inside bs) w = unless_many parent bs w (slice_get bs (room_in w))
 created parent (answer.Fault path f) w = Broken w path (model_fault f)
-created parent _ w = broken parent fault.UnknownType w
+created parent (answer.Root name) w = broken parent fault.UnknownType w
+created parent (answer.Value v) w = broken parent fault.UnknownType w
+created parent (answer.Gate g) w = broken parent fault.UnknownType w
+created parent (answer.Next next) w = broken parent fault.UnknownType w
+created parent (answer.Beyond beyond) w = broken parent fault.UnknownType w
+created parent (answer.Injection i) w = broken parent fault.UnknownType w
+created parent answer.Absent w = broken parent fault.UnknownType w
 
 abbrev pub inside_of : Answer → List Built
 inside_of (answer.Inside bs) = bs
-inside_of _ = []
+inside_of (answer.Root name) = []
+inside_of (answer.Value v) = []
+inside_of (answer.Gate g) = []
+inside_of (answer.Next next) = []
+inside_of (answer.Fault path f) = []
+inside_of (answer.Beyond beyond) = []
+inside_of (answer.Injection i) = []
+inside_of answer.Absent = []
 
 abbrev pub if_compound : ℕ → Option (List ℕ) → List ℕ → List ℕ
 if_compound id None ids = id ∷ ids
@@ -205,7 +224,14 @@ start b m = settled (ready b m >>= initialize_all b m)
 -- whether the answer says that a time is later than the limit
 abbrev pub says_beyond : Answer → Bool
 says_beyond (answer.Beyond beyond) = beyond
-says_beyond _ = false
+says_beyond (answer.Root name) = false
+says_beyond (answer.Inside bs) = false
+says_beyond (answer.Value v) = false
+says_beyond (answer.Gate g) = false
+says_beyond (answer.Next next) = false
+says_beyond (answer.Fault path f) = false
+says_beyond (answer.Injection i) = false
+says_beyond answer.Absent = false
 
 -- whether an event to come is later than the option sim-time-limit allows
 abbrev pub is_after_limit : Answers → List Record → Pending → Bool

@@ -1,5 +1,5 @@
 -- What comes next in a run: an event, or an injection that goes before it.
-use Rattle.std.specs.Prelude.{ℕ, zero, suc, List, [], ◌∷◌, Option, Some, None, bytes_eq, if◌then◌else◌}
+use Rattle.std.specs.Prelude.{ℕ, zero, suc, List, [], ◌∷◌, Option, Some, None, bytes_eq, length, if◌then◌else◌}
 use Rattle.run_questions.specs.declared.answer.Answer.{Answer}
 use Rattle.run_questions.specs.declared.answer.Answer.TheVariants as answer
 use Rattle.run_questions.specs.declared.answer.Question.TheVariants.{InjectionBefore}
@@ -57,18 +57,22 @@ aimed go_on w ps i None = go_on w
 
 abbrev pub chosen : (World → Upcoming) → World → List Pending → Answer → Upcoming
 chosen go_on w ps (answer.Injection (Some i)) = aimed go_on (delivered i w) ps i (target_of i.path w)
-chosen go_on w ps _ = first_of w ps
+chosen go_on w ps (answer.Injection None) = first_of w ps
+chosen go_on w ps (answer.Root name) = first_of w ps
+chosen go_on w ps (answer.Inside bs) = first_of w ps
+chosen go_on w ps (answer.Value v) = first_of w ps
+chosen go_on w ps (answer.Gate g) = first_of w ps
+chosen go_on w ps (answer.Next next) = first_of w ps
+chosen go_on w ps (answer.Fault path f) = first_of w ps
+chosen go_on w ps (answer.Beyond beyond) = first_of w ps
+chosen go_on w ps answer.Absent = first_of w ps
 
--- what comes next, where fewer than so many injections are discarded before it
+-- what comes next, where at most so many looks are taken at injections: each look but the last delivers one
 abbrev pub upcoming_in : ℕ → Answers → List Pending → World → Upcoming
 upcoming_in zero m ps w = Nothing w
 upcoming_in (suc left) m ps w =
     chosen (upcoming_in left m ps) (asked_next (InjectionBefore (first_due ps) w.delivered) w) ps (answer_of m w.records (InjectionBefore (first_due ps) w.delivered))
 
--- a model has at most so many injections
-unfoldable pub most_injections : ℕ
-most_injections = 10000
-
--- WHAT COMES NEXT, where at most all injections of a model are discarded before it
+-- WHAT COMES NEXT, where at most all injections of the model are discarded before it: as many looks as it has injections, and one
 unfoldable pub upcoming : Answers → World → Upcoming
-upcoming m w = upcoming_in (suc most_injections) m w.pending w
+upcoming m w = upcoming_in (suc (length m.injections)) m w.pending w

@@ -71,6 +71,7 @@ timed q w = record w { questions = w.questions ++ record { event = w.count; ques
 abbrev pub asked_next : Question → World → World
 asked_next q w = record w { questions = w.questions ++ record { event = w.count + 1; question = q } ∷ [] }
 
--- insertion numbers are far from running out
+-- insertion numbers are far from running out: an event inserts fewer than 2^40 events, as it calls at most 2^16 modules for at most 2^8 stages each, and a reply has at most
+-- 1,000 actions
 abbrev pub HasRoom : World → Type 0
-HasRoom w = w.next ≤ 2 ^ 82 + 1000 * w.count
+HasRoom w = w.next ≤ 2 ^ 82 + 2 ^ 40 * w.count

@@ -1,15 +1,18 @@
 //! Laws of runs. The functions do nothing: their contracts are the laws.
 
-ghost use Rattle.std.specs.Prelude.{◌≡◌, ◌↔◌, ℕ, suc, ◌+◌, ◌≤◌, ◌<◌, IsSome, []};
+ghost use Rattle.std.specs.Prelude.{◌≡◌, ◌↔◌, ℕ, suc, ◌+◌, ◌≤◌, ◌<◌, List, IsSome, []};
 ghost use Rattle.module_api.specs.Behaviour.{Behaviour};
 ghost use Rattle.module_api.specs.Laws.{IsLawful};
 ghost use Rattle.run_questions.specs.Answers.{Answers, answer_of};
 ghost use Rattle.run_semantics.specs.declared.outcome.Outcome.{Outcome};
+ghost use Rattle.run_questions.specs.declared.answer.Asked.{Asked};
+ghost use Rattle.run_questions.specs.declared.record.Record.{Record};
 ghost use Rattle.run_semantics.specs.Agreement.{Agrees, AgreesUpTo, questions_of};
 ghost use Rattle.run_semantics.specs.Ending.{ending};
 ghost use Rattle.run_semantics.specs.Event.{instance_in};
 ghost use Rattle.run_semantics.specs.Example.{ExampleNests};
-ghost use Rattle.run_semantics.specs.Laws.{Each, AreInOrder, AreInTurn, HaveOwnNumbers, HasGrown, GoesOn, CanBeCalled, AreStates, IsBounded, gone_on};
+ghost use Rattle.run_semantics.specs.Laws.{Each, AreInOrder, AreInTurn, HaveOwnNumbers, HasGrown, GoesOn, CanBeCalled, HasEnded, AreFrom, AreStates, IsBounded, gone_on, noted_all};
+ghost use Rattle.run_semantics.specs.Upcoming.{Nothing, upcoming};
 ghost use Rattle.run_semantics.specs.World.{World};
 ghost use Rattle.run_semantics.specs.Run.{Ran, Running, Over, IsReached, next_stage, after, stopped, run_to, world_at, standing, parts_of};
 
@@ -185,6 +188,20 @@ pub fn the_end_only_adds()
 /// At each moment of a run at most 65,536 modules live, and at most 1,000,000 were created.
 pub fn modules_are_bounded()
     ensures { (b : Behaviour) (m : Answers) (n : ℕ) → IsBounded (world_at (after b m n)) }
+{}
+
+/// Nothing comes next only where no event is left and each injection of the model is delivered: one at whose path no module stands is discarded, and the
+/// next one is looked at.
+pub fn nothing_comes_where_nothing_is_left()
+    ensures { (m : Answers) (w end : World) → upcoming m w ≡ Nothing end → HasEnded m w.pending end }
+{}
+
+/// To note a question once is enough: two models agree on what is noted, up to each event, just where they agree on the plain list of all that was
+/// asked, event by event.
+#[tactic(auto, using(crate::proofs::Once::once_agrees))]
+pub fn noting_once_is_enough()
+    ensures { (m n : Answers) (records : List Record) (v : ℕ) (plain : List Asked) → AreFrom 0 plain
+        → AgreesUpTo v m n records (noted_all plain []) ↔ AgreesUpTo v m n records plain }
 {}
 
 /// A network with compound modules, worked by hand: its setup, and the orders of its calls and of its end.

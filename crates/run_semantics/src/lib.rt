@@ -2,6 +2,7 @@
 #![tactic(auto)]
 
 pub mod laws;
+pub mod occasions;
 pub mod outcome;
 pub mod signals;
 pub mod traces;

@@ -9,4 +9,4 @@ carry_out-requires-clause-told g c = told_itself (answers_of c.args.model.now) c
 
 pub returns-clause-step : goal.returns-clause-step
 returns-clause-step g c = ok_step c.carry_out.result c.carry_out.ensures.step (λ turn step.
-    named_step g.C.Catalogue.behaviour (answers_of c.args.model.now) c.args.id c.args.prompt (world_in (λ b. (g.dyn-1.0.entry b.vtable).1) c.args.self.now) (world_in (λ b. (g.dyn-1.0.entry b.vtable).1) c.carry_out.new.self) c.in_ok-call.call turn c.in_ok-call.ensures step)
+    named_step g.C.Catalogue.behaviour (answers_of c.args.model.now) c.args.occasion c.args.id c.args.prompt (world_in (λ b. (g.dyn-1.0.entry b.vtable).1) c.args.self.now) (world_in (λ b. (g.dyn-1.0.entry b.vtable).1) c.carry_out.new.self) c.in_ok-call.call turn c.in_ok-call.ensures step)

@@ -3,6 +3,7 @@ use Rattle.std.proofs.Common.{List, ap, ◌∙◌, subst}
 use Rattle.run_questions.specs.declared.record.Record.{Record}
 use Rattle.shown_modules.specs.Tables.{shown_of, AreShown, IsShown}
 use Rattle.kernel.specs.Kernels.{world_in}
+use Rattle.run_semantics.specs.declared.occasions.Occasion.TheVariants.{Event}
 use Rattle.kernel.proofs.Calling.{ok_step}
 use Rattle.kernel.proofs.Shown.{told_shown, told_itself, named_step, lent_shown, shown_grows}
 use Rattle.kernel.proofs.kernel.Kernel.call_shown.Goals as goal
@@ -14,7 +15,7 @@ carry_out-turn-requires-clause-told g c =
 
 pub returns-clause-step : goal.returns-clause-step
 returns-clause-step g c = ok_step c.carry_out-turn.result c.carry_out-turn.ensures.step (λ turn step.
-    named_step g.C.Catalogue.behaviour (answers_of c.args.model.now) c.args.id c.args.prompt (world_in (λ b. (g.dyn-1.0.entry b.vtable).1) c.args.self.now) (world_in (λ b. (g.dyn-1.0.entry b.vtable).1) c.carry_out-turn.new.self) c.call_shown-call.result turn
+    named_step g.C.Catalogue.behaviour (answers_of c.args.model.now) Event c.args.id c.args.prompt (world_in (λ b. (g.dyn-1.0.entry b.vtable).1) c.args.self.now) (world_in (λ b. (g.dyn-1.0.entry b.vtable).1) c.carry_out-turn.new.self) c.call_shown-call.result turn
     (told_shown (answers_of c.args.model.now) c.args.id c.args.prompt c.args.self.now.core c.in_ok-found.found c.call_shown-call.result (c.in_ok-found.ensures.found ∙ ap (λ (rs : List Record). shown_of (answers_of c.args.model.now) rs c.args.id) c.records.ensures.records) c.call_shown-call.ensures) step)
 
 pub returns-clause-shown : goal.returns-clause-shown

@@ -14,7 +14,7 @@ use Rattle.kernel.proofs.kernel.Kernel.carry_out.Goals as goal
 pub returns-in_default-clause-step : goal.returns-in_default-clause-step
 returns-in_default-clause-step g c =
     ap (λ core. On (world_of core (seats_in (λ b. (g.dyn-1.0.entry b.vtable).1) c.reply_of.new.self))) c.reply_of.ensures.core
-    ∙ passed_over g.C.Catalogue.behaviour (answers_of c.args.model.now) c.args.call.now.id c.args.call.now.prompt c.args.self.now.core (seats_in (λ b. (g.dyn-1.0.entry b.vtable).1) c.args.self.now) (seats_in (λ b. (g.dyn-1.0.entry b.vtable).1) c.reply_of.new.self) (rw c.in_default.is at c.reply_of.ensures.served)
+    ∙ passed_over g.C.Catalogue.behaviour (answers_of c.args.model.now) c.args.occasion c.args.call.now.id c.args.call.now.prompt c.args.self.now.core (seats_in (λ b. (g.dyn-1.0.entry b.vtable).1) c.args.self.now) (seats_in (λ b. (g.dyn-1.0.entry b.vtable).1) c.reply_of.new.self) (rw c.in_default.is at c.reply_of.ensures.served)
 
 pub returns-in_err-reply-clause-kept : goal.returns-in_err-reply-clause-kept
 returns-in_err-reply-clause-kept g c =
@@ -30,11 +30,11 @@ returns-clause-kept g c =
     served_kept g.C.Catalogue.behaviour c.args.call.now.id (seats_in (λ b. (g.dyn-1.0.entry b.vtable).1) c.args.self.now) (seats_in (λ b. (g.dyn-1.0.entry b.vtable).1) c.reply_of.new.self) _ c.reply_of.result c.reply_of.ensures.served c.requires.callable.kinds
 
 pub returns-clause-step : goal.returns-clause-step
-returns-clause-step g c = ok_step c.follow.result c.follow.ensures.flow (λ turn step.
-    called_is g.C.Catalogue.behaviour (answers_of c.args.model.now) c.args.call.now.id c.args.call.now.prompt c.args.self.now.core c.follow.new.core (seats_in (λ b. (g.dyn-1.0.entry b.vtable).1) c.args.self.now) (seats_in (λ b. (g.dyn-1.0.entry b.vtable).1) c.reply_of.new.self)
+returns-clause-step g c = ok_step c.follow.result c.follow.ensures.step (λ turn step.
+    called_is g.C.Catalogue.behaviour (answers_of c.args.model.now) c.args.occasion c.args.call.now.id c.args.call.now.prompt c.args.self.now.core _ (seats_in (λ b. (g.dyn-1.0.entry b.vtable).1) c.args.self.now) (seats_in (λ b. (g.dyn-1.0.entry b.vtable).1) c.reply_of.new.self)
     c.in_ok-reply.reply turn c.requires.callable.kinds
     (subst (λ (k : Call). IsCalled c.args.call.now.id (seats_in (λ b. (g.dyn-1.0.entry b.vtable).1) c.args.self.now) (seats_in (λ b. (g.dyn-1.0.entry b.vtable).1) c.reply_of.new.self) k (Ok c.in_ok-reply.reply)) c.requires.told (rw c.in_ok-reply.was at c.in-Some.ensures.served))
-    (step ∙ ap (answered (answers_of c.args.model.now) c.args.call.now.id c.in_ok-reply.reply) c.reply_of.ensures.core))
+    (step ∙ ap (λ core. answered g.C.Catalogue.behaviour (answers_of c.args.model.now) c.args.occasion c.args.call.now.id c.in_ok-reply.reply (world_of core (seats_in (λ b. (g.dyn-1.0.entry b.vtable).1) c.reply_of.new.self))) c.reply_of.ensures.core))
 
 pub returns-in_default-clause-grown : goal.returns-in_default-clause-grown
 returns-in_default-clause-grown g c =
@@ -46,4 +46,4 @@ returns-in_err-reply-clause-grown g c =
 
 pub returns-clause-grown : goal.returns-clause-grown
 returns-clause-grown g c =
-    boxed_grows c.args.self.now.core c.follow.new.core (seats_in (λ b. (g.dyn-1.0.entry b.vtable).1) c.args.self.now) (seats_in (λ b. (g.dyn-1.0.entry b.vtable).1) c.reply_of.new.self) (subst (λ (w : World). IsGrownFrom w c.follow.new.core) c.reply_of.ensures.core c.follow.ensures.grown)
+    boxed_grows c.args.self.now.core c.follow.new.self.core (seats_in (λ b. (g.dyn-1.0.entry b.vtable).1) c.args.self.now) (seats_in (λ b. (g.dyn-1.0.entry b.vtable).1) c.follow.new.self) (subst (λ (w : World). IsGrownFrom w c.follow.new.self.core) c.reply_of.ensures.core c.follow.ensures.grown)

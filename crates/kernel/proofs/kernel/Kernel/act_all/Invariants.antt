@@ -1,0 +1,17 @@
+use Rattle.model_answers.specs.Answering.{answers_of}
+use Rattle.std.proofs.Common.{◌≡◌, ◌+◌, ◌≤◌, drop}
+use Rattle.run_semantics.specs.Perform.{act_all}
+use Rattle.kernel.specs.Kernels.{world_in}
+use Rattle.kernel_actions.specs.Positions.{IsGrownFrom}
+use Rattle.kernel.proofs.kernel.Kernel.act_all.Given as goal
+
+abbrev pub invariant-loop-action : goal.invariant-loop-action
+invariant-loop-action g l =
+    let old = world_in (λ b. (g.dyn-1.0.entry b.vtable).1) l.fn.self in
+    let world = world_in (λ b. (g.dyn-1.0.entry b.vtable).1) l.self in
+    record {
+      step : act_all g.C.Catalogue.behaviour (answers_of l.model) l.occasion l.id (drop l.action-index l.actions) world ≡ act_all g.C.Catalogue.behaviour (answers_of l.model) l.occasion l.id l.actions old;
+      next : world.next ≤ old.next + l.action-index;
+      boxes : l.self.boxes ≡ l.fn.self.boxes;
+      grown : IsGrownFrom l.fn.self.core l.self.core;
+    }
