@@ -1,5 +1,8 @@
 -- What comes next in a run, step by step.
-use Rattle.std.proofs.Common.{◌≡◌, ℕ, suc, zero, ◌+◌, ◌<◌, true, false, Bool, List, [], ◌∷◌, Option, Some, None, length, refl, ap, ◌∙◌, sym, arith, append-nil, if◌then◌else◌}
+use Rattle.std.proofs.Common.{◌≡◌, ℕ, suc, zero, ◌+◌, ◌<◌, true, false, Bool, List, [], ◌∷◌, Option, Some, None, length, refl, ap, subst, ◌∙◌, sym, arith, append-nil, if◌then◌else◌}
+use Rattle.injection_order.specs.declared.injection.Injection.{Injection}
+use Rattle.models.specs.declared.model.Model.{Model}
+use Rattle.model_answers.specs.Answering.{answers_of}
 use Rattle.run_questions.specs.Answers.{Answers, is_beyond}
 use Rattle.module_api.specs.Behaviour.{Behaviour}
 use Rattle.run_semantics.specs.declared.outcome.Outcome.TheVariants.{Ended, NoMoreEvents, TimeLimit}
@@ -45,6 +48,11 @@ next_too_late b m limit w after of_model going h =
     ∙ ap (λ (u : World). Over u TimeLimit) (sym h.same)
 
 -- ---- looks
+
+-- as many looks as the model has injections, and one
+pub looks_enough : (model : Model) (is : List Injection) → is ≡ model.injections → suc (length (answers_of model).injections) ≡ length is + 1
+unfolding answers_of
+looks_enough model is e = subst (λ (xs : List Injection). suc (length xs) ≡ length is + 1) e (omega arith)
 
 -- before the first look
 pub first_look : (m : Answers) (w : World) (look : Look) → look ≡ record { delivered = w.delivered; asked = [] } → upcoming_in (suc (length m.injections)) m w.pending (looked w look) ≡ upcoming m w
