@@ -13,7 +13,9 @@ use Rattle.run_semantics.specs.declared.outcome.Outcome.{Outcome}
 use Rattle.run_semantics.specs.Run.{Ran, run_to, is_fault}
 use Rattle.run_semantics.specs.World.{World}
 use Rattle.checkpointed_runs.specs.Kept.{kept_if, kept_up_to, lasting, is_owed, HasBegun, HasLeft}
-use Rattle.checkpointed_runs.specs.Positions.{numbers_from, is_multiple, multiples_from, last_from, last_count, up_to_event, start_of, is_left, positions_left, positions_begun, positions_after, HasStored}
+use Rattle.checkpointed_runs.specs.declared.running.Stood.{Stood}
+use Rattle.checkpointed_runs.specs.declared.running.Stood.TheVariants as stood
+use Rattle.checkpointed_runs.specs.Positions.{numbers_from, is_multiple, multiples_from, last_from, last_count, up_to_event, first_behind, starts_within, start_of, is_left, positions_left, positions_begun, positions_after, CanGoOn, HasStored}
 
 -- what holds anyway holds where it is asked for
 pub on_err : {A E P : Type 0} (r : Result A E) → P → OnErr r P
@@ -252,11 +254,6 @@ last_within limit ps p e =
 
 -- ---- what is stored behind a start
 
-pub begun_stored : (b : Behaviour) (m : Answers) (limit i s : ℕ) (old : List ℕ) (before after : List Position) → start_of limit old ≡ Some s → counts_of before ≡ up_to_event (Some s) old
-    → HasBegun i s before after → HasStored b m limit i old (counts_of after)
-begun_stored b m limit i s old before after e c h =
-    inl (h.0, subst (λ o. counts_of after ≡ positions_begun i old o h.0) (sym e) (h.1 ∙ ap (λ ns. ns ++ multiples_from i (suc s) h.0) c))
-
 pub left_after_start : (b : Behaviour) (m : Answers) (limit i s : ℕ) (old : List ℕ) (before after : List Position) → start_of limit old ≡ Some s → counts_of before ≡ up_to_event (Some s) old
     → HasLeft i s before after (run_to b m limit) → counts_of after ≡ positions_after b m limit i old
 left_after_start b m limit i s old before after e c h =
@@ -268,18 +265,53 @@ left_after_start b m limit i s old before after e c h =
     (h.counts ∙ ap (λ ns. ns ++ filter (is_left i last f) (numbers_from (suc s) (last - s))) c
     ∙ ap (λ k. up_to_event (Some s) old ++ filter (is_left i last f) (numbers_from (suc s) k)) (sym d))
 
-pub start_stored : (b : Behaviour) (m : Answers) (limit i s : ℕ) (old : List ℕ) (before after : List Position) → start_of limit old ≡ Some s → counts_of before ≡ up_to_event (Some s) old
-    → HasBegun i s before after ⊎ HasLeft i s before after (run_to b m limit) → HasStored b m limit i old (counts_of after)
-start_stored b m limit i s old before after e c h = ⊎_elim (λ g. begun_stored b m limit i s old before after e c g) (λ g. inr (left_after_start b m limit i s old before after e c g)) h
+pub start_stored : (b : Behaviour) (m : Answers) (limit i s : ℕ) (old : List ℕ) (at : Stood) (before after : List Position) → start_of limit old ≡ Some s → counts_of before ≡ up_to_event (Some s) old
+    → HasBegun b m i s at before after (run_to b m limit) → HasStored b m limit i old at (counts_of after)
+start_stored b m limit i s old stood.Before before after e c h = absurd h
+start_stored b m limit i s old (stood.After k) before after e c h =
+    let d : k - s ≡ suc k - suc s = omega arith in
+    record {
+      going = h.going;
+      within = subst (λ (o : Option ℕ). starts_within o k) (sym e) h.grew;
+      positions = subst (λ (o : Option ℕ). counts_of after ≡ positions_begun i old o (suc k - first_behind o)) (sym e)
+          (h.counts ∙ ap (λ ns. ns ++ multiples_from i (suc s) (k - s)) c ∙ ap (λ n. up_to_event (Some s) old ++ multiples_from i (suc s) n) d);
+    }
+start_stored b m limit i s old (stood.Untaken k) before after e c h =
+    let l = h.grew in
+    record {
+      going = h.going;
+      within = subst (λ (o : Option ℕ). starts_within o k) (sym e) (omega (arith, l));
+      positions = subst (λ (o : Option ℕ). counts_of after ≡ positions_begun i old o (k - first_behind o)) (sym e) (h.counts ∙ ap (λ ns. ns ++ multiples_from i (suc s) (k - suc s)) c);
+    }
+start_stored b m limit i s old stood.Ending before after e c h = left_after_start b m limit i s old before after e c h
+
+-- where a run can't go back to its start, none is stored behind it
+pub back_stored : (b : Behaviour) (m : Answers) (limit i s : ℕ) (old new : List ℕ) → start_of limit old ≡ Some s → CanGoOn b m s → new ≡ up_to_event (Some s) old → HasStored b m limit i old (stood.After s) new
+back_stored b m limit i s old new e going c =
+    let z : suc s - suc s ≡ 0 = omega arith in
+    record {
+      going = going;
+      within = subst (λ (o : Option ℕ). starts_within o s) (sym e) (omega arith);
+      positions = subst (λ (o : Option ℕ). new ≡ positions_begun i old o (suc s - first_behind o)) (sym e)
+          (c ∙ sym (append-nil (up_to_event (Some s) old)) ∙ ap (λ n. up_to_event (Some s) old ++ multiples_from i (suc s) n) (sym z));
+    }
 
 -- where a run begins with setup, it doesn't matter which positions there were
-pub setup_stored : (b : Behaviour) (m : Answers) (limit i : ℕ) (old new : List ℕ) → start_of limit old ≡ None → HasStored b m limit i [] new → HasStored b m limit i old new
-setup_stored b m limit i old new e h =
+pub setup_stored : (b : Behaviour) (m : Answers) (limit i : ℕ) (old : List ℕ) (at : Stood) (new : List ℕ) → start_of limit old ≡ None → HasStored b m limit i [] at new → HasStored b m limit i old at new
+setup_stored b m limit i old stood.Before new e h = (e, h.1)
+setup_stored b m limit i old (stood.After k) new e h = record {
+  going = h.going;
+  within = subst (λ (o : Option ℕ). starts_within o k) (sym e) tt;
+  positions = subst (λ (o : Option ℕ). new ≡ positions_begun i old o (suc k - first_behind o)) (sym e) h.positions;
+}
+setup_stored b m limit i old (stood.Untaken k) new e h = record {
+  going = h.going;
+  within = subst (λ (o : Option ℕ). starts_within o k) (sym e) tt;
+  positions = subst (λ (o : Option ℕ). new ≡ positions_begun i old o (k - first_behind o)) (sym e) h.positions;
+}
+setup_stored b m limit i old stood.Ending new e h =
     let ran : Ran = run_to b m limit in
-    ⊎_elim
-    (λ (g : (more : ℕ) × (new ≡ positions_begun i [] None more)). inl (g.0, subst (λ o. new ≡ positions_begun i old o g.0) (sym e) g.1))
-    (λ (g : new ≡ positions_after b m limit i []). inr (subst (λ o. new ≡ positions_left i old o ran.world.count (is_fault ran.outcome)) (sym e) g))
-    h
+    subst (λ o. new ≡ positions_left i old o ran.world.count (is_fault ran.outcome)) (sym e) h
 
 pub setup_after : (b : Behaviour) (m : Answers) (limit i : ℕ) (old new : List ℕ) → start_of limit old ≡ None → new ≡ positions_after b m limit i [] → new ≡ positions_after b m limit i old
 setup_after b m limit i old new e g =
@@ -296,21 +328,40 @@ setup_left_all b m limit i before after c h =
     let f : Bool = is_fault ran.outcome in
     setup_leaves i last f (counts_of after) h.faulted (h.counts ∙ ap (λ ns. ns ++ filter (is_left i last f) (numbers_from 1 (last - 0))) c)
 
-pub setup_begun : (b : Behaviour) (m : Answers) (limit i : ℕ) (before after : List Position) → counts_of before ≡ 0 ∷ [] → HasBegun i 0 before after → HasStored b m limit i [] (counts_of after)
-setup_begun b m limit i before after c h =
-    inl (suc h.0, h.1 ∙ ap (λ ns. ns ++ multiples_from i 1 h.0) c ∙ setup_begins i h.0)
-
-pub setup_stored_all : (b : Behaviour) (m : Answers) (limit i : ℕ) (before after : List Position) → counts_of before ≡ 0 ∷ [] → HasBegun i 0 before after ⊎ HasLeft i 0 before after (run_to b m limit) → HasStored b m limit i [] (counts_of after)
-setup_stored_all b m limit i before after c h =
-    ⊎_elim (λ g. setup_begun b m limit i before after c g) (λ g. inr (setup_left_all b m limit i before after c g)) h
+pub setup_stored_all : (b : Behaviour) (m : Answers) (limit i : ℕ) (at : Stood) (before after : List Position) → counts_of before ≡ 0 ∷ [] → HasBegun b m i 0 at before after (run_to b m limit) → HasStored b m limit i [] at (counts_of after)
+setup_stored_all b m limit i stood.Before before after c h = absurd h
+setup_stored_all b m limit i (stood.After k) before after c h =
+    let a : suc k - 0 ≡ suc k = omega arith in
+    let z : k - 0 ≡ k = omega arith in
+    record {
+      going = h.going;
+      within = tt;
+      positions = h.counts ∙ ap (λ ns. ns ++ multiples_from i 1 (k - 0)) c ∙ ap (λ n. 0 ∷ multiples_from i 1 n) z ∙ setup_begins i k ∙ ap (multiples_from i 0) (sym a);
+    }
+setup_stored_all b m limit i (stood.Untaken zero) before after c h = let l = h.grew in absurd (omega (arith, l))
+setup_stored_all b m limit i (stood.Untaken (suc k)) before after c h =
+    let a : suc k - 0 ≡ suc k = omega arith in
+    let z : suc k - suc 0 ≡ k = omega arith in
+    record {
+      going = h.going;
+      within = tt;
+      positions = h.counts ∙ ap (λ ns. ns ++ multiples_from i 1 (suc k - suc 0)) c ∙ ap (λ n. 0 ∷ multiples_from i 1 n) z ∙ setup_begins i k ∙ ap (multiples_from i 0) (sym a);
+    }
+setup_stored_all b m limit i stood.Ending before after c h = setup_left_all b m limit i before after c h
 
 -- the position of event zero alone
 pub first_counts : (w : World) (old new : List Position) → old ≡ [] → new ≡ old ++ kept_if true (position_of w) → w.count ≡ 0 → counts_of new ≡ 0 ∷ []
 first_counts w old new none e count = ap counts_of (e ∙ ap (λ ps. ps ++ position_of w ∷ []) none) ∙ ap (λ n. n ∷ []) count
 
 -- nothing is stored yet
-pub none_stored : (b : Behaviour) (m : Answers) (limit i : ℕ) (ps : List Position) → ps ≡ [] → HasStored b m limit i [] (counts_of ps)
-none_stored b m limit i ps e = inl (0, ap counts_of e)
+pub none_stored : (b : Behaviour) (m : Answers) (limit i : ℕ) (at : Stood) (ps : List Position) → at ≡ stood.Before → ps ≡ [] → HasStored b m limit i [] at (counts_of ps)
+none_stored b m limit i at ps e none = subst (λ (x : Stood). HasStored b m limit i [] x (counts_of ps)) (sym e) (refl, ap counts_of none)
+
+-- the first position could not be taken
+pub first_untaken : (b : Behaviour) (m : Answers) (limit i : ℕ) (at : Stood) (ps : List Position) → at ≡ stood.Untaken 0 → CanGoOn b m 0 → ps ≡ [] → HasStored b m limit i [] at (counts_of ps)
+first_untaken b m limit i at ps e going none =
+    let z : 0 - 0 ≡ 0 = omega arith in
+    subst (λ (x : Stood). HasStored b m limit i [] x (counts_of ps)) (sym e) (record { going = going; within = tt; positions = ap counts_of none ∙ ap (multiples_from i 0) (sym z) })
 
 -- a fault in event zero leaves none
 pub fault_left : (b : Behaviour) (m : Answers) (limit i : ℕ) (w : World) (outcome : Outcome) (ps : List Position) → ps ≡ [] → run_to b m limit ≡ record { world = w; outcome = outcome } → w.count ≡ 0 → is_fault outcome ≡ true

@@ -17,6 +17,8 @@ use Rattle.run_semantics.proofs.Counts.{event_count, runs_on, upcoming_count}
 use Rattle.run_semantics.proofs.Sound.{in_flow}
 use Rattle.run_semantics.proofs.Looking.{beside}
 use Rattle.checkpointed_runs.specs.Kept.{kept_if, lasting, is_owed, HasBegun, HasGoneOn, HasLeft}
+use Rattle.checkpointed_runs.specs.declared.running.Stood.{Stood}
+use Rattle.checkpointed_runs.specs.declared.running.Stood.TheVariants as stood
 use Rattle.checkpointed_runs.specs.Positions.{numbers_from, is_multiple, multiples_from}
 use Rattle.checkpointed_runs.proofs.Counting.{count_if, left_is, multiples_more, one_stored}
 
@@ -165,8 +167,17 @@ gone_stopped b m i from k before ps w outcome l going e h =
 
 -- ---- and what it leaves
 
-pub begun_gone : (b : Behaviour) (m : Answers) (i from : ℕ) (before ps : List Position) (w : World) (outcome : Outcome) → HasGoneOn b m i from before ps w outcome → HasBegun i from before ps
-begun_gone b m i from before ps w outcome g = (lasting (is_fault outcome) w.count - from, g.counts)
+-- an event could not be executed
+pub begun_after : (b : Behaviour) (m : Answers) (i from k : ℕ) (at : Stood) (before ps : List Position) (w : World) (ran : Ran) → at ≡ stood.After k → from ≤ k → Running w ≡ after b m k → StoredAt i from before ps k → HasBegun b m i from at before ps ran
+begun_after b m i from k at before ps w ran e l going h =
+    subst (λ (x : Stood). HasBegun b m i from x before ps ran) (sym e) (record { going = (w, going); grew = l; counts = h })
+
+-- the position after an event could not be taken
+pub begun_untaken : (b : Behaviour) (m : Answers) (i from k : ℕ) (at : Stood) (before ps : List Position) (w : World) (ran : Ran) → at ≡ stood.Untaken (suc k) → from ≤ k → Running w ≡ after b m (suc k) → StoredAt i from before ps k → HasBegun b m i from at before ps ran
+begun_untaken b m i from k at before ps w ran e l going h =
+    let d : k - from ≡ suc k - suc from = omega arith in
+    subst (λ (x : Stood). HasBegun b m i from x before ps ran) (sym e)
+    (record { going = (w, going); grew = omega (arith, l); counts = h ∙ ap (λ n. counts_of before ++ multiples_from i (suc from) n) d })
 
 pub left_gone : (b : Behaviour) (m : Answers) (limit i from : ℕ) (before mid new : List Position) (w : World) (outcome : Outcome) (p : Position) → run_to b m limit ≡ record { world = w; outcome = outcome } → HasGoneOn b m i from before mid w outcome
     → p.count ≡ w.count → new ≡ mid ++ kept_if (is_owed i from (is_fault outcome) w.count) p → HasLeft i from before new (run_to b m limit)
@@ -206,9 +217,14 @@ and_true false t e = absurd (false_true e)
 less_of : (m n : ℕ) → nat_lt m n ≡ true → m < n
 less_of m n e = grind (arith, nat_tests)
 
-pub owed_below : (b : Behaviour) (m : Answers) (i from : ℕ) (before ps : List Position) (w : World) (outcome : Outcome) → AreBelow (suc from) before → HasGoneOn b m i from before ps w outcome
-    → is_owed i from (is_fault outcome) w.count ≡ true → AreBelow w.count ps
-owed_below b m i from before ps w outcome below g owed =
+-- which is behind where the run went on, and none of the multiples
+pub record IsOwedAt (i from last : ℕ) (before ps : List Position) : Type 0 where
+  pub behind : from < last
+  pub counts : counts_of ps ≡ counts_of before ++ multiples_from i (suc from) (last - suc from)
+
+pub owed_at : (b : Behaviour) (m : Answers) (i from : ℕ) (before ps : List Position) (w : World) (outcome : Outcome) → HasGoneOn b m i from before ps w outcome
+    → is_owed i from (is_fault outcome) w.count ≡ true → IsOwedAt i from w.count before ps
+owed_at b m i from before ps w outcome g owed =
     let last : ℕ = w.count in
     let one = and_true (not (is_fault outcome)) (nat_lt from last && not (is_multiple i last)) owed in
     let two = and_true (nat_lt from last) (not (is_multiple i last)) one.1 in
@@ -216,7 +232,6 @@ owed_below b m i from before ps w outcome below g owed =
     let none : is_multiple i last ≡ false = not_is (is_multiple i last) two.1 in
     let d : last - from ≡ suc (last - suc from) = omega (arith, l) in
     let n : suc from + (last - suc from) ≡ last = omega (arith, l) in
-    let z : (last - suc from) ≡ (last - 1) - from = omega (arith, l) in
     let f : is_fault outcome ≡ false = not_is (is_fault outcome) one.0 in
     let all : counts_of ps ≡ counts_of before ++ multiples_from i (suc from) (last - from) = rw f at g.counts in
     let fewer : multiples_from i (suc from) (last - from) ≡ multiples_from i (suc from) (last - suc from) =
@@ -224,4 +239,22 @@ owed_below b m i from before ps w outcome below g owed =
     ∙ ap (λ x. multiples_from i (suc from) (last - suc from) ++ count_if (is_multiple i x) x) n
     ∙ ap (λ t. multiples_from i (suc from) (last - suc from) ++ count_if t last) none
     ∙ append-nil (multiples_from i (suc from) (last - suc from)) in
-    stored_within i from (last - 1) last before ps (omega (arith, l)) (omega (arith, l)) below (all ∙ ap (λ ns. counts_of before ++ ns) (fewer ∙ ap (multiples_from i (suc from)) z))
+    record { behind = l; counts = all ∙ ap (λ ns. counts_of before ++ ns) fewer }
+
+pub owed_below : (b : Behaviour) (m : Answers) (i from : ℕ) (before ps : List Position) (w : World) (outcome : Outcome) → AreBelow (suc from) before → HasGoneOn b m i from before ps w outcome
+    → is_owed i from (is_fault outcome) w.count ≡ true → AreBelow w.count ps
+owed_below b m i from before ps w outcome below g owed =
+    let last : ℕ = w.count in
+    let at = owed_at b m i from before ps w outcome g owed in
+    let l : from < last = at.behind in
+    let z : (last - suc from) ≡ (last - 1) - from = omega (arith, l) in
+    stored_within i from (last - 1) last before ps (omega (arith, l)) (omega (arith, l)) below (at.counts ∙ ap (λ n. counts_of before ++ multiples_from i (suc from) n) z)
+
+-- the position after the last event could not be taken
+pub begun_owed : (b : Behaviour) (m : Answers) (i from : ℕ) (at : Stood) (before mid ps : List Position) (w : World) (outcome : Outcome) (ran : Ran) → at ≡ stood.Untaken w.count → HasGoneOn b m i from before mid w outcome
+    → is_owed i from (is_fault outcome) w.count ≡ true → ps ≡ mid → HasBegun b m i from at before ps ran
+begun_owed b m i from at before mid ps w outcome ran e g owed same =
+    let here = owed_at b m i from before mid w outcome g owed in
+    let l : from < w.count = here.behind in
+    subst (λ (x : Stood). HasBegun b m i from x before ps ran) (sym e)
+    (record { going = (w, owed_lasts b m i from before mid w outcome g owed); grew = omega (arith, l); counts = ap counts_of same ∙ here.counts })

@@ -19,6 +19,7 @@ use Rattle.saved_boxes.specs.Seats.{Seat, instance_of, AreKept, AreOfKinds}
 use Rattle.kernel_actions.proofs.Growing.{growth_on, run_grows}
 use Rattle.kernel_actions.proofs.Positions.{back_when_grown}
 use Rattle.checkpointed_runs.specs.Kept.{kept_if, AreGood, IsGood}
+use Rattle.checkpointed_runs.specs.Positions.{CanGoOn}
 use Rattle.checkpointed_runs.proofs.Counting.{below_up_to, last_within}
 
 -- ---- a run goes on
@@ -174,6 +175,10 @@ back_at b m limit ss ts w u p ps qs good last kept back cut =
 -- its boxes can take the states
 pub can_take_last : (b : Behaviour) → IsLawful b → (m : Answers) (limit : ℕ) (ss : List Seat) (w : World) (p : Position) (ps : List Position) → AreOfKinds b ss → AreGood b m ss w ps → last_of (up_to limit ps) ≡ Some p → CanTake b p.modules ss
 can_take_last b law m limit ss w p ps kinds good last = good_can b law m ss w p kinds (good_last b m ss w (up_to limit ps) p (good_up_to b m ss w limit ps good) last)
+
+-- the run goes on after it
+pub can_go_on_last : (b : Behaviour) (m : Answers) (limit : ℕ) (ss : List Seat) (w : World) (p : Position) (ps : List Position) → AreGood b m ss w ps → last_of (up_to limit ps) ≡ Some p → CanGoOn b m p.count
+can_go_on_last b m limit ss w p ps good last = let h = good_last b m ss w (up_to limit ps) p (good_up_to b m ss w limit ps good) last in (h.world, sym h.stage)
 
 -- a world that differs in its modules alone has grown
 pub grown_beside : (v w : World) → IsSameBesideModules v w → IsGrownFrom w v

@@ -12,8 +12,10 @@ use Rattle.run_questions.specs.Answers.{Answers}
 use Rattle.run_semantics.specs.declared.outcome.Outcome.{Outcome}
 use Rattle.run_semantics.specs.Run.{Running, Ran, after, standing, is_fault}
 use Rattle.run_semantics.specs.World.{World, HasRoom}
-use Rattle.checkpointed_runs.specs.Positions.{is_left, is_multiple, multiples_from, numbers_from}
+use Rattle.checkpointed_runs.specs.Positions.{CanGoOn, is_left, is_multiple, multiples_from, numbers_from}
 use Rattle.checkpointed_runs.specs.declared.running.Runner.{Runner}
+use Rattle.checkpointed_runs.specs.declared.running.Stood.{Stood}
+use Rattle.checkpointed_runs.specs.declared.running.Stood.TheVariants as stood
 
 -- A POSITION IS GOOD: the run of the model goes on after its events, it is the position of the world there, whose lists have only grown since, and
 -- its modules are those that have boxes.
@@ -63,15 +65,24 @@ pub record HasGoneOn (b : Behaviour) (m : Answers) (interval from : ℕ) (before
   pub lasts : is_fault outcome ≡ false → Running w ≡ after b m w.count
   pub counts : counts_of new ≡ counts_of before ++ multiples_from interval (suc from) (lasting (is_fault outcome) w.count - from)
 
--- behind them stand the multiples of some events: it was given up
-abbrev pub HasBegun : ℕ → ℕ → List Position → List Position → Type 0
-HasBegun interval from before after = (more : ℕ) × (counts_of after ≡ counts_of before ++ multiples_from interval (suc from) more)
-
 -- behind them stand its own; a fault is that of an event behind where it went on
 pub record HasLeft (interval from : ℕ) (before after : List Position) (ran : Ran) : Type 0 where
   pub grew : from ≤ ran.world.count
   pub faulted : is_fault ran.outcome ≡ true → from < ran.world.count
   pub counts : counts_of after ≡ counts_of before ++ filter (is_left interval ran.world.count (is_fault ran.outcome)) (numbers_from (suc from) (ran.world.count - from))
+
+-- It has executed so many events, at least this many; behind them stand the multiples among so many numbers.
+pub record HasGone (b : Behaviour) (m : Answers) (interval from least k more : ℕ) (before after : List Position) : Type 0 where
+  pub going : CanGoOn b m k
+  pub grew : least ≤ k
+  pub counts : counts_of after ≡ counts_of before ++ multiples_from interval (suc from) more
+
+-- what stands behind them, by where the run stands that went on from so many events
+abbrev pub HasBegun : Behaviour → Answers → ℕ → ℕ → Stood → List Position → List Position → Ran → Type 0
+HasBegun b m interval from stood.Before before after ran = ⊥
+HasBegun b m interval from (stood.After k) before after ran = HasGone b m interval from from k (k - from) before after
+HasBegun b m interval from (stood.Untaken k) before after ran = HasGone b m interval from (suc from) k (k - suc from) before after
+HasBegun b m interval from stood.Ending before after ran = HasLeft interval from before after ran
 
 -- ---- in a runner
 
@@ -88,6 +99,7 @@ module _ {C X : Type 0} {Y : X → Type 0} where
     pub good : HasGood b m members r
     pub below : AreBelow (suc (world_in members r.kernel).count) r.positions
     pub interval : 1 ≤ r.interval
+    pub stood : r.stood ≡ stood.After (world_in members r.kernel).count
 
   -- Where there is a start the run goes on from there, and of the positions those up to it are left; else nothing has changed.
   abbrev pub IsBack : Behaviour → Answers → Members X Y → ℕ → Runner C X Y → Runner C X Y → Option ℕ → Type 0
@@ -97,4 +109,4 @@ module _ {C X : Type 0} {Y : X → Type 0} where
 
   -- all but its kernel stays
   abbrev pub IsBesideKernel : Runner C X Y → Runner C X Y → Type 0
-  IsBesideKernel before after = (after.positions ≡ before.positions) × (after.interval ≡ before.interval)
+  IsBesideKernel before after = (after.positions ≡ before.positions) × (after.interval ≡ before.interval) × (after.stood ≡ before.stood)

@@ -3,7 +3,10 @@ use Rattle.std.specs.Prelude.{◌≡◌, ◌⊎◌, ◌≤◌, ℕ, zero, suc, �
 use Rattle.std.specs.List.{filter}
 use Rattle.module_api.specs.Behaviour.{Behaviour}
 use Rattle.run_questions.specs.Answers.{Answers}
-use Rattle.run_semantics.specs.Run.{run_to, is_fault}
+use Rattle.run_semantics.specs.Run.{Running, after, run_to, is_fault}
+use Rattle.run_semantics.specs.World.{World}
+use Rattle.checkpointed_runs.specs.declared.running.Stood.{Stood}
+use Rattle.checkpointed_runs.specs.declared.running.Stood.TheVariants as stood
 
 -- so many numbers, from this one on
 abbrev pub numbers_from : ℕ → ℕ → List ℕ
@@ -70,7 +73,20 @@ positions_after b m limit interval old =
     let ran = run_to b m limit in
     positions_left interval old (start_of limit old) ran.world.count (is_fault ran.outcome)
 
--- What a run leaves that was given up: the positions of some of its events; or all of its own, where its end had begun.
-abbrev pub HasStored : Behaviour → Answers → ℕ → ℕ → List ℕ → List ℕ → Type 0
-HasStored b m limit interval old new =
-    ((more : ℕ) × (new ≡ positions_begun interval old (start_of limit old) more)) ⊎ (new ≡ positions_after b m limit interval old)
+-- the run of the model goes on after so many events
+abbrev pub CanGoOn : Behaviour → Answers → ℕ → Type 0
+CanGoOn b m k = (w : World) × (Running w ≡ after b m k)
+
+-- a run of the model that began there executed so many events, and of its own positions those of so many numbers are stored
+pub record HasGoneTo (b : Behaviour) (m : Answers) (interval : ℕ) (old : List ℕ) (start : Option ℕ) (k more : ℕ) (new : List ℕ) : Type 0 where
+  pub going : CanGoOn b m k
+  pub within : starts_within start k
+  pub positions : new ≡ positions_begun interval old start more
+
+-- WHAT A RUN LEAVES THAT WAS GIVEN UP, by where it stood when memory ran out. Before event zero was done there are none. After an event there are the
+-- multiples of the interval up to that one; where its own position could not be taken, those before it. In its end there are all of its own.
+abbrev pub HasStored : Behaviour → Answers → ℕ → ℕ → List ℕ → Stood → List ℕ → Type 0
+HasStored b m limit interval old stood.Before new = (start_of limit old ≡ None) × (new ≡ [])
+HasStored b m limit interval old (stood.After k) new = HasGoneTo b m interval old (start_of limit old) k (suc k - first_behind (start_of limit old)) new
+HasStored b m limit interval old (stood.Untaken k) new = HasGoneTo b m interval old (start_of limit old) k (k - first_behind (start_of limit old)) new
+HasStored b m limit interval old stood.Ending new = new ≡ positions_after b m limit interval old

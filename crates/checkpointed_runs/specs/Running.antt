@@ -96,7 +96,8 @@ Stands b m kept w stands.Ready = (On w ≡ ready b m) × (w.next ≡ 0)
 -- what it waits for is what its model wants after so many boxes; it doesn't go on while there is such a box
 abbrev pub Wants : Answers → ℕ → Phase → Standing → Type 0
 Wants m kept phase (stands.Missing request) = IsUndeclined phase × (wanted_by m kept ≡ Some request)
-Wants m kept phase _ = (phase ≡ Declined) ⊎ (wanted_by m kept ≡ None)
+Wants m kept phase (stands.Over outcome) = (phase ≡ Declined) ⊎ (wanted_by m kept ≡ None)
+Wants m kept phase stands.Ready = (phase ≡ Declined) ⊎ (wanted_by m kept ≡ None)
 
 -- a run waits with the boxes that it kept, as it begins with setup; no position is stored
 pub record IsWaiting (b : Behaviour) (m : Answers) (limit kept : ℕ) (phase : Phase) (old : List ℕ) (w : World) (new : List ℕ) (request : Request) : Type 0 where

@@ -1,6 +1,6 @@
 //! A run, from setup or from a position, and the positions that it leaves.
 
-ghost use Rattle.std.specs.Prelude.{◌≡◌, ◌⊎◌, ◌++◌, ◌≤◌, true, None, [], OnOk, OnErr, IfOk, length};
+ghost use Rattle.std.specs.Prelude.{◌≡◌, ◌++◌, ◌≤◌, true, None, [], OnOk, OnErr, IfOk, length};
 ghost use Rattle.model_answers.specs.Answering.{answers_of};
 ghost use Rattle.run_semantics.specs.Perform.{On};
 ghost use Rattle.run_semantics.specs.Run.{ready, run_to};
@@ -9,8 +9,9 @@ ghost use Rattle.kernel.specs.Kernels.{seats_in, world_in, ran_in, HasKinds};
 ghost use Rattle.checkpoints.specs.Stored.{counts_of, last_of, AreBelow, AreRising};
 ghost use Rattle.checkpointed_runs.specs.Running.{fresh_run, kept_boxes, Advances, IsDeclined, IsFilled, IsLive, IsStopped, IsUndeclined, Stands, Wants};
 ghost use Rattle.checkpointed_runs.specs.Kept.{cut_to_last, is_owed, kept_if, kept_up_to, HasBegun, HasGood, HasGoneOn, HasLeft, IsBack, IsBesideKernel, IsGoing};
-ghost use Rattle.checkpointed_runs.specs.Positions.{is_multiple, last_count, positions_after, start_of, up_to_event, HasStored};
+ghost use Rattle.checkpointed_runs.specs.Positions.{is_multiple, last_count, positions_after, start_of, HasStored};
 ghost use Rattle.checkpointed_runs.specs.declared.running.Phase.{Phase};
+ghost use Rattle.checkpointed_runs.specs.declared.running.Stood.{Stood};
 
 use checkpoints::positions::Positions;
 use kernel::kernel::Kernel;
@@ -34,6 +35,19 @@ pub enum Phase {
     Waiting,
     /// There is no box for the module that the run waited for.
     Declined,
+}
+
+/// Where a run stands, or stood when memory ran out.
+#[derive(Clone, Copy, PartialEq, Eq)]
+pub enum Stood {
+    /// Event zero is not done.
+    Before,
+    /// After so many events, with the positions that were due by then.
+    After(u64),
+    /// After so many events, of which the last one's position is not taken.
+    Untaken(u64),
+    /// All its events are executed, and its positions are stored.
+    Ending,
 }
 
 /// Where a run stands before its first event.
@@ -62,6 +76,8 @@ pub struct Runner<C: Catalogue> {
     pub positions: Positions,
     /// After each multiple of so many events a run leaves a position.
     pub interval: u64,
+    /// Where the run stands that was asked for last.
+    pub stood: Stood,
     /// What the kernel holds, so that contracts can name what boxes say of themselves.
     pub holds: PhantomData<Box<dyn SimpleModule>>,
 }
@@ -73,6 +89,7 @@ impl<C: Catalogue> Drop for Runner<C> {
             kernel: _,
             positions: _,
             interval: _,
+            stood: _,
             holds: _,
         } = self;
     }
@@ -164,7 +181,7 @@ impl<C: Catalogue> Runner<C> {
 
     // ---- positions
 
-    /// Stores the position where the run stands, if it is due. Where memory runs out the stored ones stay.
+    /// Stores the position where the run stands, if it is due, and notes where that is. Where memory runs out the stored ones stay.
     fn keep_if(&mut self, alloc: Global, due: bool) -> Result<(), NoMemory>
         requires below { due ≡ true
             → AreBelow (world_in SimpleModule-box self.old.kernel).count self.old.positions }
@@ -172,13 +189,22 @@ impl<C: Catalogue> Runner<C> {
             × (self.new.interval ≡ self.old.interval) }
         ensures ok { let position = position_of (world_in SimpleModule-box self.old.kernel) in
             OnOk result (self.new.positions ≡ self.old.positions ++ kept_if due position) }
+        ensures stood { let count = (world_in SimpleModule-box self.old.kernel).count in
+            OnOk result (self.new.stood ≡ Stood.After count) }
         ensures err { OnErr result (self.new.positions ≡ self.old.positions) }
+        ensures untaken { let count = (world_in SimpleModule-box self.old.kernel).count in
+            OnErr result (self.new.stood ≡ Stood.Untaken count) }
+        ensures due { OnErr result (due ≡ true) }
     {
-        if !due {
-            return Ok(());
+        let count = self.kernel.count();
+        self.stood = Stood::After(count);
+        if due {
+            self.stood = Stood::Untaken(count);
+            let position = self.kernel.position(alloc)?;
+            self.positions.take(position)?;
+            self.stood = Stood::After(count);
         }
-        let position = self.kernel.position(alloc)?;
-        self.positions.take(position)
+        Ok(())
     }
 
     /// Goes back to the last position up to the limit, and gives up those behind it; where there is none, nothing changes.
@@ -192,15 +218,15 @@ impl<C: Catalogue> Runner<C> {
         ensures back { IfOk result (λ start.
             (start ≡ start_of limit (counts_of self.old.positions))
             × IsBack C.behaviour (answers_of model.now) SimpleModule-box limit self.old self.new start) }
-        ensures err { OnErr result (counts_of self.new.positions
-            ≡ up_to_event (start_of limit (counts_of self.old.positions))
-            (counts_of self.old.positions)) }
+        ensures err { OnErr result (HasStored C.behaviour (answers_of model.now) limit self.old.interval
+            (counts_of self.old.positions) self.new.stood (counts_of self.new.positions)) }
     {
         let _model = model;
         let Some(position) = self.positions.at_most(limit) else {
             return Ok(None);
         };
         let start = position.count();
+        self.stood = Stood::After(start);
         let back = self.kernel.go_back(alloc, position);
         self.positions.cut_after(start);
         back?;
@@ -227,6 +253,7 @@ impl<C: Catalogue> Runner<C> {
             ≡ seats_in SimpleModule-box self.old.kernel }
         ensures interval { self.new.interval ≡ self.old.interval }
         ensures positions { self.new.positions ≡ self.old.positions }
+        ensures stood { self.new.stood ≡ self.old.stood }
         ensures rising { AreRising self.old.positions }
         ensures last { result ≡ last_count (counts_of self.old.positions) }
         ensures world { world_in SimpleModule-box self.new.kernel
@@ -249,7 +276,9 @@ impl<C: Catalogue> Runner<C> {
         ensures interval { self.new.interval ≡ self.old.interval }
         ensures good { HasGood C.behaviour (answers_of model.now) SimpleModule-box self.new }
         ensures begun { let from = (world_in SimpleModule-box self.old.kernel).count in
-            HasBegun self.old.interval from self.old.positions self.new.positions }
+            let ran = run_to C.behaviour (answers_of model.now) limit in
+            OnErr result (HasBegun C.behaviour (answers_of model.now) self.old.interval from self.new.stood
+            self.old.positions self.new.positions ran) }
         ensures ran { IfOk result (λ outcome. IsStopped C.behaviour (answers_of model.now) limit
             (ran_in SimpleModule-box outcome self.new.kernel)) }
         ensures stored { let from = (world_in SimpleModule-box self.old.kernel).count in
@@ -283,13 +312,14 @@ impl<C: Catalogue> Runner<C> {
             OnOk result (HasLeft self.old.interval from self.old.positions self.new.positions ran) }
         ensures stopped { let from = (world_in SimpleModule-box self.old.kernel).count in
             let ran = run_to C.behaviour (answers_of model.now) limit in
-            HasBegun self.old.interval from self.old.positions self.new.positions
-            ⊎ HasLeft self.old.interval from self.old.positions self.new.positions ran }
+            HasBegun C.behaviour (answers_of model.now) self.old.interval from self.new.stood
+            self.old.positions self.new.positions ran }
     {
         let from = self.kernel.count();
         let outcome = self.go_on(alloc, model, limit)?;
         let due = is_owed(self.interval, from, outcome.is_fault(), self.kernel.count());
         self.keep_if(alloc, due)?;
+        self.stood = Stood::Ending;
         self.kernel.finish(alloc, model, outcome)
     }
 
@@ -301,6 +331,7 @@ impl<C: Catalogue> Runner<C> {
         requires kinds { HasKinds C.behaviour SimpleModule-box self.old.kernel }
         requires interval { 1 ≤ self.old.interval }
         requires none { self.old.positions ≡ [] }
+        requires stood { self.old.stood ≡ Stood.Before }
         ensures kinds { HasKinds C.behaviour SimpleModule-box self.new.kernel }
         ensures interval { self.new.interval ≡ self.old.interval }
         ensures good { HasGood C.behaviour (answers_of model.now) SimpleModule-box self.new }
@@ -308,7 +339,7 @@ impl<C: Catalogue> Runner<C> {
             ≡ ran_in SimpleModule-box outcome self.new.kernel) }
         ensures left { OnOk result (counts_of self.new.positions
             ≡ positions_after C.behaviour (answers_of model.now) limit self.old.interval []) }
-        ensures stopped { HasStored C.behaviour (answers_of model.now) limit self.old.interval []
+        ensures stopped { HasStored C.behaviour (answers_of model.now) limit self.old.interval [] self.new.stood
             (counts_of self.new.positions) }
     {
         match self.kernel.start(alloc, model)? {
@@ -333,6 +364,7 @@ impl<C: Catalogue> Runner<C> {
         requires kinds { HasKinds C.behaviour SimpleModule-box self.old.kernel }
         requires interval { 1 ≤ self.old.interval }
         requires none { self.old.positions ≡ [] }
+        requires stood { self.old.stood ≡ Stood.Before }
         ensures kinds { HasKinds C.behaviour SimpleModule-box self.new.kernel }
         ensures interval { self.new.interval ≡ self.old.interval }
         ensures good { HasGood C.behaviour (answers_of model.now) SimpleModule-box self.new }
@@ -342,7 +374,7 @@ impl<C: Catalogue> Runner<C> {
             IfOk result (λ advance.
             Advances C.behaviour (answers_of model.now) limit self.old.interval kept phase [] left
             (counts_of self.new.positions) advance) }
-        ensures stopped { HasStored C.behaviour (answers_of model.now) limit self.old.interval []
+        ensures stopped { HasStored C.behaviour (answers_of model.now) limit self.old.interval [] self.new.stood
             (counts_of self.new.positions) }
     {
         match self.stand(alloc, model, phase)? {
@@ -379,7 +411,7 @@ impl<C: Catalogue> Runner<C> {
             (counts_of self.old.positions) left
             (counts_of self.new.positions) advance) }
         ensures stopped { HasStored C.behaviour (answers_of model.now) limit self.old.interval
-            (counts_of self.old.positions)
+            (counts_of self.old.positions) self.new.stood
             (counts_of self.new.positions) }
     {
         match self.go_back(alloc, model, limit)? {
@@ -389,6 +421,7 @@ impl<C: Catalogue> Runner<C> {
             }
             None => {
                 self.positions = Positions::new(alloc);
+                self.stood = Stood::Before;
                 self.begin(alloc, model, phase, limit)
             }
         }

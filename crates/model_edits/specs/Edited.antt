@@ -1,5 +1,5 @@
 -- The model that an edit makes of a model, and why it makes none.
-use Rattle.std.specs.Prelude.{◌≡◌, ℕ, ℤ, ◌+◌, ◌-◌, ◌^◌, ◌==◌, Bool, ◌||◌, true, false, List, [], ◌∷◌, ◌++◌, length, nat_lt, Option, Some, None, IsSome, Err, if◌then◌else◌}
+use Rattle.std.specs.Prelude.{◌≡◌, ℕ, ℤ, ◌+◌, ◌-◌, ◌^◌, ◌==◌, Bool, ◌||◌, true, false, List, [], ◌∷◌, ◌++◌, length, nat_le, nat_lt, Option, Some, None, IsSome, Err, if◌then◌else◌}
 use Rattle.std.specs.List.{list_any}
 use Rattle.sim_values.specs.Memory.{no_memory}
 use Rattle.ini_config.specs.declared.error.EditError.TheVariants as errors
@@ -56,9 +56,17 @@ pub record IsTextEditOf (m : Model) (e : Edit) (new : Model) : Type 0 where
 
 -- ---- injections
 
--- There is no room for one more: its payload is longer than 4,096 bytes, 10,000 are held, or its number would have more than 32 bits.
+-- a payload has at most so many bytes
+abbrev pub most_payload : ℕ
+most_payload = 4096
+
+-- a model holds at most so many
+abbrev pub most_injections : ℕ
+most_injections = 10000
+
+-- There is no room for one more: its payload is too long, as many are held as may be, or its number would have more than 32 bits.
 abbrev pub has_no_room : Model → List ℕ → Bool
-has_no_room m payload = nat_lt 4096 (length payload) || (nat_lt 9999 (length m.injections) || nat_lt (2 ^ 32 - 2) m.last_injection)
+has_no_room m payload = nat_lt most_payload (length payload) || (nat_le most_injections (length m.injections) || nat_lt (2 ^ 32 - 2) m.last_injection)
 
 -- the injection that is made: its number is the one behind the last that was used, be it held still or not
 abbrev pub next_injection : Model → List ℕ → Due → ℤ → ℕ → List ℕ → Injection

@@ -1,5 +1,5 @@
 use Rattle.model_answers.specs.Answering.{answers_of}
-use Rattle.std.proofs.Common.{◌≡◌, ◌⊎◌, [], Some, None, inr, length, refl, sym, ap, ◌∙◌, arith, subst}
+use Rattle.std.proofs.Common.{◌≡◌, [], Some, None, inr, length, refl, sym, ap, ◌∙◌, arith, subst}
 use Rattle.checkpoints.specs.Stored.{counts_of}
 use Rattle.kernel.specs.Kernels.{world_in}
 use Rattle.run_semantics.specs.Run.{run_to}
@@ -18,10 +18,10 @@ returns-in_err-outcome-in-Some-clause-stopped g c =
     let after = c.run_on.new.self.positions in
     let ran = run_to b m c.args.limit in
     let back = rw c.in-Some.is at c.in_ok-start.ensures.back in
-    start_stored b m c.args.limit c.args.self.now.interval c.in-Some.start (counts_of c.args.self.now.positions) before after (sym back.0)
+    start_stored b m c.args.limit c.args.self.now.interval c.in-Some.start (counts_of c.args.self.now.positions) c.run_on.new.self.stood before after (sym back.0)
     (ap counts_of back.1.2 ∙ kept_counts (Some c.in-Some.start) c.args.self.now.positions)
-    (subst (λ i. HasBegun i c.in-Some.start before after ⊎ HasLeft i c.in-Some.start before after ran) c.go_back.ensures.interval
-    (subst (λ n. HasBegun c.go_back.new.self.interval n before after ⊎ HasLeft c.go_back.new.self.interval n before after ran) back.1.1 c.run_on.ensures.stopped))
+    (subst (λ i. HasBegun b m i c.in-Some.start c.run_on.new.self.stood before after ran) c.go_back.ensures.interval
+    (subst (λ n. HasBegun b m c.go_back.new.self.interval n c.run_on.new.self.stood before after ran) back.1.1 c.run_on.ensures.stopped))
 
 pub returns-in_ok-outcome-in-Some-clause-stopped : goal.returns-in_ok-outcome-in-Some-clause-stopped
 returns-in_ok-outcome-in-Some-clause-stopped g c =
@@ -31,10 +31,10 @@ returns-in_ok-outcome-in-Some-clause-stopped g c =
     let after = c.run_on.new.self.positions in
     let ran = run_to b m c.args.limit in
     let back = rw c.in-Some.is at c.in_ok-start.ensures.back in
-    start_stored b m c.args.limit c.args.self.now.interval c.in-Some.start (counts_of c.args.self.now.positions) before after (sym back.0)
+    start_stored b m c.args.limit c.args.self.now.interval c.in-Some.start (counts_of c.args.self.now.positions) c.run_on.new.self.stood before after (sym back.0)
     (ap counts_of back.1.2 ∙ kept_counts (Some c.in-Some.start) c.args.self.now.positions)
-    (subst (λ i. HasBegun i c.in-Some.start before after ⊎ HasLeft i c.in-Some.start before after ran) c.go_back.ensures.interval
-    (subst (λ n. HasBegun c.go_back.new.self.interval n before after ⊎ HasLeft c.go_back.new.self.interval n before after ran) back.1.1 c.run_on.ensures.stopped))
+    (subst (λ i. HasBegun b m i c.in-Some.start c.run_on.new.self.stood before after ran) c.go_back.ensures.interval
+    (subst (λ n. HasBegun b m c.go_back.new.self.interval n c.run_on.new.self.stood before after ran) back.1.1 c.run_on.ensures.stopped))
 
 pub returns-in_ok-outcome-in-Some-clause-advances : goal.returns-in_ok-outcome-in-Some-clause-advances
 returns-in_ok-outcome-in-Some-clause-advances g c =
@@ -61,5 +61,5 @@ returns-in_ok-outcome-in-Some-clause-advances g c =
 pub returns-in-None-clause-stopped : goal.returns-in-None-clause-stopped
 returns-in-None-clause-stopped g c =
     let back = rw c.in-None.is at c.in_ok-start.ensures.back in
-    setup_stored g.C.Catalogue.behaviour (answers_of c.args.model.now) c.args.limit c.args.self.now.interval (counts_of c.args.self.now.positions) (counts_of c.begin.new.self.positions) (sym back.0)
-    (subst (λ i. HasStored g.C.Catalogue.behaviour (answers_of c.args.model.now) c.args.limit i [] (counts_of c.begin.new.self.positions)) c.go_back.ensures.interval c.begin.ensures.stopped)
+    setup_stored g.C.Catalogue.behaviour (answers_of c.args.model.now) c.args.limit c.args.self.now.interval (counts_of c.args.self.now.positions) c.begin.new.self.stood (counts_of c.begin.new.self.positions) (sym back.0)
+    (subst (λ i. HasStored g.C.Catalogue.behaviour (answers_of c.args.model.now) c.args.limit i [] c.begin.new.self.stood (counts_of c.begin.new.self.positions)) c.go_back.ensures.interval c.begin.ensures.stopped)

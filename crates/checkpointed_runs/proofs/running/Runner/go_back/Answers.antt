@@ -4,9 +4,10 @@ use Rattle.kernel_actions.specs.declared.position.Position.{Position}
 use Rattle.kernel.specs.Kernels.{seats_in, world_in}
 use Rattle.checkpoints.specs.Stored.{counts_of}
 use Rattle.checkpointed_runs.specs.Kept.{AreGood}
-use Rattle.checkpointed_runs.specs.Positions.{up_to_event}
-use Rattle.checkpointed_runs.proofs.Counting.{kept_counts, on_err, start_is}
-use Rattle.checkpointed_runs.proofs.Good.{can_take_last, good_on, good_up_to, grown_beside, back_at}
+use Rattle.checkpointed_runs.specs.Positions.{CanGoOn}
+use Rattle.checkpointed_runs.specs.declared.running.Stood.TheVariants as stood
+use Rattle.checkpointed_runs.proofs.Counting.{back_stored, kept_counts, on_err, start_is}
+use Rattle.checkpointed_runs.proofs.Good.{can_go_on_last, can_take_last, good_on, good_up_to, grown_beside, back_at}
 use Rattle.checkpointed_runs.proofs.running.Runner.go_back.Goals as goal
 
 pub returns-in_default-clause-back : goal.returns-in_default-clause-back
@@ -28,9 +29,14 @@ returns-in_err-back-clause-good g c =
 
 pub returns-in_err-back-clause-err : goal.returns-in_err-back-clause-err
 returns-in_err-back-clause-err g c =
-    let counts = counts_of c.args.self.now.positions in
-    let start = start_is c.args.limit c.args.self.now.positions ∙ ap (option_map (λ (p : Position). p.count)) (sym c.in-Some.ensures) ∙ ap Some (sym c.count-start.ensures) in
-    on_err c.from_residual.result (ap counts_of c.cut_after.ensures ∙ kept_counts (Some c.count-start.result) c.args.self.now.positions ∙ ap (λ s. up_to_event s counts) (sym start))
+    let b = g.C.Catalogue.behaviour in
+    let m = (answers_of c.args.model.now) in
+    let old = c.args.self.now in
+    let start = start_is c.args.limit old.positions ∙ ap (option_map (λ (p : Position). p.count)) (sym c.in-Some.ensures) ∙ ap Some (sym c.count-start.ensures) in
+    let going = can_go_on_last b m c.args.limit (seats_in (λ b. (g.dyn-1.0.entry b.vtable).1) old.kernel) (world_in (λ b. (g.dyn-1.0.entry b.vtable).1) old.kernel) c.in-Some.position.now old.positions c.requires.good (sym c.in-Some.ensures) in
+    on_err c.from_residual.result
+    (back_stored b m c.args.limit old.interval c.count-start.result (counts_of old.positions) (counts_of c.cut_after.new.self) start
+    (subst (CanGoOn b m) (sym c.count-start.ensures) going) (ap counts_of c.cut_after.ensures ∙ kept_counts (Some c.count-start.result) old.positions))
 
 pub returns-clause-good : goal.returns-clause-good
 returns-clause-good g c =
@@ -47,4 +53,4 @@ returns-clause-back g c =
     let start = start_is c.args.limit c.args.self.now.positions ∙ ap (option_map (λ (p : Position). p.count)) (sym c.in-Some.ensures) ∙ ap Some (sym c.count-start.ensures) in
     let back = back_at g.C.Catalogue.behaviour (answers_of c.args.model.now) c.args.limit (seats_in (λ b. (g.dyn-1.0.entry b.vtable).1) old) (seats_in (λ b. (g.dyn-1.0.entry b.vtable).1) new) (world_in (λ b. (g.dyn-1.0.entry b.vtable).1) old)
     (world_in (λ b. (g.dyn-1.0.entry b.vtable).1) new) c.in-Some.position.now c.args.self.now.positions c.cut_after.new.self c.requires.good (sym c.in-Some.ensures) c.go_back-back.ensures.kept c.in_ok-back.ensures.ok (rw c.count-start.ensures at c.cut_after.ensures) in
-    (sym start, (record { going = back.going; within = back.within; room = back.room; good = back.good; below = back.below; interval = c.requires.interval }, back.count ∙ sym c.count-start.ensures, c.cut_after.ensures))
+    (sym start, (record { going = back.going; within = back.within; room = back.room; good = back.good; below = back.below; interval = c.requires.interval; stood = ap stood.After (c.count-start.ensures ∙ sym back.count) }, back.count ∙ sym c.count-start.ensures, c.cut_after.ensures))

@@ -1,6 +1,6 @@
 use Rattle.model_answers.specs.Answering.{answers_of}
 use Rattle.std.proofs.Common.{◌≡◌, ◌++◌, ◌+◌, arith, rules, refl, sym, ap, ◌∙◌, subst, suc}
-use Rattle.checkpoints.specs.Stored.{AreBelow}
+use Rattle.checkpoints.specs.Stored.{counts_of, AreBelow}
 use Rattle.shown_modules.specs.Tables.{AreShown}
 use Rattle.kernel.specs.Kernels.{seats_in, world_in, HasKinds}
 use Rattle.kernel_actions.specs.Positions.{position_of}
@@ -9,7 +9,9 @@ use Rattle.run_semantics.specs.World.{HasRoom}
 use Rattle.run_semantics.proofs.Ends.{count_going, count_over, run_over, next_after}
 use Rattle.checkpointed_runs.specs.Kept.{kept_if, AreGood}
 use Rattle.checkpointed_runs.specs.Positions.{is_multiple}
-use Rattle.checkpointed_runs.proofs.Going.{below_next, count_is, going_at, gone_over, gone_stopped, stored_next, StoredAt}
+use Rattle.checkpointed_runs.specs.declared.running.Stood.TheVariants as stood
+use Rattle.checkpointed_runs.proofs.Counting.{on_err}
+use Rattle.checkpointed_runs.proofs.Going.{begun_after, begun_untaken, below_next, count_is, going_at, gone_over, gone_stopped, stored_next, StoredAt}
 use Rattle.checkpointed_runs.proofs.Good.{good_on, good_stored}
 use Rattle.checkpointed_runs.proofs.running.Runner.go_on.Goals as goal
 
@@ -52,6 +54,24 @@ keep_if-requires g c =
           (below_next c.args.self.now.interval (world_in (λ b. (g.dyn-1.0.entry b.vtable).1) c.args.self.now.kernel).count k c.args.self.now.positions c.loop-k.self.positions c.loop-k.invariant.from c.requires.going.below c.loop-k.invariant.stored);
     }
 
+pub returns-in_err-outcome-clause-begun : goal.returns-in_err-outcome-clause-begun
+returns-in_err-outcome-clause-begun g c =
+    on_err c.from_residual.result
+    (begun_after g.C.Catalogue.behaviour (answers_of c.args.model.now) c.args.self.now.interval (world_in (λ b. (g.dyn-1.0.entry b.vtable).1) c.args.self.now.kernel).count c.loop-k._k c.loop-k.self.stood c.args.self.now.positions c.loop-k.self.positions
+    (world_in (λ b. (g.dyn-1.0.entry b.vtable).1) c.loop-k.self.kernel) _ c.loop-k.invariant.stood c.loop-k.invariant.from c.loop-k.invariant.going c.loop-k.invariant.stored)
+
+pub returns-in_err-keep_if-clause-begun : goal.returns-in_err-keep_if-clause-begun
+returns-in_err-keep_if-clause-begun g c =
+    let b = g.C.Catalogue.behaviour in
+    let m = (answers_of c.args.model.now) in
+    let k = c.loop-k._k in
+    let v = world_in (λ b. (g.dyn-1.0.entry b.vtable).1) c.step.new.self in
+    let going : Running v ≡ after b m (suc k) =
+    next_after b m (world_in (λ b. (g.dyn-1.0.entry b.vtable).1) c.loop-k.self.kernel) (Running v) k c.loop-k.invariant.going (rw c.in_default.is at c.in_ok-outcome.ensures.step) in
+    on_err c.from_residual-in_err-keep_if.result
+    (begun_untaken b m c.args.self.now.interval (world_in (λ b. (g.dyn-1.0.entry b.vtable).1) c.args.self.now.kernel).count k c.keep_if.new.self.stood c.args.self.now.positions c.keep_if.new.self.positions
+    v _ (c.in_err-keep_if.ensures.untaken ∙ ap stood.Untaken (count_is b m (suc k) v going)) c.loop-k.invariant.from going (ap counts_of c.in_err-keep_if.ensures.err ∙ c.loop-k.invariant.stored))
+
 pub returns-in_err-keep_if-clause-good : goal.returns-in_err-keep_if-clause-good
 returns-in_err-keep_if-clause-good g c =
     let good : AreGood g.C.Catalogue.behaviour (answers_of c.args.model.now) (seats_in (λ b. (g.dyn-1.0.entry b.vtable).1) c.step.new.self) (world_in (λ b. (g.dyn-1.0.entry b.vtable).1) c.step.new.self) c.loop-k.self.positions =
@@ -89,6 +109,7 @@ loop-k-preserved g c =
           (good_stored b m (seats_in (λ b. (g.dyn-1.0.entry b.vtable).1) c.step.new.self) v c.is_multiple-due.result old new (λ _. going_at b m (suc k) v going) c.in_ok-outcome.ensures.room refl c.in_ok-keep_if.ensures.ok good);
       interval = c.in_ok-keep_if.ensures.kept.1 ∙ c.loop-k.invariant.interval;
       shown = subst (λ K. AreShown m (world_in (λ b. (g.dyn-1.0.entry b.vtable).1) K).records c.step.new.shown) same c.step.ensures.shown;
+      stood = c.in_ok-keep_if.ensures.stood ∙ ap stood.After (count ∙ one);
       stored = subst (λ n. StoredAt i from c.args.self.now.positions new n) one
           (stored_next i from k c.args.self.now.positions old new (position_of v) c.loop-k.invariant.from count (c.in_ok-keep_if.ensures.ok ∙ ap (λ t. old ++ kept_if t (position_of v)) due) c.loop-k.invariant.stored);
     }

@@ -5,6 +5,7 @@ use Rattle.run_semantics.specs.Run.{Running, after}
 use Rattle.shown_modules.specs.Tables.{AreShown}
 use Rattle.kernel.specs.Kernels.{world_in, HasKinds}
 use Rattle.checkpointed_runs.specs.Kept.{HasGood}
+use Rattle.checkpointed_runs.specs.declared.running.Stood.TheVariants as stood
 use Rattle.checkpointed_runs.proofs.Going.{StoredAt}
 use Rattle.checkpointed_runs.proofs.running.Runner.go_on.Given as goal
 
@@ -21,5 +22,6 @@ invariant-loop-k g l =
       good : HasGood g.C.Catalogue.behaviour (answers_of l.model) (λ b. (g.dyn-1.0.entry b.vtable).1) l.self;
       interval : l.self.interval ≡ l.fn.self.interval;
       shown : AreShown (answers_of l.model) world.records l.shown;
+      stood : l.self.stood ≡ stood.After l._k;
       stored : StoredAt l.fn.self.interval first.count l.fn.self.positions l.self.positions l._k;
     }

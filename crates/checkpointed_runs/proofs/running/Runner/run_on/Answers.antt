@@ -1,5 +1,5 @@
 use Rattle.model_answers.specs.Answering.{answers_of}
-use Rattle.std.proofs.Common.{◌≡◌, ◌++◌, inr, refl, sym, ap, ◌∙◌, subst}
+use Rattle.std.proofs.Common.{◌≡◌, ◌++◌, refl, sym, ap, ◌∙◌, subst}
 use Rattle.kernel.specs.Kernels.{seats_in, world_in, ran_in}
 use Rattle.kernel_actions.specs.Positions.{position_of}
 use Rattle.run_semantics.specs.Ending.{ending}
@@ -7,7 +7,7 @@ use Rattle.run_semantics.specs.Run.{is_fault}
 use Rattle.checkpointed_runs.specs.Running.{fresh_run}
 use Rattle.checkpointed_runs.specs.Kept.{is_owed, kept_if, AreGood}
 use Rattle.checkpointed_runs.proofs.Counting.{if_ok_from, on_ok}
-use Rattle.checkpointed_runs.proofs.Going.{left_gone, owed_below, owed_lasts}
+use Rattle.checkpointed_runs.proofs.Going.{begun_owed, left_gone, owed_below, owed_lasts}
 use Rattle.checkpointed_runs.proofs.Good.{good_on, good_stored}
 use Rattle.checkpointed_runs.proofs.running.Runner.run_on.Goals as goal
 
@@ -60,6 +60,17 @@ returns-clause-left g c =
     (left_gone g.C.Catalogue.behaviour (answers_of c.args.model.now) c.args.limit i from c.args.self.now.positions mid.positions c.keep_if.new.self.positions w c.in_ok-outcome.outcome (position_of w)
     c.in_ok-outcome.ensures.ran.ran_is c.in_ok-outcome.ensures.stored refl (c.in_ok-keep_if.ensures.ok ∙ ap (λ t. mid.positions ++ kept_if t (position_of w)) due))
 
+pub returns-in_err-keep_if-clause-stopped : goal.returns-in_err-keep_if-clause-stopped
+returns-in_err-keep_if-clause-stopped g c =
+    let i = c.args.self.now.interval in
+    let from = c.args.self.now.kernel.core.count in
+    let mid = c.go_on.new.self in
+    let w = world_in (λ b. (g.dyn-1.0.entry b.vtable).1) mid.kernel in
+    let due : c.is_owed-due.result ≡ is_owed i from (is_fault c.in_ok-outcome.outcome) mid.kernel.core.count =
+    rw (c.count-from.ensures, c.is_fault.ensures, c.count.ensures, c.go_on.ensures.interval) at c.is_owed-due.ensures in
+    begun_owed g.C.Catalogue.behaviour (answers_of c.args.model.now) i from c.keep_if.new.self.stood c.args.self.now.positions mid.positions c.keep_if.new.self.positions w c.in_ok-outcome.outcome _
+    c.in_err-keep_if.ensures.untaken c.in_ok-outcome.ensures.stored (sym due ∙ c.in_err-keep_if.ensures.due) c.in_err-keep_if.ensures.err
+
 pub returns-clause-stopped : goal.returns-clause-stopped
 returns-clause-stopped g c =
     let i = c.args.self.now.interval in
@@ -68,5 +79,5 @@ returns-clause-stopped g c =
     let w = world_in (λ b. (g.dyn-1.0.entry b.vtable).1) mid.kernel in
     let due : c.is_owed-due.result ≡ is_owed i from (is_fault c.in_ok-outcome.outcome) mid.kernel.core.count =
     rw (c.count-from.ensures, c.is_fault.ensures, c.count.ensures, c.go_on.ensures.interval) at c.is_owed-due.ensures in
-    inr (left_gone g.C.Catalogue.behaviour (answers_of c.args.model.now) c.args.limit i from c.args.self.now.positions mid.positions c.keep_if.new.self.positions w c.in_ok-outcome.outcome (position_of w)
-    c.in_ok-outcome.ensures.ran.ran_is c.in_ok-outcome.ensures.stored refl (c.in_ok-keep_if.ensures.ok ∙ ap (λ t. mid.positions ++ kept_if t (position_of w)) due))
+    left_gone g.C.Catalogue.behaviour (answers_of c.args.model.now) c.args.limit i from c.args.self.now.positions mid.positions c.keep_if.new.self.positions w c.in_ok-outcome.outcome (position_of w)
+    c.in_ok-outcome.ensures.ran.ran_is c.in_ok-outcome.ensures.stored refl (c.in_ok-keep_if.ensures.ok ∙ ap (λ t. mid.positions ++ kept_if t (position_of w)) due)
