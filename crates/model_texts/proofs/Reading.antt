@@ -6,7 +6,11 @@ use Rattle.ned_trees.specs.declared.declarations.NedFile.{NedFile}
 use Rattle.ned_syntax.specs.NedText.{IsNedFile}
 use Rattle.model_texts.specs.declared.begin.BeginFault.{BeginFault}
 use Rattle.model_texts.specs.declared.begin.BeginFault.TheVariants as fault
-use Rattle.model_texts.specs.Models.{AreNedFiles, AreRead, RefusesFile, RefusesFiles, RefusesConfig, Refuses, is_large}
+use Rattle.ned_trees.specs.declared.declarations.TypeDeclaration.{TypeDeclaration}
+use Rattle.type_building.specs.declared.table.TypeFault.{TypeFault}
+use Rattle.type_building.specs.declared.table.TypeFault.TheVariants as types
+use Rattle.type_building.specs.Building.{fault_of}
+use Rattle.model_texts.specs.Models.{AreNedFiles, AreRead, RefusesFile, RefusesFiles, RefusesConfig, Refuses, RefusesTypes, is_large, refusal_of}
 
 large_here : (ts : List (List ℕ)) (t : List ℕ) (o : Bool) → o ≡ true → (o || list_any is_large ts) ≡ true
 large_here ts t true e = refl
@@ -76,3 +80,11 @@ none_copied (Some x) e = cc
 pub some_copied : {T : Type 0} (o : Option (Bor T)) → is_some o ≡ true → IsSome (option_copied o)
 some_copied None e = cc
 some_copied (Some x) e = refl
+
+-- types with a fault are refused
+pub refused_by : (declared : List TypeDeclaration) (why : TypeFault) → fault_of declared ≡ Some why → RefusesTypes declared (refusal_of why)
+refused_by declared types.DuplicateType h = h
+refused_by declared types.UnknownType h = h
+refused_by declared types.InheritanceCircle h = h
+refused_by declared types.KindClash h = h
+refused_by declared types.Interface h = h

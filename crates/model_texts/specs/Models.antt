@@ -95,6 +95,14 @@ RefusesIni bytes fault.TooLarge = is_large bytes ≡ true
 RefusesIni bytes (fault.NoMemory _) = Unit {0}
 RefusesIni bytes _ = ⊥
 
+-- the refusal of types with that fault
+abbrev pub refusal_of : TypeFault → BeginFault
+refusal_of types.DuplicateType = fault.DuplicateType
+refusal_of types.UnknownType = fault.UnknownType
+refusal_of types.InheritanceCircle = fault.InheritanceCircle
+refusal_of types.KindClash = fault.KindClash
+refusal_of types.Interface = fault.Interface
+
 abbrev pub RefusesTypes : List TypeDeclaration → BeginFault → Type 0
 RefusesTypes declared fault.DuplicateType = fault_of declared ≡ Some types.DuplicateType
 RefusesTypes declared fault.UnknownType = fault_of declared ≡ Some types.UnknownType

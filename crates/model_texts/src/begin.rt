@@ -9,7 +9,7 @@ ghost use Rattle.ned_syntax.specs.NedText.{IsNedFile};
 ghost use Rattle.ned_scopes.specs.Scopes.{types_of};
 ghost use Rattle.type_building.specs.Inheritance.{flat_types};
 ghost use Rattle.type_building.specs.Building.{fault_of};
-ghost use Rattle.model_texts.specs.Models.{AreNedFiles, IsModelOf, IsOnlyModelOf, IsRuledOut, RefusesFile, RefusesFiles, RefusesIni, RefusesTypes, RefusesConfig, Refuses, is_large, is_too_large};
+ghost use Rattle.model_texts.specs.Models.{refusal_of, AreNedFiles, IsModelOf, IsOnlyModelOf, IsRuledOut, RefusesFile, RefusesFiles, RefusesIni, RefusesTypes, RefusesConfig, Refuses, is_large, is_too_large};
 
 use ini_config::error::IniError;
 use ini_config::parse::parse_ini;
@@ -25,7 +25,7 @@ use sim_values::NoMemory;
 use sim_values::text::{MAX_LENGTH, Text};
 use sqlite_items::Items;
 use std::alloc::{AllocError, Global};
-use type_building::table::{TypeFault, build};
+use type_building::table::{BuildError, TypeFault, build};
 
 /// How many NED files a model has at most.
 pub const MAX_FILES: usize = 256;
@@ -144,6 +144,20 @@ fn lines_of(alloc: Global, bytes: &[u8]) -> Result<IniText, BeginFault>
     }
 }
 
+/// The refusal of types with that fault.
+fn refusal_of(fault: TypeFault) -> BeginFault
+    ensures { result ≡ refusal_of fault }
+{
+    match fault {
+        TypeFault::DuplicateType => BeginFault::DuplicateType,
+        TypeFault::UnknownType => BeginFault::UnknownType,
+        TypeFault::InheritanceCircle => BeginFault::InheritanceCircle,
+        TypeFault::KindClash => BeginFault::KindClash,
+        TypeFault::Interface => BeginFault::Interface,
+    }
+}
+
+#[tactic(auto, using(crate::proofs::Reading::refused_by))]
 /// The flat types that the files declare.
 fn table_of(alloc: Global, files: Vec<NedFile>) -> Result<TypeTable, BeginFault>
     ensures accepted { let types = types_of files.items in
@@ -152,12 +166,8 @@ fn table_of(alloc: Global, files: Vec<NedFile>) -> Result<TypeTable, BeginFault>
 {
     match build(alloc, files) {
         Ok(table) => Ok(table),
-        Err(TypeFault::DuplicateType) => Err(BeginFault::DuplicateType),
-        Err(TypeFault::UnknownType) => Err(BeginFault::UnknownType),
-        Err(TypeFault::InheritanceCircle) => Err(BeginFault::InheritanceCircle),
-        Err(TypeFault::KindClash) => Err(BeginFault::KindClash),
-        Err(TypeFault::Interface) => Err(BeginFault::Interface),
-        Err(TypeFault::NoMemory(error)) => Err(BeginFault::NoMemory(error)),
+        Err(BuildError::Fault(fault, _)) => Err(refusal_of(fault)),
+        Err(BuildError::NoMemory(error)) => Err(BeginFault::NoMemory(error)),
     }
 }
 

@@ -6,12 +6,16 @@ use Rattle.ned_trees.specs.declared.declarations.TypeDeclaration.{TypeDeclaratio
 use Rattle.ned_trees.specs.declared.declarations.TypeKind.{TypeKind}
 use Rattle.ned_trees.specs.declared.declarations.TypeKind.TheVariants.{Simple, Network, Channel, ModuleInterface, ChannelInterface}
 use Rattle.type_building.specs.declared.table.TypeFault.{TypeFault}
-use Rattle.type_building.specs.declared.table.TypeFault.TheVariants.{DuplicateType, UnknownType, InheritanceCircle, KindClash, Interface, NoMemory}
+use Rattle.type_building.specs.declared.table.TypeFault.TheVariants.{DuplicateType, UnknownType, InheritanceCircle, KindClash, Interface}
+use Rattle.type_building.specs.declared.table.BuildError.{BuildError}
+use Rattle.type_building.specs.declared.table.BuildError.TheVariants.{Fault, NoMemory}
+use Rattle.type_building.specs.declared.places.Place.{Place}
+use Rattle.type_building.specs.Places.{IsClashPlace, other_in, place_from}
 use Rattle.ned_types.specs.Types as t
 use Rattle.type_building.specs.Interfaces as f
 use Rattle.type_building.specs.Circles.{ExtendsItself}
 use Rattle.type_building.specs.Inheritance as i
-use Rattle.type_building.specs.Building.{base_fault, flat_fault, fault_of, AreFaultless, Builds, AnswersTable, CanBuild, MayExtend}
+use Rattle.type_building.specs.Building.{base_fault, flat_fault, fault_of, AreFaultless, Builds, AnswersTable, CanBuild, IsFlatPlace, IsPlace, MayExtend}
 use Rattle.ned_types.specs.Flat.{or_else}
 use Rattle.ned_types.specs.WellFormed.{IsAmong, StandsBefore, IsWellFormed}
 use Rattle.type_building.proofs.WellFormedLaws.{types_apart, false_not, any_made, any_told, among_second, no_duplicate, no_unknown, no_clash, well_formed, named_is, named_found, or_second, any_is, names_same, type_is}
@@ -36,7 +40,7 @@ flat_name all a = of_kind (t.is_interface_kind a.kind)
     by (Some name) = joined_name (i.bare_heir all a) (i.line_of all a)
 
     of_kind : (b : Bool) → (i.flat_as b all a).name ≡ a.name
-    of_kind true = gathered_name (i.bare a) (i.interfaces_behind (i.heirs_first all) a.interfaces)
+    of_kind true = gathered_name (i.bare a) (i.interfaces_behind all a.interfaces)
     of_kind false = by a.base
 
 flat_has : (types : List TypeDeclaration) (a : TypeDeclaration) → IsAmong a types → (s : Submodule) → IsAmong s a.submodules → IsAmong s (i.flat_type types a).submodules
@@ -48,7 +52,7 @@ flat_has (u ∷ ts) a is s in-a = of_kind (t.is_interface_kind a.kind)
     by (Some name) = among_second s (i.joined_with (i.bare_heir (u ∷ ts) a) (i.line_within (length ts) (u ∷ ts) (i.base_of (u ∷ ts) a.base))).submodules a.submodules in-a
 
     of_kind : (b : Bool) → IsAmong s (i.flat_as b (u ∷ ts) a).submodules
-    of_kind true = among_second s (i.gathered (i.bare a) (i.interfaces_behind (i.heirs_first (u ∷ ts)) a.interfaces)).submodules a.submodules in-a
+    of_kind true = among_second s (i.gathered (i.bare a) (i.interfaces_behind (u ∷ ts) a.interfaces)).submodules a.submodules in-a
     of_kind false = by a.base
 
 among_flat : (all : List TypeDeclaration) (a : TypeDeclaration) (ts : List TypeDeclaration) → IsAmong a ts → IsAmong (i.flat_type all a) (map (i.flat_type all) ts)
@@ -184,21 +188,17 @@ faultless types w =
 
 -- ---- answers
 
-pub rules_by : (types : List TypeDeclaration) (r : Result (List TypeDeclaration) TypeFault) → Builds types r → IfOk r IsWellFormed
+pub rules_by : (types : List TypeDeclaration) (r : Result (List TypeDeclaration) BuildError) → Builds types r → IfOk r IsWellFormed
 rules_by types (Ok table) b = subst IsWellFormed (sym b.0) (flat_rules types b.1)
 rules_by types (Err e) b = tt
 
 some_none : {X : Type 0} (x : X) (o : Option X) → o ≡ Some x → o ≡ None → ⊥
 some_none x o e f = absurd cc
 
-pub complete_by : (types : List TypeDeclaration) (r : Result (List TypeDeclaration) TypeFault) → Builds types r → CanBuild types → AnswersTable (i.flat_types types) r
+pub complete_by : (types : List TypeDeclaration) (r : Result (List TypeDeclaration) BuildError) → Builds types r → CanBuild types → AnswersTable (i.flat_types types) r
 complete_by types (Ok table) b w = b.0
 complete_by types (Err (NoMemory _)) b w = tt
-complete_by types (Err DuplicateType) b w = some_none _ _ b (faultless types w)
-complete_by types (Err UnknownType) b w = some_none _ _ b (faultless types w)
-complete_by types (Err InheritanceCircle) b w = some_none _ _ b (faultless types w)
-complete_by types (Err KindClash) b w = some_none _ _ b (faultless types w)
-complete_by types (Err Interface) b w = some_none _ _ b (faultless types w)
+complete_by types (Err (Fault fault _)) b w = some_none fault _ b.0 (faultless types w)
 
 -- ---- types whose names and bases have no fault: what is left is that of their flat types
 
@@ -206,11 +206,14 @@ no_base_fault : (fault : Option TypeFault) (rest : Option TypeFault) → fault �
 no_base_fault None rest e = refl
 no_base_fault (Some fault) rest e = absurd cc
 
-pub built_flat : (types : List TypeDeclaration) (r : Result (List TypeDeclaration) TypeFault) → base_fault types ≡ None → AreFaultless (i.flat_types types) r → Builds types r
-built_flat types (Ok table) e h = (h.0, no_base_fault (base_fault types) (flat_fault (i.flat_types types)) e ∙ h.1)
-built_flat types (Err (NoMemory m)) e h = tt
-built_flat types (Err DuplicateType) e h = no_base_fault (base_fault types) (flat_fault (i.flat_types types)) e ∙ h
-built_flat types (Err UnknownType) e h = no_base_fault (base_fault types) (flat_fault (i.flat_types types)) e ∙ h
-built_flat types (Err InheritanceCircle) e h = no_base_fault (base_fault types) (flat_fault (i.flat_types types)) e ∙ h
-built_flat types (Err KindClash) e h = no_base_fault (base_fault types) (flat_fault (i.flat_types types)) e ∙ h
-built_flat types (Err Interface) e h = no_base_fault (base_fault types) (flat_fault (i.flat_types types)) e ∙ h
+flat_place : (types : List TypeDeclaration) (fault : TypeFault) (p : Place) → place_from (other_in types) 0 types ≡ None → IsFlatPlace (i.flat_types types) fault p → IsPlace types fault p
+flat_place types DuplicateType p none is = absurd is
+flat_place types UnknownType p none is = absurd is
+flat_place types InheritanceCircle p none is = absurd is
+flat_place types KindClash p none is = subst (λ o. IsClashPlace types o p) (sym none) tt
+flat_place types Interface p none is = is
+
+pub built_flat : (types : List TypeDeclaration) (r : Result (List TypeDeclaration) BuildError) → base_fault types ≡ None → place_from (other_in types) 0 types ≡ None → AreFaultless (i.flat_types types) r → Builds types r
+built_flat types (Ok table) e none h = (h.0, no_base_fault (base_fault types) (flat_fault (i.flat_types types)) e ∙ h.1)
+built_flat types (Err (NoMemory m)) e none h = tt
+built_flat types (Err (Fault fault p)) e none h = (no_base_fault (base_fault types) (flat_fault (i.flat_types types)) e ∙ h.0, flat_place types fault p none h.1)

@@ -94,7 +94,7 @@ less p (y ∷ ys) x is h = by (p y) refl is (fewer p ys) (λ r. less p ys x r h)
     by true e (inr r) l more = let m = more r in omega (arith, m)
     by false e is l more = omega (arith, l)
 
-among_filter : {X : Type 0} (p : X → Bool) (xs : List X) (x : X) → IsAmong x (filter p xs) → IsAmong x xs
+pub among_filter : {X : Type 0} (p : X → Bool) (xs : List X) (x : X) → IsAmong x (filter p xs) → IsAmong x xs
 among_filter p [] x is = absurd is
 among_filter p (y ∷ ys) x is = by (p y) is (among_filter p ys x)
   where
@@ -103,7 +103,7 @@ among_filter p (y ∷ ys) x is = by (p y) is (among_filter p ys x)
     by true (inr r) later = inr (later r)
     by false r later = inr (later r)
 
-filter_among : {X : Type 0} (p : X → Bool) (xs : List X) (x : X) → IsAmong x xs → p x ≡ true → IsAmong x (filter p xs)
+pub filter_among : {X : Type 0} (p : X → Bool) (xs : List X) (x : X) → IsAmong x xs → p x ≡ true → IsAmong x (filter p xs)
 filter_among p [] x is h = absurd is
 filter_among p (y ∷ ys) x is h = by (p y) refl is (λ r. filter_among p ys x r h)
   where
@@ -113,7 +113,7 @@ filter_among p (y ∷ ys) x is h = by (p y) refl is (λ r. filter_among p ys x r
     by false e (inl same) later = absurd (false≢true (sym e ∙ ap p (sym same) ∙ h))
     by false e (inr r) later = later r
 
-turned_true : (b : Bool) → not b ≡ true → b ≡ false
+pub turned_true : (b : Bool) → not b ≡ true → b ≡ false
 turned_true true h = absurd (false≢true h)
 turned_true false h = refl
 

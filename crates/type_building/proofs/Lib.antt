@@ -9,3 +9,4 @@ pub mod InterfaceLaws
 pub mod OrderLaws
 pub mod LineLaws
 pub mod SectionLaws
+pub mod PlaceLaws

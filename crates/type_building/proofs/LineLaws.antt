@@ -1,12 +1,16 @@
 -- Lines of interfaces.
-use Rattle.std.proofs.Common.{◌≡◌, ℕ, ◌-◌, ◌≤◌, Bool, true, false, ◌&&◌, List, [], ◌∷◌, Some, None, refl, sym, subst, ap, ◌∙◌, length, map, take, drop, slice_index_or, bytes_eq, Bor, if◌then◌else◌}
+use Rattle.std.proofs.Common.{◌≡◌, ◌⊎◌, inl, inr, ℕ, zero, suc, ◌+◌, ◌-◌, ◌≤◌, Bool, true, false, not, ◌||◌, ◌&&◌, List, [], ◌∷◌, ◌++◌, Option, Some, None, refl, sym, subst, ap, ◌∙◌, arith, append_assoc, append-nil, length, map, take, drop, slice_index_or, bytes_eq, Bor, if◌then◌else◌}
+use Rattle.std.proofs.lemmas.Bool.{false≢true}
+use Rattle.std.specs.List.{filter}
 use Rattle.std.specs.Map.{lookup}
 use Rattle.ned_trees.specs.declared.declarations.TypeDeclaration.{TypeDeclaration}
-use Rattle.ned_types.specs.Types.{is_interface_kind}
-use Rattle.type_building.specs.Inheritance.{bare, flat_interface, gathered, heirs_first, joined_behind, line_named, once_behind, taken_within, turned_onto, types_in, with_members, without_interfaces}
-use Rattle.type_building.specs.Named.{AddsLine, HaveLines, flat_by_lines, line_at, line_or_none}
-use Rattle.type_building.proofs.WellFormedLaws.{same_names, names_same}
-use Rattle.type_building.proofs.NamedLaws.{turned}
+use Rattle.ned_types.specs.Types.{has_duplicate, is_interface_kind, is_type_named, type_named}
+use Rattle.ned_types.specs.WellFormed.{IsAmong}
+use Rattle.type_building.specs.Inheritance.{bare, behind_all, extends_one, flat_interface, gathered, has_circle, heirs, is_base_among, is_one_among, is_one_left, joined_behind, left_after, once_behind, reached, roots, taken_within, types_in, with_members, without_interfaces}
+use Rattle.type_building.specs.Named.{AddsLine, HaveLines, HaveLinesOf, IsBehind, LinesAlong, StandBehind, flat_by_lines, line_at, line_or_none}
+use Rattle.type_building.proofs.Circles.{among_filter, filter_among, turned_true}
+use Rattle.type_building.proofs.WellFormedLaws.{any_found, any_is, any_told, or_second, same_names, names_same, type_is, types_apart}
+use Rattle.type_building.proofs.NamedLaws.{or_joined, or_zero, turned}
 use Rattle.type_building.proofs.OrderLaws.{first_and_rest}
 use Rattle.indexmap.specs.IndexMap.{insert_entry}
 
@@ -43,33 +47,299 @@ map_same f g h (x ∷ xs) = ap (λ y. y ∷ map f xs) (h x) ∙ ap (λ ys. g x �
 
 pub line_added : (before after : List LineEntry) (k : Bor (List ℕ)) (line : List TypeDeclaration) (t : TypeDeclaration) → k.now ≡ t.name → after ≡ insert_entry (λ (x y : Bor (List ℕ)). bytes_eq x.now y.now) before k line
     → line ≡ once_behind (joined_behind [] (map (line_at before) t.interfaces)) t → AddsLine before after t
-line_added before after k line t named now is = λ ordered have kind name.
-    let lines : line ≡ once_behind (joined_behind [] (map (λ n. line_named ordered n) t.interfaces)) t =
-    is ∙ ap (λ ls. once_behind (joined_behind [] ls) t) (map_same (line_at before) (λ n. line_named ordered n) have t.interfaces) in
+line_added before after k line t named now is = λ name.
     ap (λ (es : List LineEntry). line_at es name) now
     ∙ line_inserted name k line before
     ∙ ap (λ (n : List ℕ). if bytes_eq n name then line else line_at before name) named
-    ∙ ap (λ ls. if bytes_eq t.name name then ls else line_at before name) lines
-    ∙ ap (λ ls. if bytes_eq t.name name then once_behind (joined_behind [] (map (λ n. line_named ordered n) t.interfaces)) t else ls) (have name)
-    ∙ sym (ap (λ b. if b && bytes_eq t.name name then once_behind (joined_behind [] (map (λ n. line_named ordered n) t.interfaces)) t else line_named ordered name) kind)
+    ∙ ap (λ ls. if bytes_eq t.name name then ls else line_at before name) is
 
--- a type that is no interface leaves them
-pub line_left : (entries : List LineEntry) (ordered : List TypeDeclaration) (t : TypeDeclaration) → HaveLines entries ordered → is_interface_kind t.kind ≡ false → HaveLines entries (t ∷ ordered)
-line_left entries ordered t have kind = λ name.
-    have name
-    ∙ sym (ap (λ b. if b && bytes_eq t.name name then once_behind (joined_behind [] (map (λ n. line_named ordered n) t.interfaces)) t else line_named ordered name) kind)
+pub flat_same : (entries : List LineEntry) (types : List TypeDeclaration) (t : TypeDeclaration) → HaveLines entries types → flat_by_lines entries t ≡ flat_interface types t
+flat_same entries types t have = ap (λ ls. without_interfaces (with_members (gathered (bare t) (joined_behind [] ls)) t)) (map_same (line_at entries) (λ n. reached (length types) types n) have t.interfaces)
 
-pub flat_same : (entries : List LineEntry) (ordered : List TypeDeclaration) (t : TypeDeclaration) → HaveLines entries ordered → flat_by_lines entries t ≡ flat_interface ordered t
-flat_same entries ordered t have = ap (λ ls. without_interfaces (with_members (gathered (bare t) (joined_behind [] ls)) t)) (map_same (line_at entries) (λ n. line_named ordered n) have t.interfaces)
+-- ---- names that were seen
 
--- one type more is turned
-pub turned_moved : (rest : List (Bor TypeDeclaration)) (item d : Bor TypeDeclaration) (done all : List TypeDeclaration) → 1 ≤ length rest → item ≡ slice_index_or rest 0 d → turned_onto (types_in rest) done ≡ all
-    → turned_onto (types_in (take (length rest - 1) (drop 1 rest))) (item.now ∷ done) ≡ all
-turned_moved rest item d done all h is told =
-    ap (λ (x : Bor TypeDeclaration). turned_onto (types_in (take (length rest - 1) (drop 1 rest))) (x.now ∷ done)) is
-    ∙ sym (ap (λ (rs : List (Bor TypeDeclaration)). turned_onto (types_in rs) done) (first_and_rest rest d h))
+or_turned : (a b : Bool) → (a || b) ≡ true → (b || a) ≡ true
+or_turned true true h = refl
+or_turned true false h = refl
+or_turned false true h = refl
+or_turned false false h = h
+
+or_either : (a b : Bool) → (a || b) ≡ true → a ≡ false → b ≡ true
+or_either true b h e = absurd (false≢true (sym e))
+or_either false b h e = h
+
+or_first : (a b : Bool) → a ≡ true → (a || b) ≡ true
+or_first a b h = ap (λ c. c || b) h
+
+neither_first : (a b : Bool) → (a || b) ≡ false → a ≡ false
+neither_first false b h = refl
+neither_first true b h = absurd (false≢true (sym h))
+
+neither_second : (a b : Bool) → (a || b) ≡ false → b ≡ false
+neither_second false b h = h
+neither_second true b h = absurd (false≢true (sym h))
+
+named_joined : (name : List ℕ) (xs ys : List TypeDeclaration) → is_type_named name (xs ++ ys) ≡ (is_type_named name xs || is_type_named name ys)
+named_joined name [] ys = refl
+named_joined name (x ∷ xs) ys = ap (λ b. bytes_eq x.name name || b) (named_joined name xs ys) ∙ sym (or_joined (bytes_eq x.name name) (is_type_named name xs) (is_type_named name ys))
+
+longer : (xs : List TypeDeclaration) (t : TypeDeclaration) → length (xs ++ t ∷ []) ≡ suc (length xs)
+longer [] t = refl
+longer (x ∷ xs) t = ap suc (longer xs t)
+
+named_among : (types : List TypeDeclaration) (t : TypeDeclaration) (name : List ℕ) → IsAmong t types → bytes_eq t.name name ≡ true → is_type_named name types ≡ true
+named_among types t name is e = any_is (λ u. bytes_eq u.name name) types t is e
+
+kept_by : {X : Type 0} (p : X → Bool) (xs : List X) (x : X) → IsAmong x (filter p xs) → p x ≡ true
+kept_by p [] x is = absurd is
+kept_by p (y ∷ ys) x is = by (p y) refl is (kept_by p ys x)
+  where
+    by : (b : Bool) → p y ≡ b → IsAmong x (if b then y ∷ filter p ys else filter p ys) → (IsAmong x (filter p ys) → p x ≡ true) → p x ≡ true
+    by true e (inl same) later = ap p same ∙ e
+    by true e (inr r) later = later r
+    by false e r later = later r
+
+-- ---- what is reached
+
+none_named : (types : List TypeDeclaration) (name : List ℕ) → is_type_named name types ≡ false → type_named name types ≡ None
+none_named [] name h = refl
+none_named (t ∷ ts) name h =
+    ap (λ b. if b then Some t else type_named name ts) (neither_first (bytes_eq t.name name) (is_type_named name ts) h)
+    ∙ none_named ts name (neither_second (bytes_eq t.name name) (is_type_named name ts) h)
+
+none_reached : (n : ℕ) (types : List TypeDeclaration) (name : List ℕ) → is_type_named name types ≡ false → reached n types name ≡ []
+none_reached zero types name h = refl
+none_reached (suc n) types name h = ap (behind_all (λ m. reached n types m)) (none_named types name h)
+
+map_among : {X Y : Type 0} (f g : X → Y) (xs : List X) → ((x : X) → IsAmong x xs → f x ≡ g x) → map f xs ≡ map g xs
+map_among f g [] h = refl
+map_among f g (x ∷ xs) h = ap (λ y. y ∷ map f xs) (h x (inl refl)) ∙ ap (λ ys. g x ∷ ys) (map_among f g xs (λ y is. h y (inr is)))
+
+-- one step more from a type
+one_reached : (n : ℕ) (types : List TypeDeclaration) (t : TypeDeclaration) (name : List ℕ) → has_duplicate types ≡ false → IsAmong t types → bytes_eq t.name name ≡ true → reached (suc n) types name ≡ behind_all (λ m. reached n types m) (Some t)
+one_reached n types t name apart is e =
+    ap (λ (m : List ℕ). behind_all (λ k. reached n types k) (type_named m types)) (sym (same_names t.name name e))
+    ∙ ap (behind_all (λ k. reached n types k)) (type_is types t (types_apart types apart) is)
+
+-- ---- one type more
+
+abbrev Within : List TypeDeclaration → List TypeDeclaration → Type 0
+Within seen types = (name : List ℕ) → is_type_named name seen ≡ true → is_type_named name types ≡ true
+
+line_before : (entries : List LineEntry) (types seen : List TypeDeclaration) → HaveLinesOf entries types seen → Within seen types → (n : ℕ) → length seen ≤ n → (name : List ℕ) → (is_type_named name types ≡ true → is_type_named name seen ≡ true) → reached n types name ≡ line_at entries name
+line_before entries types seen have within n l name behind = by (is_type_named name seen) refl (is_type_named name types) refl
+  where
+    by : (b : Bool) → is_type_named name seen ≡ b → (c : Bool) → is_type_named name types ≡ c → reached n types name ≡ line_at entries name
+    by true e c f = have.0 name e n l
+    by false e true f = absurd (false≢true (sym e ∙ behind f))
+    by false e false f = none_reached n types name f ∙ sym (have.1 name e)
+
+pub line_more : (before after : List LineEntry) (types seen : List TypeDeclaration) (t : TypeDeclaration) → has_duplicate types ≡ false → HaveLinesOf before types seen → Within seen types → IsBehind types seen t → is_interface_kind t.kind ≡ true → AddsLine before after t → HaveLinesOf after types (seen ++ t ∷ [])
+line_more before after types seen t apart have within is kind adds = (λ name there n l. first name there n l (bytes_eq t.name name) refl, λ name none. second name none (bytes_eq t.name name) refl)
+  where
+    own : (n : ℕ) → length seen ≤ n → (name : List ℕ) → bytes_eq t.name name ≡ true → reached (suc n) types name ≡ once_behind (joined_behind [] (map (line_at before) t.interfaces)) t
+    own n l name e =
+        one_reached n types t name apart is.0 e
+        ∙ ap (λ b. if b then once_behind (joined_behind [] (map (λ m. reached n types m) t.interfaces)) t else []) kind
+        ∙ ap (λ ls. once_behind (joined_behind [] ls) t) (map_among (λ m. reached n types m) (line_at before) t.interfaces (λ m in-t. line_before before types seen have within n l m (is.1 m kind in-t)))
+
+    of_more : (n : ℕ) → length (seen ++ t ∷ []) ≤ n → suc (length seen) ≤ n
+    of_more n l = subst (λ k. k ≤ n) (longer seen t) l
+
+    first : (name : List ℕ) → is_type_named name (seen ++ t ∷ []) ≡ true → (n : ℕ) → length (seen ++ t ∷ []) ≤ n → (b : Bool) → bytes_eq t.name name ≡ b → reached n types name ≡ line_at after name
+    first name there zero l b e = let m = of_more zero l in absurd (omega (arith, m))
+    first name there (suc n) l true e =
+        let m = of_more (suc n) l in
+        own n (omega (arith, m)) name e
+        ∙ sym (ap (λ b. if b then once_behind (joined_behind [] (map (line_at before) t.interfaces)) t else line_at before name) e)
+        ∙ sym (adds name)
+    first name there (suc n) l false e =
+        let m = of_more (suc n) l in
+        let old : (is_type_named name seen || (bytes_eq t.name name || false)) ≡ true = sym (named_joined name seen (t ∷ [])) ∙ there in
+        let in-seen : is_type_named name seen ≡ true = or_either (bytes_eq t.name name || false) (is_type_named name seen) (or_turned (is_type_named name seen) (bytes_eq t.name name || false) old) (ap (λ b. b || false) e) in
+        have.0 name in-seen (suc n) (omega (arith, m))
+        ∙ sym (ap (λ b. if b then once_behind (joined_behind [] (map (line_at before) t.interfaces)) t else line_at before name) e)
+        ∙ sym (adds name)
+
+    second : (name : List ℕ) → is_type_named name (seen ++ t ∷ []) ≡ false → (b : Bool) → bytes_eq t.name name ≡ b → line_at after name ≡ []
+    second name none true e = absurd (false≢true (sym (neither_second (is_type_named name seen) (bytes_eq t.name name || false) (sym (named_joined name seen (t ∷ [])) ∙ none)) ∙ ap (λ b. b || false) e))
+    second name none false e =
+        adds name
+        ∙ ap (λ b. if b then once_behind (joined_behind [] (map (line_at before) t.interfaces)) t else line_at before name) e
+        ∙ have.1 name (neither_first (is_type_named name seen) (bytes_eq t.name name || false) (sym (named_joined name seen (t ∷ [])) ∙ none))
+
+-- a type that is no interface leaves the lines
+pub line_left : (entries : List LineEntry) (types seen : List TypeDeclaration) (t : TypeDeclaration) → has_duplicate types ≡ false → HaveLinesOf entries types seen → IsBehind types seen t → is_interface_kind t.kind ≡ false → HaveLinesOf entries types (seen ++ t ∷ [])
+line_left entries types seen t apart have is kind = (λ name there n l. first name there n l (is_type_named name seen) refl, λ name none. have.1 name (neither_first (is_type_named name seen) (bytes_eq t.name name || false) (sym (named_joined name seen (t ∷ [])) ∙ none)))
+  where
+    of_more : (n : ℕ) → length (seen ++ t ∷ []) ≤ n → suc (length seen) ≤ n
+    of_more n l = subst (λ k. k ≤ n) (longer seen t) l
+
+    first : (name : List ℕ) → is_type_named name (seen ++ t ∷ []) ≡ true → (n : ℕ) → length (seen ++ t ∷ []) ≤ n → (b : Bool) → is_type_named name seen ≡ b → reached n types name ≡ line_at entries name
+    first name there n l true e = let m = of_more n l in have.0 name e n (omega (arith, m))
+    first name there zero l false e = let m = of_more zero l in absurd (omega (arith, m))
+    first name there (suc n) l false e =
+        let own : (bytes_eq t.name name || false) ≡ true = or_either (is_type_named name seen) (bytes_eq t.name name || false) (sym (named_joined name seen (t ∷ [])) ∙ there) e in
+        one_reached n types t name apart is.0 (sym (or_zero (bytes_eq t.name name)) ∙ own)
+        ∙ ap (λ b. if b then once_behind (joined_behind [] (map (λ m. reached n types m) t.interfaces)) t else []) kind
+        ∙ sym (have.1 name e)
+
+-- ---- along an order
+
+behind_front : (types seen xs : List TypeDeclaration) (t : TypeDeclaration) → StandBehind types seen (xs ++ t ∷ []) → StandBehind types seen xs × IsBehind types (seen ++ xs) t
+behind_front types seen [] t h = (tt, subst (λ ts. IsBehind types ts t) (sym (append-nil seen)) h.0)
+behind_front types seen (x ∷ xs) t h =
+    let later = behind_front types (seen ++ x ∷ []) xs t h.1 in
+    ((h.0, later.0), subst (λ ts. IsBehind types ts t) (append_assoc seen (x ∷ []) xs) later.1)
+
+stand_within : (types seen ts : List TypeDeclaration) → StandBehind types seen ts → Within ts types
+stand_within types seen [] h name e = absurd (false≢true e)
+stand_within types seen (t ∷ ts) h name e = by (bytes_eq t.name name) refl e (stand_within types (seen ++ t ∷ []) ts h.1 name)
+  where
+    by : (b : Bool) → bytes_eq t.name name ≡ b → (b || is_type_named name ts) ≡ true → (is_type_named name ts ≡ true → is_type_named name types ≡ true) → is_type_named name types ≡ true
+    by true p q later = named_among types t name h.0.0 p
+    by false p q later = later q
+
+pub along_none : (entries : List LineEntry) → entries ≡ [] → LinesAlong entries []
+along_none entries e = λ types apart order. (λ name there n l. absurd (false≢true there), λ name none. ap (λ es. line_at es name) e)
+
+pub along_interface : (before after : List LineEntry) (seen : List TypeDeclaration) (t : TypeDeclaration) → LinesAlong before seen → is_interface_kind t.kind ≡ true → AddsLine before after t → LinesAlong after (seen ++ t ∷ [])
+along_interface before after seen t have kind adds = λ types apart order.
+    let parts = behind_front types [] seen t order in
+    line_more before after types seen t apart (have types apart parts.0) (stand_within types [] seen parts.0) parts.1 kind adds
+
+pub along_other : (entries : List LineEntry) (seen : List TypeDeclaration) (t : TypeDeclaration) → LinesAlong entries seen → is_interface_kind t.kind ≡ false → LinesAlong entries (seen ++ t ∷ [])
+along_other entries seen t have kind = λ types apart order.
+    let parts = behind_front types [] seen t order in
+    line_left entries types seen t apart (have types apart parts.0) parts.1 kind
+
+-- one type more is done
+pub done_moved : (rest : List (Bor TypeDeclaration)) (item d : Bor TypeDeclaration) (done all : List TypeDeclaration) → 1 ≤ length rest → item ≡ slice_index_or rest 0 d → done ++ types_in rest ≡ all
+    → (done ++ item.now ∷ []) ++ types_in (take (length rest - 1) (drop 1 rest)) ≡ all
+done_moved rest item d done all h is told =
+    append_assoc done (item.now ∷ []) (types_in (take (length rest - 1) (drop 1 rest)))
+    ∙ ap (λ (x : Bor TypeDeclaration). done ++ x.now ∷ types_in (take (length rest - 1) (drop 1 rest))) is
+    ∙ sym (ap (λ (rs : List (Bor TypeDeclaration)). done ++ types_in rs) (first_and_rest rest d h))
     ∙ told
 
+-- ---- the order in which types are taken away
+
+abbrev Covers : List TypeDeclaration → List TypeDeclaration → List TypeDeclaration → Type 0
+Covers types seen rest = (name : List ℕ) → is_type_named name types ≡ true → (is_type_named name seen || is_type_named name rest) ≡ true
+
+behind_both : (types seen xs ys : List TypeDeclaration) → StandBehind types seen xs → StandBehind types (seen ++ xs) ys → StandBehind types seen (xs ++ ys)
+behind_both types seen [] ys a b = subst (λ ts. StandBehind types ts ys) (append-nil seen) b
+behind_both types seen (x ∷ xs) ys a b = (a.0, behind_both types (seen ++ x ∷ []) xs ys a.1 (subst (λ ts. StandBehind types ts ys) (sym (append_assoc seen (x ∷ []) xs)) b))
+
+covers_more : (types seen rest : List TypeDeclaration) (t : TypeDeclaration) → Covers types seen rest → Covers types (seen ++ t ∷ []) rest
+covers_more types seen rest t covers name known = by (is_type_named name seen) refl
+  where
+    by : (b : Bool) → is_type_named name seen ≡ b → (is_type_named name (seen ++ t ∷ []) || is_type_named name rest) ≡ true
+    by true e = or_first (is_type_named name (seen ++ t ∷ [])) (is_type_named name rest) (named_joined name seen (t ∷ []) ∙ or_first (is_type_named name seen) (bytes_eq t.name name || false) e)
+    by false e = or_second (is_type_named name (seen ++ t ∷ [])) (is_type_named name rest) (or_either (is_type_named name seen) (is_type_named name rest) (covers name known) e)
+
+roots_behind : (types rest seen ts : List TypeDeclaration) → Covers types seen rest → ((x : TypeDeclaration) → IsAmong x ts → IsAmong x types × (extends_one rest x ≡ false)) → StandBehind types seen ts
+roots_behind types rest seen [] covers h = tt
+roots_behind types rest seen (t ∷ ts) covers h =
+    let own = h t (inl refl) in (
+      (own.0, λ name kind in-t known. behind name kind in-t known own.1),
+      roots_behind types rest (seen ++ t ∷ []) ts (covers_more types seen rest t covers) (λ x is. h x (inr is)),
+    )
+  where
+    behind : (name : List ℕ) → is_interface_kind t.kind ≡ true → IsAmong name t.interfaces → is_type_named name types ≡ true → extends_one rest t ≡ false → is_type_named name seen ≡ true
+    behind name kind in-t known root =
+        let none : is_one_among rest t.interfaces ≡ false = sym (ap (λ b. b && is_one_among rest t.interfaces) kind) ∙ neither_second (is_base_among rest t.base) (is_interface_kind t.kind && is_one_among rest t.interfaces) root in
+        let gone : is_type_named name rest ≡ false = any_told (λ n. is_type_named n rest) t.interfaces none name in-t in
+        or_either (is_type_named name rest) (is_type_named name seen) (or_turned (is_type_named name seen) (is_type_named name rest) (covers name known)) gone
+
+root_of : (rest : List TypeDeclaration) (x : TypeDeclaration) → IsAmong x (roots rest) → extends_one rest x ≡ false
+root_of rest x is = turned_true (extends_one rest x) (kept_by (λ t. not (extends_one rest t)) rest x is)
+
+-- a name of some types is one of the roots or of the heirs
+parted_name : (rest : List TypeDeclaration) (name : List ℕ) → is_type_named name rest ≡ true → (is_type_named name (roots rest) || is_type_named name (heirs rest)) ≡ true
+parted_name rest name h =
+    let found = any_found (λ u. bytes_eq u.name name) rest h in
+    by found.0 found.1 found.2 (extends_one rest found.0) refl
+  where
+    by : (u : TypeDeclaration) → IsAmong u rest → bytes_eq u.name name ≡ true → (b : Bool) → extends_one rest u ≡ b → (is_type_named name (roots rest) || is_type_named name (heirs rest)) ≡ true
+    by u is e true x = or_second (is_type_named name (roots rest)) (is_type_named name (heirs rest)) (named_among (heirs rest) u name (filter_among (λ t. extends_one rest t) rest u is x) e)
+    by u is e false x = or_first (is_type_named name (roots rest)) (is_type_named name (heirs rest)) (named_among (roots rest) u name (filter_among (λ t. not (extends_one rest t)) rest u is (ap not x)) e)
+
+covers_round : (types seen rest : List TypeDeclaration) → Covers types seen rest → Covers types (seen ++ roots rest) (heirs rest)
+covers_round types seen rest covers name known = by (is_type_named name seen) refl
+  where
+    by : (b : Bool) → is_type_named name seen ≡ b → (is_type_named name (seen ++ roots rest) || is_type_named name (heirs rest)) ≡ true
+    by true e = or_first (is_type_named name (seen ++ roots rest)) (is_type_named name (heirs rest)) (named_joined name seen (roots rest) ∙ or_first (is_type_named name seen) (is_type_named name (roots rest)) e)
+    by false e =
+        ap (λ b. b || is_type_named name (heirs rest)) (named_joined name seen (roots rest) ∙ ap (λ b. b || is_type_named name (roots rest)) e)
+        ∙ parted_name rest name (or_either (is_type_named name seen) (is_type_named name rest) (covers name known) e)
+
+taken_behind : (n : ℕ) (types seen rest : List TypeDeclaration) → Covers types seen rest → ((x : TypeDeclaration) → IsAmong x rest → IsAmong x types) → StandBehind types seen (taken_within n rest)
+taken_behind zero types seen rest covers among = tt
+taken_behind (suc n) types seen rest covers among =
+    behind_both types seen (roots rest) (taken_within n (heirs rest))
+    (roots_behind types rest seen (roots rest) covers (λ x is. (among x (among_filter (λ t. not (extends_one rest t)) rest x is), root_of rest x is)))
+    (taken_behind n types (seen ++ roots rest) (heirs rest) (covers_round types seen rest covers) (λ x is. among x (among_filter (λ t. extends_one rest t) rest x is)))
+
+-- what is not left is taken
+taken_named : (n : ℕ) (rest : List TypeDeclaration) (name : List ℕ) → is_type_named name rest ≡ true → (is_type_named name (taken_within n rest) || is_type_named name (left_after n rest)) ≡ true
+taken_named zero rest name h = h
+taken_named (suc n) rest name h = by (is_type_named name (roots rest)) refl (taken_named n (heirs rest) name)
+  where
+    by : (b : Bool) → is_type_named name (roots rest) ≡ b → (is_type_named name (heirs rest) ≡ true → (is_type_named name (taken_within n (heirs rest)) || is_type_named name (left_after n (heirs rest))) ≡ true) → (is_type_named name (roots rest ++ taken_within n (heirs rest)) || is_type_named name (left_after n (heirs rest))) ≡ true
+    by true e later = or_first (is_type_named name (roots rest ++ taken_within n (heirs rest))) (is_type_named name (left_after n (heirs rest))) (named_joined name (roots rest) (taken_within n (heirs rest)) ∙ or_first (is_type_named name (roots rest)) (is_type_named name (taken_within n (heirs rest))) e)
+    by false e later =
+        ap (λ b. b || is_type_named name (left_after n (heirs rest))) (named_joined name (roots rest) (taken_within n (heirs rest)) ∙ ap (λ b. b || is_type_named name (taken_within n (heirs rest))) e)
+        ∙ later (or_either (is_type_named name (roots rest)) (is_type_named name (heirs rest)) (parted_name rest name h) e)
+
+all_taken : (types : List TypeDeclaration) → has_circle types ≡ false → (name : List ℕ) → is_type_named name types ≡ true → is_type_named name (taken_within (length types) types) ≡ true
+all_taken types none name h =
+    or_either (is_type_named name (left_after (length types) types)) (is_type_named name (taken_within (length types) types))
+    (or_turned (is_type_named name (taken_within (length types) types)) (is_type_named name (left_after (length types) types)) (taken_named (length types) types name h))
+    (gone (left_after (length types) types) none)
+  where
+    gone : (ts : List TypeDeclaration) → is_one_left ts ≡ false → is_type_named name ts ≡ false
+    gone [] e = refl
+    gone (t ∷ ts) e = absurd (false≢true (sym e))
+
+parted_length : (p : TypeDeclaration → Bool) (xs : List TypeDeclaration) → length (filter (λ t. not (p t)) xs) + length (filter (λ t. p t) xs) ≡ length xs
+parted_length p [] = refl
+parted_length p (x ∷ xs) = by (p x) (parted_length p xs)
+  where
+    by : (b : Bool) → length (filter (λ t. not (p t)) xs) + length (filter (λ t. p t) xs) ≡ length xs
+        → length (if not b then x ∷ filter (λ t. not (p t)) xs else filter (λ t. not (p t)) xs) + length (if b then x ∷ filter (λ t. p t) xs else filter (λ t. p t) xs) ≡ suc (length xs)
+    by true e = omega (arith, e)
+    by false e = omega (arith, e)
+
+both_long : (xs ys : List TypeDeclaration) → length (xs ++ ys) ≡ length xs + length ys
+both_long [] ys = omega arith
+both_long (x ∷ xs) ys = let e = both_long xs ys in omega (arith, e)
+
+taken_length : (n : ℕ) (rest : List TypeDeclaration) → length (taken_within n rest) ≤ length rest
+taken_length zero rest = omega arith
+taken_length (suc n) rest =
+    let later = taken_length n (heirs rest) in
+    let parted = parted_length (λ t. extends_one rest t) rest in
+    let both = both_long (roots rest) (taken_within n (heirs rest)) in
+    omega (arith, later, parted, both)
+
 -- the lines are those of all types
-pub lines_fit : (entries : List LineEntry) (order : List (Bor TypeDeclaration)) (types : List TypeDeclaration) → HaveLines entries (turned_onto (types_in order) []) → types_in order ≡ taken_within (length types) types → HaveLines entries (heirs_first types)
-lines_fit entries order types have is = subst (HaveLines entries) (ap (λ ts. turned_onto ts []) is) have
+pub lines_fit : (entries : List LineEntry) (order : List (Bor TypeDeclaration)) (types : List TypeDeclaration) → LinesAlong entries (types_in order) → types_in order ≡ taken_within (length types) types → has_duplicate types ≡ false → has_circle types ≡ false → HaveLines entries types
+lines_fit entries order types have is apart none = λ name. by name (is_type_named name types) refl
+  where
+    taken : List TypeDeclaration
+    taken = taken_within (length types) types
+
+    stand : StandBehind types [] taken
+    stand = taken_behind (length types) types [] types (λ name known. known) (λ x among. among)
+
+    lines : HaveLinesOf entries types taken
+    lines = subst (LinesAlong entries) is have types apart stand
+
+    by : (name : List ℕ) (b : Bool) → is_type_named name types ≡ b → line_at entries name ≡ reached (length types) types name
+    by name true e = sym (lines.0 name (all_taken types none name e) (length types) (taken_length (length types) types))
+    by name false e = lines.1 name (other name e (is_type_named name taken) refl) ∙ sym (none_reached (length types) types name e)
+      where
+        other : (name : List ℕ) → is_type_named name types ≡ false → (b : Bool) → is_type_named name taken ≡ b → b ≡ false
+        other name e true f = absurd (false≢true (sym e ∙ stand_within types [] taken stand name f))
+        other name e false f = refl

@@ -1,5 +1,5 @@
 -- Types by their names: what is found, what is added, and when two have one name.
-use Rattle.std.proofs.Common.{◌≡◌, ℕ, Bool, true, false, not, ◌||◌, List, [], ◌∷◌, ◌++◌, Option, Some, None, refl, sym, ap, ◌∙◌, arith, length, append_assoc, bytes_eq, Bor, if◌then◌else◌}
+use Rattle.std.proofs.Common.{◌≡◌, ℕ, suc, Bool, true, false, not, ◌||◌, List, [], ◌∷◌, ◌++◌, Option, Some, None, refl, sym, ap, ◌∙◌, arith, length, append_assoc, bytes_eq, Bor, if◌then◌else◌}
 use Rattle.std.proofs.lemmas.Bool.{false≢true}
 use Rattle.std.specs.Prelude.{is_some, is_none}
 use Rattle.std.specs.Map.{lookup, values_of}
@@ -7,6 +7,7 @@ use Rattle.std.specs.Option.{option_map}
 use Rattle.ned_trees.specs.declared.declarations.TypeDeclaration.{TypeDeclaration}
 use Rattle.ned_types.specs.Types.{type_named, is_built_in, is_type_named, has_duplicate}
 use Rattle.type_building.specs.Inheritance.{types_in}
+use Rattle.type_building.specs.Places.{duplicate_from}
 use Rattle.type_building.specs.Named.{types_at, HaveNames, is_one_taken}
 use Rattle.type_building.proofs.WellFormedLaws.{same_names, names_same, names_apart, apart_names}
 use Rattle.indexmap.specs.IndexMap.{insert_entry}
@@ -162,6 +163,23 @@ none_seen seen types e = (ap (λ (ns : List TypeDeclaration). ns ++ types) e, ap
     none_of : (ts : List TypeDeclaration) → is_one_taken [] ts ≡ false
     none_of [] = refl
     none_of (t ∷ ts) = none_of ts
+
+-- the first whose name is taken is the next one, or one behind it
+pub taken_here : (seen rest : List TypeDeclaration) (n : ℕ) (t : TypeDeclaration) (ts : List TypeDeclaration) → rest ≡ t ∷ ts → (is_built_in t.name || is_type_named t.name seen) ≡ true → duplicate_from seen n rest ≡ Some n
+taken_here seen rest n t ts is e = ap (duplicate_from seen n) is ∙ ap (λ (b : Bool). if b then Some n else duplicate_from (seen ++ t ∷ []) (suc n) ts) e
+
+pub taken_later : (seen rest : List TypeDeclaration) (n : ℕ) (t : TypeDeclaration) (ts : List TypeDeclaration) → rest ≡ t ∷ ts → is_built_in t.name ≡ false → is_type_named t.name seen ≡ false → duplicate_from (seen ++ t ∷ []) (suc n) ts ≡ duplicate_from seen n rest
+taken_later seen rest n t ts is e f =
+    sym (ap (duplicate_from seen n) is
+    ∙ ap (λ (b : Bool). if b || is_type_named t.name seen then Some n else duplicate_from (seen ++ t ∷ []) (suc n) ts) e
+    ∙ ap (λ (b : Bool). if b then Some n else duplicate_from (seen ++ t ∷ []) (suc n) ts) f)
+
+pub one_longer : (ts : List TypeDeclaration) (t : TypeDeclaration) → length (ts ++ t ∷ []) ≡ suc (length ts)
+one_longer [] t = refl
+one_longer (u ∷ ts) t = ap suc (one_longer ts t)
+
+pub named_or_built_in : (b x : Bool) → x ≡ true → (b || x) ≡ true
+named_or_built_in b x e = ap (λ c. b || c) e ∙ or_one b
 
 -- what the answer of an addition tells
 pub told_there : (b x : Bool) → b ≡ not x → b ≡ false → x ≡ true

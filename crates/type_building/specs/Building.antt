@@ -1,10 +1,14 @@
 -- Why declared types make no model, and the table of those that do.
-use Rattle.std.specs.Prelude.{◌≡◌, ◌⊎◌, ℕ, true, false, ◌||◌, List, Option, Some, None, Result, Ok, Err, if◌then◌else◌}
+use Rattle.std.specs.Prelude.{◌≡◌, ◌⊎◌, ℕ, true, false, ◌||◌, List, [], Option, Some, None, Result, Ok, Err, if◌then◌else◌}
 use Rattle.ned_trees.specs.declared.declarations.TypeDeclaration.{TypeDeclaration}
 use Rattle.ned_trees.specs.declared.declarations.TypeKind.{TypeKind}
 use Rattle.ned_trees.specs.declared.declarations.TypeKind.TheVariants.{Simple, Network, Channel, ModuleInterface, ChannelInterface}
 use Rattle.type_building.specs.declared.table.TypeFault.{TypeFault}
-use Rattle.type_building.specs.declared.table.TypeFault.TheVariants.{DuplicateType, UnknownType, InheritanceCircle, KindClash, Interface, NoMemory}
+use Rattle.type_building.specs.declared.table.TypeFault.TheVariants.{DuplicateType, UnknownType, InheritanceCircle, KindClash, Interface}
+use Rattle.type_building.specs.declared.table.BuildError.{BuildError}
+use Rattle.type_building.specs.declared.table.BuildError.TheVariants.{Fault, NoMemory}
+use Rattle.type_building.specs.declared.places.Place.{Place}
+use Rattle.type_building.specs.Places.{duplicate_from, IsClashPlace, lacked_in, other_in, place_from, unknown_in}
 use Rattle.ned_types.specs.Types.{has_duplicate, has_inner_network, has_unknown, has_clash, is_built_in, is_inner_name}
 use Rattle.ned_types.specs.Flat.{or_else}
 use Rattle.type_building.specs.Interfaces.{has_broken, has_other_interface, has_unknown_interface, can_keep}
@@ -28,27 +32,45 @@ flat_fault types = if has_clash types then Some KindClash else (if has_broken ty
 abbrev pub fault_of : List TypeDeclaration → Option TypeFault
 fault_of types = or_else (base_fault types) (flat_fault (flat_types types))
 
--- the answer to these types: the flat type of each, or their first fault; or memory ran out
-abbrev pub Builds : List TypeDeclaration → Result (List TypeDeclaration) TypeFault → Type 0
+-- THE PLACE of a fault: the first, type by type, that breaks its rule. A clash is one of names and kinds, or else one of flat types; of flat types
+-- the place is told where the rules say it (Places)
+abbrev pub IsPlace : List TypeDeclaration → TypeFault → Place → Type 0
+IsPlace types DuplicateType p = duplicate_from [] 0 types ≡ Some p.number
+IsPlace types UnknownType p = place_from (unknown_in types) 0 types ≡ Some p
+IsPlace types InheritanceCircle p = Unit {0}
+IsPlace types KindClash p = IsClashPlace types (place_from (other_in types) 0 types) p
+IsPlace types Interface p = place_from (lacked_in (flat_types types)) 0 (flat_types types) ≡ Some p
+
+-- the same of a fault of flat types
+abbrev pub IsFlatPlace : List TypeDeclaration → TypeFault → Place → Type 0
+IsFlatPlace types DuplicateType p = ⊥
+IsFlatPlace types UnknownType p = ⊥
+IsFlatPlace types InheritanceCircle p = ⊥
+IsFlatPlace types KindClash p = Unit {0}
+IsFlatPlace types Interface p = place_from (lacked_in types) 0 types ≡ Some p
+
+-- the answer to these types: the flat type of each, or their first fault and its place; or memory ran out
+abbrev pub Builds : List TypeDeclaration → Result (List TypeDeclaration) BuildError → Type 0
 Builds types (Ok table) = (table ≡ flat_types types) × (fault_of types ≡ None)
 Builds types (Err (NoMemory _)) = Unit {0}
-Builds types (Err fault) = fault_of types ≡ Some fault
+Builds types (Err (Fault fault place)) = (fault_of types ≡ Some fault) × IsPlace types fault place
 
--- these flat types where they have no fault, or their first one; or memory ran out
-abbrev pub AreFaultless : List TypeDeclaration → Result (List TypeDeclaration) TypeFault → Type 0
+-- these flat types where they have no fault, or their first one and its place; or memory ran out
+abbrev pub AreFaultless : List TypeDeclaration → Result (List TypeDeclaration) BuildError → Type 0
 AreFaultless types (Ok table) = (table ≡ types) × (flat_fault types ≡ None)
 AreFaultless types (Err (NoMemory _)) = Unit {0}
-AreFaultless types (Err fault) = flat_fault types ≡ Some fault
+AreFaultless types (Err (Fault fault place)) = (flat_fault types ≡ Some fault) × IsFlatPlace types fault place
+
+-- the first fault of flat types and its place, or that there is none
+abbrev pub TellsFlat : List TypeDeclaration → Option (TypeFault × Place) → Type 0
+TellsFlat types None = flat_fault types ≡ None
+TellsFlat types (Some told) = (flat_fault types ≡ Some told.0) × IsFlatPlace types told.0 told.1
 
 -- this table, or want of memory
-abbrev pub AnswersTable : List TypeDeclaration → Result (List TypeDeclaration) TypeFault → Type 0
+abbrev pub AnswersTable : List TypeDeclaration → Result (List TypeDeclaration) BuildError → Type 0
 AnswersTable types (Ok table) = table ≡ types
 AnswersTable types (Err (NoMemory _)) = Unit {0}
-AnswersTable types (Err DuplicateType) = ⊥
-AnswersTable types (Err UnknownType) = ⊥
-AnswersTable types (Err InheritanceCircle) = ⊥
-AnswersTable types (Err KindClash) = ⊥
-AnswersTable types (Err Interface) = ⊥
+AnswersTable types (Err (Fault _ _)) = ⊥
 
 -- a type of that kind may extend what has that name: a type among these, which is of its own kind, or for a channel a built-in one
 abbrev pub MayExtend : TypeKind → List ℕ → List TypeDeclaration → Type 0

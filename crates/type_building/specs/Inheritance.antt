@@ -72,15 +72,6 @@ abbrev pub taken_within : ℕ → List TypeDeclaration → List TypeDeclaration
 taken_within zero types = []
 taken_within (suc n) types = roots types ++ taken_within n (heirs types)
 
--- types in the reverse order, before others
-abbrev pub turned_onto : List TypeDeclaration → List TypeDeclaration → List TypeDeclaration
-turned_onto [] others = others
-turned_onto (t ∷ ts) others = turned_onto ts (t ∷ others)
-
--- all types, each before what it extends, where there is no circle
-abbrev pub heirs_first : List TypeDeclaration → List TypeDeclaration
-heirs_first types = turned_onto (taken_within (length types) types) []
-
 -- ---- unknown bases
 
 -- whether what is extended isn't there
@@ -185,17 +176,20 @@ abbrev pub joined_behind : List TypeDeclaration → List (List TypeDeclaration) 
 joined_behind line [] = line
 joined_behind line (more ∷ others) = joined_behind (all_behind line more) others
 
--- the interface of that name, behind all that it extends, where these types stand before what they extend
-abbrev pub line_named : List TypeDeclaration → List ℕ → List TypeDeclaration
-line_named [] name = []
-line_named (t ∷ ts) name =
-    if is_interface_kind t.kind && bytes_eq t.name name
-    then once_behind (joined_behind [] (map (λ n. line_named ts n) t.interfaces)) t
-    else line_named ts name
+-- an interface behind all that it extends, where this says the same of each name; nothing where there is none
+abbrev pub behind_all : (List ℕ → List TypeDeclaration) → Option TypeDeclaration → List TypeDeclaration
+behind_all line None = []
+behind_all line (Some t) = if is_interface_kind t.kind then once_behind (joined_behind [] (map line t.interfaces)) t else []
 
--- interfaces of these names and all that they extend, each once and behind what it extends itself
+-- the interface of that name behind all that it extends by ways of fewer than so many steps
+abbrev pub reached : ℕ → List TypeDeclaration → List ℕ → List TypeDeclaration
+reached zero types name = []
+reached (suc n) types name = behind_all (λ m. reached n types m) (type_named name types)
+
+-- THE INTERFACES of these names and all that they extend, each once and behind what it extends itself: a way without a circle has fewer steps
+-- than there are types
 abbrev pub interfaces_behind : List TypeDeclaration → List (List ℕ) → List TypeDeclaration
-interfaces_behind ordered names = joined_behind [] (map (λ n. line_named ordered n) names)
+interfaces_behind types names = joined_behind [] (map (λ n. reached (length types) types n) names)
 
 -- a type with the members of all these, those of the first one first
 abbrev pub gathered : TypeDeclaration → List TypeDeclaration → TypeDeclaration
@@ -211,12 +205,12 @@ without_interfaces t = record { kind = t.kind; name = t.name; base = t.base; int
 
 -- an interface with all that it extends, each once: its own members are the last
 abbrev pub flat_interface : List TypeDeclaration → TypeDeclaration → TypeDeclaration
-flat_interface ordered t = without_interfaces (with_members (gathered (bare t) (interfaces_behind ordered t.interfaces)) t)
+flat_interface types t = without_interfaces (with_members (gathered (bare t) (interfaces_behind types t.interfaces)) t)
 
 -- ---- flat types of all kinds
 
 abbrev pub flat_as : Bool → List TypeDeclaration → TypeDeclaration → TypeDeclaration
-flat_as true types t = flat_interface (heirs_first types) t
+flat_as true types t = flat_interface types t
 flat_as false types t = flat_by types t t.base
 
 -- THE FLAT TYPE: what the type has with all that its bases have, which extends nothing

@@ -1,6 +1,7 @@
 pub mod Channels
 pub mod Interfaces
 pub mod Inheritance
+pub mod Places
 pub mod Circles
 pub mod Building
 pub mod Seen

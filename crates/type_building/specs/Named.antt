@@ -1,13 +1,15 @@
 -- Types by their names.
-use Rattle.std.specs.Prelude.{◌≡◌, ℕ, Bool, true, false, ◌||◌, List, [], ◌∷◌, map, Option, Some, None}
+use Rattle.std.specs.Prelude.{◌≡◌, ℕ, Bool, true, false, ◌||◌, ◌++◌, ◌≤◌, List, [], ◌∷◌, length, map, if◌then◌else◌, Option, Some, None, Result, Ok, Err}
 use Rattle.std.specs.Borrow.{Bor}
 use Rattle.std.specs.Map.{lookup}
 use Rattle.std.specs.Str.{bytes_eq}
 use Rattle.std.specs.List.{list_any}
 use Rattle.ned_trees.specs.declared.declarations.TypeDeclaration.{TypeDeclaration}
+use Rattle.ned_types.specs.WellFormed.{IsAmong}
 use Rattle.ned_types.specs.Types.{has_duplicate, has_inner_network, is_type_named, is_interface_kind, names_unknown}
 use Rattle.type_building.specs.Interfaces.{keeps_other, names_no_type}
-use Rattle.type_building.specs.Inheritance.{extends_unknown, extends_other, line_named, joined_behind, gathered, bare, with_members, without_interfaces}
+use Rattle.type_building.specs.Places.{duplicate_from}
+use Rattle.type_building.specs.Inheritance.{extends_unknown, extends_other, once_behind, reached, joined_behind, gathered, bare, with_members, without_interfaces}
 
 -- the types that stand in a map
 abbrev pub types_at : List (Bor (List ℕ) × Bor TypeDeclaration) → List TypeDeclaration
@@ -22,10 +24,10 @@ HaveNames (e ∷ es) = (e.0.now ≡ e.1.now.name) × HaveNames es
 abbrev pub is_one_taken : List TypeDeclaration → List TypeDeclaration → Bool
 is_one_taken seen types = list_any (λ t. is_type_named t.name seen) types
 
--- all types are there, or nothing is where two have one name
-abbrev pub AreNamed : List TypeDeclaration → Option (List TypeDeclaration) → Type 0
-AreNamed types None = has_duplicate types ≡ true
-AreNamed types (Some named) = (has_duplicate types ≡ false) × (named ≡ types)
+-- all types are there, or the number of the first whose name is taken
+abbrev pub AreNamed : List TypeDeclaration → Result (List TypeDeclaration) ℕ → Type 0
+AreNamed types (Err number) = (has_duplicate types ≡ true) × (duplicate_from [] 0 types ≡ Some number)
+AreNamed types (Ok named) = (has_duplicate types ≡ false) × (named ≡ types)
 
 -- whether some of the types name what is neither a type nor a built-in channel
 abbrev pub is_unknown_named : List TypeDeclaration → List TypeDeclaration → Bool
@@ -55,11 +57,30 @@ line_at entries name = line_or_none (lookup (λ k. bytes_eq name k.now) entries)
 
 -- at each name stands the line of the interface of that name
 abbrev pub HaveLines : List (Bor (List ℕ) × List TypeDeclaration) → List TypeDeclaration → Type 0
-HaveLines entries ordered = (name : List ℕ) → line_at entries name ≡ line_named ordered name
+HaveLines entries types = (name : List ℕ) → line_at entries name ≡ reached (length types) types name
 
--- the line of an interface was added to those of types that stand behind it
+-- the line of an interface was added, which joins those of what it extends
 abbrev pub AddsLine : List (Bor (List ℕ) × List TypeDeclaration) → List (Bor (List ℕ) × List TypeDeclaration) → TypeDeclaration → Type 0
-AddsLine before after t = (ordered : List TypeDeclaration) → HaveLines before ordered → is_interface_kind t.kind ≡ true → HaveLines after (t ∷ ordered)
+AddsLine before after t = (name : List ℕ) → line_at after name ≡ (if bytes_eq t.name name then once_behind (joined_behind [] (map (line_at before) t.interfaces)) t else line_at before name)
+
+-- one of the types, which extends none of them but what is seen
+abbrev pub IsBehind : List TypeDeclaration → List TypeDeclaration → TypeDeclaration → Type 0
+IsBehind types seen t = IsAmong t types × ((name : List ℕ) → is_interface_kind t.kind ≡ true → IsAmong name t.interfaces → is_type_named name types ≡ true → is_type_named name seen ≡ true)
+
+-- each of some types stands behind all that it extends, and behind those that were seen
+abbrev pub StandBehind : List TypeDeclaration → List TypeDeclaration → List TypeDeclaration → Type 0
+StandBehind types seen [] = Unit {0}
+StandBehind types seen (t ∷ ts) = IsBehind types seen t × StandBehind types (seen ++ t ∷ []) ts
+
+-- at the name of each type that was seen stands the line of its interface, and at other names none
+abbrev pub HaveLinesOf : List (Bor (List ℕ) × List TypeDeclaration) → List TypeDeclaration → List TypeDeclaration → Type 0
+HaveLinesOf entries types seen =
+    ((name : List ℕ) → is_type_named name seen ≡ true → (n : ℕ) → length seen ≤ n → reached n types name ≡ line_at entries name)
+    × ((name : List ℕ) → is_type_named name seen ≡ false → line_at entries name ≡ [])
+
+-- the lines of the interfaces of an order, where each type stands behind all that it extends
+abbrev pub LinesAlong : List (Bor (List ℕ) × List TypeDeclaration) → List TypeDeclaration → Type 0
+LinesAlong entries order = (types : List TypeDeclaration) → has_duplicate types ≡ false → StandBehind types [] order → HaveLinesOf entries types order
 
 -- an interface with all that it extends, by their lines
 abbrev pub flat_by_lines : List (Bor (List ℕ) × List TypeDeclaration) → TypeDeclaration → TypeDeclaration

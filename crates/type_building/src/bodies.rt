@@ -1,102 +1,122 @@
 //! What the bodies of submodules may say.
 
-ghost use Rattle.std.specs.Prelude.{◌≡◌, [], IfOk};
-ghost use Rattle.std.specs.List.{list_any};
+ghost use Rattle.std.specs.Prelude.{◌≡◌, [], is_some, IfOk};
 ghost use Rattle.ned_types.specs.Types.{bodies_clash, has_unfit_body, body_clashes, has_unfit};
+ghost use Rattle.std.specs.List.{list_any};
 ghost use Rattle.type_building.specs.Seen.{names_in, is_unfit_over};
 
 use crate::named::NamedTypes;
+use crate::places::Member;
 use crate::sections::{
-    gives_again, gives_seen, gives_unseen, is_declaration, see_declared, see_fixed,
+    given_again, gives_seen, gives_unseen, is_declaration, see_declared, see_fixed,
 };
 use indexmap::IndexSet;
 use ned_trees::declarations::{SectionLine, Submodule};
 use std::alloc::{AllocError, Global};
 
-/// Whether the body of a submodule can't stand over the lines of its type.
-pub(crate) fn bodies_clash(
+/// The first line of the body of a submodule that can't stand over the lines of its type.
+pub(crate) fn body_clash(
     alloc: Global,
     named: &NamedTypes<'_>,
     submodules: &[Submodule],
-) -> Result<bool, AllocError>
-    ensures { IfOk result (λ clash. clash ≡ bodies_clash named.now submodules.now) }
+) -> Result<Option<Member>, AllocError>
+    ensures { IfOk result (λ member. is_some member ≡ bodies_clash named.now submodules.now) }
 {
+    let mut number = 0usize;
     let mut rest = submodules;
     'submodules: while let Some((submodule, after)) = rest.split_first() {
-        if has_unfit_body(alloc, named, submodule)? {
-            return Ok(true);
+        let member = unfit_body(alloc, named, number, submodule)?;
+        if member.is_some() {
+            return Ok(member);
         }
+        number = number.saturating_add(1);
         rest = after;
     }
-    Ok(false)
+    Ok(None)
 }
 
-fn has_unfit_body(
+fn unfit_body(
     alloc: Global,
     named: &NamedTypes<'_>,
+    number: usize,
     submodule: &Submodule,
-) -> Result<bool, AllocError>
-    ensures { IfOk result (λ clash. clash ≡ has_unfit_body named.now submodule.now) }
+) -> Result<Option<Member>, AllocError>
+    ensures { IfOk result (λ member. is_some member ≡ has_unfit_body named.now submodule.now) }
 {
     match named.find(submodule.type_name.as_bytes()) {
-        Some(declared) => body_clashes(alloc, declared.lines.as_slice(), submodule.body.as_slice()),
-        None => Ok(false),
+        Some(declared) => {
+            let lines = declared.lines.as_slice();
+            unfit_over(alloc, number, lines, submodule.body.as_slice())
+        }
+        None => Ok(None),
     }
 }
 
-/// Whether a body can't stand over these lines of a type. Over an empty one nothing is made of them.
-fn body_clashes(
+/// The first line of the body of the submodule of that number that can't stand over these lines of a type. Over an empty body nothing is made of them.
+fn unfit_over(
+    alloc: Global,
+    number: usize,
+    lines: &[SectionLine],
+    body: &[SectionLine],
+) -> Result<Option<Member>, AllocError>
+    ensures { IfOk result (λ member. is_some member ≡ body_clashes lines.now body.now) }
+{
+    if body.is_empty() {
+        return Ok(None);
+    }
+    if let Some(at) = first_unfit(alloc, lines, body)? {
+        return Ok(Some(Member::Unfit(number, at)));
+    }
+    match given_again(alloc, body)? {
+        Some(at) => Ok(Some(Member::UnfitAgain(number, at))),
+        None => Ok(None),
+    }
+}
+
+/// The first of the lines of a body that can't stand over these lines of a type.
+fn first_unfit(
     alloc: Global,
     lines: &[SectionLine],
     body: &[SectionLine],
-) -> Result<bool, AllocError>
-    ensures { IfOk result (λ clash. clash ≡ body_clashes lines.now body.now) }
-{
-    if body.is_empty() {
-        return Ok(false);
-    }
-    if has_unfit(alloc, lines, body)? {
-        return Ok(true);
-    }
-    gives_again(alloc, body)
-}
-
-/// Whether one of the lines of a body can't stand over these lines of a type.
-fn has_unfit(alloc: Global, lines: &[SectionLine], body: &[SectionLine]) -> Result<bool, AllocError>
-    ensures { IfOk result (λ unfit. unfit ≡ has_unfit lines.now body.now) }
+) -> Result<Option<usize>, AllocError>
+    ensures { IfOk result (λ at. is_some at ≡ has_unfit lines.now body.now) }
 {
     let mut declared = IndexSet::new(alloc);
     let mut fixed = IndexSet::new(alloc);
-    has_unfit_over(&mut declared, &mut fixed, lines, body)
+    first_unfit_over(&mut declared, &mut fixed, lines, body)
 }
 
-/// Whether one of the lines of a body can't stand over these lines of a type, whose names are added to two empty sets.
-fn has_unfit_over<'a>(
+/// The first of the lines of a body that can't stand over these lines of a type, whose names are added to two empty sets.
+fn first_unfit_over<'a>(
     declared: &mut IndexSet<&'a [u8]>,
     fixed: &mut IndexSet<&'a [u8]>,
     lines: &'a [SectionLine],
     body: &'a [SectionLine],
-) -> Result<bool, AllocError>
+) -> Result<Option<usize>, AllocError>
     requires declared { declared.old.keys ≡ [] }
     requires fixed { fixed.old.keys ≡ [] }
-    ensures { IfOk result (λ unfit. unfit ≡ has_unfit lines.now body.now) }
+    ensures { IfOk result (λ at. is_some at ≡ has_unfit lines.now body.now) }
 {
-    see_declared(declared, lines)?;
+    let _again = see_declared(declared, lines)?;
     see_fixed(fixed, lines)?;
-    Ok(is_one_unfit(declared, fixed, body))
+    Ok(first_unfit_by(declared, fixed, body))
 }
 
-/// Whether one of the lines of a body can't stand over lines that declare parameters of the first names, and fix those of the
+/// The first of the lines of a body that can't stand over lines that declare parameters of the first names, and fix those of the
 /// second.
-fn is_one_unfit(declared: &IndexSet<&[u8]>, fixed: &IndexSet<&[u8]>, body: &[SectionLine]) -> bool
-    ensures { result ≡ list_any (is_unfit_over (names_in declared.now.keys) (names_in fixed.now.keys)) body.now }
+fn first_unfit_by(
+    declared: &IndexSet<&[u8]>,
+    fixed: &IndexSet<&[u8]>,
+    body: &[SectionLine],
+) -> Option<usize>
+    ensures { is_some result ≡ list_any (is_unfit_over (names_in declared.now.keys) (names_in fixed.now.keys)) body.now }
 {
-    for line in body {
+    for (at, line) in body.iter().enumerate() {
         if is_unfit(declared, fixed, line) {
-            return true;
+            return Some(at);
         }
     }
-    false
+    None
 }
 
 /// Whether a line can't stand in a body over such lines.

@@ -1,22 +1,24 @@
 //! Why declared types make no model.
 
-ghost use Rattle.std.specs.Prelude.{◌≡◌, ◌||◌, ◌↔◌, false, None, IfOk, map};
+ghost use Rattle.std.specs.Prelude.{◌≡◌, ◌||◌, false, not, is_some, IfOk, map};
 ghost use Rattle.ned_types.specs.Types.{has_duplicate, is_built_in, is_type_named, names_unknown, has_inner_network, is_inner_name, is_inner_network, is_submodule_known, has_clash, clashes, submodules_clash, is_submodule_simple, is_simple, repeats_submodule, has_other_kind};
-ghost use Rattle.type_building.specs.Inheritance.{flat_type, flat_types, heirs_first};
-ghost use Rattle.type_building.specs.Building.{Builds, AnswersTable, AreFaultless, CanBuild, flat_fault};
+ghost use Rattle.type_building.specs.Inheritance.{flat_type, flat_types};
+ghost use Rattle.type_building.specs.Building.{Builds, AnswersTable, AreFaultless, CanBuild, TellsFlat};
 ghost use Rattle.ned_types.specs.WellFormed.{IsWellFormed};
 ghost use Rattle.std.specs.List.{list_any};
 ghost use Rattle.type_building.specs.Named.{HaveLines, is_other_named, is_unknown_named};
+ghost use Rattle.type_building.specs.Places.{first_from, other_in, place_from, placed, unknown_in};
 ghost use Rattle.type_building.specs.Seen.{is_one_named, names_in};
 
-use crate::bodies::bodies_clash;
-use crate::gates::redeclares_gate;
-use crate::inheritance::{flat_types, has_other_base, has_unknown_base};
-use crate::interfaces::{has_broken, has_other_interface, has_unknown_interface};
+use crate::bodies::body_clash;
+use crate::gates::redeclared_gate;
+use crate::inheritance::{extends_other, extends_unknown, flat_types};
+use crate::interfaces::{broken_place, first_other_interface, first_unknown_interface};
 use crate::lines::{Lines, all_lines};
 use crate::named::{NamedTypes, by_name};
-use crate::sections::section_clashes;
-use crate::table::TypeFault;
+use crate::places::{Member, Place, placed};
+use crate::sections::section_clash;
+use crate::table::{BuildError, TypeFault};
 use indexmap::IndexSet;
 use ned_trees::declarations::{Submodule, TypeDeclaration, TypeKind};
 use ned_trees::refusals::refused;
@@ -28,7 +30,7 @@ use std::alloc::{AllocError, Global};
 pub(crate) fn flattened(
     alloc: Global,
     types: &[TypeDeclaration],
-) -> Result<Items<TypeDeclaration>, TypeFault>
+) -> Result<Items<TypeDeclaration>, BuildError>
     ensures built { Builds types.now result }
     // What is built keeps the rules of types.
     ensures rules { IfOk result IsWellFormed }
@@ -38,35 +40,41 @@ pub(crate) fn flattened(
     built(alloc, types)
 }
 
-fn built(alloc: Global, types: &[TypeDeclaration]) -> Result<Items<TypeDeclaration>, TypeFault>
+fn built(alloc: Global, types: &[TypeDeclaration]) -> Result<Items<TypeDeclaration>, BuildError>
     ensures { Builds types.now result }
 {
     match by_name(alloc, types)? {
-        Some(named) => built_by(alloc, &named, types),
-        None => Err(TypeFault::DuplicateType),
+        Ok(named) => built_by(alloc, &named, types),
+        Err(number) => {
+            let member = Member::Whole;
+            Err(BuildError::Fault(TypeFault::DuplicateType, Place { number, member }))
+        }
     }
 }
 
 /// The flat type of each of these types, which have names of their own, or their first fault.
-#[tactic(auto, using(crate::proofs::BuildingLaws::duplicate_flat, crate::proofs::BuildingLaws::built_flat))]
+#[tactic(auto, using(crate::proofs::BuildingLaws::duplicate_flat, crate::proofs::BuildingLaws::built_flat, crate::proofs::PlaceLaws::unknown_found, crate::proofs::PlaceLaws::circle_found, crate::proofs::PlaceLaws::circle_told, crate::proofs::PlaceLaws::other_found, crate::proofs::PlaceLaws::none_found))]
 fn built_by<'a>(
     alloc: Global,
     named: &NamedTypes<'a>,
     types: &'a [TypeDeclaration],
-) -> Result<Items<TypeDeclaration>, TypeFault>
+) -> Result<Items<TypeDeclaration>, BuildError>
     requires names { named.now ≡ types.now }
     requires apart { has_duplicate types.now ≡ false }
     ensures { Builds types.now result }
 {
-    if is_unknown_named(named, types) {
-        return Err(TypeFault::UnknownType);
+    if let Some(place) = unknown_place(named, types) {
+        return Err(BuildError::Fault(TypeFault::UnknownType, place));
     }
-    let (circle, lines) = all_lines(alloc, types)?;
-    if circle {
-        return Err(refused(lines, TypeFault::InheritanceCircle));
+    let (circle, lines) = all_lines(alloc, named, types)?;
+    if let Some(place) = circle {
+        return Err(refused(
+            lines,
+            BuildError::Fault(TypeFault::InheritanceCircle, place),
+        ));
     }
-    if is_other_named(named, types) {
-        return Err(refused(lines, TypeFault::KindClash));
+    if let Some(place) = other_place(named, types) {
+        return Err(refused(lines, BuildError::Fault(TypeFault::KindClash, place)));
     }
     let flat = flat_over(alloc, named, lines, types)?;
     faultless(alloc, flat)
@@ -79,7 +87,7 @@ fn flat_over<'a>(
     lines: Lines<'a>,
     types: &'a [TypeDeclaration],
 ) -> Result<Items<TypeDeclaration>, AllocError>
-    requires { HaveLines lines.entries (heirs_first named.now) }
+    requires { HaveLines lines.entries named.now }
     ensures { IfOk result (λ flat. flat ≡ map (flat_type named.now) types.now) }
 {
     flat_types(alloc, named, &lines, types)
@@ -89,37 +97,73 @@ fn flat_over<'a>(
 fn faultless(
     alloc: Global,
     types: Items<TypeDeclaration>,
-) -> Result<Items<TypeDeclaration>, TypeFault>
+) -> Result<Items<TypeDeclaration>, BuildError>
     requires { has_duplicate types ≡ false }
     ensures { AreFaultless types result }
 {
     match flat_fault(alloc, types.as_slice()) {
         Ok(None) => Ok(types),
-        Ok(Some(fault)) => Err(refused(types, fault)),
+        Ok(Some((fault, place))) => Err(refused(types, BuildError::Fault(fault, place))),
         Err(error) => Err(refused(types, error.into())),
     }
 }
 
-/// Whether one of the types names what is neither a type nor a built-in channel.
-fn is_unknown_named(named: &NamedTypes<'_>, types: &[TypeDeclaration]) -> bool
-    ensures { result ≡ is_unknown_named named.now types.now }
+/// The first place where one of the types names what is neither a type nor a built-in channel.
+fn unknown_place(named: &NamedTypes<'_>, types: &[TypeDeclaration]) -> Option<Place>
+    ensures { result ≡ place_from (unknown_in named.now) 0 types.now }
 {
-    has_unknown(named, types)
-        || (has_unknown_base(named, types) || has_unknown_interface(named, types))
+    for (number, declared) in types.iter().enumerate() {
+        let place = placed(number, unknown_in(named, declared));
+        if place.is_some() {
+            return place;
+        }
+    }
+    None
 }
 
-/// Whether one of the types is a network within another, or names what is of another kind than it should be.
-fn is_other_named(named: &NamedTypes<'_>, types: &[TypeDeclaration]) -> bool
-    ensures { result ≡ is_other_named named.now types.now }
+/// What of a type names what is neither a type nor a built-in channel.
+fn unknown_in(named: &NamedTypes<'_>, declared: &TypeDeclaration) -> Option<Member>
+    ensures { result ≡ unknown_in named.now declared.now }
 {
-    has_inner_network(types) || (has_other_base(named, types) || has_other_interface(named, types))
+    if extends_unknown(named, &declared.base) {
+        return Some(Member::Base);
+    }
+    if let Some(at) = first_unknown_interface(named, declared.interfaces.as_slice()) {
+        return Some(Member::Interface(at));
+    }
+    match first_unknown(named, declared.submodules.as_slice()) {
+        Some(at) => Some(Member::Submodule(at)),
+        None => None,
+    }
 }
 
-/// Whether one of the types is a network within another.
-fn has_inner_network(types: &[TypeDeclaration]) -> bool
-    ensures { result ≡ has_inner_network types.now }
+/// The first place where one of the types is a network within another, or names what is of another kind than it should be.
+fn other_place(named: &NamedTypes<'_>, types: &[TypeDeclaration]) -> Option<Place>
+    ensures { result ≡ place_from (other_in named.now) 0 types.now }
 {
-    types.iter().any(is_inner_network)
+    for (number, declared) in types.iter().enumerate() {
+        let place = placed(number, other_in(named, declared));
+        if place.is_some() {
+            return place;
+        }
+    }
+    None
+}
+
+/// What of a type is of another kind than it should be.
+fn other_in(named: &NamedTypes<'_>, declared: &TypeDeclaration) -> Option<Member>
+    ensures { result ≡ other_in named.now declared.now }
+{
+    if is_inner_network(declared) {
+        return Some(Member::Whole);
+    }
+    if extends_other(named, declared.kind, &declared.base) {
+        return Some(Member::Base);
+    }
+    match first_other_interface(named, declared.kind, declared.interfaces.as_slice()) {
+        Some(at) => Some(Member::Interface(at)),
+        None => None,
+    }
 }
 
 fn is_inner_network(declared: &TypeDeclaration) -> bool
@@ -151,28 +195,16 @@ pub(crate) fn is_built_in(name: &[u8]) -> bool
         || spells(name, b"DatarateChannel")
 }
 
-/// Whether a submodule's type isn't there.
-fn has_unknown(named: &NamedTypes<'_>, types: &[TypeDeclaration]) -> bool
-    ensures { result ≡ list_any (λ t. names_unknown named.now t.submodules) types.now }
+/// The first of these submodules whose type isn't there.
+fn first_unknown(named: &NamedTypes<'_>, submodules: &[Submodule]) -> Option<usize>
+    ensures { result ≡ first_from (λ s. not (is_submodule_known named.now s)) 0 submodules.now }
 {
-    for declared in types {
-        if names_unknown(named, declared.submodules.as_slice()) {
-            return true;
-        }
-    }
-    false
-}
-
-/// Whether the type of one of these submodules isn't there.
-fn names_unknown(named: &NamedTypes<'_>, submodules: &[Submodule]) -> bool
-    ensures { result ≡ names_unknown named.now submodules.now }
-{
-    for submodule in submodules {
+    for (at, submodule) in submodules.iter().enumerate() {
         if !is_submodule_known(named, submodule) {
-            return true;
+            return Some(at);
         }
     }
-    false
+    None
 }
 
 /// Whether the submodule's type is there.
@@ -182,122 +214,132 @@ fn is_submodule_known(named: &NamedTypes<'_>, submodule: &Submodule) -> bool
     is_taken(submodule.type_name.as_bytes(), named)
 }
 
-/// The first fault of flat types, which have names of their own.
-fn flat_fault(alloc: Global, types: &[TypeDeclaration]) -> Result<Option<TypeFault>, AllocError>
+/// The first fault of flat types, which have names of their own, and its place.
+fn flat_fault(
+    alloc: Global,
+    types: &[TypeDeclaration],
+) -> Result<Option<(TypeFault, Place)>, AllocError>
     requires { has_duplicate types.now ≡ false }
-    ensures { IfOk result (λ fault. fault ≡ flat_fault types.now) }
+    ensures { IfOk result (TellsFlat types.now) }
 {
     match by_name(alloc, types)? {
-        Some(named) => flat_fault_by(alloc, &named, types),
-        None => unreachable!(),
+        Ok(named) => flat_fault_by(alloc, &named, types),
+        Err(_) => unreachable!(),
     }
 }
 
-/// The first fault of flat types, which these are by their names.
+/// The first fault of flat types, which these are by their names, and its place.
+#[tactic(auto, using(crate::proofs::PlaceLaws::clash_tells, crate::proofs::PlaceLaws::lacked_tells, crate::proofs::PlaceLaws::none_tells))]
 fn flat_fault_by(
     alloc: Global,
     named: &NamedTypes<'_>,
     types: &[TypeDeclaration],
-) -> Result<Option<TypeFault>, AllocError>
+) -> Result<Option<(TypeFault, Place)>, AllocError>
     requires { named.now ≡ types.now }
-    ensures { IfOk result (λ fault. fault ≡ flat_fault types.now) }
+    ensures { IfOk result (TellsFlat types.now) }
 {
-    if one_clashes(alloc, named, types)? {
-        return Ok(Some(TypeFault::KindClash));
+    if let Some(place) = clash_place(alloc, named, types)? {
+        return Ok(Some((TypeFault::KindClash, place)));
     }
-    if has_broken(named, types) {
-        return Ok(Some(TypeFault::Interface));
+    match broken_place(named, types) {
+        Some(place) => Ok(Some((TypeFault::Interface, place))),
+        None => Ok(None),
+    }
+}
+
+/// The first place where one of these flat types has a clash.
+fn clash_place(
+    alloc: Global,
+    named: &NamedTypes<'_>,
+    types: &[TypeDeclaration],
+) -> Result<Option<Place>, AllocError>
+    ensures { IfOk result (λ place. is_some place ≡ list_any (λ t. clashes named.now t) types.now) }
+{
+    let mut number = 0usize;
+    let mut rest = types;
+    'types: while let Some((declared, after)) = rest.split_first() {
+        let place = placed(number, clash_in(alloc, named, declared)?);
+        if place.is_some() {
+            return Ok(place);
+        }
+        number = number.saturating_add(1);
+        rest = after;
     }
     Ok(None)
 }
 
-/// Whether one of these types has a clash.
-fn one_clashes(
-    alloc: Global,
-    named: &NamedTypes<'_>,
-    types: &[TypeDeclaration],
-) -> Result<bool, AllocError>
-    ensures { IfOk result (λ clash. clash ≡ list_any (λ t. clashes named.now t) types.now) }
-{
-    let mut rest = types;
-    'types: while let Some((declared, after)) = rest.split_first() {
-        if clashes(alloc, named, declared)? {
-            return Ok(true);
-        }
-        rest = after;
-    }
-    Ok(false)
-}
-
-/// Whether a member of the type clashes.
-fn clashes(
+/// The first member of the type that clashes.
+fn clash_in(
     alloc: Global,
     named: &NamedTypes<'_>,
     declared: &TypeDeclaration,
-) -> Result<bool, AllocError>
-    ensures { IfOk result (λ clash. clash ≡ clashes named.now declared.now) }
+) -> Result<Option<Member>, AllocError>
+    ensures { IfOk result (λ member. is_some member ≡ clashes named.now declared.now) }
 {
-    if section_clashes(alloc, declared.lines.as_slice())? {
-        return Ok(true);
+    let member = section_clash(alloc, declared.lines.as_slice())?;
+    if member.is_some() {
+        return Ok(member);
     }
-    if redeclares_gate(alloc, declared.gates.as_slice())? {
-        return Ok(true);
+    if let Some(at) = redeclared_gate(alloc, declared.gates.as_slice())? {
+        return Ok(Some(Member::GateAgain(at)));
     }
-    submodules_clash(alloc, named, declared.submodules.as_slice())
+    submodule_clash(alloc, named, declared.submodules.as_slice())
 }
 
-fn submodules_clash(
+fn submodule_clash(
     alloc: Global,
     named: &NamedTypes<'_>,
     submodules: &[Submodule],
-) -> Result<bool, AllocError>
-    ensures { IfOk result (λ clash. clash ≡ submodules_clash named.now submodules.now) }
+) -> Result<Option<Member>, AllocError>
+    ensures { IfOk result (λ member. is_some member ≡ submodules_clash named.now submodules.now) }
 {
-    if repeats_submodule(alloc, submodules)? {
-        return Ok(true);
+    if let Some(at) = repeated_submodule(alloc, submodules)? {
+        return Ok(Some(Member::SubmoduleAgain(at)));
     }
-    if has_other_kind(named, submodules) {
-        return Ok(true);
+    if let Some(at) = first_of_other_kind(named, submodules) {
+        return Ok(Some(Member::Submodule(at)));
     }
-    bodies_clash(alloc, named, submodules)
+    body_clash(alloc, named, submodules)
 }
 
-/// Whether a submodule is declared twice. The names that were seen stand in a set, so each is compared with few.
-fn repeats_submodule(alloc: Global, submodules: &[Submodule]) -> Result<bool, AllocError>
-    ensures { IfOk result (λ repeats. repeats ≡ repeats_submodule submodules.now) }
+/// The first submodule that has the name of one before it. The names that were seen stand in a set, so each is compared with few.
+fn repeated_submodule(alloc: Global, submodules: &[Submodule]) -> Result<Option<usize>, AllocError>
+    ensures { IfOk result (λ at. is_some at ≡ repeats_submodule submodules.now) }
 {
     let mut seen = IndexSet::new(alloc);
     repeats_seen(&mut seen, submodules)
 }
 
-/// Whether one of these has a name that was seen before.
+/// The first of these that has a name that was seen before.
 fn repeats_seen<'a>(
     seen: &mut IndexSet<&'a [u8]>,
     submodules: &'a [Submodule],
-) -> Result<bool, AllocError>
-    ensures { IfOk result (λ repeats. repeats
+) -> Result<Option<usize>, AllocError>
+    ensures { IfOk result (λ at. is_some at
         ≡ (is_one_named (names_in seen.old.keys) submodules.now || repeats_submodule submodules.now)) }
 {
+    let mut at = 0usize;
     let mut rest = submodules;
     'submodules: while let Some((submodule, after)) = rest.split_first() {
         if !seen.insert(submodule.name.as_bytes())? {
-            return Ok(true);
+            return Ok(Some(at));
         }
+        at = at.saturating_add(1);
         rest = after;
     }
-    Ok(false)
+    Ok(None)
 }
 
-/// Whether the type of a submodule isn't a simple type.
-fn has_other_kind(named: &NamedTypes<'_>, submodules: &[Submodule]) -> bool
-    ensures { result ≡ has_other_kind named.now submodules.now }
+/// The first submodule whose type isn't a simple type.
+fn first_of_other_kind(named: &NamedTypes<'_>, submodules: &[Submodule]) -> Option<usize>
+    ensures { is_some result ≡ has_other_kind named.now submodules.now }
 {
-    for submodule in submodules {
+    for (at, submodule) in submodules.iter().enumerate() {
         if !is_submodule_simple(named, submodule) {
-            return true;
+            return Some(at);
         }
     }
-    false
+    None
 }
 
 fn is_submodule_simple(named: &NamedTypes<'_>, submodule: &Submodule) -> bool

@@ -1,6 +1,6 @@
 //! Gates that are declared twice.
 
-ghost use Rattle.std.specs.Prelude.{◌≡◌, ◌||◌, ◌++◌, false, not, IfOk, OnOk};
+ghost use Rattle.std.specs.Prelude.{◌≡◌, ◌||◌, ◌++◌, false, not, is_some, IfOk, OnOk};
 ghost use Rattle.ned_types.specs.Types.{redeclares_gate};
 ghost use Rattle.type_building.specs.Seen.{declared_gate, declares_one, is_one_gate_named, names_in};
 
@@ -8,30 +8,35 @@ use indexmap::IndexSet;
 use ned_trees::declarations::GateLine;
 use std::alloc::{AllocError, Global};
 
-/// Whether a gate is declared twice. The names that were seen stand in a set, so each is compared with few.
-pub(crate) fn redeclares_gate(alloc: Global, gates: &[GateLine]) -> Result<bool, AllocError>
-    ensures { IfOk result (λ again. again ≡ redeclares_gate gates.now) }
+/// The first line that declares a gate which one before it declares. The names that were seen stand in a set, so each is compared with few.
+pub(crate) fn redeclared_gate(
+    alloc: Global,
+    gates: &[GateLine],
+) -> Result<Option<usize>, AllocError>
+    ensures { IfOk result (λ at. is_some at ≡ redeclares_gate gates.now) }
 {
     let mut seen = IndexSet::new(alloc);
     declares_seen(&mut seen, gates)
 }
 
-/// Whether one of these lines declares a gate whose name was seen before.
+/// The first of these lines that declares a gate whose name was seen before.
 fn declares_seen<'a>(
     seen: &mut IndexSet<&'a [u8]>,
     gates: &'a [GateLine],
-) -> Result<bool, AllocError>
-    ensures { IfOk result (λ again. again
+) -> Result<Option<usize>, AllocError>
+    ensures { IfOk result (λ at. is_some at
         ≡ (is_one_gate_named (names_in seen.old.keys) gates.now || redeclares_gate gates.now)) }
 {
+    let mut at = 0usize;
     let mut rest = gates;
     'lines: while let Some((line, after)) = rest.split_first() {
         if !see_gate(seen, line)? {
-            return Ok(true);
+            return Ok(Some(at));
         }
+        at = at.saturating_add(1);
         rest = after;
     }
-    Ok(false)
+    Ok(None)
 }
 
 /// Adds the name of the gate that the line declares, if it declares one. Answers whether it is new.

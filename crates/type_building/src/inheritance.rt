@@ -1,10 +1,9 @@
 //! Types that extend others.
 
 ghost use Rattle.std.specs.Prelude.{◌≡◌, ◌++◌, [], map, IfOk, OnOk};
-ghost use Rattle.std.specs.List.{list_any};
 ghost use Rattle.std.specs.Option.{option_copied};
 ghost use Rattle.ned_types.specs.Types.{is_channel_kind, is_simple_kind};
-ghost use Rattle.type_building.specs.Inheritance.{base_of, line_of, extends_unknown, extends_other, can_extend, is_base, is_channel_of, with_members, joined_with, class_along, class_lines, bare, bare_heir_of, flat_by, gathered, heir_of, heirs_first, flat_type, joined_behind, types_in};
+ghost use Rattle.type_building.specs.Inheritance.{base_of, line_of, extends_unknown, extends_other, can_extend, is_base, is_channel_of, with_members, joined_with, class_along, class_lines, bare, bare_heir_of, flat_by, gathered, heir_of, flat_type, joined_behind, types_in};
 ghost use Rattle.type_building.specs.Named.{HaveLines, flat_by_lines, line_at};
 
 use crate::channels::add_root;
@@ -30,19 +29,8 @@ fn base_of<'a>(named: &NamedTypes<'a>, declared: &TypeDeclaration) -> Option<&'a
     }
 }
 
-/// Whether what one of the types extends isn't there.
-pub(crate) fn has_unknown_base(named: &NamedTypes<'_>, types: &[TypeDeclaration]) -> bool
-    ensures { result ≡ list_any (λ t. extends_unknown named.now t.base) types.now }
-{
-    for declared in types {
-        if extends_unknown(named, &declared.base) {
-            return true;
-        }
-    }
-    false
-}
-
-fn extends_unknown(named: &NamedTypes<'_>, base: &Option<Text>) -> bool
+/// Whether what is extended isn't there.
+pub(crate) fn extends_unknown(named: &NamedTypes<'_>, base: &Option<Text>) -> bool
     ensures { result ≡ extends_unknown named.now base.now }
 {
     match base {
@@ -51,19 +39,8 @@ fn extends_unknown(named: &NamedTypes<'_>, base: &Option<Text>) -> bool
     }
 }
 
-/// Whether what one of the types extends isn't of its kind.
-pub(crate) fn has_other_base(named: &NamedTypes<'_>, types: &[TypeDeclaration]) -> bool
-    ensures { result ≡ list_any (λ t. extends_other named.now t.kind t.base) types.now }
-{
-    for declared in types {
-        if extends_other(named, declared.kind, &declared.base) {
-            return true;
-        }
-    }
-    false
-}
-
-fn extends_other(named: &NamedTypes<'_>, kind: TypeKind, base: &Option<Text>) -> bool
+/// Whether what is extended isn't of that kind.
+pub(crate) fn extends_other(named: &NamedTypes<'_>, kind: TypeKind, base: &Option<Text>) -> bool
     ensures { result ≡ extends_other named.now kind base.now }
 {
     match base {
@@ -351,7 +328,7 @@ fn flat_type<'a>(
     lines: &Lines<'a>,
     declared: &'a TypeDeclaration,
 ) -> Result<TypeDeclaration, AllocError>
-    requires { HaveLines lines.now.entries (heirs_first named.now) }
+    requires { HaveLines lines.now.entries named.now }
     ensures { IfOk result (λ flat. flat ≡ flat_type named.now declared.now) }
 {
     if is_interface_kind(declared.kind) {
@@ -370,7 +347,7 @@ fn add_flat_types<'a>(
     lines: &Lines<'a>,
     types: &'a [TypeDeclaration],
 ) -> Result<(), AllocError>
-    requires { HaveLines lines.now.entries (heirs_first named.now) }
+    requires { HaveLines lines.now.entries named.now }
     ensures { OnOk result (flat.new ≡ flat.old ++ map (flat_type named.now) types.now) }
 {
     for declared in types {
@@ -386,7 +363,7 @@ pub(crate) fn flat_types<'a>(
     lines: &Lines<'a>,
     types: &'a [TypeDeclaration],
 ) -> Result<Items<TypeDeclaration>, AllocError>
-    requires { HaveLines lines.now.entries (heirs_first named.now) }
+    requires { HaveLines lines.now.entries named.now }
     ensures { IfOk result (λ flat. flat ≡ map (flat_type named.now) types.now) }
 {
     let mut flat = Items::new(alloc);

@@ -1,41 +1,37 @@
 //! What interfaces types may keep, and whether they do.
 
-ghost use Rattle.std.specs.Prelude.{◌≡◌};
-ghost use Rattle.std.specs.List.{list_any};
+ghost use Rattle.std.specs.Prelude.{◌≡◌, not};
 ghost use Rattle.std.specs.Option.{option_copied};
-ghost use Rattle.type_building.specs.Interfaces.{names_no_type, can_keep, is_interface_for, keeps_other, is_word, declares_as, has_parameter, lacks_parameter, is_direction, are_alike, declares_gate_as, has_gate, lacks_gate, lacks_members, lacks_any, breaks_interface};
-ghost use Rattle.ned_types.specs.Types.{is_vector};
+ghost use Rattle.type_building.specs.Interfaces.{can_keep, is_interface_for, is_word, declares_as, has_parameter, lacks_parameter, is_direction, are_alike, declares_gate_as, has_gate, lacks_gate};
+ghost use Rattle.type_building.specs.Places.{first_from, is_known, lacked_from, lacked_in, lacked_of, lacked_of_any, place_from};
+ghost use Rattle.ned_types.specs.Types.{is_vector, type_named};
 
 use crate::faults::is_taken;
 use crate::named::NamedTypes;
+use crate::places::{Member, Place, placed};
 use ned_trees::declarations::{
     Declaration, GateDeclaration, GateDirection, GateLine, GateSize, ParameterWord, SectionLine,
     TypeDeclaration, TypeKind,
 };
 use sim_values::text::Text;
 
-/// Whether one of the names is neither that of a type nor that of a built-in channel.
-fn names_no_type(named: &NamedTypes<'_>, names: &[Text]) -> bool
-    ensures { result ≡ names_no_type named.now names.now }
+/// Whether it is the name of a type or of a built-in channel.
+fn is_known(name: &Text, named: &NamedTypes<'_>) -> bool
+    ensures { result ≡ is_known name.now named.now }
 {
-    for name in names {
-        if !is_taken(name.as_bytes(), named) {
-            return true;
-        }
-    }
-    false
+    is_taken(name.as_bytes(), named)
 }
 
-/// Whether one of the interfaces of the types isn't there.
-pub(crate) fn has_unknown_interface(named: &NamedTypes<'_>, types: &[TypeDeclaration]) -> bool
-    ensures { result ≡ list_any (λ t. names_no_type named.now t.interfaces) types.now }
+/// The first of the names that is neither that of a type nor that of a built-in channel.
+pub(crate) fn first_unknown_interface(named: &NamedTypes<'_>, names: &[Text]) -> Option<usize>
+    ensures { result ≡ first_from (λ n. not (is_known n named.now)) 0 names.now }
 {
-    for declared in types {
-        if names_no_type(named, declared.interfaces.as_slice()) {
-            return true;
+    for (at, text) in names.iter().enumerate() {
+        if !is_known(text, named) {
+            return Some(at);
         }
     }
-    false
+    None
 }
 
 /// Whether what stands among the interfaces of a type of the first kind may be of the second.
@@ -60,28 +56,20 @@ fn is_interface_for(kind: TypeKind, declared: Option<&TypeDeclaration>) -> bool
     }
 }
 
-/// Whether one of the names is not that of an interface for types of that kind.
-fn keeps_other(named: &NamedTypes<'_>, kind: TypeKind, names: &[Text]) -> bool
-    ensures { result ≡ keeps_other named.now kind names.now }
+/// The first of the names that is not that of an interface for types of that kind.
+pub(crate) fn first_other_interface(
+    named: &NamedTypes<'_>,
+    kind: TypeKind,
+    names: &[Text],
+) -> Option<usize>
+    ensures { result ≡ first_from (λ n. not (is_interface_for kind (type_named n named.now))) 0 names.now }
 {
-    for name in names {
+    for (at, name) in names.iter().enumerate() {
         if !is_interface_for(kind, named.find(name.as_bytes())) {
-            return true;
+            return Some(at);
         }
     }
-    false
-}
-
-/// Whether one of the interfaces of the types is none for its kind.
-pub(crate) fn has_other_interface(named: &NamedTypes<'_>, types: &[TypeDeclaration]) -> bool
-    ensures { result ≡ list_any (λ t. keeps_other named.now t.kind t.interfaces) types.now }
-{
-    for declared in types {
-        if keeps_other(named, declared.kind, declared.interfaces.as_slice()) {
-            return true;
-        }
-    }
-    false
+    None
 }
 
 /// Whether two words are one.
@@ -188,57 +176,84 @@ fn lacks_gate(gates: &[GateLine], line: &GateLine) -> bool
     }
 }
 
-/// Whether one of the lines declares a parameter that the others lack.
-fn lacks_parameters(lines: &[SectionLine], wanted: &[SectionLine]) -> bool
-    ensures { result ≡ list_any (λ l. lacks_parameter lines.now l) wanted.now }
+/// The first of the lines that declares a parameter that the others lack.
+fn first_lacked_parameter(lines: &[SectionLine], wanted: &[SectionLine]) -> Option<usize>
+    ensures { result ≡ first_from (λ l. lacks_parameter lines.now l) 0 wanted.now }
 {
-    wanted.iter().any(|line| lacks_parameter(lines, line))
-}
-
-/// Whether one of the lines declares a gate that the others lack.
-fn lacks_gates(gates: &[GateLine], wanted: &[GateLine]) -> bool
-    ensures { result ≡ list_any (λ g. lacks_gate gates.now g) wanted.now }
-{
-    wanted.iter().any(|line| lacks_gate(gates, line))
-}
-
-/// Whether a type lacks a member of an interface.
-fn lacks_members(declared: &TypeDeclaration, interface: &TypeDeclaration) -> bool
-    ensures { result ≡ lacks_members declared.now interface.now }
-{
-    lacks_parameters(declared.lines.as_slice(), interface.lines.as_slice())
-        || lacks_gates(declared.gates.as_slice(), interface.gates.as_slice())
-}
-
-/// Whether a type lacks a member of an interface, where there is one.
-fn lacks_any(declared: &TypeDeclaration, interface: Option<&TypeDeclaration>) -> bool
-    ensures { result ≡ lacks_any declared.now (option_copied interface.entry) }
-{
-    match interface {
-        Some(interface) => lacks_members(declared, interface),
-        None => false,
-    }
-}
-
-/// Whether a type lacks a member of one of its interfaces.
-fn breaks_interface(named: &NamedTypes<'_>, declared: &TypeDeclaration) -> bool
-    ensures { result ≡ breaks_interface named.now declared.now }
-{
-    declared
-        .interfaces
-        .as_slice()
-        .iter()
-        .any(|name| lacks_any(declared, named.find(name.as_bytes())))
-}
-
-/// Whether one of the types lacks a member of one of its interfaces.
-pub(crate) fn has_broken(named: &NamedTypes<'_>, types: &[TypeDeclaration]) -> bool
-    ensures { result ≡ list_any (λ t. breaks_interface named.now t) types.now }
-{
-    for declared in types {
-        if breaks_interface(named, declared) {
-            return true;
+    for (at, line) in wanted.iter().enumerate() {
+        if lacks_parameter(lines, line) {
+            return Some(at);
         }
     }
-    false
+    None
+}
+
+/// The first of the lines that declares a gate that the others lack.
+fn first_lacked_gate(gates: &[GateLine], wanted: &[GateLine]) -> Option<usize>
+    ensures { result ≡ first_from (λ g. lacks_gate gates.now g) 0 wanted.now }
+{
+    for (at, line) in wanted.iter().enumerate() {
+        if lacks_gate(gates, line) {
+            return Some(at);
+        }
+    }
+    None
+}
+
+/// The first member of an interface that a type lacks, where that is its interface of that number.
+fn lacked_of(
+    declared: &TypeDeclaration,
+    number: usize,
+    interface: &TypeDeclaration,
+) -> Option<Member>
+    ensures { result ≡ lacked_of declared.now number interface.now }
+{
+    let lines = declared.lines.as_slice();
+    if let Some(at) = first_lacked_parameter(lines, interface.lines.as_slice()) {
+        return Some(Member::LacksParameter(number, at));
+    }
+    match first_lacked_gate(declared.gates.as_slice(), interface.gates.as_slice()) {
+        Some(at) => Some(Member::LacksGate(number, at)),
+        None => None,
+    }
+}
+
+/// The first member of an interface that a type lacks, where there is such an interface.
+fn lacked_of_any(
+    declared: &TypeDeclaration,
+    number: usize,
+    interface: Option<&TypeDeclaration>,
+) -> Option<Member>
+    ensures { result ≡ lacked_of_any declared.now number (option_copied interface.entry) }
+{
+    match interface {
+        Some(interface) => lacked_of(declared, number, interface),
+        None => None,
+    }
+}
+
+/// The first member that a type lacks of its interfaces.
+fn lacked_in(named: &NamedTypes<'_>, declared: &TypeDeclaration) -> Option<Member>
+    ensures { result ≡ lacked_in named.now declared.now }
+{
+    for (number, name) in declared.interfaces.as_slice().iter().enumerate() {
+        let member = lacked_of_any(declared, number, named.find(name.as_bytes()));
+        if member.is_some() {
+            return member;
+        }
+    }
+    None
+}
+
+/// The first place where one of the types lacks a member of one of its interfaces.
+pub(crate) fn broken_place(named: &NamedTypes<'_>, types: &[TypeDeclaration]) -> Option<Place>
+    ensures { result ≡ place_from (lacked_in named.now) 0 types.now }
+{
+    for (number, declared) in types.iter().enumerate() {
+        let place = placed(number, lacked_in(named, declared));
+        if place.is_some() {
+            return place;
+        }
+    }
+    None
 }

@@ -11,5 +11,7 @@ pub mod laws;
 mod lines;
 mod named;
 mod order;
+pub mod places;
 mod sections;
 pub mod table;
+mod webs;

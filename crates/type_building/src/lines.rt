@@ -1,12 +1,15 @@
 //! Interfaces with all that they extend.
 
-ghost use Rattle.std.specs.Prelude.{◌≡◌, [], false, map, IfOk, OnOk};
+ghost use Rattle.std.specs.Prelude.{◌≡◌, [], false, is_some, map, IfOk, OnOk};
 ghost use Rattle.std.specs.Option.{option_copied};
-ghost use Rattle.type_building.specs.Inheritance.{all_behind, has_circle, heirs_first, joined_behind, once_behind, turned_onto, types_in};
-ghost use Rattle.type_building.specs.Named.{AddsLine, HaveLines, line_at};
+ghost use Rattle.type_building.specs.Inheritance.{all_behind, has_circle, joined_behind, once_behind, types_in};
+ghost use Rattle.type_building.specs.Named.{AddsLine, HaveLines, LinesAlong, line_at};
+ghost use Rattle.ned_types.specs.Types.{has_duplicate};
 
 use crate::named::NamedTypes;
 use crate::order::{is_interface_kind, take_all};
+use crate::places::Place;
+use crate::webs::circle_place;
 use indexmap::IndexMap;
 use ned_trees::declarations::TypeDeclaration;
 use ned_types::made::changed;
@@ -95,7 +98,7 @@ fn add_interfaces<'a>(
     order: &[&'a TypeDeclaration],
 ) -> Result<(), AllocError>
     requires { lines.old.entries ≡ [] }
-    ensures { OnOk result (HaveLines lines.new.entries (turned_onto (types_in order.now) [])) }
+    ensures { OnOk result (LinesAlong lines.new.entries (types_in order.now)) }
 {
     let mut rest = order;
     while let [declared, after @ ..] = rest {
@@ -109,7 +112,7 @@ fn add_interfaces<'a>(
 
 /// The lines of the interfaces among these types, each of which stands behind all that it extends.
 fn lines_of<'a>(alloc: Global, order: &[&'a TypeDeclaration]) -> Result<Lines<'a>, AllocError>
-    ensures { IfOk result (λ lines. HaveLines lines.entries (turned_onto (types_in order.now) [])) }
+    ensures { IfOk result (λ lines. LinesAlong lines.entries (types_in order.now)) }
 {
     let mut lines = IndexMap::new(alloc);
     let done = add_interfaces(alloc, &mut lines, order);
@@ -117,18 +120,23 @@ fn lines_of<'a>(alloc: Global, order: &[&'a TypeDeclaration]) -> Result<Lines<'a
 }
 
 #[tactic(auto, using(crate::proofs::LineLaws::lines_fit))]
-/// Whether a type extends itself, perhaps by way of others; and where none does, the lines of all interfaces among the types.
+/// Where a type extends itself, perhaps by way of others; and where none does, the lines of all interfaces among the types.
 pub(crate) fn all_lines<'a>(
     alloc: Global,
+    named: &NamedTypes<'a>,
     types: &'a [TypeDeclaration],
-) -> Result<(bool, Lines<'a>), AllocError>
-    ensures circle { IfOk result (λ r. r.0 ≡ has_circle types.now) }
-    ensures lines { IfOk result (λ r. has_circle types.now ≡ false → HaveLines r.1.entries (heirs_first types.now)) }
+) -> Result<(Option<Place>, Lines<'a>), AllocError>
+    requires { has_duplicate types.now ≡ false }
+    ensures circle { IfOk result (λ r. is_some r.0 ≡ has_circle types.now) }
+    ensures lines { IfOk result (λ r. has_circle types.now ≡ false → HaveLines r.1.entries types.now) }
 {
     let mut order = Vec::new(alloc);
     if take_all(alloc, &mut order, types)? {
-        return Ok((true, IndexMap::new(alloc)));
+        return Ok((
+            Some(circle_place(alloc, named, types)?),
+            IndexMap::new(alloc),
+        ));
     }
     let lines = lines_of(alloc, &order)?;
-    Ok((false, lines))
+    Ok((None, lines))
 }

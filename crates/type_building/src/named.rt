@@ -76,6 +76,11 @@ impl<'a> NamedTypes<'a> {
         self.types.get(name).copied()
     }
 
+    /// The number of the type of that name.
+    pub(crate) fn number_of(&self, name: &[u8]) -> Option<usize> {
+        self.types.get_index_of(name)
+    }
+
     /// Whether there is one of that name.
     pub(crate) fn has(&self, name: &[u8]) -> bool
         ensures { result ≡ is_type_named name.now self.now }
@@ -94,23 +99,24 @@ impl<'a> NamedTypes<'a> {
     }
 }
 
-/// The types by their names; or nothing, where two have one name, or one that of a built-in channel.
+/// The types by their names; or the number of the first that has the name of one before it, or that of a built-in channel.
 pub(crate) fn by_name<'a>(
     alloc: Global,
     types: &'a [TypeDeclaration],
-) -> Result<Option<NamedTypes<'a>>, AllocError>
+) -> Result<Result<NamedTypes<'a>, usize>, AllocError>
     ensures { IfOk result (AreNamed types.now) }
 {
     let mut named = NamedTypes::new(alloc);
     let mut rest = types;
     'types: while let Some((declared, after)) = rest.split_first() {
+        let number = named.len();
         if is_built_in(declared.name.as_bytes()) {
-            return Ok(None);
+            return Ok(Err(number));
         }
         if !named.add(declared)? {
-            return Ok(None);
+            return Ok(Err(number));
         }
         rest = after;
     }
-    Ok(Some(named))
+    Ok(Ok(named))
 }

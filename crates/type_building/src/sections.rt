@@ -1,30 +1,36 @@
 //! Parameter sections: what is declared twice, and given without a declaration or behind a fixed value. The names that were seen
 //! stand in sets, so each line is compared with few.
 
-ghost use Rattle.std.specs.Prelude.{◌≡◌, ◌||◌, [], not, IfOk, OnOk};
+ghost use Rattle.std.specs.Prelude.{◌≡◌, ◌||◌, [], not, is_some, IfOk, OnOk};
 ghost use Rattle.std.specs.List.{list_any};
 ghost use Rattle.std.specs.Str.{bytes_eq};
 ghost use Rattle.ned_types.specs.Types.{section_clashes, is_declaration, declares, is_declared, redeclares, gives_fixed, is_fixed_in, gives_again, gives_undeclared};
 ghost use Rattle.type_building.specs.Seen.{names_in, is_in, AddsNames, redeclares_seen, gives_seen, gives_unseen};
 
+use crate::places::Member;
 use indexmap::IndexSet;
 use ned_trees::declarations::SectionLine;
 use ned_types::given::{fixes, name_in, value_in};
 use std::alloc::{AllocError, Global};
 
-/// Whether a parameter is declared twice, or a value is given to one that isn't declared or has a fixed one.
-pub(crate) fn section_clashes(alloc: Global, lines: &[SectionLine]) -> Result<bool, AllocError>
-    ensures { IfOk result (λ clash. clash ≡ section_clashes lines.now) }
+/// The first line that clashes: one that declares a parameter a second time, or else one that gives a value to one that isn't declared, or
+/// else one that gives a value to one with a fixed one.
+pub(crate) fn section_clash(
+    alloc: Global,
+    lines: &[SectionLine],
+) -> Result<Option<Member>, AllocError>
+    ensures { IfOk result (λ member. is_some member ≡ section_clashes lines.now) }
 {
-    if misdeclared(alloc, lines)? {
-        return Ok(true);
+    let member = misdeclared(alloc, lines)?;
+    if member.is_some() {
+        return Ok(member);
     }
-    gives_again(alloc, lines)
+    Ok(given(given_again(alloc, lines)?))
 }
 
-/// Whether a parameter is declared twice, or a value is given to one that isn't declared.
-fn misdeclared(alloc: Global, lines: &[SectionLine]) -> Result<bool, AllocError>
-    ensures { IfOk result (λ clash. clash ≡ (redeclares lines.now || gives_undeclared lines.now)) }
+/// The first line that declares a parameter a second time, or else that gives a value to one that isn't declared.
+fn misdeclared(alloc: Global, lines: &[SectionLine]) -> Result<Option<Member>, AllocError>
+    ensures { IfOk result (λ member. is_some member ≡ (redeclares lines.now || gives_undeclared lines.now)) }
 {
     let mut declared = IndexSet::new(alloc);
     misdeclared_by(&mut declared, lines)
@@ -34,30 +40,73 @@ fn misdeclared(alloc: Global, lines: &[SectionLine]) -> Result<bool, AllocError>
 fn misdeclared_by<'a>(
     declared: &mut IndexSet<&'a [u8]>,
     lines: &'a [SectionLine],
-) -> Result<bool, AllocError>
+) -> Result<Option<Member>, AllocError>
     requires { declared.old.keys ≡ [] }
-    ensures { IfOk result (λ clash. clash ≡ (redeclares lines.now || gives_undeclared lines.now)) }
+    ensures { IfOk result (λ member. is_some member ≡ (redeclares lines.now || gives_undeclared lines.now)) }
 {
-    if see_declared(declared, lines)? {
-        return Ok(true);
+    let again = declared_again(see_declared(declared, lines)?);
+    if again.is_some() {
+        return Ok(again);
     }
-    Ok(one_gives_unseen(declared, lines))
+    Ok(undeclared(first_unseen(declared, lines)))
 }
 
-/// Adds the names of the parameters that these lines declare. Answers whether one was seen before, or is declared twice.
+/// That the line of that number declares a parameter a second time.
+fn declared_again(at: Option<usize>) -> Option<Member>
+    ensures { is_some result ≡ is_some at }
+{
+    match at {
+        Some(at) => Some(Member::DeclaredAgain(at)),
+        None => None,
+    }
+}
+
+/// That the line of that number gives a value to a parameter that isn't declared.
+fn undeclared(at: Option<usize>) -> Option<Member>
+    ensures { is_some result ≡ is_some at }
+{
+    match at {
+        Some(at) => Some(Member::Undeclared(at)),
+        None => None,
+    }
+}
+
+/// That the line of that number gives a value to a parameter with a fixed one.
+fn given(at: Option<usize>) -> Option<Member>
+    ensures { is_some result ≡ is_some at }
+{
+    match at {
+        Some(at) => Some(Member::GivenAgain(at)),
+        None => None,
+    }
+}
+
+/// The first number that is there.
+fn first_number(again: Option<usize>, seen: bool, at: usize) -> Option<usize>
+    ensures { is_some result ≡ (is_some again || seen) }
+{
+    if again.is_some() {
+        return again;
+    }
+    if seen { Some(at) } else { None }
+}
+
+/// Adds the names of the parameters that these lines declare. Answers the first line whose parameter was seen before, or is declared twice.
 pub(crate) fn see_declared<'a>(
     declared: &mut IndexSet<&'a [u8]>,
     lines: &'a [SectionLine],
-) -> Result<bool, AllocError>
-    ensures again { IfOk result (λ again. again
+) -> Result<Option<usize>, AllocError>
+    ensures again { IfOk result (λ again. is_some again
         ≡ (list_any (redeclares_seen (names_in declared.old.keys)) lines.now || redeclares lines.now)) }
     ensures names { OnOk result (AddsNames (names_in declared.old.keys) (λ n. is_declared n lines.now) (names_in declared.new.keys)) }
 {
-    let mut again = false;
+    let mut again = None;
+    let mut at = 0usize;
     let mut rest = lines;
     'lines: while let Some((line, after)) = rest.split_first() {
         let seen = see_declaration(declared, line)?;
-        again = again || seen;
+        again = first_number(again, seen, at);
+        at = at.saturating_add(1);
         rest = after;
     }
     Ok(again)
@@ -111,31 +160,33 @@ fn see<'a>(seen: &mut IndexSet<&'a [u8]>, name: &'a [u8]) -> Result<bool, AllocE
     Ok(seen.insert(name)?)
 }
 
-/// Whether a parameter with a fixed value is given another one.
-pub(crate) fn gives_again(alloc: Global, lines: &[SectionLine]) -> Result<bool, AllocError>
-    ensures { IfOk result (λ again. again ≡ gives_again lines.now) }
+/// The first line that gives a value to a parameter that has a fixed one in a line before it.
+pub(crate) fn given_again(alloc: Global, lines: &[SectionLine]) -> Result<Option<usize>, AllocError>
+    ensures { IfOk result (λ at. is_some at ≡ gives_again lines.now) }
 {
     let mut fixed = IndexSet::new(alloc);
     one_gives_seen(&mut fixed, lines)
 }
 
-/// Whether one of these lines gives a value to a parameter that was seen, or is given a fixed value before it.
+/// The first of these lines that gives a value to a parameter that was seen, or is given a fixed value before it.
 fn one_gives_seen<'a>(
     seen: &mut IndexSet<&'a [u8]>,
     lines: &'a [SectionLine],
-) -> Result<bool, AllocError>
-    ensures { IfOk result (λ again. again
+) -> Result<Option<usize>, AllocError>
+    ensures { IfOk result (λ at. is_some at
         ≡ (list_any (gives_seen (names_in seen.old.keys)) lines.now || gives_again lines.now)) }
 {
+    let mut at = 0usize;
     let mut rest = lines;
     'lines: while let Some((line, after)) = rest.split_first() {
         if gives_seen(seen, line) {
-            return Ok(true);
+            return Ok(Some(at));
         }
         see_fixing(seen, line)?;
+        at = at.saturating_add(1);
         rest = after;
     }
-    Ok(false)
+    Ok(None)
 }
 
 /// Whether the line gives a value to a parameter that was seen.
@@ -145,16 +196,16 @@ pub(crate) fn gives_seen(seen: &IndexSet<&[u8]>, line: &SectionLine) -> bool
     value_in(line).is_some() && is_seen(seen, name_in(line))
 }
 
-/// Whether one of these lines gives a value to a parameter that wasn't seen.
-fn one_gives_unseen(seen: &IndexSet<&[u8]>, lines: &[SectionLine]) -> bool
-    ensures { result ≡ list_any (gives_unseen (names_in seen.now.keys)) lines.now }
+/// The first of these lines that gives a value to a parameter that wasn't seen.
+fn first_unseen(seen: &IndexSet<&[u8]>, lines: &[SectionLine]) -> Option<usize>
+    ensures { is_some result ≡ list_any (gives_unseen (names_in seen.now.keys)) lines.now }
 {
-    for line in lines {
+    for (at, line) in lines.iter().enumerate() {
         if gives_unseen(seen, line) {
-            return true;
+            return Some(at);
         }
     }
-    false
+    None
 }
 
 /// Whether the line gives a value to a parameter that wasn't seen.

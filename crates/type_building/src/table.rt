@@ -7,52 +7,70 @@ ghost use Rattle.type_building.specs.Inheritance.{flat_types};
 ghost use Rattle.type_building.specs.Building.{AnswersTable, Builds, CanBuild};
 
 use crate::faults;
+use crate::places::Place;
 use ned_scopes::scopes::types_of;
-use ned_trees::declarations::NedFile;
+use ned_trees::declarations::{NedFile, TypeDeclaration};
 use ned_types::table::TypeTable;
 use sim_values::NoMemory;
+use sqlite_items::Items;
 use std::alloc::{AllocError, Global};
-use thiserror::Error;
 
 /// Why declared types make no model. Of several reasons the first in this order is told.
-#[derive(Clone, Copy, Debug, PartialEq, Eq, Error)]
+#[derive(Clone, Copy)]
 pub enum TypeFault {
     /// Two types have one name, or one has that of a built-in channel.
-    #[error("DuplicateType")]
     DuplicateType,
     /// A submodule's type, what a type extends, or one of its interfaces isn't declared.
-    #[error("UnknownType")]
     UnknownType,
     /// A type extends itself, perhaps by way of others.
-    #[error("InheritanceCircle")]
     InheritanceCircle,
     /// What a type extends or one of its interfaces is of another kind, a parameter, a gate or a submodule is declared twice, a value is given to an undeclared
     /// parameter or after a fixed one, by a section or by the body of a submodule, a body declares a parameter, or a submodule's type is
     /// no simple type, or a network is declared within another.
-    #[error("KindClash")]
     KindClash,
     /// A type lacks a parameter or a gate of one of its interfaces.
-    #[error("Interface")]
     Interface,
-    #[error("NoMemory")]
+}
+
+/// Why there is no table.
+#[derive(Clone, Copy)]
+pub enum BuildError {
+    /// The types make no model, and here is the first place that shows it.
+    Fault(TypeFault, Place),
+    /// Memory ran out.
     NoMemory(NoMemory),
 }
 
-impl From<AllocError> for TypeFault {
+impl From<AllocError> for BuildError {
     ghost use Rattle.std.specs.Prelude.{◌≡◌};
     ghost use Rattle.sim_values.specs.Memory.{no_memory};
-    ghost use Rattle.type_building.specs.declared.table.TypeFault.TheVariants.{NoMemory};
+    ghost use Rattle.type_building.specs.declared.table.BuildError.TheVariants.{NoMemory};
 
     ghost from_gives = { λ _ e. e ≡ NoMemory no_memory };
 
-    fn from(error: AllocError) -> TypeFault {
-        TypeFault::NoMemory(error.into())
+    fn from(error: AllocError) -> BuildError {
+        BuildError::NoMemory(error.into())
     }
 }
 
+/// The flat type of each of these types, whose names are full ones, or the first reason why they make no model.
+pub fn flat_types(
+    alloc: Global,
+    types: &[TypeDeclaration],
+) -> Result<Items<TypeDeclaration>, BuildError>
+    // Each flat type, or the first fault with its place.
+    ensures built { Builds types.now result }
+    // What is built keeps the rules of types.
+    ensures rules { IfOk result IsWellFormed }
+    // Types that keep the rules have no fault.
+    ensures complete { CanBuild types.now → AnswersTable (flat_types types.now) result }
+{
+    faults::flattened(alloc, types)
+}
+
 /// The table of the files' types, or the first reason why they make none.
-pub fn build(alloc: Global, files: Vec<NedFile>) -> Result<TypeTable, TypeFault>
-    // The table has the flat types of all files, or the first fault is told.
+pub fn build(alloc: Global, files: Vec<NedFile>) -> Result<TypeTable, BuildError>
+    // The table has the flat types of all files, or the first fault is told with its place.
     ensures built { Builds (types_of files.items) result }
     // What is built keeps the rules of types.
     ensures rules { IfOk result IsWellFormed }
@@ -61,7 +79,7 @@ pub fn build(alloc: Global, files: Vec<NedFile>) -> Result<TypeTable, TypeFault>
         → AnswersTable (flat_types (types_of files.items)) result }
 {
     let declared = types_of(alloc, files)?;
-    let types = faults::flattened(alloc, declared.as_slice())?;
+    let types = flat_types(alloc, declared.as_slice())?;
     let table = TypeTable::of(alloc, types)?;
     Ok(table)
 }

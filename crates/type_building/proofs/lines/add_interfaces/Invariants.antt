@@ -1,11 +1,11 @@
-use Rattle.std.proofs.Common.{◌≡◌, List, [], length}
+use Rattle.std.proofs.Common.{◌≡◌, ◌++◌, List, length}
 use Rattle.ned_trees.specs.declared.declarations.TypeDeclaration.{TypeDeclaration}
-use Rattle.type_building.specs.Inheritance.{turned_onto, types_in}
-use Rattle.type_building.specs.Named.{HaveLines}
+use Rattle.type_building.specs.Inheritance.{types_in}
+use Rattle.type_building.specs.Named.{LinesAlong}
 use Rattle.type_building.proofs.lines.add_interfaces.Given as goal
 
 abbrev pub invariant-loop-rest : goal.invariant-loop-rest
-invariant-loop-rest l = (done : List TypeDeclaration) × HaveLines l.lines.entries done × (turned_onto (types_in l.rest) done ≡ turned_onto (types_in l.order) [])
+invariant-loop-rest l = (done : List TypeDeclaration) × LinesAlong l.lines.entries done × (done ++ types_in l.rest ≡ types_in l.order)
 
 abbrev pub decreases-loop-rest : goal.decreases-loop-rest
 decreases-loop-rest l = length l.rest

@@ -1,0 +1,6 @@
+use Rattle.std.proofs.Common.{◌≡◌, not, ◌||◌, drop}
+use Rattle.type_building.specs.Places.{place_from, unknown_in, other_in, lacked_in, lacked_from}
+use Rattle.type_building.proofs.faults.other_place.Given as goal
+
+abbrev pub invariant-loop-number : goal.invariant-loop-number
+invariant-loop-number l = place_from (other_in l.named) l.number (drop l.number l.types) ≡ place_from (other_in l.named) 0 l.types

@@ -1,0 +1,253 @@
+//! Types that extend themselves, perhaps by way of others.
+
+use crate::named::NamedTypes;
+use crate::order::is_interface_kind;
+use crate::places::{Member, Place};
+use ned_trees::declarations::TypeDeclaration;
+use ned_types::made::changed;
+use sim_values::text::Text;
+use std::alloc::{AllocError, Global};
+
+/// That a type extends another.
+#[derive(Clone, Copy)]
+struct Edge {
+    /// The type that extends it.
+    heir: usize,
+    /// The next of those that extend the same type.
+    next: Option<usize>,
+}
+
+/// Which types extend which, by their numbers.
+#[derive(Drop)]
+struct Web {
+    /// How many of those that each type extends are not taken away.
+    waiting: Vec<usize>,
+    /// The first of the edges to each type.
+    first: Vec<Option<usize>>,
+    edges: Vec<Edge>,
+}
+
+/// Notes that the type of the second number extends that of the first.
+fn add_edge(web: &mut Web, of: usize, heir: usize) -> Result<(), AllocError> {
+    let edge = Some(web.edges.len());
+    let Some(first) = web.first.get_mut(of) else {
+        return Ok(());
+    };
+    let next = *first;
+    *first = edge;
+    web.edges.push(Edge { heir, next })?;
+    if let Some(count) = web.waiting.get_mut(heir) {
+        *count = count.saturating_add(1);
+    }
+    Ok(())
+}
+
+/// Notes that the type of that number extends the one of that name, where there is one.
+fn add_named(
+    web: &mut Web,
+    named: &NamedTypes<'_>,
+    heir: usize,
+    name: &Text,
+) -> Result<(), AllocError> {
+    match named.number_of(name.as_bytes()) {
+        Some(of) => add_edge(web, of, heir),
+        None => Ok(()),
+    }
+}
+
+/// Notes what the type of that number extends.
+fn add_edges_of(
+    web: &mut Web,
+    named: &NamedTypes<'_>,
+    heir: usize,
+    declared: &TypeDeclaration,
+) -> Result<(), AllocError> {
+    if let Some(base) = &declared.base {
+        add_named(web, named, heir, base)?;
+    }
+    if is_interface_kind(declared.kind) {
+        for name in declared.interfaces.as_slice() {
+            add_named(web, named, heir, name)?;
+        }
+    }
+    Ok(())
+}
+
+/// Notes what each type extends.
+fn add_edges(
+    web: &mut Web,
+    named: &NamedTypes<'_>,
+    types: &[TypeDeclaration],
+) -> Result<(), AllocError> {
+    for _declared in types {
+        web.waiting.push(0)?;
+        web.first.push(None)?;
+    }
+    for (heir, declared) in types.iter().enumerate() {
+        add_edges_of(web, named, heir, declared)?;
+    }
+    Ok(())
+}
+
+/// Which of the types extend which.
+fn web_of(
+    alloc: Global,
+    named: &NamedTypes<'_>,
+    types: &[TypeDeclaration],
+) -> Result<Web, AllocError> {
+    let mut web = Web {
+        waiting: Vec::new(alloc),
+        first: Vec::new(alloc),
+        edges: Vec::new(alloc),
+    };
+    let done = add_edges(&mut web, named, types);
+    changed(web, done)
+}
+
+/// The edge at that place.
+fn edge_at(web: &Web, at: Option<usize>) -> Option<Edge> {
+    match web.edges.get(at?) {
+        Some(edge) => Some(*edge),
+        None => None,
+    }
+}
+
+/// The first edge to the type of that number.
+fn first_edge(web: &Web, number: usize) -> Option<usize> {
+    match web.first.get(number) {
+        Some(first) => *first,
+        None => None,
+    }
+}
+
+/// Counts one type less that the type of that number extends. Answers whether it extends none of those that are left.
+fn is_freed(web: &mut Web, heir: usize) -> bool {
+    match web.waiting.get_mut(heir) {
+        Some(count) => {
+            *count = count.saturating_sub(1);
+            *count == 0
+        }
+        None => false,
+    }
+}
+
+/// Takes the type of that number away, and adds those that then extend none of those that are left.
+fn take(web: &mut Web, taken: &mut Vec<usize>, number: usize) -> Result<(), AllocError> {
+    let mut next = first_edge(web, number);
+    for _step in 0..web.edges.len() {
+        let Some(edge) = edge_at(web, next) else {
+            break;
+        };
+        if is_freed(web, edge.heir) {
+            taken.push(edge.heir)?;
+        }
+        next = edge.next;
+    }
+    Ok(())
+}
+
+/// Adds the types that extend no other.
+fn add_roots(web: &Web, taken: &mut Vec<usize>) -> Result<(), AllocError> {
+    for (number, count) in web.waiting.iter().enumerate() {
+        if *count == 0 {
+            taken.push(number)?;
+        }
+    }
+    Ok(())
+}
+
+/// Takes types away, each behind all that it extends, as long as there are such, and adds them in this order.
+fn take_all(web: &mut Web, taken: &mut Vec<usize>) -> Result<(), AllocError> {
+    add_roots(web, taken)?;
+    for at in 0..web.waiting.len() {
+        let Some(number) = taken.get(at).copied() else {
+            break;
+        };
+        take(web, taken, number)?;
+    }
+    Ok(())
+}
+
+/// Whether the type of that number is left.
+fn is_left(web: &Web, number: usize) -> bool {
+    match web.waiting.get(number) {
+        Some(count) => *count > 0,
+        None => false,
+    }
+}
+
+/// The number of the type of that name, where it is left.
+fn left_named(web: &Web, named: &NamedTypes<'_>, name: &Text) -> Option<usize> {
+    let number = named.number_of(name.as_bytes())?;
+    if is_left(web, number) {
+        Some(number)
+    } else {
+        None
+    }
+}
+
+/// The first of these interfaces that is left, and its number among them.
+fn interface_left(web: &Web, named: &NamedTypes<'_>, names: &[Text]) -> Option<(usize, Member)> {
+    for (at, name) in names.iter().enumerate() {
+        if let Some(number) = left_named(web, named, name) {
+            return Some((number, Member::Interface(at)));
+        }
+    }
+    None
+}
+
+/// A type that is left of those that one extends, and which of them it is.
+fn extended_left(
+    web: &Web,
+    named: &NamedTypes<'_>,
+    declared: &TypeDeclaration,
+) -> Option<(usize, Member)> {
+    if is_interface_kind(declared.kind) {
+        return interface_left(web, named, declared.interfaces.as_slice());
+    }
+    let number = left_named(web, named, declared.base.as_ref()?)?;
+    Some((number, Member::Base))
+}
+
+/// The number of the first type that is left.
+fn first_left(web: &Web) -> usize {
+    for (number, count) in web.waiting.iter().enumerate() {
+        if *count > 0 {
+            return number;
+        }
+    }
+    0
+}
+
+/// A type in a circle: the last one on a way of as many steps as there are types, from one to the next of those that are left.
+fn place_left(web: &Web, named: &NamedTypes<'_>, types: &[TypeDeclaration]) -> Place {
+    let mut number = first_left(web);
+    let mut member = Member::Whole;
+    for _step in 0..types.len() {
+        let found = match types.get(number) {
+            Some(declared) => extended_left(web, named, declared),
+            None => None,
+        };
+        if let Some((next, _)) = found {
+            number = next;
+        }
+    }
+    if let Some(declared) = types.get(number) {
+        if let Some((_, by)) = extended_left(web, named, declared) {
+            member = by;
+        }
+    }
+    Place { number, member }
+}
+
+/// Where one of the types extends itself, perhaps by way of others: a type in a circle, and what it extends there.
+pub(crate) fn circle_place(
+    alloc: Global,
+    named: &NamedTypes<'_>,
+    types: &[TypeDeclaration],
+) -> Result<Place, AllocError> {
+    let mut web = web_of(alloc, named, types)?;
+    let mut taken = Vec::new(alloc);
+    take_all(&mut web, &mut taken)?;
+    Ok(place_left(&web, named, types))
+}
