@@ -10,7 +10,7 @@ use Rattle.sim_time.specs.Decimal.{time_of_decimal}
 use Rattle.injection_order.specs.declared.injection.Due.{Due}
 use Rattle.model_edits.specs.declared.edit.Edit.{Edit}
 use Rattle.model_edits.specs.declared.edit.Edit.TheVariants as edit
-use Rattle.command_lines.specs.Numbers.{number_of, signed_of}
+use Rattle.command_lines.specs.Numbers.{number_of, short_of, signed_of}
 use Rattle.command_lines.specs.Words.{behind, words_of}
 
 infixl 10 ◌>>=◌
@@ -73,6 +73,6 @@ asked_by _ = None
 abbrev pub injection_of : List ℕ → Option Edit
 injection_of line = option_and_then (λ rest. asked_by (words_of rest)) (behind (codes "inject ") line)
 
--- `withdraw K`
+-- `withdraw K`: K has 32 bits
 abbrev pub withdrawal_of : List ℕ → Option Edit
-withdrawal_of line = option_map edit.Withdraw (option_and_then number_of (behind (codes "withdraw ") line))
+withdrawal_of line = option_map edit.Withdraw (option_and_then short_of (behind (codes "withdraw ") line))

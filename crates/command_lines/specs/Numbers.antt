@@ -19,6 +19,14 @@ abbrev pub number_of : List ℕ → Option ℕ
 number_of [] = None
 number_of (d ∷ ds) = number_after 0 (d ∷ ds)
 
+-- this number, where 32 bits hold it
+abbrev pub short : ℕ → Option ℕ
+short n = if nat_lt (2 ^ 32 - 1) n then None else Some n
+
+-- the number that a word of decimal digits writes: none where 32 bits do not hold it
+abbrev pub short_of : List ℕ → Option ℕ
+short_of word = option_and_then short (number_of word)
+
 -- ---- numbers with a sign
 
 -- this number, where 16 bits hold it

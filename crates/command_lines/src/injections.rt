@@ -9,7 +9,7 @@ ghost use Rattle.model_edits.specs.declared.edit.Edit.TheVariants as edits;
 ghost use Rattle.command_lines.specs.Injections.{asked_by, begins_unit, due_of, injection_of, is_lower_digit, is_lower_hex, number_length, path_of, payload_of, time_of, withdrawal_of};
 ghost use Rattle.command_lines.specs.Words.{words_of};
 
-use crate::numbers::{number_of, signed_of};
+use crate::numbers::{number_of, short_of, signed_of};
 use crate::words::{behind, is_text, parted};
 use hex::FromHexError;
 use injection_order::injection::Due;
@@ -228,10 +228,10 @@ pub(crate) fn injection_of(alloc: Global, line: &[u8]) -> Result<Option<Edit>, A
     }
 }
 
-/// The edit of `withdraw K`.
+/// The edit of `withdraw K`, where K has 32 bits.
 pub(crate) fn withdrawal_of(line: &[u8]) -> Option<Edit>
     ensures { result ≡ withdrawal_of line.now }
 {
-    let number = number_of(behind(b"withdraw ", line)?)?;
+    let number = short_of(behind(b"withdraw ", line)?)?;
     Some(Edit::Withdraw(number))
 }

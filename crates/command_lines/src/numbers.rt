@@ -1,7 +1,7 @@
 //! Numbers in command lines.
 
 ghost use Rattle.std.specs.Prelude.{◌≡◌};
-ghost use Rattle.command_lines.specs.Numbers.{below_zero, from_zero, number_after, number_of, signed_of};
+ghost use Rattle.command_lines.specs.Numbers.{below_zero, from_zero, number_after, number_of, short, short_of, signed_of};
 
 /// The number that further digits make, where the digits so far made this one. There is none where
 /// a byte is no digit, or where it doesn't fit in 64 bits.
@@ -32,6 +32,23 @@ pub fn number_of(word: &[u8]) -> Option<u64>
         return None;
     }
     number_after(0, word)
+}
+
+/// The number, where 32 bits hold it.
+fn short(number: u64) -> Option<u64>
+    ensures { result ≡ short number }
+{
+    if number > 4_294_967_295 {
+        return None;
+    }
+    Some(number)
+}
+
+/// The number of 32 bits that a word of decimal digits writes.
+pub(crate) fn short_of(word: &[u8]) -> Option<u64>
+    ensures { result ≡ short_of word.now }
+{
+    short(number_of(word)?)
 }
 
 /// The number, where 16 bits with a sign hold it.
