@@ -7,3 +7,4 @@ pub mod Starting
 pub mod Targets
 pub mod Upcoming
 pub mod Shown
+mod Following

@@ -1,7 +1,8 @@
 -- What is in the lists of a world that only grow stays there, whatever an event or the end did before memory ran out.
-use Rattle.std.proofs.Common.{◌≡◌, append-nil, append_assoc, ℕ, suc, ◌+◌, ◌≤◌, ◌<◌, Bool, true, false, List, [], ◌∷◌, ◌++◌, Option, Some, None, refl, sym, ap, ◌∙◌, arith, subst, drop, get_or, length, if◌then◌else◌}
+use Rattle.std.proofs.Common.{◌≡◌, IfOk, OnErr, Result, Ok, Err, append-nil, append_assoc, ℕ, suc, ◌+◌, ◌≤◌, ◌<◌, Bool, true, false, List, [], ◌∷◌, ◌++◌, Option, Some, None, refl, sym, ap, ◌∙◌, arith, subst, drop, get_or, length, if◌then◌else◌}
 use Rattle.std.proofs.Math.ListN.{drop_of_length-le}
 use Rattle.std.proofs.Math.Seq.{drop-cons}
+use Rattle.sim_values.specs.declared.NoMemory.{NoMemory}
 use Rattle.sim_time.specs.Time.{time_sum}
 use Rattle.module_api.specs.declared.reply.Action.{Action}
 use Rattle.module_api.specs.declared.reply.Action.TheVariants.{Emit, RecordScalar, ScheduleAfter, Fail}
@@ -83,6 +84,11 @@ flow_grows turn w v fl g e = subst (IsGrownFrom w) (ap in_flow (sym e) ∙ in_fl
 -- a deed, by what the code says of it
 pub done_grows : (turn : Turn) (id : ℕ) (action : Action) (w v : World) → flow_of turn v ≡ deed id action w → IsGrownFrom w v
 done_grows turn id action w v e = flow_grows turn w v (deed id action w) (deed_grows id action w) e
+
+-- the same where memory may have run out, which leaves the world as it was
+pub deed_left : (result : Result Turn NoMemory) (id : ℕ) (action : Action) (w v : World) → IfOk result (λ turn. flow_of turn v ≡ deed id action w) → OnErr result (v ≡ w) → IsGrownFrom w v
+deed_left (Ok turn) id action w v done same = done_grows turn id action w v done
+deed_left (Err e) id action w v done same = growth_is w v same
 
 -- ---- loops: one more of a list
 

@@ -1,9 +1,10 @@
 use Rattle.model_answers.specs.Answering.{answers_of}
-use Rattle.std.proofs.Common.{Ok, sym, ap, ◌∙◌, subst}
+use Rattle.std.proofs.Common.{Ok, map, sym, ap, ◌∙◌, subst}
 use Rattle.module_api.specs.declared.call.Call.{Call}
 use Rattle.run_questions.specs.Answers.{parameters_of}
 use Rattle.run_semantics.specs.World.{World}
 use Rattle.run_semantics.specs.Perform.{On, answered}
+use Rattle.saved_boxes.specs.Seats.{seat_of, AreKept}
 use Rattle.kernel.specs.Seats.{world_of, IsCalled}
 use Rattle.kernel.specs.Kernels.{seats_in}
 use Rattle.kernel_actions.specs.Positions.{IsGrownFrom}
@@ -27,7 +28,8 @@ follow-requires-clause-told g c =
 
 pub returns-clause-kept : goal.returns-clause-kept
 returns-clause-kept g c =
-    served_kept g.C.Catalogue.behaviour c.args.call.now.id (seats_in (λ b. (g.dyn-1.0.entry b.vtable).1) c.args.self.now) (seats_in (λ b. (g.dyn-1.0.entry b.vtable).1) c.reply_of.new.self) _ c.reply_of.result c.reply_of.ensures.served c.requires.callable.kinds
+    subst (λ seats. AreKept g.C.Catalogue.behaviour (seats_in (λ b. (g.dyn-1.0.entry b.vtable).1) c.args.self.now) seats) (sym (ap (λ h. map (seat_of (λ b. (g.dyn-1.0.entry b.vtable).1)) h.seats) c.follow.ensures.boxes))
+    (served_kept g.C.Catalogue.behaviour c.args.call.now.id (seats_in (λ b. (g.dyn-1.0.entry b.vtable).1) c.args.self.now) (seats_in (λ b. (g.dyn-1.0.entry b.vtable).1) c.reply_of.new.self) _ c.reply_of.result c.reply_of.ensures.served c.requires.callable.kinds)
 
 pub returns-clause-step : goal.returns-clause-step
 returns-clause-step g c = ok_step c.follow.result c.follow.ensures.step (λ turn step.

@@ -11,9 +11,12 @@ loop-init g c =
     let m = answers_of c.args.model.now in
     let w = world_in (λ b. (g.dyn-1.0.entry b.vtable).1) c.args.self.now in
     let most : ℕ = length c.as_slice.result.now + 1 in
-    let none : most + 0 ≡ most = omega arith in
-    (most, none, subst (λ (k : ℕ). upcoming_in k m w.pending (looked w c.look-look.result) ≡ upcoming m w) (looks_enough c.args.model.now c.as_slice.result.now c.as_slice.ensures)
-    (first_look m w c.look-look.result c.look-look.ensures))
+    let none : most + 0 ≡ most = omega arith in (
+      most,
+      none,
+      subst (λ (k : ℕ). upcoming_in k m w.pending (looked w c.look-look.result) ≡ upcoming m w) (looks_enough c.args.model.now c.as_slice.result.now c.as_slice.ensures)
+          (first_look m w c.look-look.result c.look-look.ensures),
+    )
 
 pub loop-preserved : goal.loop-preserved
 loop-preserved g c =

@@ -1,0 +1,38 @@
+-- What follows a reply, by what the core and the kernel do one after the other.
+use Rattle.std.proofs.Common.{◌≡◌, ℕ, List, Option, Some, None, refl, sym, ap, ◌∙◌}
+use Rattle.module_api.specs.declared.reply.Read.{Read}
+use Rattle.module_api.specs.declared.reply.Reply.{Reply}
+use Rattle.module_api.specs.Behaviour.{Behaviour}
+use Rattle.run_questions.specs.Answers.{Answers}
+use Rattle.run_semantics.specs.declared.occasions.Occasion.{Occasion}
+use Rattle.run_semantics.specs.declared.outcome.Fault.{Fault}
+use Rattle.run_semantics.specs.declared.outcome.Turn.{Turn}
+use Rattle.run_semantics.specs.declared.traces.Instance.{Instance}
+use Rattle.run_semantics.specs.World.{World}
+use Rattle.run_semantics.specs.Perform.{acted, answered, ask_noted, broken, flow_of, read_fault, unless_fault}
+use Rattle.kernel.proofs.Apart.{with_modules, broken_is, ask_noted_apart}
+
+-- the questions of a core's reads are those of the world with these modules
+noted_with : (ms : List Instance) (o : Occasion) (id : ℕ) (reads : List Read) (core core' : World) → core' ≡ ask_noted o id reads core → with_modules ms core' ≡ ask_noted o id reads (with_modules ms core)
+noted_with ms o id reads core core' e = ap (with_modules ms) e ∙ sym (ask_noted_apart ms o id reads core)
+
+-- a read has this fault, or none
+told_by : (b : Behaviour) (m : Answers) (o : Occasion) (id : ℕ) (reply : Reply) (w : World) (found told : Option Fault) → told ≡ read_fault m w.records id reply.reads → told ≡ found
+    → unless_fault id found (acted b m o id reply.actions) (ask_noted o id reply.reads w) ≡ answered b m o id reply w
+told_by b m o id reply w found told is e = ap (λ f. unless_fault id f (acted b m o id reply.actions) (ask_noted o id reply.reads w)) (sym e ∙ is)
+
+-- a read has a fault
+pub follow_broken : (b : Behaviour) (m : Answers) (o : Occasion) (ms : List Instance) (id : ℕ) (reply : Reply) (core core' : World) (told : Option Fault) (f : Fault) (turn : Turn) → told ≡ read_fault m core.records id reply.reads → told ≡ Some f
+    → core' ≡ ask_noted o id reply.reads core → flow_of turn core' ≡ broken id f core' → flow_of turn (with_modules ms core') ≡ answered b m o id reply (with_modules ms core)
+follow_broken b m o ms id reply core core' told f turn is e noted step =
+    broken_is ms id f core' core' turn refl step
+    ∙ ap (broken id f) (noted_with ms o id reply.reads core core' noted)
+    ∙ told_by b m o id reply (with_modules ms core) (Some f) told is e
+
+-- no read has a fault
+pub follow_on : (b : Behaviour) (m : Answers) (o : Occasion) (ms : List Instance) (id : ℕ) (reply : Reply) (core core' left : World) (told : Option Fault) (turn : Turn) → told ≡ read_fault m core.records id reply.reads → told ≡ None
+    → core' ≡ ask_noted o id reply.reads core → flow_of turn left ≡ acted b m o id reply.actions (with_modules ms core') → flow_of turn left ≡ answered b m o id reply (with_modules ms core)
+follow_on b m o ms id reply core core' left told turn is e noted step =
+    step
+    ∙ ap (acted b m o id reply.actions) (noted_with ms o id reply.reads core core' noted)
+    ∙ told_by b m o id reply (with_modules ms core) None told is e
