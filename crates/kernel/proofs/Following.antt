@@ -22,17 +22,17 @@ told_by : (b : Behaviour) (m : Answers) (o : Occasion) (id : ℕ) (reply : Reply
 told_by b m o id reply w found told is e = ap (λ f. unless_fault id f (acted b m o id reply.actions) (ask_noted o id reply.reads w)) (sym e ∙ is)
 
 -- a read has a fault
-pub follow_broken : (b : Behaviour) (m : Answers) (o : Occasion) (ms : List Instance) (id : ℕ) (reply : Reply) (core core' : World) (told : Option Fault) (f : Fault) (turn : Turn) → told ≡ read_fault m core.records id reply.reads → told ≡ Some f
-    → core' ≡ ask_noted o id reply.reads core → flow_of turn core' ≡ broken id f core' → flow_of turn (with_modules ms core') ≡ answered b m o id reply (with_modules ms core)
-follow_broken b m o ms id reply core core' told f turn is e noted step =
+pub follow_broken : (b : Behaviour) (m : Answers) (o : Occasion) (ms : List Instance) (id : ℕ) (reply : Reply) (core core' : World) (told : Option Fault) (f : Fault) (turn : Turn) (reads : List Read) → reads ≡ reply.reads → told ≡ read_fault m core.records id reads → told ≡ Some f
+    → core' ≡ ask_noted o id reads core → flow_of turn core' ≡ broken id f core' → flow_of turn (with_modules ms core') ≡ answered b m o id reply (with_modules ms core)
+follow_broken b m o ms id reply core core' told f turn reads same is e noted step =
     broken_is ms id f core' core' turn refl step
-    ∙ ap (broken id f) (noted_with ms o id reply.reads core core' noted)
-    ∙ told_by b m o id reply (with_modules ms core) (Some f) told is e
+    ∙ ap (broken id f) (noted_with ms o id reply.reads core core' (noted ∙ ap (λ rs. ask_noted o id rs core) same))
+    ∙ told_by b m o id reply (with_modules ms core) (Some f) told (is ∙ ap (read_fault m core.records id) same) e
 
 -- no read has a fault
-pub follow_on : (b : Behaviour) (m : Answers) (o : Occasion) (ms : List Instance) (id : ℕ) (reply : Reply) (core core' left : World) (told : Option Fault) (turn : Turn) → told ≡ read_fault m core.records id reply.reads → told ≡ None
-    → core' ≡ ask_noted o id reply.reads core → flow_of turn left ≡ acted b m o id reply.actions (with_modules ms core') → flow_of turn left ≡ answered b m o id reply (with_modules ms core)
-follow_on b m o ms id reply core core' left told turn is e noted step =
+pub follow_on : (b : Behaviour) (m : Answers) (o : Occasion) (ms : List Instance) (id : ℕ) (reply : Reply) (core core' left : World) (told : Option Fault) (turn : Turn) (reads : List Read) → reads ≡ reply.reads → told ≡ read_fault m core.records id reads → told ≡ None
+    → core' ≡ ask_noted o id reads core → flow_of turn left ≡ acted b m o id reply.actions (with_modules ms core') → flow_of turn left ≡ answered b m o id reply (with_modules ms core)
+follow_on b m o ms id reply core core' left told turn reads same is e noted step =
     step
-    ∙ ap (acted b m o id reply.actions) (noted_with ms o id reply.reads core core' noted)
-    ∙ told_by b m o id reply (with_modules ms core) None told is e
+    ∙ ap (acted b m o id reply.actions) (noted_with ms o id reply.reads core core' (noted ∙ ap (λ rs. ask_noted o id rs core) same))
+    ∙ told_by b m o id reply (with_modules ms core) None told (is ∙ ap (read_fault m core.records id) same) e
