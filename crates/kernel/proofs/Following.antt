@@ -1,5 +1,6 @@
 -- What follows a reply, by what the core and the kernel do one after the other.
 use Rattle.std.proofs.Common.{◌≡◌, ℕ, List, Option, Some, None, refl, sym, ap, ◌∙◌}
+use Rattle.module_api.specs.declared.reply.Action.{Action}
 use Rattle.module_api.specs.declared.reply.Read.{Read}
 use Rattle.module_api.specs.declared.reply.Reply.{Reply}
 use Rattle.module_api.specs.Behaviour.{Behaviour}
@@ -30,9 +31,10 @@ follow_broken b m o ms id reply core core' told f turn reads same is e noted ste
     ∙ told_by b m o id reply (with_modules ms core) (Some f) told (is ∙ ap (read_fault m core.records id) same) e
 
 -- no read has a fault
-pub follow_on : (b : Behaviour) (m : Answers) (o : Occasion) (ms : List Instance) (id : ℕ) (reply : Reply) (core core' left : World) (told : Option Fault) (turn : Turn) (reads : List Read) → reads ≡ reply.reads → told ≡ read_fault m core.records id reads → told ≡ None
-    → core' ≡ ask_noted o id reads core → flow_of turn left ≡ acted b m o id reply.actions (with_modules ms core') → flow_of turn left ≡ answered b m o id reply (with_modules ms core)
-follow_on b m o ms id reply core core' left told turn reads same is e noted step =
+pub follow_on : (b : Behaviour) (m : Answers) (o : Occasion) (ms : List Instance) (id : ℕ) (reply : Reply) (core core' left : World) (told : Option Fault) (turn : Turn) (reads : List Read) (actions : List Action) → reads ≡ reply.reads → actions ≡ reply.actions
+    → told ≡ read_fault m core.records id reads → told ≡ None → core' ≡ ask_noted o id reads core → flow_of turn left ≡ acted b m o id actions (with_modules ms core') → flow_of turn left ≡ answered b m o id reply (with_modules ms core)
+follow_on b m o ms id reply core core' left told turn reads actions same done is e noted step =
     step
+    ∙ ap (λ xs. acted b m o id xs (with_modules ms core')) done
     ∙ ap (acted b m o id reply.actions) (noted_with ms o id reply.reads core core' (noted ∙ ap (λ rs. ask_noted o id rs core) same))
     ∙ told_by b m o id reply (with_modules ms core) None told (is ∙ ap (read_fault m core.records id) same) e
