@@ -1,6 +1,6 @@
 //! Runs behind edits, with the calls that they take: a desk at a Tick that counts, and lines as a user writes them.
 
-ghost use Rattle.std.specs.Prelude.{IfOk, codes};
+ghost use Rattle.std.specs.Prelude.{◌≤◌, IfOk, codes};
 ghost use Rattle.desk.specs.Turns.{editing_at, IsSettled};
 ghost use Rattle.module_api.specs.Meaning.{IsFresh};
 ghost use Rattle.edit_session.specs.Editing.{wanted_of, IsFor};
@@ -33,8 +33,9 @@ struct Told {
     calls: u64,
 }
 
-/// A desk at that network, with a position after each tenth event.
-fn desk_of(alloc: Global) -> Result<Desk<Stock>, Fail>
+/// A desk at that network, with a position after each multiple of so many events.
+pub fn desk_of(alloc: Global, interval: u64) -> Result<Desk<Stock>, Fail>
+    requires { 1 ≤ interval }
     ensures { IfOk result (λ desk. IsSettled stock (λ b. ⟦<dyn SimpleModule as SimpleModule>⟧ b.vtable) desk) }
 {
     let mut texts = NedTexts::new(alloc);
@@ -44,7 +45,7 @@ fn desk_of(alloc: Global) -> Result<Desk<Stock>, Fail>
         &texts,
         INI.as_bytes(),
         b"General".as_slice(),
-        10,
+        interval,
     )?;
     Ok(Desk::of_session(alloc, session))
 }
@@ -58,7 +59,7 @@ fn boxed(alloc: Global, calls: &Rc<Cell<u64>>) -> Result<Box<dyn SimpleModule>, 
 }
 
 /// Begins a run, which has to want the box.
-fn supply(desk: &mut Desk<Stock>, held: Box<dyn SimpleModule>) -> Result<(), Fail>
+pub fn supply(desk: &mut Desk<Stock>, held: Box<dyn SimpleModule>) -> Result<(), Fail>
     requires made { IsFresh stock (codes "Tick") (meaning held) }
     requires sound { IsSettled stock (λ b. ⟦<dyn SimpleModule as SimpleModule>⟧ b.vtable) desk.old }
     ensures { IsSettled stock (λ b. ⟦<dyn SimpleModule as SimpleModule>⟧ b.vtable) desk.new }
@@ -124,7 +125,7 @@ fn tell_both(
 fn told_of(alloc: Global, lines: (&str, &str)) -> Result<(Told, Told, Told), Fail> {
     let calls = Rc::new(alloc, Cell::new(0))?;
     let held = boxed(alloc, &calls)?;
-    let mut desk = desk_of(alloc)?;
+    let mut desk = desk_of(alloc, 10)?;
     let told = tell_both(&mut desk, &calls, held, lines);
     // The process ends with the test, and to drop a desk would be the dearest part of the proof.
     std::mem::forget(desk);

@@ -5,3 +5,7 @@
 mod calls;
 #[cfg(test)]
 mod counted;
+#[cfg(test)]
+mod refusals;
+#[cfg(test)]
+mod refusing;

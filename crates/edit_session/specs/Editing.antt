@@ -22,6 +22,7 @@ use Rattle.edit_session.specs.declared.session.Progress.{Progress}
 use Rattle.edit_session.specs.declared.session.Progress.TheVariants as progress
 use Rattle.edit_session.specs.declared.session.Report.{Report}
 use Rattle.checkpointed_runs.specs.Kept.{AreGood}
+use Rattle.checkpointed_runs.specs.declared.running.Stood.{Stood}
 use Rattle.checkpointed_runs.specs.Positions.{events_behind, last_count, positions_after, start_of, up_to_event, HasStored}
 use Rattle.checkpointed_runs.specs.Running.{fresh_run, kept_boxes, needed_by, wanted_by, whole_run, IsLive, IsUndeclined}
 use Rattle.edit_session.specs.Reuse.{IsKnown, IsValidTo}
@@ -160,13 +161,14 @@ pub record IsAccepted (b : Behaviour) (before : Editing) (e : Edit) (edited : Ed
   pub told : edited ≡ change.edited
   pub left : after ≡ edited_by before change
 
--- WHAT WANT OF MEMORY LEAVES of a run: none waits, and none is done. The positions are those that it stored behind where it began, and nothing is known
--- but the events up to the last of them.
+-- WHAT WANT OF MEMORY LEAVES of a run: none waits, and none is done. The positions are those that it stored behind where it began, up to where it stood,
+-- and nothing is known but the events up to the last of them.
 pub record IsGivenUp (b : Behaviour) (before : Editing) (limit : ℕ) (after : Editing) : Type 0 where
+  pub stood : Stood
   pub done : after.done ≡ None
   pub idle : after.phase ≡ Idle
   pub known : after.known ≡ last_count after.positions
-  pub positions : HasStored b (answers_of before.model) limit before.interval before.positions after.positions
+  pub positions : HasStored b (answers_of before.model) limit before.interval before.positions stood after.positions
 
 -- a session of that model, without a run
 abbrev pub fresh_editing : Model → ℕ → Editing

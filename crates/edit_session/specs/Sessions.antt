@@ -8,6 +8,7 @@ use Rattle.kernel.specs.Kernels.{seats_in, world_in}
 use Rattle.edit_session.specs.Editing.{Completed, Editing, IsChangeBy, IsKept}
 use Rattle.checkpoints.specs.Stored.{counts_of}
 use Rattle.checkpointed_runs.specs.Kept.{kept_up_to, AreGood}
+use Rattle.checkpointed_runs.specs.declared.running.Stood.{Stood}
 use Rattle.edit_session.specs.Reuse.{IsKnown}
 use Rattle.edit_session.specs.declared.session.Change.{Change}
 use Rattle.edit_session.specs.declared.session.Done.{Done}
@@ -28,6 +29,10 @@ module _ {C X : Type 0} {Y : X → Type 0} where
     interval = s.runner.interval;
     positions = counts_of s.runner.positions;
   }
+
+  -- where the run stood that was asked for last, if memory ran out for it
+  abbrev pub stood_in : Session C X Y → Stood
+  stood_in s = s.runner.stood
 
   -- what it keeps
   abbrev pub IsSound : Behaviour → Members X Y → Session C X Y → Type 0

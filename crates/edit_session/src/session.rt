@@ -14,13 +14,13 @@ ghost use Rattle.checkpointed_runs.specs.Kept.{kept_up_to, AreGood, HasGood};
 ghost use Rattle.checkpointed_runs.specs.Positions.{events_behind, starts_within, HasStored};
 ghost use Rattle.kernel.specs.declared.request.Request.{Request};
 ghost use Rattle.edit_session.specs.Reuse.{IsKnown, IsValidTo};
-ghost use Rattle.edit_session.specs.Sessions.{editing_of, IsChangeOf, IsSound, KeepsModel};
+ghost use Rattle.edit_session.specs.Sessions.{editing_of, stood_in, IsChangeOf, IsSound, KeepsModel};
 ghost use Rattle.kernel.specs.Kernels.{seats_in, world_in, HasKinds};
 ghost use Rattle.checkpoints.specs.Stored.{counts_of};
 ghost use Rattle.model_edits.specs.declared.edit.Edit.{Edit};
 
 use agreement::agreement::agreement;
-use checkpointed_runs::running::{Advance, Phase, Runner};
+use checkpointed_runs::running::{Advance, Phase, Runner, Stood};
 use checkpoints::positions::Positions;
 use kernel::kernel::Kernel;
 use kernel::request::Request;
@@ -183,6 +183,7 @@ impl<C: Catalogue> Session<C> {
                 kernel: Kernel::new(alloc, Tree::new(alloc)),
                 positions: Positions::new(alloc),
                 interval,
+                stood: Stood::Before,
                 holds: PhantomData,
             },
             model,
@@ -335,10 +336,14 @@ impl<C: Catalogue> Session<C> {
             IfOk result (λ progress.
             IfWant progress (λ request. WaitsFor before limit request after)) }
 
-        // After want of memory no run waits, and none is done; the positions that it stored stay.
+        // After want of memory no run waits, and none is done; the positions that it stored stay, up to where it stood.
         ensures memory { let before = editing_of SimpleModule-box self.old in
             OnErr result (IsGivenUp C.behaviour before limit
             (editing_of SimpleModule-box self.new)) }
+        ensures stood { let before = editing_of SimpleModule-box self.old in
+            let after = editing_of SimpleModule-box self.new in
+            OnErr result (HasStored C.behaviour (answers_of before.model) limit before.interval before.positions
+            (stood_in self.new) after.positions) }
     {
         match self.run_through(limit) {
             Ok(progress) => Ok(progress),
@@ -358,7 +363,8 @@ impl<C: Catalogue> Session<C> {
         ensures kinds { HasKinds C.behaviour SimpleModule-box self.new.runner.kernel }
         ensures good { HasGood C.behaviour (answers_of self.new.model) SimpleModule-box self.new.runner }
         ensures stored { HasStored C.behaviour (answers_of self.old.model) limit self.old.runner.interval
-            (counts_of self.old.runner.positions) (counts_of self.new.runner.positions) }
+            (counts_of self.old.runner.positions) self.new.runner.stood
+            (counts_of self.new.runner.positions) }
         ensures sound { OnOk result (IsSound C.behaviour SimpleModule-box self.new) }
         ensures done { let before = editing_of SimpleModule-box self.old in
             let after = editing_of SimpleModule-box self.new in
@@ -396,6 +402,13 @@ impl<C: Catalogue> Session<C> {
                 Ok(Progress::Done(report))
             }
         }
+    }
+
+    /// Where the run stood that was asked for last, where memory ran out for it: up to there its positions are stored.
+    pub fn stood(&self) -> Stood
+        ensures { result ≡ stood_in self.now }
+    {
+        self.runner.stood
     }
 
     /// Gives the module that the run waits for its box, or hands the box back: where no run waits for

@@ -1,12 +1,14 @@
 -- A run that is the same of a session and of the plain machine.
-use Rattle.std.proofs.Common.{◌≡◌, ℕ, suc, ◌-◌, List, [], ◌++◌, Option, Some, None, inl, inr, refl, sym, ap, ◌∙◌}
+use Rattle.std.proofs.Common.{◌≡◌, ℕ, suc, ◌-◌, List, [], ◌++◌, Option, Some, None, refl, sym, subst, ap, ◌∙◌}
 use Rattle.std.specs.List.{filter}
 use Rattle.module_api.specs.Behaviour.{Behaviour}
 use Rattle.models.specs.declared.model.Model.{Model}
 use Rattle.model_answers.specs.Answering.{answers_of}
 use Rattle.run_semantics.specs.Run.{run_to, is_fault}
 use Rattle.edit_session.specs.Editing.{Editing}
-use Rattle.checkpointed_runs.specs.Positions.{first_behind, is_left, multiples_from, numbers_from, positions_after, positions_begun, start_of, up_to_event, HasStored}
+use Rattle.checkpointed_runs.specs.declared.running.Stood.{Stood}
+use Rattle.checkpointed_runs.specs.declared.running.Stood.TheVariants as stood
+use Rattle.checkpointed_runs.specs.Positions.{first_behind, is_left, multiples_from, numbers_from, positions_after, positions_begun, start_of, starts_within, up_to_event, CanGoOn, HasGoneTo, HasStored}
 use Rattle.desk.specs.Turns.{answer_from, run_answer}
 use Rattle.stock_desk.specs.Served.{Machine}
 use Rattle.stock_desk.specs.Serving.{Seen, IsAt, RunsAlike, WaitsIn}
@@ -45,14 +47,25 @@ same_positions b limit e s same =
     ∙ ap (λ (interval : ℕ). positions_after b (answers_of s.model) limit interval e.positions) same.interval
     ∙ same_left b s.model limit s.interval e.positions s.positions same.start same.kept
 
-pub same_stored : (b : Behaviour) (limit : ℕ) (e : Editing) (s : Machine) (new : List ℕ) → RunsAlike limit e s
-    → HasStored b (answers_of e.model) limit e.interval e.positions new → HasStored b (answers_of s.model) limit s.interval s.positions new
-same_stored b limit e s new same (inl begun) = inl (
-  begun.0,
-  begun.1 ∙ ap (λ (interval : ℕ). positions_begun interval e.positions (start_of limit e.positions) begun.0) same.interval
-      ∙ same_begun s.interval begun.0 e.positions s.positions (start_of limit e.positions) (start_of limit s.positions) same.start same.kept,
-)
-same_stored b limit e s new same (inr left) = inr (left ∙ same_positions b limit e s same)
+-- a run that went so far stored the same
+same_gone : (b : Behaviour) (limit k more less : ℕ) (e : Editing) (s : Machine) (new : List ℕ) → RunsAlike limit e s → more ≡ less
+    → HasGoneTo b (answers_of e.model) e.interval e.positions (start_of limit e.positions) k more new → HasGoneTo b (answers_of s.model) s.interval s.positions (start_of limit s.positions) k less new
+same_gone b limit k more less e s new same fewer h = record {
+  going = subst (λ (m : Model). CanGoOn b (answers_of m) k) same.model h.going;
+  within = subst (λ (o : Option ℕ). starts_within o k) same.start h.within;
+  positions = h.positions ∙ ap (λ (interval : ℕ). positions_begun interval e.positions (start_of limit e.positions) more) same.interval
+      ∙ same_begun s.interval more e.positions s.positions (start_of limit e.positions) (start_of limit s.positions) same.start same.kept
+      ∙ ap (λ (n : ℕ). positions_begun s.interval s.positions (start_of limit s.positions) n) fewer;
+}
+
+pub same_stored : (b : Behaviour) (limit : ℕ) (e : Editing) (s : Machine) (at : Stood) (new : List ℕ) → RunsAlike limit e s
+    → HasStored b (answers_of e.model) limit e.interval e.positions at new → HasStored b (answers_of s.model) limit s.interval s.positions at new
+same_stored b limit e s stood.Before new same h = (sym same.start ∙ h.0, h.1)
+same_stored b limit e s (stood.After k) new same h =
+    same_gone b limit k (suc k - first_behind (start_of limit e.positions)) (suc k - first_behind (start_of limit s.positions)) e s new same (ap (λ (o : Option ℕ). suc k - first_behind o) same.start) h
+same_stored b limit e s (stood.Untaken k) new same h =
+    same_gone b limit k (k - first_behind (start_of limit e.positions)) (k - first_behind (start_of limit s.positions)) e s new same (ap (λ (o : Option ℕ). k - first_behind o) same.start) h
+same_stored b limit e s stood.Ending new same left = left ∙ same_positions b limit e s same
 
 -- ---- where the session is where the machine is, and where it waits for a box
 

@@ -5,6 +5,7 @@ use Rattle.models.specs.declared.model.Model.{Model}
 use Rattle.model_answers.specs.Answering.{answers_of}
 use Rattle.run_semantics.specs.declared.outcome.Outcome.{Outcome}
 use Rattle.edit_session.specs.Editing.{Completed, Editing, boxes_left, completed}
+use Rattle.checkpointed_runs.specs.declared.running.Stood.{Stood}
 use Rattle.checkpointed_runs.specs.Positions.{last_count, up_to_event, HasStored}
 use Rattle.edit_session.specs.Files.{scalars_of_run, vectors_of_run}
 use Rattle.desk.specs.Answers.{held_text, positions_text}
@@ -96,11 +97,12 @@ tells_run b limit before after text n asked may running stays ran heard = tells_
   at_done b limit before.editing after.editing s stays ran.done same,
 ))
 
--- Memory ran out for a run, and none is done: the positions are those that it stored, and nothing is known but the events up to the last of them.
+-- Memory ran out for a run, and none is done: the positions are those that it stored up to where it stood, and nothing is known but the events up to the last of them.
 pub record LeavesNone (b : Behaviour) (before : Editing) (limit : ℕ) (after : Editing) : Type 0 where
   pub done : after.done ≡ None
   pub known : after.known ≡ last_count after.positions
-  pub positions : HasStored b (answers_of before.model) limit before.interval before.positions after.positions
+  pub stood : Stood
+  pub positions : HasStored b (answers_of before.model) limit before.interval before.positions stood after.positions
 
 none_left : (b : Behaviour) (limit : ℕ) (before after : Editing) (s : Machine) → StaysOf before after → LeavesNone b before limit after → RunsAlike limit before s
     → Told b (command.Run limit) (codes "refused NoMemory") s after
@@ -108,7 +110,7 @@ none_left b limit before after s stays none same = (
   record { model = s.model; last = None; held = after.held; known = last_count after.positions; interval = s.interval; positions = after.positions },
   inr (
     refl,
-    inl (record { model = refl; last = refl; known = refl; interval = refl; positions = same_stored b limit before s after.positions same none.positions }),
+    inl (record { model = refl; last = refl; known = refl; interval = refl; stood = none.stood; positions = same_stored b limit before s none.stood after.positions same none.positions }),
   ),
   record {
     model = stays.model ∙ same.model;
@@ -131,7 +133,7 @@ tells_none b limit before after n asked may running stays none heard =
 after_memory : (b : Behaviour) (limit : ℕ) (before after : Editing) (s : Machine) → StaysOf before after → MayBeDone b before limit after → RunsAlike limit before s
     → Told b (command.Run limit) (codes "refused NoMemory") s after
 after_memory b limit before after s stays (inl none) same =
-    none_left b limit before after s stays (record { done = none.done; known = none.known; positions = none.positions }) same
+    none_left b limit before after s stays (record { done = none.done; known = none.known; stood = none.stood; positions = none.positions }) same
 after_memory b limit before after s stays (inr done) same =
     (behind_run b s limit, inr (refl, inr refl), at_done b limit before after s stays done same)
 

@@ -5,7 +5,8 @@ use Rattle.checkpoints.specs.Stored.{counts_of}
 use Rattle.command_lines.specs.declared.commands.Command.{Command}
 use Rattle.command_lines.specs.declared.commands.Command.TheVariants as command
 use Rattle.edit_session.specs.Editing.{Completed, Editing, IsUndone, fresh_editing, waited_for, wanted_of}
-use Rattle.checkpointed_runs.specs.Positions.{last_count, positions_begun, start_of}
+use Rattle.checkpointed_runs.specs.declared.running.Stood.TheVariants.{Before}
+use Rattle.checkpointed_runs.specs.Positions.{last_count, start_of}
 use Rattle.checkpointed_runs.specs.declared.running.Phase.{Phase}
 use Rattle.kernel_actions.specs.declared.position.Position.{Position}
 use Rattle.models.specs.declared.model.Model.{Model}
@@ -185,7 +186,8 @@ waits_for_none b limit e ps waits none counts =
     record {
       done = left.0;
       known = left.1 ∙ sym (ap last_count no_counts);
-      positions = inl (0, no_counts ∙ sym (ap (λ (old : List ℕ). positions_begun e.interval old (start_of limit old) 0) no_counts));
+      stood = Before;
+      positions = (ap (start_of limit) no_counts, no_counts);
     }
 
 pub memory_turn : (b : Behaviour) (before after : Seen) (n : Next) (ps : List Position) → IsSome before.running → IsSome (wanted_of before.editing)

@@ -10,6 +10,7 @@ use Rattle.command_lines.specs.declared.commands.Command.TheVariants as command
 use Rattle.edit_session.specs.Editing.{boxes_left}
 use Rattle.checkpointed_runs.specs.Running.{fresh_run}
 use Rattle.edit_session.specs.Files.{scalars_of_run, vectors_of_run}
+use Rattle.checkpointed_runs.specs.declared.running.Stood.{Stood}
 use Rattle.checkpointed_runs.specs.Positions.{last_count, positions_after, up_to_event, HasStored}
 use Rattle.desk.specs.Answers.{held_text, positions_text}
 use Rattle.desk.specs.Turns.{run_answer, IsMade, IsRefused}
@@ -50,14 +51,15 @@ behind_run b s limit = record {
   positions = positions_after b (answers_of s.model) limit s.interval s.positions;
 }
 
--- Memory ran out for a run to that limit, and none is done: its positions are those that it stored, known are the events up to the last of them, and
--- nothing is said of the boxes.
+-- Memory ran out for a run to that limit, and none is done: its positions are those that it stored up to where it stood, known are the events up to the
+-- last of them, and nothing is said of the boxes.
 pub record GivesUpRun (b : Behaviour) (s : Machine) (limit : ℕ) (s' : Machine) : Type 0 where
   pub model : s'.model ≡ s.model
   pub last : s'.last ≡ None
   pub known : s'.known ≡ last_count s'.positions
   pub interval : s'.interval ≡ s.interval
-  pub positions : HasStored b (answers_of s.model) limit s.interval s.positions s'.positions
+  pub stood : Stood
+  pub positions : HasStored b (answers_of s.model) limit s.interval s.positions stood s'.positions
 
 -- A RUN is answered as a fresh run of the model that begins at the greatest position up to the limit. Or memory ran out: the run may be done nevertheless.
 abbrev pub HearsRun : Behaviour → Machine → ℕ → List Heard → Machine → Type 0

@@ -1,4 +1,7 @@
-use Rattle.std.proofs.Common.{◌≤◌, sym, ◌∙◌, subst}
+use Rattle.std.proofs.Common.{◌≤◌, refl, sym, ap, ◌∙◌, subst}
+use Rattle.checkpoints.specs.Stored.{counts_of}
+use Rattle.model_answers.specs.Answering.{answers_of}
+use Rattle.checkpointed_runs.specs.Positions.{last_count, HasStored}
 use Rattle.kernel.specs.Kernels.{seats_in, world_in}
 use Rattle.edit_session.proofs.GivenUp.{kept_cut}
 use Rattle.edit_session.proofs.session.Session.run.Goals as goal
@@ -17,3 +20,25 @@ returns-in-Err-clause-kept g c =
       model = rw c.give_up.ensures c.run_through.ensures.model.0;
       interval = interval ∙ c.run_through.ensures.model.1;
     }
+
+pub returns-in-Err-clause-memory : goal.returns-in-Err-clause-memory
+returns-in-Err-clause-memory g c =
+    let old = c.args.self.now in
+    let positions = rw c.give_up.ensures at c.cut_back-self.ensures.positions in
+    record {
+      stood = c.run_through.new.self.runner.stood;
+      done = rw c.give_up.ensures refl;
+      idle = rw c.give_up.ensures refl;
+      known = rw c.give_up.ensures at c.cut_back-self.ensures.last ∙ ap (λ ps. last_count (counts_of ps)) (sym positions);
+      positions = subst (λ ps. HasStored g.C.Catalogue.behaviour (answers_of old.model) c.args.limit old.runner.interval (counts_of old.runner.positions) c.run_through.new.self.runner.stood (counts_of ps)) (sym positions)
+          c.run_through.ensures.stored;
+    }
+
+pub returns-in-Err-clause-stood : goal.returns-in-Err-clause-stood
+returns-in-Err-clause-stood g c =
+    let old = c.args.self.now in
+    let positions = rw c.give_up.ensures at c.cut_back-self.ensures.positions in
+    let stood = rw c.give_up.ensures at c.cut_back-self.ensures.stood in
+    subst (λ at. HasStored g.C.Catalogue.behaviour (answers_of old.model) c.args.limit old.runner.interval (counts_of old.runner.positions) at (counts_of c.cut_back-self.new.self.positions)) (sym stood)
+    (subst (λ ps. HasStored g.C.Catalogue.behaviour (answers_of old.model) c.args.limit old.runner.interval (counts_of old.runner.positions) c.run_through.new.self.runner.stood (counts_of ps)) (sym positions)
+    c.run_through.ensures.stored)
