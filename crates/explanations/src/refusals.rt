@@ -12,6 +12,7 @@ use text_explanations::ini_lines::{line_at, tell_ini_line};
 use text_explanations::ned_files::Files;
 use text_explanations::sources::Sources;
 use text_explanations::types::tell_types;
+use type_building::table::{BuildError, flat_types};
 
 /// Says which text is too long.
 fn tell_long(told: &mut Explanation, sources: &Sources<'_>) {
@@ -24,7 +25,7 @@ fn tell_long(told: &mut Explanation, sources: &Sources<'_>) {
     told.say(path);
     told.say(": the file is longer than 1 MiB (");
     told.say_number(MAX_LENGTH);
-    told.say(" bytes); part it into several, or leave out what isn't used");
+    told.say(" bytes); split it into several files, or leave out what isn't used");
 }
 
 /// Says which text is too long, or that there are too many.
@@ -42,11 +43,13 @@ fn tell_large(told: &mut Explanation, sources: &Sources<'_>) {
 fn tell_clash(told: &mut Explanation, sources: &Sources<'_>) {
     match read_types(told.alloc(), sources) {
         Ok(types) => {
-            let files = Files {
-                sources,
-                types: types.as_slice(),
-            };
-            tell_types(told, &files);
+            let types = types.as_slice();
+            let files = Files { sources, types };
+            match flat_types(told.alloc(), types) {
+                Ok(_) => {}
+                Err(BuildError::Fault(fault, place)) => tell_types(told, &files, fault, place),
+                Err(BuildError::NoMemory(error)) => told.refuse(error),
+            }
         }
         Err(error) => told.refuse(error),
     }
@@ -74,7 +77,7 @@ fn tell_refusal(told: &mut Explanation, fault: BeginFault, sources: &Sources<'_>
         BeginFault::NoSuchConfig => tell_no_config(told, sources),
         BeginFault::ChainFault => tell_no_chain(told, sources),
         BeginFault::NoSuchNetwork => tell_no_network(told, sources),
-        BeginFault::NoMemory(_) => told.say("memory ran out: give fewer or shorter texts"),
+        BeginFault::NoMemory(_) => told.say("out of memory: give fewer or shorter texts"),
     }
 }
 

@@ -84,14 +84,12 @@ fn tell_one(told: &mut Explanation, written: &str) {
     }
 }
 
-/// Says what is wanted: the one that is missing, or those of which one can stand there.
+/// Says what is expected: one thing, or one of several.
 fn tell_wanted(told: &mut Explanation, wanted: &[&str]) {
-    if let [one] = wanted {
-        tell_one(told, *one);
-        told.say(" is missing");
-        return;
-    }
-    told.say("wanted is one of");
+    told.say(match wanted {
+        [_] => ", expected",
+        _ => ", expected one of",
+    });
     let mut part = " ";
     for it in wanted {
         told.say(part);
@@ -103,15 +101,16 @@ fn tell_wanted(told: &mut Explanation, wanted: &[&str]) {
 /// Says why a text can't go on at a token, or behind its last. Answers whether that says all.
 fn tell_blamed(told: &mut Explanation, blamed: Option<&Token>) -> bool {
     let Some(token) = blamed else {
-        told.say("the text ends here; ");
+        told.say("unexpected end of the text");
         return false;
     };
-    tell_token(told, token);
     if is_for_later(token) {
+        tell_token(told, token);
         told.say(" is not supported yet");
         return true;
     }
-    told.say(" can't stand here; ");
+    told.say("unexpected ");
+    tell_token(told, token);
     false
 }
 

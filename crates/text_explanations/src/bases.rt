@@ -1,75 +1,31 @@
 //! What types extend.
 
-use crate::ned_files::{place_of, type_named};
+use indexmap::IndexMap;
 use ned_trees::declarations::{TypeDeclaration, TypeKind};
+use ned_types::made::changed;
 use sim_values::NoMemory;
 use sim_values::text::Text;
-use std::alloc::Global;
+use std::alloc::{AllocError, Global};
 
-/// The place of a type that is extended, where there is one.
-fn place_of_base(types: &[TypeDeclaration], base: &Option<Text>) -> Option<usize> {
-    match base {
-        Some(name) => place_of(types, name.as_bytes()),
-        None => None,
-    }
-}
+/// The numbers of types by their names.
+type Numbers<'a> = IndexMap<&'a [u8], usize>;
 
-/// The place of what each type extends, where that is one of them.
-pub fn places_of_bases(
-    alloc: Global,
-    types: &[TypeDeclaration],
-) -> Result<Vec<Option<usize>>, NoMemory> {
-    let mut bases = Vec::new(alloc);
-    for it in types {
-        bases.push(place_of_base(types, &it.base))?;
-    }
-    Ok(bases)
-}
-
-/// The type at that place and those that it extends, the nearest first, where none extends itself. These are the places of
-/// what each extends.
-fn chain_at<'a>(
-    alloc: Global,
+/// Adds the number of each type to none.
+fn add_numbers<'a>(
+    numbers: &mut Numbers<'a>,
     types: &'a [TypeDeclaration],
-    bases: &[Option<usize>],
-    at: usize,
-) -> Result<Vec<&'a TypeDeclaration>, NoMemory> {
-    let mut along = Vec::new(alloc);
-    let mut next = Some(at);
-    for _step in 0..types.len() {
-        let Some(place) = next else {
-            break;
-        };
-        if let Some(found) = types.get(place) {
-            along.push(found)?;
-        }
-        next = match bases.get(place) {
-            Some(base) => *base,
-            None => None,
-        };
+) -> Result<(), AllocError> {
+    for (number, it) in types.iter().enumerate() {
+        numbers.insert(it.name.as_bytes(), number)?;
     }
-    Ok(along)
+    Ok(())
 }
 
-/// A type and those that it extends, the nearest first, where none extends itself.
-pub fn with_bases<'a>(
-    alloc: Global,
-    types: &'a [TypeDeclaration],
-    it: &'a TypeDeclaration,
-) -> Result<Vec<&'a TypeDeclaration>, NoMemory> {
-    let mut along = Vec::new(alloc);
-    let mut next = Some(it);
-    for _step in 0..types.len() {
-        let Some(found) = next else {
-            break;
-        };
-        along.push(found)?;
-        next = match &found.base {
-            Some(name) => type_named(types, name.as_bytes()),
-            None => None,
-        };
-    }
-    Ok(along)
+/// The numbers of the types by their names.
+fn numbers_of<'a>(alloc: Global, types: &'a [TypeDeclaration]) -> Result<Numbers<'a>, AllocError> {
+    let mut numbers = IndexMap::new(alloc);
+    let done = add_numbers(&mut numbers, types);
+    changed(numbers, done)
 }
 
 /// Whether it is an interface.
@@ -77,63 +33,113 @@ pub fn is_interface(kind: TypeKind) -> bool {
     matches!(kind, TypeKind::ModuleInterface | TypeKind::ChannelInterface)
 }
 
+/// The name of what a type extends that has that number among all that it extends.
+fn extended(it: &TypeDeclaration, number: usize) -> Option<&Text> {
+    if is_interface(it.kind) {
+        return it.interfaces.as_slice().get(number);
+    }
+    if number == 0 { it.base.as_ref() } else { None }
+}
+
+/// A type on the way from another to what it extends.
+#[derive(Clone, Copy)]
+struct Step<'a> {
+    it: &'a TypeDeclaration,
+    /// How many of those that it extends are behind already.
+    done: usize,
+}
+
+/// A way along types, each of which extends the next, and those that are behind, each behind all that it extends.
+#[derive(Drop)]
+struct Way<'a, 'n> {
+    types: &'a [TypeDeclaration],
+    numbers: &'n Numbers<'a>,
+    steps: Vec<Step<'a>>,
+    seen: Vec<bool>,
+    behind: Vec<&'a TypeDeclaration>,
+}
+
+/// Goes to the type of that name, unless it was seen.
+fn go_to(way: &mut Way<'_, '_>, name: &[u8]) -> Result<(), AllocError> {
+    let Some(number) = way.numbers.get(name).copied() else {
+        return Ok(());
+    };
+    let (Some(it), Some(seen)) = (way.types.get(number), way.seen.get_mut(number)) else {
+        return Ok(());
+    };
+    if *seen {
+        return Ok(());
+    }
+    *seen = true;
+    way.steps.push(Step { it, done: 0 })?;
+    Ok(())
+}
+
+/// Goes on from the last type on the way, to the next that it extends, or back where there is none. Answers whether there was a last one.
+fn go_on(way: &mut Way<'_, '_>) -> Result<bool, AllocError> {
+    let Some(last) = way.steps.pop() else {
+        return Ok(false);
+    };
+    match extended(last.it, last.done) {
+        Some(name) => {
+            let done = last.done.saturating_add(1);
+            way.steps.push(Step { it: last.it, done })?;
+            go_to(way, name.as_bytes())?;
+        }
+        None => way.behind.push(last.it)?,
+    }
+    Ok(true)
+}
+
+/// Goes the whole way from the type of that name.
+fn go(way: &mut Way<'_, '_>, name: &[u8]) -> Result<(), AllocError> {
+    go_to(way, name)?;
+    for _step in 0..usize::MAX {
+        if !go_on(way)? {
+            break;
+        }
+    }
+    Ok(())
+}
+
+/// All that a type extends, and itself at the end: each once, behind all that it extends itself.
+pub fn root_first<'a>(
+    alloc: Global,
+    types: &'a [TypeDeclaration],
+    it: &TypeDeclaration,
+) -> Result<Vec<&'a TypeDeclaration>, NoMemory> {
+    let numbers = numbers_of(alloc, types)?;
+    let mut way = Way {
+        types,
+        numbers: &numbers,
+        steps: Vec::new(alloc),
+        seen: vec![in alloc; false; types.len()]?,
+        behind: Vec::new(alloc),
+    };
+    go(&mut way, it.name.as_bytes())?;
+    let Way { behind, .. } = way;
+    Ok(behind)
+}
+
+/// A type and all that it extends, the nearest first, where none extends itself.
+pub fn with_bases<'a>(
+    alloc: Global,
+    types: &'a [TypeDeclaration],
+    it: &TypeDeclaration,
+) -> Result<Vec<&'a TypeDeclaration>, NoMemory> {
+    let mut along = root_first(alloc, types, it)?;
+    along.as_mut_slice().reverse();
+    Ok(along)
+}
+
 /// Whether one of these types has that name.
-fn has_named(types: &[&TypeDeclaration], name: &[u8]) -> bool {
+pub fn has_named(types: &[&TypeDeclaration], name: &[u8]) -> bool {
     for it in types {
         if it.name.is(name) {
             return true;
         }
     }
     false
-}
-
-/// Adds the interfaces of a type to others, each once.
-fn push_interfaces<'a>(
-    line: &mut Vec<&'a TypeDeclaration>,
-    types: &'a [TypeDeclaration],
-    it: &TypeDeclaration,
-) -> Result<(), NoMemory> {
-    for name in it.interfaces.as_slice() {
-        if let Some(found) = type_named(types, name.as_bytes()) {
-            if !has_named(line.as_slice(), name.as_bytes()) {
-                line.push(found)?;
-            }
-        }
-    }
-    Ok(())
-}
-
-/// A type, its interfaces and what they extend, each once.
-pub fn with_interfaces<'a>(
-    alloc: Global,
-    types: &'a [TypeDeclaration],
-    it: &'a TypeDeclaration,
-) -> Result<Vec<&'a TypeDeclaration>, NoMemory> {
-    let mut line = Vec::new(alloc);
-    line.push(it)?;
-    for at in 0..types.len() {
-        let next = match line.get(at) {
-            Some(found) => *found,
-            None => break,
-        };
-        push_interfaces(&mut line, types, next)?;
-    }
-    Ok(line)
-}
-
-/// The type at that place and all that it extends, each once, the nearest first.
-pub fn along_at<'a>(
-    alloc: Global,
-    types: &'a [TypeDeclaration],
-    bases: &[Option<usize>],
-    at: usize,
-    it: &'a TypeDeclaration,
-) -> Result<Vec<&'a TypeDeclaration>, NoMemory> {
-    if is_interface(it.kind) {
-        with_interfaces(alloc, types, it)
-    } else {
-        chain_at(alloc, types, bases, at)
-    }
 }
 
 /// What a type of that kind is called.

@@ -1,17 +1,18 @@
 //! What is wrong with the names in the heads of types, and with the types of submodules.
 
 use crate::bases::{interface_kind, is_interface, kind_name};
-use crate::channels::is_built_in;
 use crate::explanation::Explanation;
-use crate::ned_files::{Files, is_known, is_of_kind};
-use crate::places::Sign;
+use crate::names::last_part;
+use crate::ned_files::{Files, place_of};
+use crate::origins::is_built_in;
+use crate::places::{Sign, Spot};
 use ned_trees::declarations::{Submodule, TypeDeclaration, TypeKind};
-use sim_values::text::Text;
 
-/// A name in the head of a type.
+/// A name in the head of a type, or the type of a submodule.
 #[derive(Clone, Copy)]
-struct Named<'a> {
+pub struct Named<'a> {
     it: &'a TypeDeclaration,
+    submodule: Option<&'a Submodule>,
     /// How it stands there.
     sign: Sign,
     /// What the type does with it.
@@ -21,147 +22,120 @@ struct Named<'a> {
     kind: TypeKind,
 }
 
-/// The name of what a type extends.
-fn base_of<'a>(it: &'a TypeDeclaration, base: &'a Text) -> Named<'a> {
-    Named {
+/// What a type extends.
+pub fn base_of(it: &TypeDeclaration) -> Option<Named<'_>> {
+    Some(Named {
         it,
+        submodule: None,
         sign: Sign::Base,
         does: " extends ",
-        name: base.as_bytes(),
+        name: it.base.as_ref()?.as_bytes(),
         kind: it.kind,
-    }
+    })
 }
 
-/// The name of one of the interfaces of a type.
-fn interface_of<'a>(it: &'a TypeDeclaration, name: &'a Text) -> Named<'a> {
-    Named {
+/// The interface of that number of a type.
+pub fn interface_of(it: &TypeDeclaration, number: usize) -> Option<Named<'_>> {
+    Some(Named {
         it,
+        submodule: None,
         sign: Sign::Head,
         does: if is_interface(it.kind) {
             " extends "
         } else {
             " is like "
         },
-        name: name.as_bytes(),
+        name: it.interfaces.as_slice().get(number)?.as_bytes(),
         kind: interface_kind(it.kind),
-    }
+    })
 }
 
-/// Says which type has that name in its head.
+/// The type of the submodule of that number of a type.
+pub fn submodule_of(it: &TypeDeclaration, number: usize) -> Option<Named<'_>> {
+    let submodule = it.submodules.as_slice().get(number)?;
+    Some(Named {
+        it,
+        submodule: Some(submodule),
+        sign: Sign::Submodule,
+        does: " is of the type ",
+        name: submodule.type_name.as_bytes(),
+        kind: TypeKind::Simple,
+    })
+}
+
+/// Says what has that name.
 fn tell_named(told: &mut Explanation, files: &Files<'_>, named: Named<'_>) {
-    files.begin(told, named.it, named.sign, named.name);
-    told.say("the type ");
-    told.say_name(named.it.name.as_bytes());
+    match named.submodule {
+        Some(submodule) => {
+            let name = submodule.name.as_bytes();
+            files.begin(told, named.it, named.sign, name);
+            told.say("the submodule ");
+            told.say_name(name);
+        }
+        None => {
+            files.begin(told, named.it, named.sign, named.name);
+            told.say("the type ");
+            told.say_name(named.it.name.as_bytes());
+        }
+    }
     told.say(named.does);
     told.say_name(named.name);
 }
 
-/// Says that no file declares the name, where none does. Answers whether that is said.
-fn tell_unknown_name(told: &mut Explanation, files: &Files<'_>, named: Named<'_>) -> bool {
-    if is_known(files.types, named.name) {
-        return false;
-    }
+/// Says that no file declares the name.
+pub fn tell_unknown(told: &mut Explanation, files: &Files<'_>, named: Named<'_>) {
     tell_named(told, files, named);
     told.say(", which no file declares");
     files.tell_near(told, named.name, named.kind);
-    true
 }
 
-/// Says that no file declares the type of a submodule, where none does. Answers whether that is said.
-fn tell_unknown_submodule(
-    told: &mut Explanation,
-    files: &Files<'_>,
-    it: &TypeDeclaration,
-    submodule: &Submodule,
-) -> bool {
-    let (name, of) = (submodule.name.as_bytes(), submodule.type_name.as_bytes());
-    if is_known(files.types, of) {
-        return false;
-    }
-    tell_submodule(told, files, it, submodule);
-    told.say(", which no file declares");
-    files.tell_near(told, of, TypeKind::Simple);
-    true
-}
-
-/// Says of which type a submodule is.
-pub fn tell_submodule(
-    told: &mut Explanation,
-    files: &Files<'_>,
-    it: &TypeDeclaration,
-    submodule: &Submodule,
-) {
-    let name = submodule.name.as_bytes();
-    files.begin(told, it, Sign::Submodule, name);
-    told.say("the submodule ");
-    told.say_name(name);
-    told.say(" is of the type ");
-    told.say_name(submodule.type_name.as_bytes());
-}
-
-/// Says that what a type extends, one of its interfaces, or the type of one of its submodules, isn't declared. Answers whether
-/// there is such.
-fn tell_unknown_in(told: &mut Explanation, files: &Files<'_>, it: &TypeDeclaration) -> bool {
-    if let Some(base) = &it.base {
-        if tell_unknown_name(told, files, base_of(it, base)) {
-            return true;
-        }
-    }
-    for name in it.interfaces.as_slice() {
-        if tell_unknown_name(told, files, interface_of(it, name)) {
-            return true;
-        }
-    }
-    for submodule in it.submodules.as_slice() {
-        if tell_unknown_submodule(told, files, it, submodule) {
-            return true;
-        }
-    }
-    false
-}
-
-/// Says that a type isn't declared. Answers whether there is such.
-pub fn tell_unknown(told: &mut Explanation, files: &Files<'_>) -> bool {
-    for it in files.types {
-        if tell_unknown_in(told, files, it) {
-            return true;
-        }
-    }
-    false
-}
-
-/// Says that a name is that of a type of another kind, where it is. Answers whether that is said.
-fn tell_other_kind(told: &mut Explanation, files: &Files<'_>, named: Named<'_>) -> bool {
-    if is_of_kind(files.types, named.name, named.kind) {
-        return false;
-    }
+/// Says that the name is that of a type of another kind.
+pub fn tell_other_kind(told: &mut Explanation, files: &Files<'_>, named: Named<'_>) {
     tell_named(told, files, named);
-    told.say(", which is no ");
+    told.say(", which is not a ");
     told.say(kind_name(named.kind));
-    true
 }
 
-/// Says that an interface of a type is none for its kind. Answers whether there is such.
-pub fn tell_other_interface(told: &mut Explanation, files: &Files<'_>) -> bool {
-    for it in files.types {
-        for name in it.interfaces.as_slice() {
-            if tell_other_kind(told, files, interface_of(it, name)) {
-                return true;
-            }
-        }
+/// Says that a type extends itself, perhaps by way of the one of that name.
+pub fn tell_circle(told: &mut Explanation, files: &Files<'_>, named: Named<'_>) {
+    let name = named.it.name.as_bytes();
+    files.begin(told, named.it, Sign::Head, named.name);
+    told.say("the type ");
+    told.say_name(name);
+    told.say(" extends ");
+    if name == named.name {
+        told.say("itself; it can extend another type, or none");
+        return;
     }
-    false
+    told.say_name(named.name);
+    told.say(", and that in the end ");
+    told.say_name(name);
+    told.say(" again; let one of them extend another type, or none");
 }
 
-/// Says that what a type extends is of another kind. Answers whether there is such.
-pub fn tell_other_base(told: &mut Explanation, files: &Files<'_>) -> bool {
-    for it in files.types {
-        if let Some(base) = &it.base {
-            let is_channel = it.kind == TypeKind::Channel && is_built_in(base.as_bytes());
-            if !is_channel && tell_other_kind(told, files, base_of(it, base)) {
-                return true;
-            }
-        }
+/// Says that the type of that number has the name of another before it, or of a built-in channel.
+pub fn tell_taken(told: &mut Explanation, files: &Files<'_>, at: usize, name: &[u8]) {
+    files.tell_place_at(told, at, Spot::of_type());
+    told.say(": ");
+    if is_built_in(name) {
+        told.say_name(name);
+        told.say(" is the name of a built-in channel; choose another");
+        return;
     }
-    false
+    told.say("the type ");
+    told.say_name(name);
+    told.say(" is declared a second time; it is declared at ");
+    if let Some(first) = place_of(files.types, name) {
+        files.tell_place_at(told, first, Spot::of_type());
+    }
+    told.say(" already: rename one, or leave one file out");
+}
+
+/// Says that a network is declared within a network.
+pub fn tell_inner_network(told: &mut Explanation, files: &Files<'_>, it: &TypeDeclaration) {
+    let name = it.name.as_bytes();
+    files.begin(told, it, Sign::Type, name);
+    told.say("the network ");
+    told.say_name(last_part(name));
+    told.say(" is declared within another: declare it in a file, outside of every type");
 }

@@ -4,18 +4,17 @@
 #![tactic(auto)]
 
 pub mod bases;
-mod channels;
-mod circles;
 pub mod explanation;
-mod gates;
 mod heads;
 pub mod ini_lines;
 mod interfaces;
 mod members;
 pub mod names;
 pub mod ned_files;
+mod origins;
 pub mod places;
 pub mod sources;
 pub mod tokens;
+mod twice;
 pub mod types;
 pub mod values;

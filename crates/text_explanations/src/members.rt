@@ -1,12 +1,14 @@
-//! What is wrong with the parameters of a type, with those of the types that it extends, and with the bodies of its submodules.
+//! What is wrong with a line of a parameter section, or of the body of a submodule.
 
-use crate::channels::declaring_channel;
+use crate::bases::{has_named, root_first};
 use crate::explanation::Explanation;
-use crate::ned_files::Files;
+use crate::ned_files::{Files, type_named};
+use crate::origins::{Kind, Origin, declaring_channel, origin_of};
 use crate::places::{Sign, Spot};
+use crate::twice::{parameter, tell_shared};
 use ned_trees::declarations::{SectionLine, Submodule, TypeDeclaration};
 use ned_types::flat::declaration_named;
-use ned_types::given::{fixes, name_in, value_in};
+use ned_types::given::{fixes, name_in};
 
 /// What is wrong with a line.
 #[derive(Clone, Copy)]
@@ -29,22 +31,11 @@ fn is_declaration(line: &SectionLine) -> bool {
     matches!(line, SectionLine::Declaration(_))
 }
 
-/// How many of the lines declare the parameter.
-fn declarations_of(lines: &[SectionLine], name: &[u8]) -> usize {
+/// How many of the lines speak of the parameter, or only how many declare it.
+fn lines_of(lines: &[SectionLine], name: &[u8], declaring: bool) -> usize {
     let mut count = 0usize;
     for line in lines {
-        if is_declaration(line) && name_in(line) == name {
-            count = count.saturating_add(1);
-        }
-    }
-    count
-}
-
-/// How many of the lines speak of the parameter.
-fn mentions_of(lines: &[SectionLine], name: &[u8]) -> usize {
-    let mut count = 0usize;
-    for line in lines {
-        if name_in(line) == name {
+        if name_in(line) == name && (is_declaration(line) || !declaring) {
             count = count.saturating_add(1);
         }
     }
@@ -61,9 +52,9 @@ fn is_fixed(lines: &[SectionLine], name: &[u8]) -> bool {
     false
 }
 
-/// The first of the types that declares the parameter.
+/// The last of the types that declares the parameter.
 fn declared_in<'a>(types: &[&'a TypeDeclaration], name: &[u8]) -> Option<&'a TypeDeclaration> {
-    for it in types {
+    for it in types.iter().rev() {
         if declaration_named(name, it.lines.as_slice()).is_some() {
             return Some(*it);
         }
@@ -71,103 +62,28 @@ fn declared_in<'a>(types: &[&'a TypeDeclaration], name: &[u8]) -> Option<&'a Typ
     None
 }
 
-/// The fixed value that a parameter has already, in lines before or in one of the types.
-fn fixed_before<'a>(
-    types: &[&'a TypeDeclaration],
-    before: &[SectionLine],
-    name: &[u8],
-) -> Option<Clash<'a>> {
-    if is_fixed(before, name) {
-        return Some(Clash::Fixed);
-    }
-    for it in types {
+/// That the parameter has a fixed value in the last of the types that gives it one, or else before in the section itself.
+fn fixed_in<'a>(types: &[&'a TypeDeclaration], name: &[u8]) -> Clash<'a> {
+    for it in types.iter().rev() {
         if is_fixed(it.lines.as_slice(), name) {
-            return Some(Clash::FixedIn(it.name.as_bytes()));
+            return Clash::FixedIn(it.name.as_bytes());
         }
     }
-    None
-}
-
-/// What is wrong with a declaration behind these lines, in a type that extends those.
-fn declared_before<'a>(
-    bases: &[&'a TypeDeclaration],
-    before: &[SectionLine],
-    name: &[u8],
-) -> Option<Clash<'a>> {
-    if declarations_of(before, name) > 0 {
-        return Some(Clash::Again);
-    }
-    match declared_in(bases, name) {
-        Some(base) => Some(Clash::Declared(base.name.as_bytes())),
-        None => None,
-    }
-}
-
-/// What is wrong with a line behind these in the first of the types, which extends the others.
-fn clash_in_type<'a>(
-    along: &[&'a TypeDeclaration],
-    before: &[SectionLine],
-    line: &SectionLine,
-) -> Option<Clash<'a>> {
-    let [_, bases @ ..] = along else {
-        return None;
-    };
-    let name = name_in(line);
-    let channel = declaring_channel(along, name);
-    if is_declaration(line) {
-        if let Some(channel) = channel {
-            return Some(Clash::BuiltIn(channel));
-        }
-        let clash = declared_before(bases, before, name);
-        if clash.is_some() {
-            return clash;
-        }
-    }
-    if value_in(line).is_none() {
-        return None;
-    }
-    if channel.is_none() && declared_in(along, name).is_none() {
-        return Some(Clash::Undeclared);
-    }
-    fixed_before(bases, before, name)
-}
-
-/// What is wrong with a line behind these in the body of a submodule, whose type is the first of these, which extends the others.
-fn clash_in_body<'a>(
-    along: &[&'a TypeDeclaration],
-    before: &[SectionLine],
-    line: &SectionLine,
-) -> Option<Clash<'a>> {
-    let name = name_in(line);
-    let declared = declared_in(along, name);
-    if is_declaration(line) {
-        return match declared {
-            Some(found) => Some(Clash::Declared(found.name.as_bytes())),
-            None => Some(Clash::Again),
-        };
-    }
-    if value_in(line).is_none() {
-        return None;
-    }
-    if declared.is_none() {
-        return Some(Clash::Undeclared);
-    }
-    fixed_before(along, before, name)
+    Clash::Fixed
 }
 
 /// The place of the clash of a line behind these.
 fn spot_of<'a>(clash: Clash<'_>, before: &[SectionLine], name: &'a [u8]) -> Spot<'a> {
-    let (sign, behind) = match clash {
-        Clash::Again | Clash::Declared(_) | Clash::BuiltIn(_) => {
-            (Sign::Parameter, declarations_of(before, name))
-        }
-        _ => (Sign::Name, mentions_of(before, name)),
-    };
+    let declaring = matches!(clash, Clash::Again | Clash::Declared(_) | Clash::BuiltIn(_));
     Spot {
         body: None,
-        sign,
+        sign: if declaring {
+            Sign::Parameter
+        } else {
+            Sign::Name
+        },
         name,
-        behind,
+        behind: lines_of(before, name, declaring),
     }
 }
 
@@ -210,50 +126,106 @@ fn tell_words(told: &mut Explanation, clash: Clash<'_>, it: &TypeDeclaration) {
     }
 }
 
-/// Says what is wrong with a line behind these in the first of the types, which extends the others, where something is. Answers whether
-/// something is.
-fn tell_line(
-    told: &mut Explanation,
-    files: &Files<'_>,
-    along: &[&TypeDeclaration],
-    before: &[SectionLine],
-    line: &SectionLine,
-) -> bool {
-    let Some(it) = along.first() else {
-        return false;
-    };
-    let Some(clash) = clash_in_type(along, before, line) else {
-        return false;
+/// The lines of a section before the one of that number, and that one.
+fn parted(lines: &[SectionLine], at: usize) -> Option<(&[SectionLine], &SectionLine)> {
+    Some((lines.get(..at)?, lines.get(at)?))
+}
+
+/// Says what is wrong with the line of that number of the type that declares it.
+fn tell_line(told: &mut Explanation, files: &Files<'_>, origin: Origin<'_, '_>, clash: Clash<'_>) {
+    let Some((before, line)) = parted(origin.it.lines.as_slice(), origin.at) else {
+        return;
     };
     let name = name_in(line);
-    files.tell_place(told, *it, spot_of(clash, before, name));
+    files.tell_place(told, origin.it, spot_of(clash, before, name));
     told.say(": the parameter ");
     told.say_name(name);
     told.say(" of ");
-    told.say_name(it.name.as_bytes());
+    told.say_name(origin.it.name.as_bytes());
     told.say(" ");
-    tell_words(told, clash, *it);
-    true
+    tell_words(told, clash, origin.it);
 }
 
-/// Says what is wrong with the parameters of the first of the types, which extends the others. Answers whether something is.
-pub fn tell_section(told: &mut Explanation, files: &Files<'_>, along: &[&TypeDeclaration]) -> bool {
-    let Some(it) = along.first() else {
-        return false;
+/// Says that a line declares a parameter which a type before declares, that one extends or not.
+fn tell_declared(
+    told: &mut Explanation,
+    files: &Files<'_>,
+    order: &[&TypeDeclaration],
+    origin: Origin<'_, '_>,
+    name: &[u8],
+) {
+    let Some(first) = declared_in(origin.before, name) else {
+        return;
     };
-    let lines = it.lines.as_slice();
-    for (at, line) in lines.iter().enumerate() {
-        let before = lines.get(..at).unwrap_or(lines);
-        if tell_line(told, files, along, before, line) {
-            return true;
+    match root_first(told.alloc(), files.types, origin.it) {
+        Ok(extended) if has_named(extended.as_slice(), first.name.as_bytes()) => {
+            tell_line(told, files, origin, Clash::Declared(first.name.as_bytes()))
         }
+        Ok(_) => tell_shared(told, files, order, first, origin.it, parameter(name)),
+        Err(error) => told.refuse(error),
     }
-    false
+}
+
+/// Says that the line of that number declares a parameter a second time, of the flat type of the last of these types.
+pub fn tell_declared_again(
+    told: &mut Explanation,
+    files: &Files<'_>,
+    order: &[&TypeDeclaration],
+    number: usize,
+) {
+    let Some(origin) = origin_of(order, Kind::Line, number) else {
+        return;
+    };
+    let Some((before, line)) = parted(origin.it.lines.as_slice(), origin.at) else {
+        return;
+    };
+    let name = name_in(line);
+    if let Some(channel) = declaring_channel(order, name) {
+        tell_line(told, files, origin, Clash::BuiltIn(channel));
+    } else if lines_of(before, name, true) > 0 {
+        tell_line(told, files, origin, Clash::Again);
+    } else {
+        tell_declared(told, files, order, origin, name);
+    }
+}
+
+/// Says that the line of that number gives a value to a parameter that isn't declared, of the flat type of the last of these types.
+pub fn tell_undeclared(
+    told: &mut Explanation,
+    files: &Files<'_>,
+    order: &[&TypeDeclaration],
+    number: usize,
+) {
+    if let Some(origin) = origin_of(order, Kind::Line, number) {
+        tell_line(told, files, origin, Clash::Undeclared);
+    }
+}
+
+/// Says that the line of that number gives a value to a parameter with a fixed one, of the flat type of the last of these types.
+pub fn tell_given_again(
+    told: &mut Explanation,
+    files: &Files<'_>,
+    order: &[&TypeDeclaration],
+    number: usize,
+) {
+    let Some(origin) = origin_of(order, Kind::Line, number) else {
+        return;
+    };
+    let Some((before, line)) = parted(origin.it.lines.as_slice(), origin.at) else {
+        return;
+    };
+    let name = name_in(line);
+    let clash = if is_fixed(before, name) {
+        Clash::Fixed
+    } else {
+        fixed_in(origin.before, name)
+    };
+    tell_line(told, files, origin, clash);
 }
 
 /// Says the first parameter of the types whose name is near, as a question.
-fn tell_near(told: &mut Explanation, along: &[&TypeDeclaration], name: &[u8]) {
-    for it in along {
+fn tell_near(told: &mut Explanation, order: &[&TypeDeclaration], name: &[u8]) {
+    for it in order.iter().rev() {
         for line in it.lines.as_slice() {
             if is_declaration(line) && told.say_if_near(name, name_in(line)) {
                 return;
@@ -262,11 +234,11 @@ fn tell_near(told: &mut Explanation, along: &[&TypeDeclaration], name: &[u8]) {
     }
 }
 
-/// Says what is wrong with a parameter in the body of a submodule, whose type is the first of these, which extends the others.
+/// Says what is wrong with a parameter in the body of a submodule, whose type is the last of these.
 fn tell_body_words(
     told: &mut Explanation,
     clash: Clash<'_>,
-    along: &[&TypeDeclaration],
+    order: &[&TypeDeclaration],
     of: &[u8],
     name: &[u8],
 ) {
@@ -284,62 +256,83 @@ fn tell_body_words(
             told.say("is given a value, and its type ");
             told.say_name(of);
             told.say(" doesn't declare it");
-            tell_near(told, along, name);
+            tell_near(told, order, name);
         }
         Clash::Fixed => tell_fixed(told, None),
         Clash::FixedIn(base) => tell_fixed(told, Some(base)),
     }
 }
 
-/// Says what is wrong with a line behind these in the body of a submodule, whose type is the first of those, which extends the others,
-/// where something is. Answers whether something is.
+/// What is wrong with a line of the body of a submodule, over the lines of its type, the last of these.
+fn clash_over<'a>(order: &[&'a TypeDeclaration], line: &SectionLine) -> Clash<'a> {
+    let name = name_in(line);
+    match declared_in(order, name) {
+        Some(found) if is_declaration(line) => Clash::Declared(found.name.as_bytes()),
+        None if is_declaration(line) => Clash::Again,
+        None => Clash::Undeclared,
+        Some(_) => fixed_in(order, name),
+    }
+}
+
+/// Says what is wrong with the line of that number in the body of a submodule, whose type is the last of these.
 fn tell_body_line(
     told: &mut Explanation,
     files: &Files<'_>,
-    along: &[&TypeDeclaration],
+    order: &[&TypeDeclaration],
     it: &TypeDeclaration,
     submodule: &Submodule,
     at: usize,
-) -> bool {
-    let lines = submodule.body.as_slice();
-    let (Some(line), Some(before)) = (lines.get(at), lines.get(..at)) else {
-        return false;
+    again: bool,
+) {
+    let Some((before, line)) = parted(submodule.body.as_slice(), at) else {
+        return;
     };
-    let Some(clash) = clash_in_body(along, before, line) else {
-        return false;
+    let clash = if again {
+        Clash::Fixed
+    } else {
+        clash_over(order, line)
     };
     let (name, own) = (name_in(line), submodule.name.as_bytes());
     let body = Some(own);
-    files.tell_place(
-        told,
-        it,
-        Spot {
-            body,
-            ..spot_of(clash, before, name)
-        },
-    );
+    let spot = spot_of(clash, before, name);
+    files.tell_place(told, it, Spot { body, ..spot });
     told.say(": the parameter ");
     told.say_name(name);
     told.say(" of the submodule ");
     told.say_name(own);
     told.say(" ");
-    tell_body_words(told, clash, along, submodule.type_name.as_bytes(), name);
-    true
+    tell_body_words(told, clash, order, submodule.type_name.as_bytes(), name);
 }
 
-/// Says what is wrong with the body of a submodule, whose type is the first of these, which extends the others. Answers whether
-/// something is.
+/// Says what is wrong with the line of the second number in the body of the submodule of the first, of the flat type of the last of these types:
+/// that the body gives a parameter with a fixed value another, or that it can't stand over the lines of the submodule's type.
 pub fn tell_body(
     told: &mut Explanation,
     files: &Files<'_>,
-    along: &[&TypeDeclaration],
-    it: &TypeDeclaration,
-    submodule: &Submodule,
-) -> bool {
-    for at in 0..submodule.body.len() {
-        if tell_body_line(told, files, along, it, submodule, at) {
-            return true;
-        }
+    order: &[&TypeDeclaration],
+    number: usize,
+    at: usize,
+    again: bool,
+) {
+    let Some(origin) = origin_of(order, Kind::Submodule, number) else {
+        return;
+    };
+    let Some(submodule) = origin.it.submodules.as_slice().get(origin.at) else {
+        return;
+    };
+    let Some(of) = type_named(files.types, submodule.type_name.as_bytes()) else {
+        return;
+    };
+    match root_first(told.alloc(), files.types, of) {
+        Ok(order) => tell_body_line(
+            told,
+            files,
+            order.as_slice(),
+            origin.it,
+            submodule,
+            at,
+            again,
+        ),
+        Err(error) => told.refuse(error),
     }
-    false
 }

@@ -1,6 +1,5 @@
 //! The NED files of a run that were read before, and what they declare.
 
-use crate::channels::is_built_in;
 use crate::explanation::Explanation;
 use crate::names::is_inner;
 use crate::places::{Sign, Spot, line_in};
@@ -33,19 +32,6 @@ pub fn place_of(types: &[TypeDeclaration], name: &[u8]) -> Option<usize> {
         }
     }
     None
-}
-
-/// Whether the name is that of a type of that kind.
-pub fn is_of_kind(types: &[TypeDeclaration], name: &[u8], kind: TypeKind) -> bool {
-    match type_named(types, name) {
-        Some(found) => found.kind == kind,
-        None => false,
-    }
-}
-
-/// Whether a submodule or a type may name that type.
-pub fn is_known(types: &[TypeDeclaration], name: &[u8]) -> bool {
-    is_built_in(name) || type_named(types, name).is_some()
 }
 
 /// Whether a text may write the name of that type anywhere: it is of that kind, and within no other.

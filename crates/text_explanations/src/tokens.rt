@@ -66,10 +66,10 @@ fn tell_word(told: &mut Explanation, token: &Token) {
 /// Says a byte that begins no token.
 fn tell_stray(told: &mut Explanation, byte: u8) {
     if byte.is_ascii_graphic() {
-        told.say("what begins with ");
+        told.say("character ");
         told.say_name(&[byte]);
     } else {
-        told.say("the byte ");
+        told.say("byte ");
         told.say_number(usize::from(byte));
     }
 }
@@ -84,17 +84,17 @@ pub fn tell_token(told: &mut Explanation, token: &Token) {
             told.say_number(*number as usize);
             told.say("'");
         }
-        Token::Quantity(_, _) => told.say("a quantity"),
+        Token::Quantity(_, _) => told.say("quantity"),
         Token::Literal(text) => {
             told.say("\"");
             told.say(shown(text.as_bytes()));
             told.say("\"");
         }
         Token::OddLiteral => told.say(
-            "a text in quotes with an escape other than \\\", \\\\, \\n, \\t",
+            "text in quotes with an escape other than \\\", \\\\, \\n, \\t",
         ),
         Token::OpenLiteral | Token::Broken => told.say(
-            "a text in quotes without its end on this line, or a line that is no UTF-8,",
+            "text in quotes without its end on this line, or a line that is not UTF-8",
         ),
         Token::Stray(byte) => tell_stray(told, *byte),
     }

@@ -1,186 +1,104 @@
 //! Why the types of the files don't go together.
 
-use crate::bases::{along_at, is_interface, places_of_bases, with_bases};
-use crate::channels::is_built_in;
-use crate::circles::tell_circle;
+use crate::bases::root_first;
 use crate::explanation::Explanation;
-use crate::gates::{tell_gates, tell_second_submodule, tell_two_bases};
-use crate::heads::{tell_other_base, tell_other_interface, tell_submodule, tell_unknown};
-use crate::interfaces::tell_broken;
-use crate::members::{tell_body, tell_section};
-use crate::names::{is_inner, last_part};
-use crate::ned_files::{Files, is_of_kind, place_of, type_named};
-use crate::places::{Sign, Spot};
-use ned_trees::declarations::{Submodule, TypeDeclaration, TypeKind};
+use crate::heads::{
+    base_of, interface_of, submodule_of, tell_circle, tell_inner_network, tell_other_kind,
+    tell_taken, tell_unknown,
+};
+use crate::interfaces::tell_lacked;
+use crate::members::{tell_body, tell_declared_again, tell_given_again, tell_undeclared};
+use crate::ned_files::Files;
+use crate::origins::{Kind, origin_of};
+use crate::twice::tell_twice;
+use ned_trees::declarations::TypeDeclaration;
+use type_building::places::{Member, Place};
+use type_building::table::TypeFault;
 
-/// Says that the type at that place has the name of another before it, or of a built-in channel. Answers whether it has.
-fn tell_taken(told: &mut Explanation, files: &Files<'_>, at: usize, name: &[u8]) -> bool {
-    if is_built_in(name) {
-        files.tell_place_at(told, at, Spot::of_type());
-        told.say(": ");
-        told.say_name(name);
-        told.say(" is the name of a built-in channel; choose another");
-        return true;
-    }
-    let first = match place_of(files.types, name) {
-        Some(first) if first < at => first,
-        _ => return false,
-    };
-    files.tell_place_at(told, at, Spot::of_type());
-    told.say(": the type ");
-    told.say_name(name);
-    told.say(" is declared a second time; it is declared at ");
-    files.tell_place_at(told, first, Spot::of_type());
-    told.say(" already: rename one, or leave one file out");
-    true
-}
-
-/// Says that two types have one name. Answers whether there are such.
-fn tell_duplicate(told: &mut Explanation, files: &Files<'_>) -> bool {
-    for (at, it) in files.types.iter().enumerate() {
-        if tell_taken(told, files, at, it.name.as_bytes()) {
-            return true;
-        }
-    }
-    false
-}
-
-/// Says that a network is declared within a network. Answers whether one is.
-fn tell_inner_network(told: &mut Explanation, files: &Files<'_>) -> bool {
-    for it in files.types {
-        let name = it.name.as_bytes();
-        if it.kind == TypeKind::Network && is_inner(name) {
-            files.begin(told, it, Sign::Type, name);
-            told.say("the network ");
-            told.say_name(last_part(name));
-            told.say(" is declared within another: declare it in a file, outside of every type");
-            return true;
-        }
-    }
-    false
-}
-
-/// Says that a submodule is of no simple module, where it is. Answers whether that is said.
-fn tell_no_module(
+/// Says what is wrong with a name in the head of a type, or with the type of one of its submodules, where they have a fault of names.
+fn tell_name(
     told: &mut Explanation,
     files: &Files<'_>,
+    fault: TypeFault,
     it: &TypeDeclaration,
-    submodule: &Submodule,
-) -> bool {
-    if is_of_kind(
-        files.types,
-        submodule.type_name.as_bytes(),
-        TypeKind::Simple,
-    ) {
-        return false;
-    }
-    tell_submodule(told, files, it, submodule);
-    told.say(", which is no simple module");
-    true
-}
-
-/// Says what is wrong with the submodules of the first of the types, which extends the others. Answers whether something is.
-fn tell_submodules(told: &mut Explanation, files: &Files<'_>, along: &[&TypeDeclaration]) -> bool {
-    let Some(it) = along.first() else {
-        return false;
+    member: Member,
+) {
+    let named = match member {
+        Member::Base => base_of(it),
+        Member::Interface(at) => interface_of(it, at),
+        Member::Submodule(at) => submodule_of(it, at),
+        _ => return tell_inner_network(told, files, it),
     };
-    for (at, submodule) in it.submodules.as_slice().iter().enumerate() {
-        if tell_second_submodule(told, files, along, at, submodule.name.as_bytes())
-            || tell_no_module(told, files, *it, submodule)
-        {
-            return true;
-        }
+    let Some(named) = named else {
+        return;
+    };
+    match fault {
+        TypeFault::UnknownType => tell_unknown(told, files, named),
+        TypeFault::InheritanceCircle => tell_circle(told, files, named),
+        _ => tell_other_kind(told, files, named),
     }
-    false
 }
 
-/// Says what is wrong with the body of a submodule of a type. Answers whether something is.
-fn tell_body_of(
+/// Says that a submodule of the flat type of the last of these types is of another kind.
+fn tell_other_submodule(
     told: &mut Explanation,
     files: &Files<'_>,
-    it: &TypeDeclaration,
-    submodule: &Submodule,
-) -> bool {
-    let Some(of) = type_named(files.types, submodule.type_name.as_bytes()) else {
-        return false;
-    };
-    match with_bases(told.alloc(), files.types, of) {
-        Ok(along) => tell_body(told, files, along.as_slice(), it, submodule),
-        Err(error) => {
-            told.refuse(error);
-            true
-        }
+    order: &[&TypeDeclaration],
+    number: usize,
+) {
+    if let Some(origin) = origin_of(order, Kind::Submodule, number) {
+        let member = Member::Submodule(origin.at);
+        tell_name(told, files, TypeFault::KindClash, origin.it, member);
     }
 }
 
-/// Says what is wrong with the bodies of the submodules of a type. Answers whether something is.
-fn tell_bodies(told: &mut Explanation, files: &Files<'_>, it: &TypeDeclaration) -> bool {
-    for submodule in it.submodules.as_slice() {
-        if tell_body_of(told, files, it, submodule) {
-            return true;
-        }
-    }
-    false
-}
-
-/// Says why members of the first of the types clash, which extends the others. Answers whether they do.
-fn tell_members(told: &mut Explanation, files: &Files<'_>, along: &[&TypeDeclaration]) -> bool {
-    let Some(it) = along.first() else {
-        return false;
-    };
-    tell_section(told, files, along)
-        || tell_gates(told, files, along)
-        || (is_interface(it.kind) && tell_two_bases(told, files, along))
-        || tell_submodules(told, files, along)
-        || tell_bodies(told, files, *it)
-}
-
-/// Says why members of the type at that place clash. These are the places of what each type extends. Answers whether they do.
-fn tell_clash_at(
+/// Says what is wrong with a member of the flat type of the last of these types.
+fn tell_member(
     told: &mut Explanation,
     files: &Files<'_>,
-    bases: &[Option<usize>],
-    at: usize,
-    it: &TypeDeclaration,
-) -> bool {
-    match along_at(told.alloc(), files.types, bases, at, it) {
-        Ok(along) => tell_members(told, files, along.as_slice()),
-        Err(error) => {
-            told.refuse(error);
-            true
+    order: &[&TypeDeclaration],
+    member: Member,
+) {
+    match member {
+        Member::DeclaredAgain(at) => tell_declared_again(told, files, order, at),
+        Member::Undeclared(at) => tell_undeclared(told, files, order, at),
+        Member::GivenAgain(at) => tell_given_again(told, files, order, at),
+        Member::GateAgain(at) => tell_twice(told, files, order, Kind::Gate, at),
+        Member::SubmoduleAgain(at) => tell_twice(told, files, order, Kind::Submodule, at),
+        Member::Unfit(number, at) => tell_body(told, files, order, number, at, false),
+        Member::UnfitAgain(number, at) => tell_body(told, files, order, number, at, true),
+        Member::LacksParameter(number, at) => {
+            tell_lacked(told, files, order, number, Kind::Line, at)
         }
+        Member::LacksGate(number, at) => tell_lacked(told, files, order, number, Kind::Gate, at),
+        Member::Submodule(at) => tell_other_submodule(told, files, order, at),
+        Member::Whole | Member::Base | Member::Interface(_) => {}
     }
 }
 
-/// Says why members clash, where these are the places of what each type extends. Answers whether they do.
-fn tell_clashes(told: &mut Explanation, files: &Files<'_>, bases: &[Option<usize>]) -> bool {
-    for (at, it) in files.types.iter().enumerate() {
-        if tell_clash_at(told, files, bases, at, it) {
-            return true;
-        }
-    }
-    false
-}
-
-/// Says why members clash. Answers whether they do.
-fn tell_clash(told: &mut Explanation, files: &Files<'_>) -> bool {
-    match places_of_bases(told.alloc(), files.types) {
-        Ok(bases) => tell_clashes(told, files, bases.as_slice()),
-        Err(error) => {
-            told.refuse(error);
-            true
-        }
+/// Says what is wrong with a member of the flat type of that one.
+fn tell_flat(told: &mut Explanation, files: &Files<'_>, it: &TypeDeclaration, member: Member) {
+    match root_first(told.alloc(), files.types, it) {
+        Ok(order) => tell_member(told, files, order.as_slice(), member),
+        Err(error) => told.refuse(error),
     }
 }
 
-/// Says the first reason why types don't go together, in the order of the refusals.
-pub fn tell_types(told: &mut Explanation, files: &Files<'_>) {
-    let _is_told = tell_duplicate(told, files)
-        || tell_unknown(told, files)
-        || tell_circle(told, files)
-        || tell_other_interface(told, files)
-        || tell_other_base(told, files)
-        || tell_inner_network(told, files)
-        || tell_clash(told, files)
-        || tell_broken(told, files);
+/// Says why types don't go together, which have that fault at that place.
+pub fn tell_types(told: &mut Explanation, files: &Files<'_>, fault: TypeFault, place: Place) {
+    let Some(it) = files.types.get(place.number) else {
+        return;
+    };
+    match (fault, place.member) {
+        (TypeFault::DuplicateType, _) => {
+            tell_taken(told, files, place.number, it.name.as_bytes())
+        }
+        (TypeFault::UnknownType | TypeFault::InheritanceCircle, member) => {
+            tell_name(told, files, fault, it, member)
+        }
+        (_, Member::Whole | Member::Base | Member::Interface(_)) => {
+            tell_name(told, files, fault, it, place.member)
+        }
+        (_, member) => tell_flat(told, files, it, member),
+    }
 }
