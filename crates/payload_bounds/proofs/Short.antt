@@ -22,11 +22,13 @@ use Rattle.module_api.specs.declared.reply.Schedule.{Schedule}
 use Rattle.run_questions.specs.Answers.{Answers}
 use Rattle.run_questions.specs.declared.answer.Answer.TheVariants as answer
 use Rattle.run_questions.specs.declared.answer.Question.TheVariants.{InjectionBefore}
+use Rattle.run_semantics.specs.declared.occasions.Occasion.{Occasion}
+use Rattle.run_semantics.specs.declared.occasions.Occasion.TheVariants as occasion
 use Rattle.run_semantics.specs.declared.outcome.Fault.{Fault}
 use Rattle.run_semantics.specs.declared.outcome.Outcome.TheVariants.{Ended, TimeLimit}
 use Rattle.run_semantics.specs.declared.traces.Instance.{Instance}
 use Rattle.run_semantics.specs.Event.{call_of, changed, called, call_module, begun, event, instance_in, message_of}
-use Rattle.run_semantics.specs.Perform.{Flow, On, Stopped, Broken, ◌>>=◌, with_scalar, scheduled, perform, perform_all, ask_all, question_of, acted, read_fault, unless_fault, answered}
+use Rattle.run_semantics.specs.Perform.{Flow, On, Stopped, Broken, ◌>>=◌, with_scalar, for_each, scheduled, deed, is_allowed, act, act_all, ask_all, ask_noted, question_of, acted, read_fault, unless_fault, answered}
 use Rattle.run_semantics.specs.Run.{ready, stages_in, most_stages, initialize, one_stage, stages_from, initialize_all, with_started, Stage, Running, Over, world_at, settled, is_after_limit, went, next_stage, after}
 use Rattle.run_semantics.specs.Subtree.{outer_first}
 use Rattle.run_semantics.specs.Upcoming.{first_due, delivered, target_of, Upcoming, Comes, Nothing, first_of, aimed, chosen, upcoming_in, upcoming}
@@ -55,18 +57,21 @@ scheduled_short id s w (Some time) h =
     either_short (has_timer id s.timer w.pending) _ _ h
     (each_inserted (λ (p : Pending). IsShort (message_of p).payload) (record { time = time; priority = s.priority; number = w.next; id = id; what = Timer s.timer s.kind }) w.pending (omega arith) h)
 
-perform_short : (id : ℕ) (action : Action) (w : World) → Short w → Short (in_flow (perform id action w))
-perform_short id (Emit signal value) w h = h
-perform_short id (RecordScalar name value) w h = either_short (is_scalar_name name) (On (with_scalar id name value w)) _ h h
-perform_short id (ScheduleAfter s) w h = scheduled_short id s w (time_sum w.clock s.delay) h
-perform_short id (Fail text) w h = h
+deed_short : (id : ℕ) (action : Action) (w : World) → Short w → Short (in_flow (deed id action w))
+deed_short id (Emit signal value) w h = h
+deed_short id (RecordScalar name value) w h = either_short (is_scalar_name name) (On (with_scalar id name value w)) _ h h
+deed_short id (ScheduleAfter s) w h = scheduled_short id s w (time_sum w.clock s.delay) h
+deed_short id (Fail text) w h = h
 
-perform_all_short : (id : ℕ) (actions : List Action) (w : World) → Short w → Short (in_flow (perform_all id actions w))
-perform_all_short id [] w h = h
-perform_all_short id (action ∷ actions) w h = then_short (perform id action w) (perform_all id actions) (perform_short id action w h) (perform_all_short id actions)
+act_short : (b : Behaviour) (m : Answers) (o : Occasion) (id : ℕ) (action : Action) (w : World) → Short w → Short (in_flow (act b m o id action w))
+act_short b m o id action w h = either_short (is_allowed o action) (deed id action w) _ (deed_short id action w h) h
 
-acted_short : (id : ℕ) (actions : List Action) (w : World) → Short w → Short (in_flow (acted id actions w))
-acted_short id actions w h = either_short (nat_lt 1000 (length actions)) _ (perform_all id actions w) h (perform_all_short id actions w h)
+act_all_short : (b : Behaviour) (m : Answers) (o : Occasion) (id : ℕ) (actions : List Action) (w : World) → Short w → Short (in_flow (act_all b m o id actions w))
+act_all_short b m o id [] w h = h
+act_all_short b m o id (action ∷ actions) w h = then_short (act b m o id action w) (for_each (act b m o id) actions) (act_short b m o id action w h) (act_all_short b m o id actions)
+
+acted_short : (b : Behaviour) (m : Answers) (o : Occasion) (id : ℕ) (actions : List Action) (w : World) → Short w → Short (in_flow (acted b m o id actions w))
+acted_short b m o id actions w h = either_short (nat_lt 1000 (length actions)) _ (act_all b m o id actions w) h (act_all_short b m o id actions w h)
 
 ask_all_short : (id : ℕ) (reads : List Read) (w : World) → Short w → Short (ask_all id reads w)
 ask_all_short id [] w h = h
@@ -76,18 +81,23 @@ unless_short : (id : ℕ) (found : Option Fault) (go : World → Flow) (w : Worl
 unless_short id (Some f) go w h k = h
 unless_short id None go w h k = k
 
-answered_short : (m : Answers) (id : ℕ) (reply : Reply) (w : World) → Short w → Short (in_flow (answered m id reply w))
-answered_short m id reply w h =
-    let asked_all = ask_all_short id reply.reads w h in
-    unless_short id (read_fault m w.records id reply.reads) (acted id reply.actions) (ask_all id reply.reads w) asked_all (acted_short id reply.actions (ask_all id reply.reads w) asked_all)
+ask_noted_short : (o : Occasion) (id : ℕ) (reads : List Read) (w : World) → Short w → Short (ask_noted o id reads w)
+ask_noted_short occasion.Event id reads w h = ask_all_short id reads w h
+ask_noted_short occasion.End id reads w h = h
+
+answered_short : (b : Behaviour) (m : Answers) (o : Occasion) (id : ℕ) (reply : Reply) (w : World) → Short w → Short (in_flow (answered b m o id reply w))
+answered_short b m o id reply w h =
+    let v : World = ask_noted o id reply.reads w in
+    let asked_all : Short v = ask_noted_short o id reply.reads w h in
+    unless_short id (read_fault m w.records id reply.reads) (acted b m o id reply.actions) v asked_all (acted_short b m o id reply.actions v asked_all)
 
 -- ---- calls
 
-called_short : (b : Behaviour) (m : Answers) (id : ℕ) (p : Prompt) (w : World) (found : Option Instance) → Short w → Short (in_flow (called b m (answered m id) id p w found))
+called_short : (b : Behaviour) (m : Answers) (id : ℕ) (p : Prompt) (w : World) (found : Option Instance) → Short w → Short (in_flow (called b m (answered b m occasion.Event id) id p w found))
 called_short b m id p w None h = h
 called_short b m id p w (Some i) h =
     let r = (b.naming i.kind).reply i.state (call_of m id p w) in
-    answered_short m id r.reply (changed id r.state w) h
+    answered_short b m occasion.Event id r.reply (changed id r.state w) h
 
 call_short : (b : Behaviour) (m : Answers) (id : ℕ) (p : Prompt) (w : World) → Short w → Short (in_flow (call_module b m id p w))
 call_short b m id p w h = called_short b m id p w (instance_in id w.modules) h
