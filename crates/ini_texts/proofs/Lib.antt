@@ -1,3 +1,4 @@
+pub mod KeptLaws
 pub mod LineLaws
 pub mod MergeLaws
 pub mod NumberLaws

@@ -1,11 +1,10 @@
 -- Laws of the lines of configurations.
-use Rattle.std.proofs.Common.{◌≡◌, ◌≢◌, inl, inr, ◌⊎◌, ℕ, zero, suc, ◌+◌, ◌<◌, ◌≤◌, Bool, true, false, List, [], ◌∷◌, ◌++◌, length, get_or, map, Option, Some, None, refl, sym, ap, subst, ◌∙◌, arith, if◌then◌else◌}
-use Rattle.std.specs.List.{All, AllZip, Contains}
+use Rattle.std.proofs.Common.{◌≡◌, inl, inr, ℕ, zero, suc, ◌+◌, ◌<◌, Bool, true, false, List, [], ◌∷◌, ◌++◌, length, get_or, Some, refl, sym, ap, subst, ◌∙◌, arith}
+use Rattle.std.specs.List.{AllZip, Contains}
 use Rattle.std.specs.Str.{bytes_eq}
-use Rattle.std.proofs.lemmas.List.Elements.{All-head, All-tail, All-cons}
 use Rattle.ini_texts.specs.declared.lines.IniLine.{IniLine}
-use Rattle.ini_texts.specs.Merge.{tail, stands_in, stands_behind, first_free, without_head, without, IsMerge}
-use Rattle.ini_texts.specs.Sections.{general, is_section, bases_named, IsLineWithin, IsLine, IsChain, HasOneChain}
+use Rattle.ini_texts.specs.Merge.{without, IsMerge}
+use Rattle.ini_texts.specs.Sections.{general, is_section, bases_named, IsLineWithin, IsLine, HasOneChain}
 use Rattle.ini_texts.specs.Numbered.{HasNoLine}
 use Rattle.ini_texts.specs.Words.{Bytes}
 use Rattle.ini_texts.proofs.MergeLaws.{free_none}

@@ -1,11 +1,10 @@
 -- Laws of merges, and of how often a number stands in lists.
-use Rattle.std.proofs.Common.{◌≡◌, ◌≢◌, inl, inr, ◌⊎◌, ℕ, zero, suc, ◌+◌, ◌<◌, ◌≤◌, ◌==◌, Bool, true, false, List, [], ◌∷◌, ◌++◌, length, drop, take, set, get_or, map, Option, Some, None, refl, sym, ap, subst, ◌∙◌, append-nil, append_assoc, arith, add-one, eq-eqb, if◌then◌else◌, slice_get}
-use Rattle.std.specs.List.{All, list_any}
-use Rattle.std.proofs.lemmas.Bool.{cases_Bool, false≢true}
+use Rattle.std.proofs.Common.{◌≡◌, ℕ, zero, suc, ◌+◌, ◌<◌, ◌≤◌, ◌==◌, Bool, true, false, List, [], ◌∷◌, ◌++◌, length, drop, take, set, get_or, Some, None, refl, sym, ap, subst, ◌∙◌, append-nil, append_assoc, arith, add-one, eq-eqb, if◌then◌else◌, slice_get}
+use Rattle.std.specs.List.{All}
 use Rattle.std.proofs.lemmas.List.{drop_more, length-map, length-take-le, get_or_at, set_at, map_more}
 use Rattle.std.proofs.lemmas.List.Elements.{All-head, All-tail, All-cons}
 use Rattle.ini_texts.specs.Merge.{tail, stands_in, stands_behind, first_free, without_head, without, IsMerge}
-use Rattle.ini_texts.specs.Counts.{one_where, same_number, held, behind, AreBelow, AreAllBelow, Counts}
+use Rattle.ini_texts.specs.Counts.{one_where, same_number, held, behind, AreBelow, AreAllBelow}
 
 pub tail_of_drop : {X : Type 0} (xs : List X) (i : ℕ) → drop (i + 1) xs ≡ tail (drop i xs)
 tail_of_drop xs i = rw add-one (go xs i)

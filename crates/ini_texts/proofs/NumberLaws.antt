@@ -1,15 +1,14 @@
 -- Configurations by numbers: where different numbers have different names, a merge of numbers is one of their names.
-use Rattle.std.proofs.Common.{◌≡◌, ◌≢◌, ℕ, zero, suc, ◌+◌, ◌<◌, ◌≤◌, ◌==◌, Bool, true, false, List, [], ◌∷◌, ◌++◌, length, get_or, map, Option, Some, None, option_map, refl, sym, ap, subst, ◌∙◌, arith, if◌then◌else◌, eqb-true}
-use Rattle.std.specs.List.{All, AllZip, Contains, list_any}
+use Rattle.std.proofs.Common.{◌≡◌, ℕ, ◌<◌, ◌==◌, Bool, true, false, List, [], ◌∷◌, map, Option, Some, None, option_map, refl, sym, ap, subst, ◌∙◌, arith, if◌then◌else◌, eqb-true}
+use Rattle.std.specs.List.{All}
 use Rattle.std.specs.Str.{bytes_eq}
-use Rattle.std.proofs.lemmas.Bool.{false≢true, eq-eqb, ne_eqb}
+use Rattle.std.proofs.lemmas.Bool.{false≢true, eq-eqb}
 use Rattle.std.proofs.lemmas.List.Elements.{All-head, All-tail, All-cons}
 use Rattle.std.proofs.lemmas.Slice.Eq.{bytes_eq-Decides}
-use Rattle.ini_texts.specs.declared.lines.IniLine.{IniLine}
 use Rattle.ini_texts.specs.Merge.{tail, stands_in, stands_behind, first_free, without_head, without, IsMerge}
 use Rattle.ini_texts.specs.Counts.{same_number, AreBelow, AreAllBelow}
 use Rattle.ini_texts.specs.Words.{Bytes}
-use Rattle.ini_texts.proofs.MergeLaws.{all_without_below, first_below}
+use Rattle.ini_texts.proofs.MergeLaws.{all_without_below}
 
 -- different numbers below that one have different names
 abbrev pub AreApart : (ℕ → Bytes) → ℕ → Type 0

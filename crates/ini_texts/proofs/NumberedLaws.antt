@@ -1,10 +1,10 @@
 -- Laws of the lines of sections by their numbers.
-use Rattle.std.proofs.Common.{◌≡◌, ◌≢◌, inl, inr, ◌⊎◌, ℕ, zero, suc, ◌+◌, ◌<◌, ◌≤◌, Bool, true, false, not, ◌||◌, List, [], ◌∷◌, ◌++◌, length, get_or, set, map, take, Option, Some, None, Result, Ok, Err, IfOk, IfErr, refl, sym, ap, subst, ◌∙◌, arith, if◌then◌else◌, slice_get}
-use Rattle.std.specs.List.{All, AllZip, Contains, filter, list_any}
+use Rattle.std.proofs.Common.{◌≡◌, ◌≢◌, inl, inr, ℕ, zero, suc, ◌+◌, ◌<◌, Bool, true, false, not, ◌||◌, List, [], ◌∷◌, ◌++◌, length, get_or, set, map, take, Option, Some, None, Result, Ok, Err, IfOk, IfErr, refl, sym, ap, subst, ◌∙◌, arith, if◌then◌else◌, slice_get}
+use Rattle.std.specs.List.{Contains, list_any}
 use Rattle.std.specs.Str.{bytes_eq}
 use Rattle.std.proofs.lemmas.Bool.{cases_Bool, cases_lt, cases_eq, false≢true}
-use Rattle.std.proofs.lemmas.List.{get_or_append_left, get_or_push, get_or_default, length_push, get_or-set_same, get_or-set_other, get_or_past, map-append, take_more, get_or-map, length-map}
-use Rattle.std.proofs.lemmas.List.Elements.{All-head, All-tail, All-cons, All-append, All-map, All-contains, All-nil, All-push, Contains-push_cases, Contains-append_left, Contains-append_right, Contains-push, Contains-get_or, filter_passes}
+use Rattle.std.proofs.lemmas.List.{get_or_append_left, get_or_push, length_push, get_or-set_same, get_or-set_other, get_or_past, map-append, take_more, get_or-map, length-map}
+use Rattle.std.proofs.lemmas.List.Elements.{All-cons, All-contains, All-nil, All-push, Contains-push_cases, Contains-append_left, Contains-append_right, Contains-push, filter_passes}
 use Rattle.std.proofs.lemmas.Slice.Eq.{bytes_eq-Decides}
 use Rattle.ini_texts.specs.declared.error.ChainError.{ChainError}
 use Rattle.ini_texts.specs.declared.error.ChainError.TheVariants as errors
@@ -13,8 +13,8 @@ use Rattle.ini_texts.specs.declared.lines.LineMeaning.{LineMeaning}
 use Rattle.ini_texts.specs.declared.lines.LineMeaning.TheVariants as line
 use Rattle.ini_texts.specs.Counts.{same_number, AreBelow, AreAllBelow}
 use Rattle.ini_texts.specs.Merge.{without, IsMerge}
-use Rattle.ini_texts.specs.Numbers.{holds, with_section, names_behind, name_at, others, AreNumbers, FitRows, row_list, bases_at, AreRows, IsReached, ReachedIn, IsOrdered, IsWithin}
-use Rattle.ini_texts.specs.Numbered.{line_at, SettlesLine, SettlesRow, HasNoLine, IsNumberLine, SettlesNumbered, SettlesChain}
+use Rattle.ini_texts.specs.Numbers.{holds, with_section, names_behind, name_at, AreNumbers, FitRows, row_list, bases_at, AreRows, ReachedIn, IsOrdered, IsWithin}
+use Rattle.ini_texts.specs.Numbered.{line_at, SettlesRow, HasNoLine, IsNumberLine, SettlesChain}
 use Rattle.ini_texts.specs.Sections.{general, bases_of, bases_named, is_section_line, is_section, IsLineWithin, IsLine, IsChain, RefusesChain, AnswersChain}
 use Rattle.ini_texts.specs.Words.{Bytes}
 use Rattle.ini_texts.proofs.LineLaws.{HasLines, base_line, line_from, no_line_from, no_line_by_base, no_line_by_absence, one_chain_law}

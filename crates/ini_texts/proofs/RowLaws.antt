@@ -1,16 +1,11 @@
 -- Laws of the numbers of sections, and of the rows of what they extend.
-use Rattle.std.proofs.Common.{◌≡◌, ◌≢◌, inl, inr, ◌⊎◌, ℕ, zero, suc, ◌+◌, ◌-◌, ◌<◌, ◌≤◌, Bool, true, false, not, ◌||◌, List, [], ◌∷◌, ◌++◌, length, get_or, set, map, take, Option, Some, None, refl, sym, ap, subst, ◌∙◌, arith, if◌then◌else◌}
-use Rattle.std.specs.List.{All, AllZip, Contains, filter, list_any}
-use Rattle.std.specs.Str.{bytes_eq}
-use Rattle.std.proofs.lemmas.Bool.{cases_Bool, cases_lt, cases_eq, false≢true}
-use Rattle.std.proofs.lemmas.List.{get_or_append_left, get_or_push, get_or_default, length_push, get_or-set_same, get_or-set_other}
-use Rattle.std.proofs.lemmas.List.Elements.{All-head, All-tail, Contains-push_cases, Contains-append_left, Contains-push}
-use Rattle.std.proofs.lemmas.Slice.Eq.{bytes_eq-Decides}
+use Rattle.std.proofs.Common.{◌≡◌, inl, inr, ℕ, zero, suc, ◌+◌, ◌<◌, ◌≤◌, List, [], ◌∷◌, ◌++◌, length, get_or, set, Option, None, sym, subst, arith}
+use Rattle.std.specs.List.{Contains}
+use Rattle.std.proofs.lemmas.Bool.{cases_lt}
+use Rattle.std.proofs.lemmas.List.{get_or_append_left, get_or_push}
 use Rattle.ini_texts.specs.declared.lines.IniLine.{IniLine}
-use Rattle.ini_texts.specs.declared.lines.LineMeaning.{LineMeaning}
-use Rattle.ini_texts.specs.declared.lines.LineMeaning.TheVariants as line
-use Rattle.ini_texts.specs.Numbers.{holds, with_section, names_behind, name_at, AreNumbers, FitRows, row_list, bases_at, left_to_pass, IsReached, ReachedIn, IsOrdered, IsWithin}
-use Rattle.ini_texts.specs.Sections.{bases_named, is_section_line, is_section}
+use Rattle.ini_texts.specs.Numbers.{name_at, AreNumbers, bases_at, left_to_pass, ReachedIn, IsWithin}
+use Rattle.ini_texts.specs.Sections.{bases_named}
 use Rattle.ini_texts.specs.Words.{Bytes}
 
 -- ---- rows

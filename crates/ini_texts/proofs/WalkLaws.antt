@@ -1,11 +1,10 @@
 -- Laws of the walk that finds an order of sections.
-use Rattle.std.proofs.Common.{◌≡◌, ◌≢◌, inl, inr, ◌⊎◌, ℕ, zero, suc, ◌+◌, ◌-◌, ◌<◌, ◌≤◌, Bool, true, false, List, [], ◌∷◌, ◌++◌, length, get_or, set, take, replicate, Option, Some, None, refl, sym, ap, subst, ◌∙◌, arith, Result, Ok, Err}
-use Rattle.std.specs.List.{All, Contains}
-use Rattle.std.proofs.lemmas.Bool.{cases_Bool, cases_lt, cases_eq, false≢true}
+use Rattle.std.proofs.Common.{◌≡◌, inl, inr, ◌⊎◌, ℕ, zero, suc, ◌+◌, ◌<◌, ◌≤◌, Bool, true, false, List, [], ◌∷◌, ◌++◌, length, get_or, set, take, replicate, Option, Some, None, sym, ap, subst, ◌∙◌, arith}
+use Rattle.std.specs.List.{Contains}
+use Rattle.std.proofs.lemmas.Bool.{cases_lt, cases_eq, false≢true}
 use Rattle.std.proofs.lemmas.List.{get_or_append_left, get_or_push, get_or_default, length_push, length-set, get_or-set_same, get_or-set_other, get_or_past, take-append-le, take_at, length-replicate, get_or-replicate}
 use Rattle.std.proofs.lemmas.List.Elements.{All-contains, Contains-push_cases, Contains-append_left, Contains-push, Contains-get_or}
-use Rattle.ini_texts.specs.Counts.{AreBelow}
-use Rattle.ini_texts.specs.Numbers.{bases_at, passed_at, is_done_at, left_to_pass, IsReached, ReachedIn, IsOrdered, IsWithin, IsWalk, AreRows, SettlesOrder}
+use Rattle.ini_texts.specs.Numbers.{bases_at, passed_at, is_done_at, left_to_pass, IsReached, IsOrdered, IsWithin, IsWalk, AreRows}
 use Rattle.ini_texts.proofs.RowLaws.{no_depth_in_circle, no_depth_above, passes_one}
 
 pub in_path : (path front : List ℕ) (top : ℕ) → path ≡ front ++ top ∷ [] → Contains path top

@@ -1,5 +1,6 @@
 pub mod Counts
 pub mod Entries
+pub mod Kept
 pub mod Merge
 pub mod Numbered
 pub mod Numbers

@@ -1,5 +1,5 @@
 -- Lines of sections by their numbers.
-use Rattle.std.specs.Prelude.{◌≡◌, ℕ, ◌<◌, Bool, List, [], ◌∷◌, ◌++◌, length, map, slice_index, slice_index_or, Option, Some, None, Result, Ok, Err}
+use Rattle.std.specs.Prelude.{◌≡◌, ℕ, List, [], ◌∷◌, ◌++◌, length, map, slice_index_or, Option, Some, None, Result, Ok, Err}
 use Rattle.ini_texts.specs.declared.error.ChainError.{ChainError}
 use Rattle.ini_texts.specs.declared.error.ChainError.TheVariants as errors
 use Rattle.ini_texts.specs.declared.lines.IniLine.{IniLine}

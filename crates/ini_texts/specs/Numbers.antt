@@ -1,6 +1,6 @@
 -- Sections by numbers, and what each extends.
-use Rattle.std.specs.Prelude.{◌≡◌, ◌≢◌, ◌⊎◌, ℕ, zero, suc, ◌+◌, ◌-◌, ◌<◌, ◌≤◌, Bool, true, false, not, List, [], ◌∷◌, ◌++◌, length, map, slice_index_or, take, Option, Some, None, Result, Ok, Err, if◌then◌else◌}
-use Rattle.std.specs.List.{AllZip, Contains, filter, list_any}
+use Rattle.std.specs.Prelude.{◌≡◌, ◌⊎◌, ℕ, zero, suc, ◌+◌, ◌-◌, ◌<◌, Bool, true, false, not, List, [], ◌∷◌, ◌++◌, length, map, slice_index_or, take, Option, Some, None, Result, Ok, Err, if◌then◌else◌}
+use Rattle.std.specs.List.{Contains, filter, list_any}
 use Rattle.std.specs.Str.{bytes_eq}
 use Rattle.ini_texts.specs.declared.order.Walk.{Walk}
 use Rattle.ini_texts.specs.declared.order.Next.{Next}
@@ -8,9 +8,8 @@ use Rattle.ini_texts.specs.declared.order.Next.TheVariants as next
 use Rattle.ini_texts.specs.declared.lines.IniLine.{IniLine}
 use Rattle.ini_texts.specs.declared.lines.LineMeaning.{LineMeaning}
 use Rattle.ini_texts.specs.declared.lines.LineMeaning.TheVariants as line
-use Rattle.ini_texts.specs.Counts.{same_number, AreBelow}
-use Rattle.ini_texts.specs.Merge.{IsMerge}
-use Rattle.ini_texts.specs.Sections.{general, bases_named, IsLineWithin, IsLine}
+use Rattle.ini_texts.specs.Counts.{AreBelow}
+use Rattle.ini_texts.specs.Sections.{general, bases_named}
 use Rattle.ini_texts.specs.Words.{Bytes}
 
 -- the name is one of those

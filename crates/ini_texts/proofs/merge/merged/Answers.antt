@@ -1,9 +1,9 @@
-use Rattle.std.proofs.Common.{◌≡◌, ◌<◌, ◌++◌, ◌∷◌, [], ℕ, List, Some, None, length, sym, ap, ◌∙◌, subst}
+use Rattle.std.proofs.Common.{◌≡◌, ◌<◌, ◌++◌, ◌∷◌, [], ℕ, List, Some, None, length, sym, ◌∙◌, subst}
 use Rattle.std.specs.List.{All}
 use Rattle.std.proofs.lemmas.Bool.{false≢true}
-use Rattle.ini_texts.specs.Counts.{same_number, AreAllBelow, Counts}
-use Rattle.ini_texts.specs.Merge.{first_free, without}
-use Rattle.ini_texts.proofs.MergeLaws.{IsMerging, all_lengths, fewer_numbers, all_without_below, merging_begins, merging_goes_on, merging_ends, merging_stuck, none_counted}
+use Rattle.ini_texts.specs.Counts.{same_number, AreAllBelow}
+use Rattle.ini_texts.specs.Merge.{first_free}
+use Rattle.ini_texts.proofs.MergeLaws.{IsMerging, all_lengths, fewer_numbers, all_without_below, merging_goes_on, merging_ends, merging_stuck, none_counted}
 use Rattle.ini_texts.proofs.merge.merged.Goals as goal
 
 pub loop-number-smaller : goal.loop-number-smaller

@@ -1,6 +1,5 @@
-use Rattle.std.proofs.Common.{◌≡◌, ◌++◌, length, List, ℕ}
-use Rattle.ini_texts.specs.Counts.{same_number, AreAllBelow, Counts}
-use Rattle.ini_texts.specs.Merge.{IsMerge}
+use Rattle.std.proofs.Common.{length}
+use Rattle.ini_texts.specs.Counts.{AreAllBelow, Counts}
 use Rattle.ini_texts.proofs.MergeLaws.{IsMerging, all_lengths}
 use Rattle.ini_texts.proofs.merge.merged.Given as goal
 

@@ -1,7 +1,7 @@
-use Rattle.std.proofs.Common.{◌≡◌, ◌<◌, ◌+◌, ◌++◌, ℕ, List, take, drop, set, get_or, length, sym, ap, ◌∙◌, subst, arith, slice_index}
+use Rattle.std.proofs.Common.{◌≡◌, ◌<◌, ℕ, List, set, get_or, length, sym, ap, ◌∙◌, subst, arith}
 use Rattle.std.proofs.lemmas.List.Elements.{All-set}
-use Rattle.ini_texts.specs.Counts.{same_number, held, behind, AreBelow, AreAllBelow, Counts}
-use Rattle.ini_texts.specs.Merge.{tail, without_head, without}
+use Rattle.ini_texts.specs.Counts.{same_number, AreBelow, AreAllBelow}
+use Rattle.ini_texts.specs.Merge.{without_head}
 use Rattle.ini_texts.proofs.MergeLaws.{behind_at, behind-set, without_below, taken_more, taken_next}
 use Rattle.ini_texts.proofs.merge.take.Goals as goal
 

@@ -1,5 +1,4 @@
-use Rattle.std.proofs.Common.{◌≡◌, ◌<◌, Some, slice_get, sym, ap, ◌∙◌, List, ℕ, arith}
-use Rattle.ini_texts.specs.Counts.{held}
+use Rattle.std.proofs.Common.{◌≡◌, Some, slice_get, sym, ap, ◌∙◌, List, ℕ, arith}
 use Rattle.ini_texts.specs.Merge.{tail}
 use Rattle.ini_texts.proofs.MergeLaws.{next_below, held_first}
 use Rattle.ini_texts.proofs.merge.take_head.Goals as goal

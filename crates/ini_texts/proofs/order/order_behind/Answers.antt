@@ -1,7 +1,7 @@
-use Rattle.std.proofs.Common.{◌≡◌, ◌<◌, ◌++◌, ◌∷◌, [], ℕ, List, Bool, true, false, Ok, length, refl, sym, ap, ◌∙◌, subst}
+use Rattle.std.proofs.Common.{◌≡◌, ◌++◌, ◌∷◌, [], Bool, Ok, length, refl, sym, ◌∙◌, subst}
 use Rattle.std.specs.declared.alloc.AllocError.{AllocError}
 use Rattle.ini_texts.specs.declared.order.Walk.{Walk}
-use Rattle.ini_texts.specs.Numbers.{IsWalk, SettlesStep, steps_left}
+use Rattle.ini_texts.specs.Numbers.{IsWalk, SettlesStep}
 use Rattle.ini_texts.proofs.WalkLaws.{walk_begins, in_path}
 use Rattle.ini_texts.proofs.order.order_behind.Goals as goal
 

@@ -1,4 +1,4 @@
-use Rattle.std.proofs.Common.{◌∙◌, ap, sym}
+use Rattle.std.proofs.Common.{◌∙◌, ap}
 use Rattle.ini_texts.proofs.MergeLaws.{tail_of_drop}
 use Rattle.ini_texts.specs.Merge.{tail}
 use Rattle.ini_texts.proofs.merge.Rest.advance.Goals as goal

@@ -1,4 +1,4 @@
-use Rattle.std.proofs.Common.{◌≡◌, ◌<◌, ◌+◌, ◌++◌, ◌∷◌, [], ℕ, List, Bool, true, set, length, sym, ap, ◌∙◌, subst, arith}
+use Rattle.std.proofs.Common.{◌≡◌, ◌<◌, ◌+◌, ◌++◌, ◌∷◌, [], ℕ, List, Bool, true, set, length, sym, subst, arith}
 use Rattle.ini_texts.specs.declared.order.Next.TheVariants as next
 use Rattle.ini_texts.specs.declared.order.Walk.{Walk}
 use Rattle.ini_texts.specs.Numbers.{IsWalk, IsNext, steps_left, left_to_pass}
