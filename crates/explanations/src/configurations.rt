@@ -113,40 +113,97 @@ fn begin(told: &mut Explanation, sources: &Sources<'_>, line: usize, name: &[u8]
     told.say(" extends ");
 }
 
-/// The one configuration that the one of that name extends, where that is all right; says what is wrong otherwise, if anything is.
+/// How many chains are looked for, at most, until it is known which configurations can't be put in order.
+const MOST_CHAINS: usize = 16;
+
+/// Whether a configuration has no chain.
+fn is_faulty(alloc: Global, text: &IniText, name: &[u8]) -> Result<bool, NoMemory> {
+    match text.chain(alloc, name) {
+        Ok(_) => Ok(false),
+        Err(ChainError::NoMemory(error)) => Err(error),
+        Err(_) => Ok(true),
+    }
+}
+
+/// The first of these configurations that has no chain, where so many chains may still be looked for. One base alone is always in order.
+fn faulty_base<'a>(
+    alloc: Global,
+    text: &IniText,
+    bases: &'a [Text],
+    left: &mut usize,
+) -> Result<Option<&'a [u8]>, NoMemory> {
+    if let [base] = bases {
+        return Ok(Some(base.as_bytes()));
+    }
+    for base in bases {
+        if *left == 0 {
+            return Ok(None);
+        }
+        *left -= 1;
+        if is_faulty(alloc, text, base.as_bytes())? {
+            return Ok(Some(base.as_bytes()));
+        }
+    }
+    Ok(None)
+}
+
+/// The first of these names of which there is no configuration.
+fn missing_base<'a>(names: &[&[u8]], bases: &'a [Text]) -> Option<&'a [u8]> {
+    for base in bases {
+        if !exists(names, base.as_bytes()) {
+            return Some(base.as_bytes());
+        }
+    }
+    None
+}
+
+/// Says which configurations the one of that name extends, and that they can't be put in order; where no more chains may be looked for,
+/// perhaps only others that these extend.
+fn tell_unordered(told: &mut Explanation, bases: &[Text], left: usize) {
+    let mut before = "";
+    for base in bases {
+        told.say(before);
+        told.say_name(base.as_bytes());
+        before = ", ";
+    }
+    told.say(if left == 0 { ", which, with what they extend," } else { ", which" });
+    told.say(" can't be put in order: each stands before those that it extends, and they stand as they are named");
+}
+
+/// The configuration with no chain that the one of that name extends; says what is wrong where that is with this one.
 fn followed<'a>(
     told: &mut Explanation,
     sources: &Sources<'_>,
-    lines: &'a [IniLine],
+    text: &'a IniText,
     names: &[&[u8]],
     walked: &[u8],
+    left: &mut usize,
 ) -> Option<&'a [u8]> {
-    let (line, bases) = bases_of(lines, walked)?;
-    let [base] = bases else {
+    let (line, bases) = bases_of(text.lines(), walked)?;
+    if let Some(base) = missing_base(names, bases) {
         begin(told, sources, line, walked);
-        told.say("several configurations; one is supported so far");
-        return None;
-    };
-    if !exists(names, base.as_bytes()) {
-        begin(told, sources, line, walked);
-        told.say_name(base.as_bytes());
+        told.say_name(base);
         told.say(", which isn't there; there are: ");
         told.say_list(names);
         return None;
     }
-    Some(base.as_bytes())
-}
-
-/// Says what is wrong with the chain of the configuration, where these are all.
-fn tell_chain(told: &mut Explanation, sources: &Sources<'_>, lines: &[IniLine], names: &[&[u8]]) {
-    let mut walked = sources.config.as_bytes();
-    for _step in 0..=names.len() {
-        match followed(told, sources, lines, names, walked) {
-            Some(base) => walked = base,
-            None => return,
+    match faulty_base(told.alloc(), text, bases, left) {
+        Ok(Some(base)) => Some(base),
+        Ok(None) => {
+            begin(told, sources, line, walked);
+            tell_unordered(told, bases, *left);
+            None
+        }
+        Err(error) => {
+            told.refuse(error);
+            None
         }
     }
-    let line = match bases_of(lines, walked) {
+}
+
+/// Says that the configuration of that name extends itself in the end.
+fn tell_circle(told: &mut Explanation, sources: &Sources<'_>, text: &IniText, walked: &[u8]) {
+    let line = match bases_of(text.lines(), walked) {
         Some((line, _)) => line,
         None => 1,
     };
@@ -154,10 +211,29 @@ fn tell_chain(told: &mut Explanation, sources: &Sources<'_>, lines: &[IniLine], 
     told.say("itself in the end: take one 'extends' out of the circle");
 }
 
-/// Says what is wrong with the chain of the configuration in these lines.
-fn tell_chain_in(told: &mut Explanation, sources: &Sources<'_>, lines: &[IniLine]) {
-    match configurations(told.alloc(), lines) {
-        Ok(names) => tell_chain(told, sources, lines, names.as_slice()),
+/// Says what is wrong with the chain of the configuration, where these are all.
+fn tell_chain(told: &mut Explanation, sources: &Sources<'_>, text: &IniText, names: &[&[u8]]) {
+    let mut left = MOST_CHAINS;
+    let mut walked = sources.config.as_bytes();
+    let mut passed: Vec<&[u8]> = Vec::new(told.alloc());
+    for _step in 0..=names.len() {
+        if is_among(walked, passed.as_slice()) {
+            return tell_circle(told, sources, text, walked);
+        }
+        if let Err(error) = passed.push(walked) {
+            return told.refuse(error.into());
+        }
+        match followed(told, sources, text, names, walked, &mut left) {
+            Some(base) => walked = base,
+            None => return,
+        }
+    }
+}
+
+/// Says what is wrong with the chain of the configuration in this text.
+fn tell_chain_in(told: &mut Explanation, sources: &Sources<'_>, text: &IniText) {
+    match configurations(told.alloc(), text.lines()) {
+        Ok(names) => tell_chain(told, sources, text, names.as_slice()),
         Err(error) => told.refuse(error),
     }
 }
@@ -165,7 +241,7 @@ fn tell_chain_in(told: &mut Explanation, sources: &Sources<'_>, lines: &[IniLine
 /// Says why a configuration has no chain.
 pub fn tell_no_chain(told: &mut Explanation, sources: &Sources<'_>) {
     match lines_of(told.alloc(), sources) {
-        Ok(text) => tell_chain_in(told, sources, text.lines()),
+        Ok(text) => tell_chain_in(told, sources, &text),
         Err(error) => told.refuse(error),
     }
 }

@@ -1,5 +1,9 @@
+pub mod Counts
 pub mod Entries
+pub mod Kept
+pub mod Merge
+pub mod Numbered
+pub mod Numbers
 pub mod Scans
 pub mod Sections
-pub mod Walk
 pub mod Words

@@ -1,7 +1,7 @@
 -- Sections, and which of them make a configuration.
 -- OMNeT++ Simulation Manual, "Sections", "Section Inheritance".
-use Rattle.std.specs.Prelude.{◌≡◌, ◌≢◌, ◌⊎◌, Bool, true, false, ◌||◌, List, [], ◌∷◌, ◌++◌, Option, Some, None, is_some, codes, Result, Ok, Err}
-use Rattle.std.specs.List.{cons_option, find, flat_map, list_any}
+use Rattle.std.specs.Prelude.{◌≡◌, ◌≢◌, ◌⊎◌, ℕ, zero, suc, Bool, true, false, not, ◌||◌, List, [], ◌∷◌, ◌++◌, Option, Some, None, is_some, codes, Result, Ok, Err}
+use Rattle.std.specs.List.{AllZip, cons_option, filter, find, flat_map, list_any}
 use Rattle.std.specs.Option.{option_and_then}
 use Rattle.std.specs.Str.{bytes_eq}
 use Rattle.ini_texts.specs.declared.error.ChainError.{ChainError}
@@ -12,6 +12,7 @@ use Rattle.ini_texts.specs.declared.entry.EntryMeaning.TheVariants as meaning
 use Rattle.ini_texts.specs.declared.lines.IniLine.{IniLine}
 use Rattle.ini_texts.specs.declared.lines.LineMeaning.{LineMeaning}
 use Rattle.ini_texts.specs.declared.lines.LineMeaning.TheVariants as line
+use Rattle.ini_texts.specs.Merge.{IsMerge}
 use Rattle.ini_texts.specs.Words.{Bytes}
 
 abbrev pub general : Bytes
@@ -80,22 +81,31 @@ first_bases entries = or_bases (option_and_then (λ (e : Entry). bases_said e.me
 abbrev pub bases_of : Bytes → List IniLine → List Bytes
 bases_of name lines = first_bases (entries_under name lines)
 
--- nothing is extended but General, which ends each chain anyway
-abbrev pub ends_chain : List Bytes → Type 0
-ends_chain bases = (bases ≡ []) ⊎ (bases ≡ general ∷ [])
+-- the configurations that a section extends. General is none of them, since it ends each chain anyway.
+abbrev pub bases_named : Bytes → List IniLine → List Bytes
+bases_named name lines = filter (λ base. not (bytes_eq base general)) (bases_of name lines)
 
--- These sections follow the one of that name: its base, what that extends, and so on. So far a section has one base.
-abbrev pub AreAncestors : List IniLine → Bytes → List Bytes → Type 0
-AreAncestors lines name [] = ends_chain (bases_of name lines)
-AreAncestors lines name (base ∷ more) =
-    (bases_of name lines ≡ base ∷ []) × (base ≢ general) × (is_section base lines ≡ true) × AreAncestors lines base more
+-- A line of a configuration, where those that it extends, and what these extend, and so on, go that deep: the configuration itself,
+-- and then the merge of the lines of its bases and the list of the bases. Each base is there.
+abbrev pub IsLineWithin : ℕ → List IniLine → Bytes → List Bytes → Type 0
+IsLineWithin zero lines name line = ⊥
+IsLineWithin (suc depth) lines name [] = ⊥
+IsLineWithin (suc depth) lines name (first ∷ behind) =
+    (first ≡ name)
+    × (ls : List (List Bytes))
+    × AllZip (λ base line. (is_section base lines ≡ true) × IsLineWithin depth lines base line) (bases_named name lines) ls
+    × IsMerge bytes_eq (ls ++ bases_named name lines ∷ []) behind
 
--- THE CHAIN of a configuration: its own section and its ancestors, and at last General. Where names extend each other in
--- a circle there is none.
+-- THE LINE of a configuration: itself, and then the merge of the lines of its bases and the list of the bases. Where names extend
+-- each other in a circle they go to no depth, and there is none.
+abbrev pub IsLine : List IniLine → Bytes → List Bytes → Type 0
+IsLine lines name line = (depth : ℕ) × IsLineWithin depth lines name line
+
+-- THE CHAIN of a configuration: its line, and at last General.
 abbrev pub IsChain : List IniLine → Bytes → List Bytes → Type 0
 IsChain lines config chain =
     ((config ≡ general) × (chain ≡ general ∷ []))
-    ⊎ ((config ≢ general) × (more : List Bytes) × (chain ≡ config ∷ (more ++ general ∷ [])) × AreAncestors lines config more)
+    ⊎ ((config ≢ general) × (line : List Bytes) × (chain ≡ line ++ general ∷ []) × IsLine lines config line)
 
 -- a configuration has at most one chain
 abbrev pub HasOneChain : List IniLine → Bytes → Type 0
@@ -107,8 +117,8 @@ entries_along chain lines = flat_map (λ name. entries_under name lines) chain
 
 -- ---- refusals
 
--- Why a configuration has no chain: there is no section of that name; or it extends what is not there, several names, or
--- itself.
+-- Why a configuration has no chain: there is no section of that name; or it extends, itself or by others, what is not there,
+-- names that can't be put in order, or itself.
 abbrev pub RefusesChain : List IniLine → Bytes → ChainError → Type 0
 RefusesChain lines config errors.NoSuchConfig = is_section config lines ≡ false
 RefusesChain lines config errors.ChainFault =

@@ -2,30 +2,25 @@
 //!
 //! OMNeT++ Simulation Manual, "Section Inheritance".
 
-ghost use Rattle.std.specs.Prelude.{◌≡◌, [], ◌∷◌, ◌++◌, true, false, List, Err, IfOk, IfErr, OnOk};
-ghost use Rattle.std.specs.List.{list_any};
-ghost use Rattle.std.specs.Option.{option_copied};
+ghost use Rattle.std.specs.Prelude.{◌≡◌, ◌≢◌, ℕ, ◌<◌, [], ◌∷◌, ◌++◌, true, false, List, None, Err, map, length, slice_index_or, IfOk, IfErr, OnOk};
+ghost use Rattle.std.specs.List.{Contains, list_any};
 ghost use Rattle.std.specs.Str.{bytes_eq};
 ghost use Rattle.ini_texts.specs.declared.error.ChainError.TheVariants as errors;
 ghost use Rattle.ini_texts.specs.declared.lines.IniLine.{IniLine as LineSaid};
-ghost use Rattle.ini_texts.specs.Sections.{general, is_section_line, is_section, bases_said, or_bases, bases_of, IsChain, RefusesChain, AnswersChain};
+ghost use Rattle.ini_texts.specs.Counts.{AreBelow, AreAllBelow, HoldsZeros, ZerosBehind};
+ghost use Rattle.ini_texts.specs.Numbers.{name_at, names_behind, bases_at, FitRows, IsOrdered, IsReached};
+ghost use Rattle.ini_texts.specs.Numbered.{line_at, SettlesLine, SettlesRow, SettlesNumbered, SettlesChain};
+ghost use Rattle.ini_texts.specs.Sections.{general, is_section_line, is_section, IsChain, RefusesChain, AnswersChain};
 ghost use Rattle.ini_texts.specs.Words.{Bytes};
-ghost use Rattle.ini_texts.specs.Walk.{holds, IsStep, IsStepTo, SettlesWalk, SettlesChain};
 
-use crate::entry::EntryMeaning;
+use crate::bases::{base_rows, is_general, number_of, section_names};
 use crate::error::ChainError;
 use crate::lines::{IniLine, IniText, LineMeaning};
-use crate::scan::{Wanted, first_under};
-use sim_values::text::{Text, spells};
+use crate::merge::{Rest, merge};
+use crate::order::{bases_at, order_behind};
+use sim_values::text::Text;
 use sqlite_items::Items;
 use std::alloc::{AllocError, Global};
-
-/// Whether a name is that of the section that ends each chain.
-fn is_general(name: &[u8]) -> bool
-    ensures { result ≡ bytes_eq name.now general }
-{
-    spells(name, b"General")
-}
 
 /// Whether a line begins a section of that name.
 fn is_section_line(name: &[u8], line: &IniLine) -> bool
@@ -51,108 +46,242 @@ fn is_section(lines: &[IniLine], name: &[u8]) -> bool
     is_general(name) || begins_section(lines, name)
 }
 
-/// Whether a name is one of those.
-fn holds(names: &[Text], name: &[u8]) -> bool
-    ensures { result ≡ holds names.now name.now }
+/// The line of that number.
+fn line_at(lines: &[Items<usize>], number: usize) -> &[usize]
+    ensures { result.now ≡ line_at lines.now number }
 {
-    names.iter().any(|other| other.is(name))
-}
-
-/// The names that an entry of the option `extends` has.
-fn bases_said(meaning: &EntryMeaning) -> Option<&[Text]>
-    ensures { option_copied result ≡ bases_said meaning.now }
-{
-    match meaning {
-        EntryMeaning::Extends(names) => Some(names.as_slice()),
-        _ => None,
+    match lines.get(number) {
+        Some(line) => line.as_slice(),
+        None => &[],
     }
 }
 
-/// The bases that the first entry of the option `extends` names in the section of that name.
-fn bases_of<'a>(lines: &'a [IniLine], name: &[u8]) -> Option<&'a [Text]>
-    ensures { or_bases (option_copied result) [] ≡ bases_of name.now lines.now }
+/// What is merged behind a section: the lines of those that it extends, and the list of these.
+fn rests_of(alloc: Global, lines: &[Items<usize>], row: &[usize]) -> Result<Vec<Rest>, AllocError>
+    ensures { IfOk result (λ rests. rests.items ≡ map (line_at lines.now) row.now ++ row.now ∷ []) }
 {
-    match first_under(lines, name, Wanted::Bases) {
-        Some(entry) => bases_said(&entry.meaning),
-        None => None,
+    let mut rests = Vec::new(alloc);
+    for base in row {
+        rests.push(Rest::of(alloc, line_at(lines, *base))?)?;
+    }
+    rests.push(Rest::of(alloc, row)?)?;
+    Ok(rests)
+}
+
+/// A section and the merge of these lists, if they have one.
+fn line_before(
+    alloc: Global,
+    number: usize,
+    rests: &mut [Rest],
+    waiting: &mut [u128],
+) -> Result<Option<Items<usize>>, AllocError>
+    requires below { AreAllBelow (length waiting.old) rests.old }
+    requires zeros { HoldsZeros waiting.old }
+    ensures line { SettlesLine number rests.old result }
+    ensures zeros { ZerosBehind waiting.new result }
+{
+    match merge(alloc, rests, waiting)? {
+        Some(behind) => {
+            let mut line = Items::new(alloc);
+            line.push(number)?;
+            line.append(behind)?;
+            Ok(Some(line))
+        }
+        None => Ok(None),
     }
 }
 
-/// What follows a section on a chain.
-enum Step<'a> {
-    /// General.
-    End,
-    /// The base of that name.
-    To(&'a [u8]),
-    /// Nothing: the section extends what it can't.
-    Fault,
+/// The line of a section, if it has one, where those that it extends have these.
+fn line_of(
+    alloc: Global,
+    lines: &[Items<usize>],
+    row: &[usize],
+    number: usize,
+    waiting: &mut [u128],
+) -> Result<Option<Items<usize>>, AllocError>
+    requires below { AreAllBelow (length waiting.old) (map (line_at lines.now) row.now ++ row.now ∷ []) }
+    requires zeros { HoldsZeros waiting.old }
+    ensures line { SettlesLine number (map (line_at lines.now) row.now ++ row.now ∷ []) result }
+    ensures zeros { ZerosBehind waiting.new result }
+{
+    let mut rests = rests_of(alloc, lines, row)?;
+    line_before(alloc, number, rests.as_mut_slice(), waiting)
 }
 
-/// What follows a section that extends just this one, behind those that were walked.
-fn step_to<'a>(lines: &[IniLine], walked: &[Text], base: &'a [u8]) -> Step<'a>
-    ensures { IsStepTo lines.now walked.now base.now result }
+/// The line of the section of that number, if it has one, where those that it extends have these.
+fn line_in(
+    alloc: Global,
+    rows: &[Option<Items<usize>>],
+    lines: &[Items<usize>],
+    number: usize,
+    waiting: &mut [u128],
+) -> Result<Option<Items<usize>>, AllocError>
+    requires below { AreAllBelow (length waiting.old) (map (line_at lines.now) (bases_at rows.now number) ++ bases_at rows.now number ∷ []) }
+    requires zeros { HoldsZeros waiting.old }
+    ensures line { SettlesRow (slice_index_or rows.now number None) number lines.now result }
+    ensures zeros { ZerosBehind waiting.new result }
 {
-    if is_general(base) {
-        return Step::End;
+    match bases_at(rows, number) {
+        Some(row) => line_of(alloc, lines, row, number, waiting),
+        None => Ok(None),
     }
-    if is_section(lines, base) && !holds(walked, base) {
-        Step::To(base)
-    } else {
-        Step::Fault
+}
+
+/// So many lists of nothing.
+fn no_lines(alloc: Global, count: usize) -> Result<Items<Items<usize>>, AllocError>
+    ensures { IfOk result (λ lines. length lines ≡ count) }
+{
+    let mut lines = Items::new(alloc);
+    for _ in 0..count {
+        lines.push(Items::new(alloc))?;
     }
+    Ok(lines)
 }
 
-/// What follows the section of that name, behind those that were walked.
-fn next_step<'a>(lines: &'a [IniLine], walked: &[Text], name: &[u8]) -> Step<'a>
-    ensures { IsStep lines.now walked.now name.now result }
+/// So many zeros.
+fn nothing_counted(alloc: Global, count: usize) -> Result<Vec<u128>, AllocError>
+    ensures size { IfOk result (λ waiting. length waiting.items ≡ count) }
+    ensures zeros { IfOk result (λ waiting. HoldsZeros waiting.items) }
 {
-    match bases_of(lines, name) {
-        None | Some([]) => Step::End,
-        Some([base]) => step_to(lines, walked, base.as_bytes()),
-        _ => Step::Fault,
-    }
+    Ok(vec![in alloc; 0; count]?)
 }
 
-/// Adds a copy of a name.
-fn push_name(alloc: Global, names: &mut Items<Text>, name: &[u8]) -> Result<(), AllocError>
-    ensures { OnOk result (names.new ≡ names.old ++ name.now ∷ []) }
+/// The line of a section, if it has one, from those of the sections before it in an order, in which each section stands behind those
+/// that it extends. The text is named in the contract alone.
+fn line_along(
+    alloc: Global,
+    _text: &[IniLine],
+    names: &[Text],
+    rows: &[Option<Items<usize>>],
+    order: &[usize],
+    root: usize,
+    waiting: &mut [u128],
+) -> Result<Option<Items<usize>>, AllocError>
+    requires names { names.now ≡ names_behind [] _text.now }
+    requires rows { FitRows _text.now names.now rows.now }
+    requires within { root < length names.now }
+    requires ordered { IsOrdered rows.now order.now }
+    requires whole { Contains order.now root }
+    requires reached { (k : ℕ) → Contains order.now k → IsReached rows.now root k }
+    requires counted { length waiting.old ≡ length names.now }
+    requires zeros { HoldsZeros waiting.old }
+    ensures { SettlesNumbered _text.now names.now root result }
 {
-    names.push(Text::from_bytes(alloc, name)?)
-}
-
-/// A configuration and its ancestors. A name that comes again is a circle.
-fn walk(alloc: Global, lines: &[IniLine], config: &[u8]) -> Result<Items<Text>, ChainError>
-    ensures { SettlesWalk lines.now config.now result }
-{
-    let mut walked = Items::new(alloc);
-    let mut name = config;
-    push_name(alloc, &mut walked, name)?;
-    loop {
-        match next_step(lines, walked.as_slice(), name) {
-            Step::End => return Ok(walked),
-            Step::Fault => return Err(ChainError::ChainFault),
-            Step::To(base) => {
-                push_name(alloc, &mut walked, base)?;
-                name = base;
-            }
+    let mut lines = no_lines(alloc, names.len())?;
+    for number in order {
+        match line_in(alloc, rows, lines.as_slice(), *number, waiting)? {
+            Some(line) => lines.set(*number, line),
+            None => return Ok(None),
         }
     }
+    Ok(Some(lines.remove(root)))
+}
+
+/// The line of a section, if it has one, where what it extends has this order.
+fn ordered_line(
+    alloc: Global,
+    lines: &[IniLine],
+    names: &[Text],
+    rows: &[Option<Items<usize>>],
+    order: &[usize],
+    root: usize,
+) -> Result<Option<Items<usize>>, AllocError>
+    requires names { names.now ≡ names_behind [] lines.now }
+    requires rows { FitRows lines.now names.now rows.now }
+    requires within { root < length names.now }
+    requires ordered { IsOrdered rows.now order.now }
+    requires whole { Contains order.now root }
+    requires reached { (k : ℕ) → Contains order.now k → IsReached rows.now root k }
+    ensures { SettlesNumbered lines.now names.now root result }
+{
+    let mut waiting = nothing_counted(alloc, names.len())?;
+    line_along(
+        alloc,
+        lines,
+        names,
+        rows,
+        order,
+        root,
+        waiting.as_mut_slice(),
+    )
+}
+
+/// The line of the section of that number, if it has one.
+fn numbered_line(
+    alloc: Global,
+    lines: &[IniLine],
+    names: &[Text],
+    root: usize,
+) -> Result<Option<Items<usize>>, AllocError>
+    requires names { names.now ≡ names_behind [] lines.now }
+    requires within { root < length names.now }
+    ensures { SettlesNumbered lines.now names.now root result }
+{
+    let rows = base_rows(alloc, lines, names)?;
+    match order_behind(alloc, rows.as_slice(), root)? {
+        Some(order) => ordered_line(alloc, lines, names, rows.as_slice(), order.as_slice(), root),
+        None => Ok(None),
+    }
+}
+
+/// The names of these numbers, and at last General.
+fn chain_named(alloc: Global, names: &[Text], line: &[usize]) -> Result<Items<Text>, AllocError>
+    requires { AreBelow (length names.now) line.now }
+    ensures { IfOk result (λ chain. chain ≡ map (name_at names.now) line.now ++ general ∷ []) }
+{
+    let mut chain = Items::new(alloc);
+    for number in line {
+        chain.push(names[*number].copy(alloc)?)?;
+    }
+    chain.push(Text::from_bytes(alloc, b"General")?)?;
+    Ok(chain)
+}
+
+/// The chain of the section of that number.
+fn chain_from(
+    alloc: Global,
+    lines: &[IniLine],
+    names: &[Text],
+    root: usize,
+) -> Result<Items<Text>, ChainError>
+    requires names { names.now ≡ names_behind [] lines.now }
+    requires within { root < length names.now }
+    requires other { name_at names.now root ≢ general }
+    ensures { SettlesChain lines.now (name_at names.now root) result }
+{
+    match numbered_line(alloc, lines, names, root)? {
+        Some(line) => Ok(chain_named(alloc, names, line.as_slice())?),
+        None => Err(ChainError::ChainFault),
+    }
+}
+
+/// The chain of General.
+fn chain_of_general(alloc: Global) -> Result<Items<Text>, AllocError>
+    ensures { IfOk result (λ chain. chain ≡ general ∷ []) }
+{
+    let mut chain = Items::new(alloc);
+    chain.push(Text::from_bytes(alloc, b"General")?)?;
+    Ok(chain)
 }
 
 /// The chain of a configuration that is there.
 fn chain_of(alloc: Global, lines: &[IniLine], config: &[u8]) -> Result<Items<Text>, ChainError>
+    requires { is_section config.now lines.now ≡ true }
     ensures { SettlesChain lines.now config.now result }
 {
-    let mut chain = Items::new(alloc);
-    if !is_general(config) {
-        chain = walk(alloc, lines, config)?;
+    if is_general(config) {
+        return Ok(chain_of_general(alloc)?);
     }
-    push_name(alloc, &mut chain, b"General")?;
-    Ok(chain)
+    let names = section_names(alloc, lines)?;
+    match number_of(names.as_slice(), config) {
+        Some(root) => chain_from(alloc, lines, names.as_slice(), root),
+        None => Err(ChainError::ChainFault),
+    }
 }
 
 impl IniText {
-    /// The names of the sections that make a configuration: its own, its ancestors', and General.
+    /// The names of the sections that make a configuration: its own, those that it extends, itself or by others, and at last General.
+    /// Where it extends several, their lines are merged: again and again the first head of a line that stands in no tail of one.
     ///
     /// [`ChainError::NoSuchConfig`] where there is no such section, [`ChainError::ChainFault`] where it has no chain,
     /// and [`ChainError::NoMemory`] where memory ran out.

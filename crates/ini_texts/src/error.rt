@@ -14,7 +14,7 @@ pub enum ChainError {
     /// There is no section of that name.
     #[error("there is no such configuration")]
     NoSuchConfig,
-    /// It extends a configuration that is not there, several of them, or, in the end, itself.
+    /// It extends, itself or by others, a configuration that is not there, several that can't be put in order, or, in the end, itself.
     #[error("a configuration extends what it can't")]
     ChainFault,
     /// Memory ran out.

@@ -1,5 +1,6 @@
 //! What holds of the definitions themselves.
 
+ghost use Rattle.ini_texts.specs.Kept.{KeepsOrder};
 ghost use Rattle.ini_texts.specs.Sections.{HasOneChain};
 
 use crate::lines::IniLine;
@@ -7,4 +8,9 @@ use crate::lines::IniLine;
 /// Two chains of one configuration are equal.
 pub fn one_chain(lines: &[IniLine], config: &[u8])
     ensures { HasOneChain lines.now config.now }
+{}
+
+/// In the line of a configuration those that it extends stand as it names them, and the line of each of them stands in its order.
+pub fn keeps_order(lines: &[IniLine], config: &[u8])
+    ensures { KeepsOrder lines.now config.now }
 {}

@@ -4,6 +4,7 @@
 //! OMNeT++ Simulation Manual, "Configuring Simulations".
 #![tactic(auto)]
 
+pub mod bases;
 pub mod chain;
 pub mod copies;
 pub mod entries;
@@ -11,5 +12,7 @@ pub mod entry;
 pub mod error;
 pub mod laws;
 pub mod lines;
+pub mod merge;
+pub mod order;
 pub mod scan;
 pub mod speaks;

@@ -1,4 +1,4 @@
-use Rattle.ini_texts.proofs.ChainLaws.{one_chain_law}
+use Rattle.ini_texts.proofs.LineLaws.{one_chain_law}
 use Rattle.ini_texts.proofs.laws.one_chain.Goals as goal
 
 pub returns : goal.returns

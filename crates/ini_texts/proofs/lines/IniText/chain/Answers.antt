@@ -1,8 +1,8 @@
 use Rattle.std.proofs.Common.{◌≡◌, true, List, sym, ap, subst, ◌∙◌}
 use Rattle.ini_texts.specs.declared.lines.IniLine.{IniLine}
 use Rattle.ini_texts.specs.Sections.{is_section}
-use Rattle.ini_texts.specs.Walk.{SettlesChain}
-use Rattle.ini_texts.proofs.ChainLaws.{complete_by, refused_by}
+use Rattle.ini_texts.specs.Numbered.{SettlesChain}
+use Rattle.ini_texts.proofs.NumberedLaws.{complete_by, refused_by}
 use Rattle.ini_texts.proofs.lines.IniText.chain.Goals as goal
 
 pub returns-clause-complete : goal.returns-clause-complete
