@@ -166,8 +166,14 @@ fn tell_unordered(told: &mut Explanation, bases: &[Text], left: usize) {
         told.say_name(base.as_bytes());
         before = ", ";
     }
-    told.say(if left == 0 { ", which, with what they extend," } else { ", which" });
-    told.say(" can't be put in order: each stands before those that it extends, and they stand as they are named");
+    told.say(if left == 0 {
+        ", which, with what they extend,"
+    } else {
+        ", which"
+    });
+    told.say(
+        " can't be put in order: each stands before those that it extends, and they stand as they are named",
+    );
 }
 
 /// The configuration with no chain that the one of that name extends; says what is wrong where that is with this one.
