@@ -57,11 +57,12 @@ impl<C: Catalogue> Drop for Desk<C> {
 }
 
 impl<C: Catalogue> Desk<C> {
-    /// The desk of a session.
+    /// The desk of a session. The limit of its last run is 0, as long as none was asked for.
     pub fn of_session(alloc: Global, session: Session<C>) -> Desk<C>
         requires sound { IsSound C.behaviour SimpleModule-box session }
         ensures sound { IsSettled C.behaviour SimpleModule-box result }
         ensures editing { editing_at SimpleModule-box result ≡ editing_of SimpleModule-box session }
+        ensures limit { limit_at result ≡ 0 }
     {
         Desk {
             alloc,
@@ -138,7 +139,7 @@ impl<C: Catalogue> Desk<C> {
         }
     }
 
-    /// Goes on with the last run.
+    /// Goes on with the last run. Where memory runs out there is no answer: no run is done, or this one is.
     pub fn go_on(&mut self) -> Result<DeskTurn, NoMemory>
         requires sound { IsSettled C.behaviour SimpleModule-box self.old }
         ensures kept { StaysSettled C.behaviour SimpleModule-box self.old self.new }
@@ -146,6 +147,9 @@ impl<C: Catalogue> Desk<C> {
         ensures ran { let before = editing_at SimpleModule-box self.old in
             let after = editing_at SimpleModule-box self.new in
             IfOk result (λ turn. IsRunTurn C.behaviour before (limit_at self.old) turn after) }
+        ensures memory { let before = editing_at SimpleModule-box self.old in
+            let after = editing_at SimpleModule-box self.new in
+            OnErr result (MayBeDone C.behaviour before (limit_at self.old) after) }
     {
         self.run(self.limit)
     }
