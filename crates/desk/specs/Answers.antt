@@ -57,7 +57,7 @@ done_text o from executed =
 abbrev pub refusal_name : BeginFault → List ℕ
 refusal_name refusal.TooLarge = codes "TooLarge"
 refusal_name (refusal.NedSyntax file line) = codes "NedSyntax"
-refusal_name (refusal.IniSyntax line) = codes "IniSyntax"
+refusal_name (refusal.IniSyntax line reason) = codes "IniSyntax"
 refusal_name refusal.DuplicateType = codes "DuplicateType"
 refusal_name refusal.UnknownType = codes "UnknownType"
 refusal_name refusal.InheritanceCircle = codes "InheritanceCircle"
@@ -71,7 +71,7 @@ refusal_name (refusal.NoMemory _) = codes "NoMemory"
 -- where what is refused stands: the file, counted from 0, and the line, counted from 1
 abbrev pub refusal_place : BeginFault → List ℕ
 refusal_place (refusal.NedSyntax file line) = codes " file " ++ (decimal file ++ (codes " line " ++ decimal line))
-refusal_place (refusal.IniSyntax line) = codes " line " ++ decimal line
+refusal_place (refusal.IniSyntax line reason) = codes " line " ++ decimal line
 refusal_place _ = []
 
 -- THE TEXT of a refusal
@@ -113,7 +113,7 @@ abbrev pub edit_refusal_text : Refusal → Option (List ℕ)
 edit_refusal_text edit.TooLarge = Some (codes "refused TooLarge")
 edit_refusal_text edit.NoSuchLine = Some (codes "refused NoSuchLine")
 edit_refusal_text edit.NoSuchInjection = Some (codes "refused NoSuchInjection")
-edit_refusal_text (edit.IniSyntax line) = Some (codes "refused IniSyntax line " ++ decimal line)
+edit_refusal_text (edit.IniSyntax line reason) = Some (codes "refused IniSyntax line " ++ decimal line)
 edit_refusal_text edit.NoSuchConfig = Some (codes "refused NoSuchConfig")
 edit_refusal_text edit.ChainFault = Some (codes "refused ChainFault")
 edit_refusal_text edit.NoSuchNetwork = Some (codes "refused NoSuchNetwork")

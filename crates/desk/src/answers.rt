@@ -117,7 +117,7 @@ fn refusal_name(fault: BeginFault) -> &'static [u8]
     match fault {
         BeginFault::TooLarge => b"TooLarge",
         BeginFault::NedSyntax(_, _) => b"NedSyntax",
-        BeginFault::IniSyntax(_) => b"IniSyntax",
+        BeginFault::IniSyntax(_, _) => b"IniSyntax",
         BeginFault::DuplicateType => b"DuplicateType",
         BeginFault::UnknownType => b"UnknownType",
         BeginFault::InheritanceCircle => b"InheritanceCircle",
@@ -141,7 +141,7 @@ fn push_place(text: &mut Vec<u8>, fault: BeginFault) -> Result<(), AllocError>
             push(text, b" line ")?;
             push_number(text, line as u64)
         }
-        BeginFault::IniSyntax(line) => {
+        BeginFault::IniSyntax(line, _) => {
             push(text, b" line ")?;
             push_number(text, line as u64)
         }
@@ -248,7 +248,7 @@ pub fn refused_as(alloc: Global, name: &[u8]) -> Result<Text, AllocError>
 
 /// The answer where a line of the changed ini text means nothing.
 fn bad_line(alloc: Global, line: usize) -> Result<Text, AllocError>
-    ensures { IfOk result (λ text. Some text ≡ edit_refusal_text (Refusal.IniSyntax line)) }
+    ensures { IfOk result (λ text. text ≡ codes "refused IniSyntax line " ++ decimal line) }
 {
     let mut text = Vec::new(alloc);
     push(&mut text, b"refused IniSyntax line ")?;
@@ -264,7 +264,7 @@ pub fn edit_refusal_text(alloc: Global, refusal: Refusal) -> Result<Text, NoMemo
         Refusal::TooLarge => Ok(refused_as(alloc, b"TooLarge")?),
         Refusal::NoSuchLine => Ok(refused_as(alloc, b"NoSuchLine")?),
         Refusal::NoSuchInjection => Ok(refused_as(alloc, b"NoSuchInjection")?),
-        Refusal::IniSyntax(line) => Ok(bad_line(alloc, line)?),
+        Refusal::IniSyntax(line, _) => Ok(bad_line(alloc, line)?),
         Refusal::NoSuchConfig => Ok(refused_as(alloc, b"NoSuchConfig")?),
         Refusal::ChainFault => Ok(refused_as(alloc, b"ChainFault")?),
         Refusal::NoSuchNetwork => Ok(refused_as(alloc, b"NoSuchNetwork")?),

@@ -4,6 +4,7 @@
 #![tactic(auto)]
 
 mod configurations;
+mod ini_lines;
 mod reading;
 pub mod refusals;
 pub mod runs;

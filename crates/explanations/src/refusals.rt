@@ -1,6 +1,7 @@
 //! Why the files make no model.
 
 use crate::configurations::{tell_no_chain, tell_no_config, tell_no_network};
+use crate::ini_lines::{line_at, tell_ini_line};
 use crate::reading::read_types;
 use crate::syntax::tell_syntax;
 use model_texts::begin::{BeginFault, MAX_FILES};
@@ -8,7 +9,6 @@ use sim_values::NoMemory;
 use sim_values::text::MAX_LENGTH;
 use std::alloc::Global;
 use text_explanations::explanation::Explanation;
-use text_explanations::ini_lines::{line_at, tell_ini_line};
 use text_explanations::ned_files::Files;
 use text_explanations::sources::Sources;
 use text_explanations::types::tell_types;
@@ -64,10 +64,10 @@ fn tell_refusal(told: &mut Explanation, fault: BeginFault, sources: &Sources<'_>
             told.say(": ");
             tell_syntax(told, sources.text(file));
         }
-        BeginFault::IniSyntax(line) => {
+        BeginFault::IniSyntax(line, reason) => {
             told.say_place(sources.ini_path, line);
             told.say(": ");
-            tell_ini_line(told, line_at(sources.ini, line));
+            tell_ini_line(told, line_at(sources.ini, line), reason);
         }
         BeginFault::DuplicateType
         | BeginFault::UnknownType

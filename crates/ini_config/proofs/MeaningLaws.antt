@@ -10,6 +10,7 @@ use Rattle.ini_texts.specs.declared.lines.IniLine.{IniLine}
 use Rattle.ini_texts.specs.declared.lines.LineMeaning.{LineMeaning}
 use Rattle.ini_texts.specs.declared.lines.LineMeaning.TheVariants as line
 use Rattle.ini_config.specs.declared.error.IniError.TheVariants as errors
+use Rattle.ini_entries.specs.declared.reason.Reason.{Reason}
 use Rattle.ini_entries.specs.Texts.{Bytes, before_blanks, is_blank, after_blanks}
 use Rattle.ini_config.specs.Texts.{lines_of_ini, value_text}
 use Rattle.ini_entries.specs.Meaning.{is_key, IsEntryMeaning, Tells}
@@ -100,8 +101,8 @@ advance bytes more b front number section read r t = record {
     parts : (whole : List IniLine) → ((reads : List IniLine) × (whole ≡ front ++ reads) × AreLines section (b ∷ more) reads) → (rest : List IniLine) × (whole ≡ (front ++ read ∷ []) ++ rest) × AreLines (section_behind section read.meaning) more rest
     parts whole p = split whole p.0 p.1 p.2
 
-pub stuck : (bytes more : List Bytes) (b : Bytes) (front : List IniLine) (number : ℕ) (section : Option Bytes) → Reached bytes (b ∷ more) front number section → Tells (IsIniLine section b) None → Settles bytes (Err (errors.IniSyntax number))
-stuck bytes more b front number section r t = (r.refused number (inl (refl, t)), λ whole h. let p = r.complete whole h in none p.0 p.2)
+pub stuck : (bytes more : List Bytes) (b : Bytes) (front : List IniLine) (number : ℕ) (section : Option Bytes) → Reached bytes (b ∷ more) front number section → Tells (IsIniLine section b) None → (why : Reason) → Settles bytes (Err (errors.IniSyntax number why))
+stuck bytes more b front number section r t why = (r.refused number (inl (refl, t)), λ whole h. let p = r.complete whole h in none p.0 p.2)
   where
     none : (reads : List IniLine) → AreLines section (b ∷ more) reads → ⊥
     none [] h = h

@@ -1,6 +1,7 @@
 -- Edits of an ini text: the changed lines, their bytes, and why an edit is refused.
 use Rattle.std.specs.Prelude.{◌≡◌, ℕ, ◌+◌, ◌-◌, Bool, true, false, ◌&&◌, List, [], ◌∷◌, ◌++◌, length, take, drop, Option, Some, None, Result, Ok, Err, IfErr, ◌==◌, if◌then◌else◌, map, nat_le}
 use Rattle.std.specs.List.{list_any}
+use Rattle.ini_entries.specs.declared.reason.Reason.TheVariants as reason
 use Rattle.ini_config.specs.declared.error.EditError.{EditError}
 use Rattle.ini_config.specs.declared.error.EditError.TheVariants as errors
 use Rattle.ini_texts.specs.declared.lines.IniLine.{IniLine}
@@ -90,7 +91,7 @@ AnswersEdit lines (Ok edited) = edited ≡ lines
 AnswersEdit lines (Err (errors.NoMemory _)) = Unit {0}
 AnswersEdit lines (Err errors.TooLarge) = ⊥
 AnswersEdit lines (Err errors.NoSuchLine) = ⊥
-AnswersEdit lines (Err (errors.IniSyntax line)) = ⊥
+AnswersEdit lines (Err (errors.IniSyntax line why)) = ⊥
 
 -- ---- refusals
 
@@ -102,7 +103,7 @@ fits edit = nat_le (length (bytes_of edit.lines)) max_length
 abbrev pub edit_fault : Bool → Bool → Bool → ℕ → Option EditError
 edit_fault false found broken number = Some errors.TooLarge
 edit_fault true false broken number = Some errors.NoSuchLine
-edit_fault true true true number = Some (errors.IniSyntax number)
+edit_fault true true true number = Some (errors.IniSyntax number reason.LineEnd)
 edit_fault true true false number = None
 
 -- THE REFUSAL of an edit that needs no reading of the changed text
@@ -113,7 +114,7 @@ refusal_of edit = edit_fault (fits edit) edit.found edit.broken edit.number
 abbrev pub RefusesBytes : Bytes → EditError → Type 0
 RefusesBytes bytes errors.TooLarge = ⊥
 RefusesBytes bytes errors.NoSuchLine = ⊥
-RefusesBytes bytes (errors.IniSyntax bad) = FirstBad bad bytes
+RefusesBytes bytes (errors.IniSyntax bad why) = FirstBad bad bytes
 RefusesBytes bytes (errors.NoMemory _) = Unit {0}
 
 -- what comes of an edit that has this refusal, or else whose changed text is read

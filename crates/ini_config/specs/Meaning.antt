@@ -3,8 +3,6 @@ use Rattle.std.specs.Prelude.{◌≡◌, ℕ, suc, ◌+◌, ◌-◌, ◌<◌, �
 use Rattle.std.specs.Str.{bytes_eq, is_utf8}
 use Rattle.sim_values.specs.Limits.{max_length}
 use Rattle.ini_texts.specs.declared.lines.Entry.{Entry}
-use Rattle.ini_texts.specs.declared.entry.EntryMeaning.{EntryMeaning}
-use Rattle.ini_texts.specs.declared.entry.EntryMeaning.TheVariants as meaning
 use Rattle.ini_texts.specs.declared.lines.IniLine.{IniLine}
 use Rattle.ini_texts.specs.declared.lines.LineMeaning.{LineMeaning}
 use Rattle.ini_texts.specs.declared.lines.LineMeaning.TheVariants as line
@@ -131,7 +129,7 @@ abbrev pub Settles : List Bytes → Result (List IniLine) IniError → Type 0
 Settles bytes (Ok reads) = Tells (AreLines None bytes) (Some reads)
 Settles bytes (Err (errors.NoMemory _)) = Unit {0}
 Settles bytes (Err errors.TooLarge) = ⊥
-Settles bytes (Err (errors.IniSyntax bad)) = FirstBadOf bad 1 None bytes × Tells (AreLines None bytes) None
+Settles bytes (Err (errors.IniSyntax bad why)) = FirstBadOf bad 1 None bytes × Tells (AreLines None bytes) None
 
 -- What was read of the line of this number, in this section, and put behind these lines, or why it was refused.
 abbrev pub SettlesLine : Option Bytes → Bytes → ℕ → List IniLine → List IniLine → Result (Unit {0}) IniError → Type 0
@@ -139,7 +137,7 @@ SettlesLine section bytes number before behind (Ok done) =
     (read : IniLine) × Tells (IsIniLine section bytes) (Some read) × (behind ≡ before ++ read ∷ [])
 SettlesLine section bytes number before behind (Err (errors.NoMemory _)) = Unit {0}
 SettlesLine section bytes number before behind (Err errors.TooLarge) = ⊥
-SettlesLine section bytes number before behind (Err (errors.IniSyntax bad)) =
+SettlesLine section bytes number before behind (Err (errors.IniSyntax bad why)) =
     (bad ≡ number) × Tells (IsIniLine section bytes) None
 
 -- this value, or want of memory
@@ -147,10 +145,10 @@ abbrev pub Answers : {X : Type 0} → X → Result X IniError → Type 0
 Answers x (Ok found) = found ≡ x
 Answers x (Err (errors.NoMemory _)) = Unit {0}
 Answers x (Err errors.TooLarge) = ⊥
-Answers x (Err (errors.IniSyntax line)) = ⊥
+Answers x (Err (errors.IniSyntax line why)) = ⊥
 
 -- Each refusal but want of memory has its reason.
 abbrev pub Explains : Bytes → IniError → Type 0
 Explains bytes (errors.NoMemory _) = Unit {0}
 Explains bytes errors.TooLarge = max_length < length bytes
-Explains bytes (errors.IniSyntax line) = (length bytes ≤ max_length) × FirstBad line bytes
+Explains bytes (errors.IniSyntax line why) = (length bytes ≤ max_length) × FirstBad line bytes

@@ -8,6 +8,7 @@ ghost use Rattle.ini_texts.specs.declared.lines.IniLine.{IniLine};
 
 use crate::error::{EditError, IniError};
 use crate::parse::parse_ini;
+use ini_entries::reason::Reason;
 use ini_texts::lines::{IniLine, IniText};
 use sim_values::text::MAX_LENGTH;
 use std::alloc::{AllocError, Global};
@@ -166,7 +167,7 @@ fn reread(alloc: Global, bytes: &[u8]) -> Result<IniText, EditError>
 {
     match parse_ini(alloc, bytes) {
         Ok(text) => Ok(text),
-        Err(IniError::IniSyntax(line)) => Err(EditError::IniSyntax(line)),
+        Err(IniError::IniSyntax(line, why)) => Err(EditError::IniSyntax(line, why)),
         Err(IniError::TooLarge) => Err(EditError::TooLarge),
         Err(IniError::NoMemory(error)) => Err(EditError::NoMemory(error)),
     }
@@ -195,7 +196,7 @@ fn edited_with(
         return Err(EditError::NoSuchLine);
     }
     if holds_feed(text) {
-        return Err(EditError::IniSyntax(number));
+        return Err(EditError::IniSyntax(number, Reason::LineEnd));
     }
     let bytes = bytes_with(alloc, before, text, behind)?;
     reread(alloc, bytes.as_slice())

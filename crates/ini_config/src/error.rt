@@ -4,6 +4,7 @@ ghost use Rattle.std.specs.Prelude.{◌≡◌};
 ghost use Rattle.sim_values.specs.Memory.{no_memory};
 ghost use Rattle.ini_config.specs.declared.error.IniError.TheVariants as errors;
 
+use ini_entries::reason::Reason;
 use sim_values::NoMemory;
 use std::alloc::AllocError;
 use thiserror::Error;
@@ -11,9 +12,9 @@ use thiserror::Error;
 /// Why an ini text is refused.
 #[derive(Clone, Copy, Debug, PartialEq, Eq, Error)]
 pub enum IniError {
-    /// The number, from 1, of the first line that means nothing, or is an entry before the first section.
+    /// The number, from 1, of the first line that means nothing, or may not stand where it does, and why.
     #[error("line {0} is no line of an ini text")]
-    IniSyntax(usize),
+    IniSyntax(usize, Reason),
     /// The text is longer than 1 MiB.
     #[error("an ini text is longer than 1 MiB")]
     TooLarge,
@@ -40,10 +41,10 @@ pub enum EditError {
     /// There is no line of that number.
     #[error("there is no such line")]
     NoSuchLine,
-    /// The number, from 1, of the first line of the changed text that means nothing, or is an entry before the first
-    /// section.
+    /// The number, from 1, of the first line of the changed text that means nothing, or may not stand where it does, and
+    /// why.
     #[error("line {0} of the changed text is no line of an ini text")]
-    IniSyntax(usize),
+    IniSyntax(usize, Reason),
     /// Memory ran out.
     #[error("out of memory")]
     NoMemory(NoMemory),

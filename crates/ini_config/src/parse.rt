@@ -1,10 +1,10 @@
 //! Reading ini texts.
 
-ghost use Rattle.std.specs.Prelude.{◌≡◌, ◌<◌, ◌||◌, ◌++◌, ◌==◌, ℕ, true, false, length, position, IfOk, IfErr, IfSome, MatchOption, Err, List};
+ghost use Rattle.std.specs.Prelude.{◌≡◌, ◌<◌, ◌||◌, ◌++◌, ◌==◌, ℕ, true, false, length, position, IfOk, IfErr, IfSome, MatchOption, MatchResult, Err, List, is_ok};
 ghost use Rattle.std.specs.List.{list_all};
 ghost use Rattle.std.specs.Str.{is_utf8};
 ghost use Rattle.ini_config.specs.Texts.{lines_of_ini};
-ghost use Rattle.ini_entries.specs.Meaning.{Tells, is_key, is_key_byte};
+ghost use Rattle.ini_entries.specs.Meaning.{Finds, is_key, is_key_byte};
 ghost use Rattle.sim_values.specs.Limits.{max_length};
 ghost use Rattle.ini_config.specs.Meaning.{IsIniText, IsIniLine, IsLine, IsEntry, IsNamed, IsParted, IsSection, Settles, Answers, Explains, begins_entry, ends_with, in_brackets, is_first_of_entry, is_value, may_stand, SettlesLine};
 ghost use Rattle.ini_texts.specs.Sections.{is_extends, section_behind};
@@ -17,6 +17,7 @@ use ini_entries::blanks::{after_blanks, before_blanks, is_blank};
 use ini_entries::keys::is_key;
 use ini_entries::meaning::entry_meaning;
 use ini_entries::names::is_config_name;
+use ini_entries::reason::{Reason, Unread};
 use ini_texts::entry::EntryMeaning;
 use ini_texts::lines::{Entry, IniLine, IniText, LineMeaning};
 use sim_values::text::{MAX_LENGTH, Text};
@@ -54,40 +55,72 @@ fn first_equals(line: &[u8]) -> Option<usize>
     line.iter().position(|b| *b == b'=')
 }
 
-/// The key and the value of an entry.
-fn key_and_value(line: &[u8]) -> Option<(&[u8], &[u8])>
-    ensures { MatchOption result ((key value : List ℕ) → IsParted line.now key value → ⊥) (λ parts. IsParted line.now parts.0.now parts.1.now) }
+/// Why a line without `=` is no entry.
+fn no_entry(line: &[u8]) -> Reason {
+    if line.starts_with(b"include ") {
+        Reason::Include
+    } else {
+        Reason::NotAnEntry
+    }
+}
+
+/// Why bytes are no key.
+fn no_key(bytes: &[u8]) -> Reason {
+    if bytes.is_empty() {
+        Reason::NoKey
+    } else {
+        Reason::BadKey
+    }
+}
+
+/// Why bytes are no value.
+fn no_value(bytes: &[u8]) -> Reason {
+    if bytes.is_empty() {
+        Reason::NoValue
+    } else if !is_text(bytes) {
+        Reason::BadValue
+    } else if ends_with_backslash(bytes) {
+        Reason::Continued
+    } else {
+        Reason::Study
+    }
+}
+
+/// The key and the value of an entry, or why a line has none.
+pub fn key_and_value(line: &[u8]) -> Result<(&[u8], &[u8]), Reason>
+    ensures { MatchResult result (λ parts. IsParted line.now parts.0.now parts.1.now) (λ _. (key value : List ℕ) → IsParted line.now key value → ⊥) }
 {
-    let at = first_equals(line)?;
+    let Some(at) = first_equals(line) else {
+        return Err(no_entry(line));
+    };
     let key = before_blanks(&line[..at]);
     let value = value_text(&line[at + 1..]);
     if !is_key(key) {
-        return None;
+        return Err(no_key(key));
     }
     if !is_value(value) {
-        return None;
+        return Err(no_value(value));
     }
-    Some((key, value))
+    Ok((key, value))
 }
 
 /// The entry that a line is.
-fn entry(alloc: Global, line: &[u8]) -> Result<Option<Entry>, AllocError>
+fn entry(alloc: Global, line: &[u8]) -> Result<Entry, Unread>
     requires { begins_entry line.now ≡ true }
-    ensures { IfOk result (λ found. Tells (IsEntry line.now) found) }
+    ensures { Finds (IsEntry line.now) result }
 {
-    let Some((key, value)) = key_and_value(line) else {
-        return Ok(None);
+    let (key, value) = match key_and_value(line) {
+        Ok(parts) => parts,
+        Err(why) => return Err(Unread::MeansNothing(why)),
     };
     let key_text = Text::from_bytes(alloc, key)?;
     let value_text = Text::from_bytes(alloc, value)?;
-    match entry_meaning(alloc, key, value)? {
-        None => Ok(None),
-        Some(meaning) => Ok(Some(Entry {
-            key: key_text,
-            value: value_text,
-            meaning,
-        })),
-    }
+    let meaning = entry_meaning(alloc, key, value)?;
+    Ok(Entry {
+        key: key_text,
+        value: value_text,
+        meaning,
+    })
 }
 
 /// Whether a byte is no blank, and begins no comment.
@@ -108,14 +141,14 @@ fn begins_entry(line: &[u8]) -> bool
 }
 
 /// What a line means that is blank, indented or a comment.
-fn blank_or_comment(line: &[u8]) -> Option<LineMeaning>
+fn blank_or_comment(line: &[u8]) -> Result<LineMeaning, Unread>
     requires { begins_entry line.now ≡ false }
-    ensures { Tells (IsLine line.now) result }
+    ensures { Finds (IsLine line.now) result }
 {
     match after_blanks(line) {
-        [] => Some(LineMeaning::Blank),
-        [b'#', ..] => Some(LineMeaning::Comment),
-        _ => None,
+        [] => Ok(LineMeaning::Blank),
+        [b'#', ..] => Ok(LineMeaning::Comment),
+        _ => Err(Unread::MeansNothing(Reason::Indented)),
     }
 }
 
@@ -154,28 +187,38 @@ fn section_name(line: &[u8]) -> Option<&[u8]>
     }
 }
 
+/// Why a line is neither a section nor an entry, where it is no entry for that reason.
+fn neither(line: &[u8], why: Reason) -> Reason {
+    if line.starts_with(b"[") {
+        Reason::NotASection
+    } else {
+        why
+    }
+}
+
 /// What a line means that is a section or an entry.
-fn section_or_entry(alloc: Global, line: &[u8]) -> Result<Option<LineMeaning>, AllocError>
+fn section_or_entry(alloc: Global, line: &[u8]) -> Result<LineMeaning, Unread>
     requires { begins_entry line.now ≡ true }
-    ensures { IfOk result (λ found. Tells (IsLine line.now) found) }
+    ensures { Finds (IsLine line.now) result }
 {
     if let Some(name) = section_name(line) {
-        return Ok(Some(LineMeaning::Section(Text::from_bytes(alloc, name)?)));
+        return Ok(LineMeaning::Section(Text::from_bytes(alloc, name)?));
     }
-    match entry(alloc, line)? {
-        None => Ok(None),
-        Some(entry) => Ok(Some(LineMeaning::Entry(entry))),
+    match entry(alloc, line) {
+        Ok(entry) => Ok(LineMeaning::Entry(entry)),
+        Err(Unread::MeansNothing(why)) => Err(Unread::MeansNothing(neither(line, why))),
+        Err(Unread::NoMemory(error)) => Err(Unread::NoMemory(error)),
     }
 }
 
 /// What a line means.
-fn line_meaning(alloc: Global, line: &[u8]) -> Result<Option<LineMeaning>, AllocError>
-    ensures { IfOk result (λ found. Tells (IsLine line.now) found) }
+fn line_meaning(alloc: Global, line: &[u8]) -> Result<LineMeaning, Unread>
+    ensures { Finds (IsLine line.now) result }
 {
     if begins_entry(line) {
         section_or_entry(alloc, line)
     } else {
-        Ok(blank_or_comment(line))
+        blank_or_comment(line)
     }
 }
 
@@ -202,31 +245,31 @@ fn is_extends(meaning: &EntryMeaning) -> bool
 }
 
 /// Whether a line of that meaning may stand here: an entry stands in a section, and General extends nothing.
-fn may_stand(section: &Option<Text>, line: &LineMeaning) -> bool
-    ensures { result ≡ may_stand section.now line.now }
+fn may_stand(section: &Option<Text>, line: &LineMeaning) -> Result<(), Reason>
+    ensures { is_ok result ≡ may_stand section.now line.now }
 {
     match (section, line) {
-        (None, LineMeaning::Entry(_)) => false,
+        (None, LineMeaning::Entry(_)) => Err(Reason::BeforeSection),
         (Some(name), LineMeaning::Entry(entry)) => {
-            !(name.is(b"General") && is_extends(&entry.meaning))
+            if name.is(b"General") && is_extends(&entry.meaning) {
+                Err(Reason::GeneralExtends)
+            } else {
+                Ok(())
+            }
         }
-        _ => true,
+        _ => Ok(()),
     }
 }
 
 /// A line.
-fn ini_line(
-    alloc: Global,
-    section: &Option<Text>,
-    line: &[u8],
-) -> Result<Option<IniLine>, AllocError>
-    ensures { IfOk result (λ found. Tells (IsIniLine section.now line.now) found) }
+fn ini_line(alloc: Global, section: &Option<Text>, line: &[u8]) -> Result<IniLine, Unread>
+    ensures { Finds (IsIniLine section.now line.now) result }
 {
     let text = Text::from_bytes(alloc, line)?;
-    let found = line_meaning(alloc, line)?;
-    match found.filter(|meaning| may_stand(section, meaning)) {
-        Some(meaning) => Ok(Some(IniLine { text, meaning })),
-        None => Ok(None),
+    let meaning = line_meaning(alloc, line)?;
+    match may_stand(section, &meaning) {
+        Ok(()) => Ok(IniLine { text, meaning }),
+        Err(why) => Err(Unread::MeansNothing(why)),
     }
 }
 
@@ -240,11 +283,14 @@ fn push_ini_line(
 ) -> Result<(), IniError>
     ensures { SettlesLine section.now line.now number lines.old lines.new result }
 {
-    let Some(read) = ini_line(alloc, section, line)? else {
-        return Err(IniError::IniSyntax(number));
-    };
-    lines.push(read)?;
-    Ok(())
+    match ini_line(alloc, section, line) {
+        Ok(read) => {
+            lines.push(read)?;
+            Ok(())
+        }
+        Err(Unread::MeansNothing(why)) => Err(IniError::IniSyntax(number, why)),
+        Err(Unread::NoMemory(error)) => Err(IniError::NoMemory(error)),
+    }
 }
 
 /// The lines of a text.

@@ -1,5 +1,5 @@
 -- Laws of what entries say.
-use Rattle.std.proofs.Common.{◌≡◌, ◌≢◌, ℕ, eqb, Bool, true, false, not, ◌&&◌, ◌||◌, List, Option, Some, None, refl, sym, ap, subst, ◌∙◌}
+use Rattle.std.proofs.Common.{◌≡◌, ◌≢◌, ℕ, eqb, Bool, true, false, not, ◌&&◌, ◌||◌, List, Option, Some, None, Err, refl, sym, ap, subst, ◌∙◌}
 use Rattle.std.specs.Prelude.{IsSome, if◌then◌else◌}
 use Rattle.std.specs.List.{list_all}
 use Rattle.std.specs.Str.{bytes_eq, chars}
@@ -22,7 +22,9 @@ use Rattle.ini_texts.specs.declared.entry.ObjectEntry.{ObjectEntry}
 use Rattle.ini_texts.specs.declared.entry.ObjectOption.{ObjectOption}
 use Rattle.ini_texts.specs.declared.entry.ParameterEntry.{ParameterEntry}
 use Rattle.ini_entries.specs.Keys.{KeyKind, OptionKey, ObjectKey, TypeKey, ParameterKey, kind_of, last_part_from, has_hyphen_from, is_closed_from}
-use Rattle.ini_entries.specs.Meaning.{IsEntryMeaning, IsEntryValue, IsPatternAndValue, Tells}
+use Rattle.ini_entries.specs.Meaning.{Finds, IsEntryMeaning, IsEntryValue, IsPatternAndValue, Tells}
+use Rattle.ini_entries.specs.declared.reason.Unread.{Unread}
+use Rattle.ini_entries.specs.declared.reason.Unread.TheVariants as unread
 use Rattle.ini_entries.specs.Names.{is_config_name, is_dotted_name}
 use Rattle.ini_entries.specs.Options.{IsObjectOption, config_names, is_only_value, is_other_option, time_literal, words_left_out, words_with_effect, word_network, word_extends, word_time_limit}
 use Rattle.ini_entries.specs.Texts.{Bytes, is_among, items_of}
@@ -294,3 +296,17 @@ only_meaning key text m is = (is, λ n other. meaning_same key text n m other is
 -- the pattern of a key and a value are the only ones
 pub only_entry : (key text : Bytes) (p : ParameterEntry) → IsPatternAndValue key text p → Tells (IsPatternAndValue key text) (Some p)
 only_entry key text p is = (is, λ q other. entry_same key text q p other is)
+
+-- ---- what is refused of a part is refused of the whole
+
+pub refused_object : (key name text : Bytes) (e : Unread) → kind_of key ≡ ObjectKey name → Finds (IsObjectOption name text) (Err e) → Finds (IsEntryMeaning key text) (Err e)
+refused_object key name text (unread.MeansNothing why) kind none = no_object key name text kind (λ pattern o some is. none o is)
+refused_object key name text (unread.NoMemory error) kind none = tt
+
+pub refused_type : (key text : Bytes) (e : Unread) → kind_of key ≡ TypeKey → Finds (IsPatternAndValue key text) (Err e) → Finds (IsEntryMeaning key text) (Err e)
+refused_type key text (unread.MeansNothing why) kind none = no_type key text kind none
+refused_type key text (unread.NoMemory error) kind none = tt
+
+pub refused_parameter : (key text : Bytes) (e : Unread) → kind_of key ≡ ParameterKey → Finds (IsPatternAndValue key text) (Err e) → Finds (IsEntryMeaning key text) (Err e)
+refused_parameter key text (unread.MeansNothing why) kind none = no_parameter key text kind none
+refused_parameter key text (unread.NoMemory error) kind none = tt

@@ -1,6 +1,6 @@
 -- What an entry says, by its key and its value.
 -- OMNeT++ Simulation Manual, "Configuring Simulations".
-use Rattle.std.specs.Prelude.{◌≡◌, ◌≢◌, ℕ, Bool, true, false, ◌&&◌, not, [], ◌∷◌, Option, Some, None, IsSome, codes, nat_lt}
+use Rattle.std.specs.Prelude.{◌≡◌, ◌≢◌, ℕ, Bool, true, false, ◌&&◌, not, [], ◌∷◌, Option, Some, None, Result, Ok, Err, IsSome, codes, nat_lt}
 use Rattle.std.specs.List.{list_all}
 use Rattle.std.specs.Str.{chars}
 use Rattle.ini_pattern.specs.PatternOf.{pattern_of}
@@ -11,6 +11,8 @@ use Rattle.ini_texts.specs.declared.entry.EntryMeaning.TheVariants as meaning
 use Rattle.ini_texts.specs.declared.entry.EntryValue.{EntryValue}
 use Rattle.ini_texts.specs.declared.entry.EntryValue.TheVariants as value
 use Rattle.ini_texts.specs.declared.entry.ParameterEntry.{ParameterEntry}
+use Rattle.ini_entries.specs.declared.reason.Unread.{Unread}
+use Rattle.ini_entries.specs.declared.reason.Unread.TheVariants as unread
 use Rattle.ini_entries.specs.Constants.{is_constant}
 use Rattle.ini_entries.specs.Keys.{OptionKey, ObjectKey, TypeKey, ParameterKey, kind_of}
 use Rattle.ini_entries.specs.Names.{is_dotted_name, is_config_name}
@@ -59,3 +61,9 @@ IsEntryMeaning key bytes (meaning.Parameter p) = (kind_of key ≡ ParameterKey) 
 abbrev pub Tells : {X : Type 0} → (X → Type 0) → Option X → Type 0
 Tells P (Some x) = P x × ((y : _) → P y → y ≡ x)
 Tells P None = (y : _) → P y → ⊥
+
+-- What was found is the only one; where nothing was found, for whichever reason, there is none. Want of memory says nothing.
+abbrev pub Finds : {X : Type 0} → (X → Type 0) → Result X Unread → Type 0
+Finds P (Ok x) = P x × ((y : _) → P y → y ≡ x)
+Finds P (Err (unread.MeansNothing why)) = (y : _) → P y → ⊥
+Finds P (Err (unread.NoMemory error)) = Unit {0}

@@ -9,3 +9,4 @@ pub mod keys;
 pub mod meaning;
 pub mod names;
 pub mod options;
+pub mod reason;

@@ -4,14 +4,15 @@ ghost use Rattle.std.specs.Prelude.{◌≡◌, true, false, Some, is_some, IfOk}
 ghost use Rattle.std.specs.Str.{chars};
 ghost use Rattle.ini_pattern.specs.PatternOf.{pattern_of};
 ghost use Rattle.ini_entries.specs.Keys.{ObjectKey, OptionKey, ParameterKey, TypeKey, kind_of, last_part};
-ghost use Rattle.ini_entries.specs.Meaning.{IsEntryMeaning, IsEntryValue, IsPatternAndValue, Tells, is_key};
+ghost use Rattle.ini_entries.specs.Meaning.{Finds, IsEntryMeaning, IsEntryValue, IsPatternAndValue, Tells, is_key};
 ghost use Rattle.ini_entries.specs.Options as options;
 ghost use Rattle.ini_entries.specs.Texts.{is_among};
 
 use crate::constants::is_constant;
 use crate::keys::{has_hyphen, last_part};
 use crate::names::is_dotted_name;
-use crate::options::{config_names, is_other_option, object_option, time_limit};
+use crate::options::{config_names, is_other_option, object_option, refused_option, time_limit};
+use crate::reason::{Reason, Unread};
 use ini_pattern::{Pattern, PatternFault};
 use ini_texts::entry::{EntryMeaning, EntryValue, ObjectEntry, ParameterEntry};
 use ned_expressions::parse::parse_expression;
@@ -61,54 +62,50 @@ fn entry_value(alloc: Global, bytes: &[u8]) -> Result<Option<EntryValue>, AllocE
 // ---- options
 
 /// What the option `network` says.
-fn network_meaning(alloc: Global, value: &[u8]) -> Result<Option<EntryMeaning>, AllocError>
-    ensures { IfOk result (λ found. Tells (IsEntryMeaning options.word_network value.now) found) }
+fn network_meaning(alloc: Global, value: &[u8]) -> Result<EntryMeaning, Unread>
+    ensures { Finds (IsEntryMeaning options.word_network value.now) result }
 {
     if is_dotted_name(value) {
-        Ok(Some(EntryMeaning::Network(Text::from_bytes(alloc, value)?)))
+        Ok(EntryMeaning::Network(Text::from_bytes(alloc, value)?))
     } else {
-        Ok(None)
+        Err(Unread::MeansNothing(Reason::NotANetwork))
     }
 }
 
 /// What the option `extends` says.
-fn extends_meaning(alloc: Global, value: &[u8]) -> Result<Option<EntryMeaning>, AllocError>
-    ensures { IfOk result (λ found. Tells (IsEntryMeaning options.word_extends value.now) found) }
+fn extends_meaning(alloc: Global, value: &[u8]) -> Result<EntryMeaning, Unread>
+    ensures { Finds (IsEntryMeaning options.word_extends value.now) result }
 {
     match config_names(alloc, value)? {
-        None => Ok(None),
-        Some(names) => Ok(Some(EntryMeaning::Extends(names))),
+        None => Err(Unread::MeansNothing(Reason::NotConfigurations)),
+        Some(names) => Ok(EntryMeaning::Extends(names)),
     }
 }
 
 /// What the option `sim-time-limit` says.
-fn limit_meaning(alloc: Global, value: &[u8]) -> Result<Option<EntryMeaning>, AllocError>
-    ensures { IfOk result (λ found. Tells (IsEntryMeaning options.word_time_limit value.now) found) }
+fn limit_meaning(alloc: Global, value: &[u8]) -> Result<EntryMeaning, Unread>
+    ensures { Finds (IsEntryMeaning options.word_time_limit value.now) result }
 {
     match time_limit(alloc, value)? {
-        None => Ok(None),
-        Some(ps) => Ok(Some(EntryMeaning::TimeLimit(ps))),
+        None => Err(Unread::MeansNothing(Reason::NotATime)),
+        Some(ps) => Ok(EntryMeaning::TimeLimit(ps)),
     }
 }
 
 /// What an option without effect says.
-fn other_meaning(
-    alloc: Global,
-    key: &[u8],
-    value: &[u8],
-) -> Result<Option<EntryMeaning>, AllocError>
+fn other_meaning(alloc: Global, key: &[u8], value: &[u8]) -> Result<EntryMeaning, Unread>
     requires proper { is_key key.now ≡ true }
     requires kind { kind_of key.now ≡ OptionKey }
     requires other { is_among key.now options.words_with_effect ≡ false }
-    ensures { IfOk result (λ found. Tells (IsEntryMeaning key.now value.now) found) }
+    ensures { Finds (IsEntryMeaning key.now value.now) result }
 {
     if !is_other_option(key, value) {
-        return Ok(None);
+        return Err(Unread::MeansNothing(refused_option(key)));
     }
     if !is_pattern(alloc, key)? {
-        return Ok(None);
+        return Err(Unread::MeansNothing(Reason::BadPattern));
     }
-    Ok(Some(EntryMeaning::Other))
+    Ok(EntryMeaning::Other)
 }
 
 // ---- entries of patterns
@@ -119,69 +116,53 @@ fn object_meaning(
     key: &[u8],
     name: &[u8],
     value: &[u8],
-) -> Result<Option<EntryMeaning>, AllocError>
+) -> Result<EntryMeaning, Unread>
     requires proper { is_key key.now ≡ true }
     requires kind { kind_of key.now ≡ ObjectKey name.now }
-    ensures { IfOk result (λ found. Tells (IsEntryMeaning key.now value.now) found) }
+    ensures { Finds (IsEntryMeaning key.now value.now) result }
 {
     let Some(pattern) = key_pattern(alloc, key)? else {
-        return Ok(None);
+        return Err(Unread::MeansNothing(Reason::BadPattern));
     };
-    let Some(says) = object_option(alloc, name, value)? else {
-        return Ok(None);
-    };
+    let says = object_option(alloc, name, value)?;
     let option = Text::from_bytes(alloc, name)?;
-    Ok(Some(EntryMeaning::Object(ObjectEntry {
+    Ok(EntryMeaning::Object(ObjectEntry {
         pattern,
         option,
         says,
-    })))
+    }))
 }
 
 /// The pattern of a key, and a value.
-fn pattern_and_value(
-    alloc: Global,
-    key: &[u8],
-    value: &[u8],
-) -> Result<Option<ParameterEntry>, AllocError>
+fn pattern_and_value(alloc: Global, key: &[u8], value: &[u8]) -> Result<ParameterEntry, Unread>
     requires { is_key key.now ≡ true }
-    ensures { IfOk result (λ found. Tells (IsPatternAndValue key.now value.now) found) }
+    ensures { Finds (IsPatternAndValue key.now value.now) result }
 {
     let Some(pattern) = key_pattern(alloc, key)? else {
-        return Ok(None);
+        return Err(Unread::MeansNothing(Reason::BadPattern));
     };
     let Some(value) = entry_value(alloc, value)? else {
-        return Ok(None);
+        return Err(Unread::MeansNothing(Reason::BadExpression));
     };
-    Ok(Some(ParameterEntry { pattern, value }))
+    Ok(ParameterEntry { pattern, value })
 }
 
 /// What an entry for the types of submodules says.
-fn type_meaning(alloc: Global, key: &[u8], value: &[u8]) -> Result<Option<EntryMeaning>, AllocError>
+fn type_meaning(alloc: Global, key: &[u8], value: &[u8]) -> Result<EntryMeaning, Unread>
     requires proper { is_key key.now ≡ true }
     requires kind { kind_of key.now ≡ TypeKey }
-    ensures { IfOk result (λ found. Tells (IsEntryMeaning key.now value.now) found) }
+    ensures { Finds (IsEntryMeaning key.now value.now) result }
 {
-    match pattern_and_value(alloc, key, value)? {
-        None => Ok(None),
-        Some(entry) => Ok(Some(EntryMeaning::Type(entry))),
-    }
+    Ok(EntryMeaning::Type(pattern_and_value(alloc, key, value)?))
 }
 
 /// What an entry for parameters says.
-fn parameter_meaning(
-    alloc: Global,
-    key: &[u8],
-    value: &[u8],
-) -> Result<Option<EntryMeaning>, AllocError>
+fn parameter_meaning(alloc: Global, key: &[u8], value: &[u8]) -> Result<EntryMeaning, Unread>
     requires proper { is_key key.now ≡ true }
     requires kind { kind_of key.now ≡ ParameterKey }
-    ensures { IfOk result (λ found. Tells (IsEntryMeaning key.now value.now) found) }
+    ensures { Finds (IsEntryMeaning key.now value.now) result }
 {
-    match pattern_and_value(alloc, key, value)? {
-        None => Ok(None),
-        Some(entry) => Ok(Some(EntryMeaning::Parameter(entry))),
-    }
+    Ok(EntryMeaning::Parameter(pattern_and_value(alloc, key, value)?))
 }
 
 /// What an entry says whose key has this last part.
@@ -190,10 +171,10 @@ fn part_meaning(
     key: &[u8],
     part: &[u8],
     value: &[u8],
-) -> Result<Option<EntryMeaning>, AllocError>
+) -> Result<EntryMeaning, Unread>
     requires proper { is_key key.now ≡ true }
     requires part { last_part key.now ≡ Some part.now }
-    ensures { IfOk result (λ found. Tells (IsEntryMeaning key.now value.now) found) }
+    ensures { Finds (IsEntryMeaning key.now value.now) result }
 {
     if has_hyphen(part) {
         object_meaning(alloc, key, part, value)
@@ -205,10 +186,10 @@ fn part_meaning(
 }
 
 /// What an entry says, other than one of an option with effect.
-fn kind_meaning(alloc: Global, key: &[u8], value: &[u8]) -> Result<Option<EntryMeaning>, AllocError>
+fn kind_meaning(alloc: Global, key: &[u8], value: &[u8]) -> Result<EntryMeaning, Unread>
     requires proper { is_key key.now ≡ true }
     requires other { is_among key.now options.words_with_effect ≡ false }
-    ensures { IfOk result (λ found. Tells (IsEntryMeaning key.now value.now) found) }
+    ensures { Finds (IsEntryMeaning key.now value.now) result }
 {
     match last_part(key) {
         None => other_meaning(alloc, key, value),
@@ -218,13 +199,9 @@ fn kind_meaning(alloc: Global, key: &[u8], value: &[u8]) -> Result<Option<EntryM
 
 /// What an entry says.
 #[tactic(auto, unfolding(crate::specs::Texts::is_among))]
-pub fn entry_meaning(
-    alloc: Global,
-    key: &[u8],
-    value: &[u8],
-) -> Result<Option<EntryMeaning>, AllocError>
+pub fn entry_meaning(alloc: Global, key: &[u8], value: &[u8]) -> Result<EntryMeaning, Unread>
     requires { is_key key.now ≡ true }
-    ensures { IfOk result (λ found. Tells (IsEntryMeaning key.now value.now) found) }
+    ensures { Finds (IsEntryMeaning key.now value.now) result }
 {
     if spells(key, b"network") {
         network_meaning(alloc, value)

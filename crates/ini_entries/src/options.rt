@@ -3,12 +3,13 @@
 ghost use Rattle.std.specs.Prelude.{◌≡◌, ℕ, true, false, map, option_map, IfOk, MatchOption};
 ghost use Rattle.std.specs.List.{list_all};
 ghost use Rattle.ned_values.specs.ExpressionText.{IsExpressionText};
-ghost use Rattle.ini_entries.specs.Meaning.{Tells};
+ghost use Rattle.ini_entries.specs.Meaning.{Finds, Tells};
 ghost use Rattle.ini_entries.specs.Options as options;
 ghost use Rattle.ini_entries.specs.Texts as texts;
 
 use crate::blanks::{after_blanks, before_blanks};
 use crate::names::is_config_name;
+use crate::reason::{Reason, Unread};
 use ini_texts::entry::{ModeItem, ObjectOption};
 use ned_values::ast::Expression;
 use ned_values::error::NedError;
@@ -106,6 +107,19 @@ pub(crate) fn is_other_option(key: &[u8], value: &[u8]) -> bool
     !is_left_out(key) && is_only_value(key, value)
 }
 
+/// Why an option, other than one with effect, may not have its value.
+pub(crate) fn refused_option(key: &[u8]) -> Reason {
+    if spells(key, b"include") {
+        Reason::Include
+    } else if spells(key, b"repeat") {
+        Reason::Repeated
+    } else if spells(key, b"simtime-resolution") {
+        Reason::Resolution
+    } else {
+        Reason::Unsupported
+    }
+}
+
 // ---- per-object options
 
 fn plain_item(text: &[u8]) -> Option<ModeItem>
@@ -171,21 +185,24 @@ fn is_recording_word(name: &[u8]) -> bool
 }
 
 /// What the option of recording modes says.
-fn modes_option(alloc: Global, bytes: &[u8]) -> Result<Option<ObjectOption>, AllocError>
-    ensures { IfOk result (λ found. Tells (options.IsObjectOption options.word_modes bytes.now) found) }
+fn modes_option(alloc: Global, bytes: &[u8]) -> Result<ObjectOption, Unread>
+    ensures { Finds (options.IsObjectOption options.word_modes bytes.now) result }
 {
     match mode_items(alloc, bytes)? {
-        None => Ok(None),
-        Some(items) => Ok(Some(ObjectOption::Modes(items))),
+        None => Err(Unread::MeansNothing(Reason::BadModes)),
+        Some(items) => Ok(ObjectOption::Modes(items)),
     }
 }
 
 /// What an option says of whether something is recorded.
-fn recording_option(name: &[u8], bytes: &[u8]) -> Option<ObjectOption>
+fn recording_option(name: &[u8], bytes: &[u8]) -> Result<ObjectOption, Unread>
     requires { texts.is_among name.now options.recording_words ≡ true }
-    ensures { Tells (options.IsObjectOption name.now bytes.now) result }
+    ensures { Finds (options.IsObjectOption name.now bytes.now) result }
 {
-    Some(ObjectOption::Recording(truth_named(bytes)?))
+    match truth_named(bytes) {
+        None => Err(Unread::MeansNothing(Reason::NotATruth)),
+        Some(on) => Ok(ObjectOption::Recording(on)),
+    }
 }
 
 /// What a per-object option of that name says.
@@ -193,14 +210,14 @@ pub(crate) fn object_option(
     alloc: Global,
     name: &[u8],
     bytes: &[u8],
-) -> Result<Option<ObjectOption>, AllocError>
-    ensures { IfOk result (λ found. Tells (options.IsObjectOption name.now bytes.now) found) }
+) -> Result<ObjectOption, Unread>
+    ensures { Finds (options.IsObjectOption name.now bytes.now) result }
 {
     if spells(name, b"result-recording-modes") {
         return modes_option(alloc, bytes);
     }
     if is_recording_word(name) {
-        return Ok(recording_option(name, bytes));
+        return recording_option(name, bytes);
     }
-    Ok(Some(ObjectOption::Other))
+    Ok(ObjectOption::Other)
 }

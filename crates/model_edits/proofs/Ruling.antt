@@ -44,7 +44,7 @@ lines_ruled_out m lines config (refusal.NoMemory _) why new is net = refl
 lines_ruled_out m lines config refusal.TooLarge why new is net = absurd why
 lines_ruled_out m lines config refusal.NoSuchLine why new is net = absurd why
 lines_ruled_out m lines config refusal.NoSuchInjection why new is net = absurd why
-lines_ruled_out m lines config (refusal.IniSyntax line) why new is net = absurd why
+lines_ruled_out m lines config (refusal.IniSyntax line reason) why new is net = absurd why
 
 -- ---- lines that make no model
 
@@ -69,7 +69,7 @@ no_model m e lines (refusal.NoMemory _) behind why = tt
 no_model m e lines refusal.TooLarge behind why = absurd why
 no_model m e lines refusal.NoSuchLine behind why = absurd why
 no_model m e lines refusal.NoSuchInjection behind why = absurd why
-no_model m e lines (refusal.IniSyntax line) behind why = absurd why
+no_model m e lines (refusal.IniSyntax line reason) behind why = absurd why
 
 -- what comes of lines that are those behind the edit, and no others are
 comes_of : (m : Model) (e : Edit) (lines : List IniLine) → AreBehind (change_of e m.ini) m.ini lines
@@ -111,13 +111,13 @@ changed m e c is_change same (Err why) edited complete refused new (Err r) took 
     due : (w : EditError) → Refused c (Err w) → RefusesText m e (told_as w)
     due errors.TooLarge is = subst (λ (o : Option change.Edit). RefusesChange o refusal.TooLarge) (sym is_change) is
     due errors.NoSuchLine is = subst (λ (o : Option change.Edit). RefusesChange o refusal.NoSuchLine) (sym is_change) is
-    due (errors.IniSyntax line) is = subst (λ (o : Option change.Edit). RefusesChange o (refusal.IniSyntax line)) (sym is_change) is
+    due (errors.IniSyntax line reason) is = subst (λ (o : Option change.Edit). RefusesChange o (refusal.IniSyntax line reason)) (sym is_change) is
     due (errors.NoMemory error) is = tt
 
     ruled : (w : EditError) → ((lines : List IniLine) → IsEdited c lines → AnswersEdit lines (Err w)) → (other : Model) → IsTextEditOf m e other → told_as w ≡ refusal.NoMemory no_memory
     ruled errors.TooLarge all other is = absurd (all is.lines (subst (λ (o : Option change.Edit). AreBehind o m.ini is.lines) is_change is.behind))
     ruled errors.NoSuchLine all other is = absurd (all is.lines (subst (λ (o : Option change.Edit). AreBehind o m.ini is.lines) is_change is.behind))
-    ruled (errors.IniSyntax line) all other is = absurd (all is.lines (subst (λ (o : Option change.Edit). AreBehind o m.ini is.lines) is_change is.behind))
+    ruled (errors.IniSyntax line reason) all other is = absurd (all is.lines (subst (λ (o : Option change.Edit). AreBehind o m.ini is.lines) is_change is.behind))
     ruled (errors.NoMemory error) all other is = refl
 
 pub comes_inserted : (m : Model) (line : ℕ) (text : List ℕ) (c : change.Edit) → change_of (edit.InsertIni line text) m.ini ≡ Some c

@@ -114,7 +114,7 @@ abbrev pub RefusesChange : Option change.Edit → Refusal → Type 0
 RefusesChange None r = ⊥
 RefusesChange (Some changed) refusal.TooLarge = Refused changed (Err errors.TooLarge)
 RefusesChange (Some changed) refusal.NoSuchLine = Refused changed (Err errors.NoSuchLine)
-RefusesChange (Some changed) (refusal.IniSyntax line) = Refused changed (Err (errors.IniSyntax line))
+RefusesChange (Some changed) (refusal.IniSyntax line reason) = Refused changed (Err (errors.IniSyntax line reason))
 RefusesChange (Some changed) (refusal.NoMemory _) = Unit {0}
 RefusesChange (Some changed) _ = ⊥
 
@@ -137,7 +137,7 @@ pub record HasNoModel (m : Model) (e : Edit) (r : Refusal) : Type 0 where
 abbrev pub RefusesText : Model → Edit → Refusal → Type 0
 RefusesText m e refusal.TooLarge = RefusesChange (change_of e m.ini) refusal.TooLarge
 RefusesText m e refusal.NoSuchLine = RefusesChange (change_of e m.ini) refusal.NoSuchLine
-RefusesText m e (refusal.IniSyntax line) = RefusesChange (change_of e m.ini) (refusal.IniSyntax line)
+RefusesText m e (refusal.IniSyntax line reason) = RefusesChange (change_of e m.ini) (refusal.IniSyntax line reason)
 RefusesText m e refusal.NoSuchInjection = ⊥
 RefusesText m e refusal.NoSuchConfig = HasNoModel m e refusal.NoSuchConfig
 RefusesText m e refusal.ChainFault = HasNoModel m e refusal.ChainFault

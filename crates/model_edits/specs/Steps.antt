@@ -20,7 +20,7 @@ has_network m lines chain = is_some (network_of (record m { ini = lines; chain =
 abbrev pub told_as : EditError → Refusal
 told_as errors.TooLarge = refusal.TooLarge
 told_as errors.NoSuchLine = refusal.NoSuchLine
-told_as (errors.IniSyntax line) = refusal.IniSyntax line
+told_as (errors.IniSyntax line reason) = refusal.IniSyntax line reason
 told_as (errors.NoMemory error) = refusal.NoMemory error
 
 -- why a configuration has no chain in these lines

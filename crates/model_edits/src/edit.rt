@@ -10,6 +10,7 @@ ghost use Rattle.model_edits.specs.Steps.{has_network, told_as, Comes, RefusesCh
 
 use ini_config::edits::{with_inserted, with_removed, with_replaced};
 use ini_config::error::EditError;
+use ini_entries::reason::Reason;
 use ini_texts::entries::network_entry;
 use ini_texts::error::ChainError;
 use ini_texts::lines::IniText;
@@ -57,8 +58,8 @@ pub enum Refusal {
     NoSuchLine,
     /// No injection of that number is held.
     NoSuchInjection,
-    /// The number, from 1, of the first line of the changed ini text that means nothing.
-    IniSyntax(usize),
+    /// The number, from 1, of the first line of the changed ini text that means nothing, and why.
+    IniSyntax(usize, Reason),
     /// The selected configuration isn't in the ini text.
     NoSuchConfig,
     /// The selected configuration extends one that isn't in the ini text, several, or in the end itself.
@@ -76,7 +77,7 @@ fn told_as(error: EditError) -> Refusal
     match error {
         EditError::TooLarge => Refusal::TooLarge,
         EditError::NoSuchLine => Refusal::NoSuchLine,
-        EditError::IniSyntax(line) => Refusal::IniSyntax(line),
+        EditError::IniSyntax(line, why) => Refusal::IniSyntax(line, why),
         EditError::NoMemory(error) => Refusal::NoMemory(error),
     }
 }

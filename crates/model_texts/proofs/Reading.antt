@@ -37,7 +37,7 @@ blames ts n t before (fault.NedSyntax at line) declared here is = record {
 }
 blames ts n t before fault.TooLarge declared here is = holds_large ts n t here is
 blames ts n t before (fault.NoMemory _) declared here is = tt
-blames ts n t before (fault.IniSyntax line) declared here is = absurd is
+blames ts n t before (fault.IniSyntax line reason) declared here is = absurd is
 blames ts n t before fault.DuplicateType declared here is = absurd is
 blames ts n t before fault.UnknownType declared here is = absurd is
 blames ts n t before fault.InheritanceCircle declared here is = absurd is
@@ -63,7 +63,7 @@ config_refused texts ini config read fault.ChainFault is = record { read = read;
 config_refused texts ini config read (fault.NoMemory _) is = tt
 config_refused texts ini config read (fault.NedSyntax at line) is = absurd is
 config_refused texts ini config read fault.TooLarge is = absurd is
-config_refused texts ini config read (fault.IniSyntax line) is = absurd is
+config_refused texts ini config read (fault.IniSyntax line reason) is = absurd is
 config_refused texts ini config read fault.DuplicateType is = absurd is
 config_refused texts ini config read fault.UnknownType is = absurd is
 config_refused texts ini config read fault.InheritanceCircle is = absurd is

@@ -90,7 +90,7 @@ RefusesFiles texts (fault.NoMemory _) = Unit {0}
 RefusesFiles texts _ = ⊥
 
 abbrev pub RefusesIni : List ℕ → BeginFault → Type 0
-RefusesIni bytes (fault.IniSyntax line) = FirstBad line bytes
+RefusesIni bytes (fault.IniSyntax line reason) = FirstBad line bytes
 RefusesIni bytes fault.TooLarge = is_large bytes ≡ true
 RefusesIni bytes (fault.NoMemory _) = Unit {0}
 RefusesIni bytes _ = ⊥
@@ -155,7 +155,7 @@ pub record HasNoNetwork (texts : List (List ℕ)) (ini config : List ℕ) : Type
 abbrev pub Refuses : List (List ℕ) → List ℕ → List ℕ → BeginFault → Type 0
 Refuses texts ini config fault.TooLarge = is_too_large texts ini ≡ true
 Refuses texts ini config (fault.NedSyntax at line) = (is_too_large texts ini ≡ false) × IsBlamed texts at line
-Refuses texts ini config (fault.IniSyntax line) = (is_too_large texts ini ≡ false) × IsIniBlamed texts ini line
+Refuses texts ini config (fault.IniSyntax line reason) = (is_too_large texts ini ≡ false) × IsIniBlamed texts ini line
 Refuses texts ini config fault.DuplicateType = (is_too_large texts ini ≡ false) × AreApart texts ini types.DuplicateType
 Refuses texts ini config fault.UnknownType = (is_too_large texts ini ≡ false) × AreApart texts ini types.UnknownType
 Refuses texts ini config fault.InheritanceCircle = (is_too_large texts ini ≡ false) × AreApart texts ini types.InheritanceCircle

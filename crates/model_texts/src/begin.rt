@@ -13,6 +13,7 @@ ghost use Rattle.model_texts.specs.Models.{refusal_of, AreNedFiles, IsModelOf, I
 
 use ini_config::error::IniError;
 use ini_config::parse::parse_ini;
+use ini_entries::reason::Reason;
 use ini_texts::error::ChainError;
 use ini_texts::lines::IniText;
 use models::model::Model;
@@ -38,8 +39,8 @@ pub enum BeginFault {
     TooLarge,
     /// A NED file, counted from 0, and the line of the first byte that can't go on.
     NedSyntax(usize, usize),
-    /// The first line of the ini text that means nothing.
-    IniSyntax(usize),
+    /// The first line of the ini text that means nothing, and why.
+    IniSyntax(usize, Reason),
     /// Two types have one name, or one has that of a built-in channel.
     DuplicateType,
     /// A submodule's type, what a type extends, or one of its interfaces isn't declared.
@@ -138,7 +139,7 @@ fn lines_of(alloc: Global, bytes: &[u8]) -> Result<IniText, BeginFault>
 {
     match parse_ini(alloc, bytes) {
         Ok(lines) => Ok(lines),
-        Err(IniError::IniSyntax(line)) => Err(BeginFault::IniSyntax(line)),
+        Err(IniError::IniSyntax(line, why)) => Err(BeginFault::IniSyntax(line, why)),
         Err(IniError::TooLarge) => Err(BeginFault::TooLarge),
         Err(IniError::NoMemory(error)) => Err(BeginFault::NoMemory(error)),
     }

@@ -16,7 +16,7 @@ fn is_read(alloc: Global, text: &[u8]) -> Result<bool, IniError>
 {
     match parse_ini(alloc, text) {
         Ok(_) => Ok(true),
-        Err(IniError::IniSyntax(_)) => Ok(false),
+        Err(IniError::IniSyntax(_, _)) => Ok(false),
         Err(fault) => Err(fault),
     }
 }

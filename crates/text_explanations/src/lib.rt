@@ -6,7 +6,6 @@
 pub mod bases;
 pub mod explanation;
 mod heads;
-pub mod ini_lines;
 mod interfaces;
 mod members;
 pub mod names;

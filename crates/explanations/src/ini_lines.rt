@@ -1,0 +1,83 @@
+//! Why a line of an ini text means nothing: words for each reason.
+
+use ini_config::parse::key_and_value;
+use ini_entries::reason::Reason;
+use text_explanations::explanation::Explanation;
+
+/// The line of that number, counted from 1, without its end.
+pub fn line_at(bytes: &[u8], number: usize) -> &[u8] {
+    let mut at = 1usize;
+    for line in bytes.split(|b| *b == b'\n') {
+        if at == number {
+            return match line {
+                [front @ .., b'\r'] => front,
+                _ => line,
+            };
+        }
+        at = at.saturating_add(1);
+    }
+    b"".as_slice()
+}
+
+/// Says that the key of a line is no pattern.
+fn tell_key(told: &mut Explanation, line: &[u8]) {
+    told.say("the key ");
+    if let Ok((key, _)) = key_and_value(line) {
+        told.say_name(key);
+    }
+    told.say(" is no pattern: a '{' or '[' is not closed, or nothing stands in it");
+}
+
+/// Says that the value of a line is none that a parameter can have.
+fn tell_value(told: &mut Explanation, line: &[u8]) {
+    told.say("the value ");
+    if let Ok((_, value)) = key_and_value(line) {
+        told.say_name(value);
+    }
+    told.say(
+        " is neither the word default nor an expression of literals (a whole number, a quantity as 5s, true, false, a text in quotes), operators, min and max; names, other functions and random numbers are not supported",
+    );
+}
+
+/// How a section is written.
+const SECTION: &str =
+    "a section is written [General], [Config NAME] or [NAME], alone on its line, without blanks around it";
+
+/// What a list of recording modes is.
+const MODES: &str =
+    "the value is a list, parted by commas, of default, all, or one of count, sum, min, max, last, vector, with + or - before it or not";
+
+/// Says why a line of an ini text means nothing, by the reason for which it was refused.
+pub fn tell_ini_line(told: &mut Explanation, line: &[u8], reason: Reason) {
+    let words = match reason {
+        Reason::BadPattern => return tell_key(told, line),
+        Reason::BadExpression => return tell_value(told, line),
+        Reason::NotASection => SECTION,
+        Reason::Indented =>
+            "an entry can't begin with a blank: continuation lines are not supported",
+        Reason::NotAnEntry =>
+            "this is no entry: it is written KEY = VALUE, a comment begins with #",
+        Reason::Include => "include is not supported: put the lines of that file here",
+        Reason::NoKey => "there is no key before '='",
+        Reason::BadKey => "a key is of ASCII characters, without blanks",
+        Reason::NoValue => "there is no value behind '='",
+        Reason::BadValue => "the value is not UTF-8",
+        Reason::Continued =>
+            "continuation lines are not supported: write the whole entry on one line",
+        Reason::Study => "parameter studies (${..}) are not supported: write one value",
+        Reason::BeforeSection =>
+            "no section stands before this entry: write [General] on a line above it",
+        Reason::GeneralExtends => "[General] can't extend another configuration",
+        Reason::LineEnd => "a line end stands within the line",
+        Reason::NotANetwork => "the value is the name of a network, as in 'network = N'",
+        Reason::NotConfigurations =>
+            "the value is the name of a configuration, as in 'extends = Base'",
+        Reason::NotATime => "a time has a unit, as in 100s or 5ms",
+        Reason::Unsupported => "this option is not supported",
+        Reason::Repeated => "only 'repeat = 1' is supported",
+        Reason::Resolution => "only 'simtime-resolution = ps' is supported",
+        Reason::BadModes => MODES,
+        Reason::NotATruth => "the value is true or false",
+    };
+    told.say(words);
+}
