@@ -7,7 +7,7 @@ use Rattle.ini_texts.specs.declared.lines.IniLine.{IniLine}
 use Rattle.ini_config.specs.Edits.{AnswersEdit, IsEdited, Refused}
 use Rattle.ini_config.specs.Edits as change
 use Rattle.ini_texts.specs.Sections.{IsChain, is_section}
-use Rattle.ini_texts.proofs.ChainLaws.{one_chain_law}
+use Rattle.ini_texts.proofs.LineLaws.{one_chain_law}
 use Rattle.models.specs.declared.model.Model.{Model}
 use Rattle.models.specs.Models.{network_of}
 use Rattle.ned_trees.specs.declared.declarations.TypeDeclaration.{TypeDeclaration}

@@ -14,7 +14,7 @@ use Rattle.type_building.specs.Inheritance.{flat_types}
 use Rattle.type_building.specs.Building.{fault_of}
 use Rattle.ini_texts.specs.declared.lines.IniLine.{IniLine}
 use Rattle.ini_texts.specs.Sections.{IsChain, is_section}
-use Rattle.ini_texts.proofs.ChainLaws.{one_chain_law}
+use Rattle.ini_texts.proofs.LineLaws.{one_chain_law}
 use Rattle.ini_config.proofs.MeaningLaws.{bad_text, text_same}
 use Rattle.injection_order.specs.declared.injection.Injection.{Injection}
 use Rattle.models.specs.declared.model.Model.{Model}
