@@ -10,11 +10,13 @@ use Rattle.recorders.specs.Hearing.{is_within}
 use Rattle.recorders.specs.Scalars.{statistic_lines}
 use Rattle.recorders.specs.Selection.{selected_modes}
 use Rattle.result_lines.specs.Header.{item_line}
+use Rattle.run_semantics.specs.Run.{most_nested}
+use Rattle.run_semantics.specs.Subtree.{inner_first, outer_first}
 use Rattle.run_semantics.specs.Upcoming.{upcoming}
 use Rattle.stock_modules.specs.Stock.{stock}
 use Rattle.stock_modules.specs.Tick.{number_of, state_of, tick_naming}
 use Rattle.worked_runs.proofs.no_ticks.Goals as goal
 
 pub returns : goal.returns
-unfolding encode is_utf8 chars digits text_of_time path_of path_around answers_of time_limit_of is_within statistic_lines selected_modes item_line stock number_of state_of tick_naming upcoming
+unfolding encode is_utf8 chars digits text_of_time path_of path_around answers_of time_limit_of is_within statistic_lines selected_modes item_line stock number_of state_of tick_naming upcoming most_nested outer_first inner_first
 returns c = record { answer_is = refl; scalars_are = refl; vectors_are = refl }
