@@ -27,7 +27,9 @@ pair_of a b =
     else (if a == 124 && b == 124 then Some m.Or
     else (if a == 35 && b == 35 then Some m.Xor
     else (if a == 43 && b == 43 then Some m.PlusPlus
-    else None))))))))))
+    else (if a == 36 && b == 105 then Some m.InHalf
+    else (if a == 36 && b == 111 then Some m.OutHalf
+    else None))))))))))))
 
 -- a bracket, or a mark between parts
 unfoldable pub bracket_of : ℕ → Option Mark

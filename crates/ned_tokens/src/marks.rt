@@ -50,6 +50,10 @@ fn pair_of(first: u8, second: u8) -> Option<Mark>
         Some(Mark::Xor)
     } else if first == b'+' && second == b'+' {
         Some(Mark::PlusPlus)
+    } else if first == b'$' && second == b'i' {
+        Some(Mark::InHalf)
+    } else if first == b'$' && second == b'o' {
+        Some(Mark::OutHalf)
     } else {
         None
     }

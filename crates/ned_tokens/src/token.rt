@@ -83,6 +83,10 @@ pub enum Mark {
     Or,
     Xor,
     PlusPlus,
+    /// `$i`: the input half of a gate.
+    InHalf,
+    /// `$o`: its output half.
+    OutHalf,
     ArrowRight,
     ArrowLeft,
     ArrowBoth,

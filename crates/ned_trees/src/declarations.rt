@@ -1,5 +1,6 @@
 //! What a NED text declares, as values that the later layers use.
 
+use crate::connections::ConnectionSection;
 use crate::expressions::Expression;
 use crate::modes::Mode;
 use sim_values::text::Text;
@@ -59,7 +60,7 @@ pub struct Statistic {
     pub modes: Items<RecordedMode>,
 }
 
-/// A line of a type's parameter section, or of a submodule's body, where no property has an effect.
+/// A line of a type's parameter section, or of the body of a submodule or a channel, where no property has an effect.
 #[derive(Drop)]
 pub enum SectionLine {
     Declaration(Declaration),
@@ -69,16 +70,6 @@ pub enum SectionLine {
     Class(Text),
     /// A property without effect.
     Ignored,
-}
-
-/// A submodule, as declared.
-#[derive(Drop)]
-pub struct Submodule {
-    pub name: Text,
-    pub type_name: Text,
-    /// The lines of its body, which give its parameters values: declarations, assignments and ignored properties; none where
-    /// it has no body.
-    pub body: Items<SectionLine>,
 }
 
 /// The way that messages take through a gate.
@@ -127,10 +118,50 @@ pub enum GateLine {
     Refinement(GateRefinement),
 }
 
+/// The type of a submodule.
+#[derive(Drop)]
+pub enum SubmoduleType {
+    /// By its name.
+    Named(Text),
+    /// `<..> like NAME`: which type of that interface it is, a value says.
+    Like(ParametricType),
+}
+
+/// `<..> like NAME`.
+#[derive(Drop)]
+pub struct ParametricType {
+    /// `<e>` or `<default(e)>`; none for `<>`.
+    pub given: Option<ParameterValue>,
+    /// The interface that the type keeps.
+    pub interface: Text,
+}
+
+/// The body of a submodule, which says more of its parameters and gates.
+#[derive(Drop)]
+pub struct SubmoduleBody {
+    /// Declarations, assignments and ignored properties.
+    pub lines: Items<SectionLine>,
+    pub gates: Items<GateLine>,
+}
+
+/// A submodule, as declared.
+#[derive(Drop)]
+pub struct Submodule {
+    pub name: Text,
+    /// `[e]`: the size of a vector of submodules.
+    pub size: Option<Expression>,
+    pub submodule_type: SubmoduleType,
+    /// `if e`.
+    pub condition: Option<Expression>,
+    /// One without lines and gates says the same as none.
+    pub body: SubmoduleBody,
+}
+
 /// The word that declares a type.
 #[derive(Clone, Copy, Debug, PartialEq, Eq)]
 pub enum TypeKind {
     Simple,
+    Module,
     Network,
     Channel,
     ModuleInterface,
@@ -148,6 +179,7 @@ pub struct TypeDeclaration {
     pub lines: Items<SectionLine>,
     pub gates: Items<GateLine>,
     pub submodules: Items<Submodule>,
+    pub connections: ConnectionSection,
 }
 
 // Written out, so that a crate which drops one need not prove what that does.
@@ -161,6 +193,7 @@ impl Drop for TypeDeclaration {
             lines: _,
             gates: _,
             submodules: _,
+            connections: _,
         } = self;
     }
 }
@@ -169,7 +202,7 @@ impl Drop for TypeDeclaration {
 #[derive(Drop)]
 pub struct NestedType {
     pub declared: TypeDeclaration,
-    /// The types that are declared within it, in order; none but in a network.
+    /// The types that are declared within it, in order; none but in a module or a network.
     pub types: Items<NestedType>,
 }
 

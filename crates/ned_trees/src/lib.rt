@@ -29,6 +29,7 @@ macro_rules! copied_behind {
     };
 }
 
+pub mod connections;
 pub mod declarations;
 pub mod expressions;
 pub mod modes;

@@ -5,7 +5,7 @@ use crate::edit_rows::tell_edit;
 use crate::meaning_rows::{tell_entry_pattern, tell_meaning};
 use crate::pattern_rows::tell_pattern;
 use crate::telling::Telling;
-use crate::{ini_rows, ned_rows, rows, time_rows, tree_rows, value_rows};
+use crate::{connection_rows, ini_rows, ned_rows, rows, time_rows, tree_rows, value_rows};
 use std::alloc::{AllocError, Global};
 
 /// Tells what becomes of a row of several parts, by its first part and those behind it.
@@ -32,6 +32,7 @@ fn tell_parted(alloc: Global, told: &mut Telling, file: &str, row: &str) {
 fn tell_row(alloc: Global, told: &mut Telling, file: &str, row: &str) {
     match file {
         "ned_texts" => ned_rows::tell_text(alloc, told, row),
+        "connections" => connection_rows::tell_text(alloc, told, row),
         "ned_models" => ned_rows::tell_model(alloc, told, row),
         "expressions" => ned_rows::tell_expression(alloc, told, row),
         "trees" => tree_rows::tell_expression(alloc, told, row),

@@ -3,6 +3,7 @@
 
 mod answers;
 mod chain_rows;
+mod connection_rows;
 mod edit_rows;
 mod escapes;
 mod ini_rows;

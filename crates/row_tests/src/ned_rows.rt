@@ -1,5 +1,6 @@
 //! What becomes of NED texts.
 
+use crate::connection_rows::tell_section;
 use crate::escapes::unescaped;
 use crate::telling::Telling;
 use crate::tree_rows::tell_tree;
@@ -7,7 +8,7 @@ use crate::words::{tell_names, written};
 use ned_syntax::parse::parse_ned;
 use ned_trees::declarations::{
     Declaration, GateLine, GateSize, NedFile, NestedType, ParameterValue, SectionLine, Statistic,
-    Submodule, TypeDeclaration,
+    Submodule, SubmoduleBody, SubmoduleType, TypeDeclaration,
 };
 use ned_trees::expressions::Expression;
 use ned_trees::texts::NedTexts;
@@ -92,40 +93,14 @@ fn tell_line(told: &mut Telling, line: &SectionLine) {
 }
 
 /// Tells the lines of a parameter section, or of a submodule's body.
-fn tell_lines(told: &mut Telling, lines: &[SectionLine]) {
+pub fn tell_lines(told: &mut Telling, lines: &[SectionLine]) {
     for line in lines {
         tell_line(told, line);
     }
 }
 
-/// Tells the lines of a submodule's body, where there are some.
-fn tell_body(told: &mut Telling, lines: &[SectionLine]) {
-    if lines.is_empty() {
-        told.text("; ");
-    } else {
-        told.text(" { ");
-        tell_lines(told, lines);
-        told.text("} ");
-    }
-}
-
-/// Tells a submodule.
-fn tell_submodule(told: &mut Telling, it: &Submodule) {
-    told.text(written(&it.name));
-    told.text(": ");
-    told.text(written(&it.type_name));
-    tell_body(told, it.body.as_slice())
-}
-
-/// Tells the submodules of a type.
-fn tell_submodules(told: &mut Telling, submodules: &[Submodule]) {
-    for it in submodules {
-        tell_submodule(told, it);
-    }
-}
-
 /// Tells a size in brackets.
-fn tell_brackets(told: &mut Telling, size: &Expression) {
+pub fn tell_brackets(told: &mut Telling, size: &Expression) {
     told.text("[");
     tell_tree(told, size);
     told.text("]")
@@ -140,8 +115,8 @@ fn tell_size(told: &mut Telling, size: &GateSize) {
     }
 }
 
-/// Tells the size that a refinement gives a vector of gates.
-fn tell_refined_size(told: &mut Telling, size: &Option<Expression>) {
+/// Tells the size of a vector, where there is one.
+fn tell_size_there(told: &mut Telling, size: &Option<Expression>) {
     if let Some(size) = size {
         tell_brackets(told, size);
     }
@@ -164,7 +139,7 @@ fn tell_gate(told: &mut Telling, line: &GateLine) {
         }
         GateLine::Refinement(it) => {
             told.text(written(&it.name));
-            tell_refined_size(told, &it.size);
+            tell_size_there(told, &it.size);
             tell_loose(told, it.loose)
         }
     }
@@ -174,6 +149,63 @@ fn tell_gate(told: &mut Telling, line: &GateLine) {
 fn tell_gates(told: &mut Telling, lines: &[GateLine]) {
     for line in lines {
         tell_gate(told, line);
+    }
+}
+
+/// Tells the body of a submodule, where it says something.
+fn tell_body(told: &mut Telling, body: &SubmoduleBody) {
+    if body.lines.is_empty() && body.gates.is_empty() {
+        told.text("; ");
+    } else {
+        told.text(" { ");
+        tell_lines(told, body.lines.as_slice());
+        tell_gates(told, body.gates.as_slice());
+        told.text("} ");
+    }
+}
+
+/// Tells the value between the angles of a type.
+fn tell_angles(told: &mut Telling, value: &Option<ParameterValue>) {
+    told.text("<");
+    if let Some(value) = value {
+        tell_given(told, value);
+    }
+    told.text(" > like ")
+}
+
+/// Tells the type of a submodule.
+fn tell_submodule_type(told: &mut Telling, it: &SubmoduleType) {
+    match it {
+        SubmoduleType::Named(name) => told.text(written(name)),
+        SubmoduleType::Like(it) => {
+            tell_angles(told, &it.given);
+            told.text(written(&it.interface))
+        }
+    }
+}
+
+/// Tells the condition of a submodule.
+fn tell_condition(told: &mut Telling, condition: &Option<Expression>) {
+    if let Some(condition) = condition {
+        told.text(" if ");
+        tell_tree(told, condition);
+    }
+}
+
+/// Tells a submodule.
+fn tell_submodule(told: &mut Telling, it: &Submodule) {
+    told.text(written(&it.name));
+    tell_size_there(told, &it.size);
+    told.text(": ");
+    tell_submodule_type(told, &it.submodule_type);
+    tell_condition(told, &it.condition);
+    tell_body(told, &it.body)
+}
+
+/// Tells the submodules of a type.
+fn tell_submodules(told: &mut Telling, submodules: &[Submodule]) {
+    for it in submodules {
+        tell_submodule(told, it);
     }
 }
 
@@ -213,6 +245,7 @@ fn tell_type(told: &mut Telling, it: &NestedType) {
     tell_gates(told, it.declared.gates.as_slice());
     tell_types(told, it.types.as_slice());
     tell_submodules(told, it.declared.submodules.as_slice());
+    tell_section(told, &it.declared.connections);
     told.text("} ")
 }
 
