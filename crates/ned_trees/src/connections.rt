@@ -52,15 +52,20 @@ pub struct Owner {
 }
 
 /// An end of a connection.
-#[derive(Drop)]
 pub struct End {
     /// None where the gate is the module's own.
     pub owner: Option<Owner>,
     pub gate: Gate,
 }
 
+// Written out, so that a crate which drops one need not prove what that does.
+impl Drop for End {
+    fn drop(self) {
+        let End { owner: _, gate: _ } = self;
+    }
+}
+
 /// The channel of a connection.
-#[derive(Drop)]
 pub struct Channel {
     /// Its type; none for a block alone, whose lines tell which built-in channel it is.
     pub type_name: Option<Text>,
@@ -68,14 +73,35 @@ pub struct Channel {
     pub lines: Items<SectionLine>,
 }
 
+// Written out, so that a crate which drops one need not prove what that does.
+impl Drop for Channel {
+    fn drop(self) {
+        let Channel {
+            type_name: _,
+            lines: _,
+        } = self;
+    }
+}
+
 /// A connection, without its loops and conditions.
-#[derive(Drop)]
 pub struct Connection {
     pub left: End,
     pub arrow: Arrow,
     /// None for a connection without a channel.
     pub channel: Option<Channel>,
     pub right: End,
+}
+
+// Written out, so that a crate which drops one need not prove what that does.
+impl Drop for Connection {
+    fn drop(self) {
+        let Connection {
+            left: _,
+            arrow: _,
+            channel: _,
+            right: _,
+        } = self;
+    }
 }
 
 /// `for NAME = FIRST .. LAST`.
@@ -96,33 +122,69 @@ pub enum Clause {
 }
 
 /// A connection, with its loops and conditions.
-#[derive(Drop)]
 pub struct ConnectionLine {
     pub connection: Connection,
     /// In the order of the text, the outermost first.
     pub clauses: Items<Clause>,
 }
 
+// Written out, so that a crate which drops one need not prove what that does.
+impl Drop for ConnectionLine {
+    fn drop(self) {
+        let ConnectionLine {
+            connection: _,
+            clauses: _,
+        } = self;
+    }
+}
+
 /// Connections that have loops and conditions in common: `for .., if .. { .. }`.
-#[derive(Drop)]
 pub struct ConnectionGroup {
     /// At least one, the outermost first.
     pub clauses: Items<Clause>,
     pub lines: Items<ConnectionLine>,
 }
 
+// Written out, so that a crate which drops one need not prove what that does.
+impl Drop for ConnectionGroup {
+    fn drop(self) {
+        let ConnectionGroup {
+            clauses: _,
+            lines: _,
+        } = self;
+    }
+}
+
 /// An item of a section of connections: what an edit puts in or takes out at a place.
-#[derive(Drop)]
 pub enum ConnectionItem {
     Line(ConnectionLine),
     Group(ConnectionGroup),
 }
 
+// Written out, so that a crate which drops one need not prove what that does.
+impl Drop for ConnectionItem {
+    fn drop(self) {
+        match self {
+            ConnectionItem::Line(_) => {}
+            ConnectionItem::Group(_) => {}
+        }
+    }
+}
+
 /// A section of connections. Without items and without the word it says the same as none.
-#[derive(Drop)]
 pub struct ConnectionSection {
     /// It has the word `allowunconnected`: gates may stay unconnected.
     pub allow_unconnected: bool,
     /// In the order of the text: the first has the place 0.
     pub items: Items<ConnectionItem>,
+}
+
+// Written out, so that a crate which drops one need not prove what that does.
+impl Drop for ConnectionSection {
+    fn drop(self) {
+        let ConnectionSection {
+            allow_unconnected: _,
+            items: _,
+        } = self;
+    }
 }

@@ -145,7 +145,6 @@ pub struct SubmoduleBody {
 }
 
 /// A submodule, as declared.
-#[derive(Drop)]
 pub struct Submodule {
     pub name: Text,
     /// `[e]`: the size of a vector of submodules.
@@ -155,6 +154,19 @@ pub struct Submodule {
     pub condition: Option<Expression>,
     /// One without lines and gates says the same as none.
     pub body: SubmoduleBody,
+}
+
+// Written out, so that a crate which drops one need not prove what that does.
+impl Drop for Submodule {
+    fn drop(self) {
+        let Submodule {
+            name: _,
+            size: _,
+            submodule_type: _,
+            condition: _,
+            body: _,
+        } = self;
+    }
 }
 
 /// The word that declares a type.
