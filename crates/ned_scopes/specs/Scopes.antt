@@ -1,6 +1,12 @@
 -- Types within others, and which type a name means.
 -- OMNeT++ Simulation Manual, "Inner Types", "Type Name Resolution".
 use Rattle.std.specs.Prelude.{ℕ, zero, suc, List, [], ◌∷◌, ◌++◌, length, map, Option, Some, None, option_map, if◌then◌else◌, codes}
+use Rattle.ned_trees.specs.declared.connections.Channel.{Channel}
+use Rattle.ned_trees.specs.declared.connections.Connection.{Connection}
+use Rattle.ned_trees.specs.declared.connections.ConnectionItem.{ConnectionItem}
+use Rattle.ned_trees.specs.declared.connections.ConnectionItem.TheVariants as item
+use Rattle.ned_trees.specs.declared.connections.ConnectionLine.{ConnectionLine}
+use Rattle.ned_trees.specs.declared.connections.ConnectionSection.{ConnectionSection}
 use Rattle.ned_trees.specs.declared.declarations.NedFile.{NedFile}
 use Rattle.ned_trees.specs.declared.declarations.NestedType.{NestedType, out-NestedType}
 use Rattle.ned_trees.specs.declared.declarations.NestedType.TheOpen.{NestedType-F}
@@ -8,9 +14,11 @@ use Rattle.ned_trees.specs.declared.declarations.NestedType.TheFolds.{fold-Neste
 use Rattle.ned_trees.specs.declared.declarations.SectionLine.{SectionLine}
 use Rattle.ned_trees.specs.declared.declarations.SectionLine.TheVariants as line
 use Rattle.ned_trees.specs.declared.declarations.Submodule.{Submodule}
+use Rattle.ned_trees.specs.declared.declarations.SubmoduleType.{SubmoduleType}
+use Rattle.ned_trees.specs.declared.declarations.SubmoduleType.TheVariants as submodule_type
 use Rattle.ned_trees.specs.declared.declarations.TypeDeclaration.{TypeDeclaration}
 use Rattle.ned_trees.specs.declared.declarations.TypeKind.{TypeKind}
-use Rattle.ned_trees.specs.declared.declarations.TypeKind.TheVariants.{Simple, Network, Channel, ModuleInterface, ChannelInterface}
+use Rattle.ned_trees.specs.declared.declarations.TypeKind.TheVariants as kind
 use Rattle.ned_scopes.specs.declared.known.Known.{Known}
 use Rattle.ned_scopes.specs.declared.known.TypesByName.{TypesByName}
 use Rattle.ned_scopes.specs.Known.{is_known, base_named, all_behind}
@@ -94,21 +102,45 @@ scopes_of types scopes t = full_name scopes t.name ∷ bases_within (length type
 
 -- the line that names the class of a simple type that extends none: its own name, without those of the types around it
 abbrev pub class_line : TypeKind → Option (List ℕ) → List ℕ → List SectionLine
-class_line Simple None name = line.Class name ∷ []
-class_line Simple (Some base) name = []
-class_line Network base name = []
-class_line Channel base name = []
-class_line ModuleInterface base name = []
-class_line ChannelInterface base name = []
+class_line kind.Simple None name = line.Class name ∷ []
+class_line kind.Simple (Some base) name = []
+class_line kind.Module base name = []
+class_line kind.Network base name = []
+class_line kind.Channel base name = []
+class_line kind.ModuleInterface base name = []
+class_line kind.ChannelInterface base name = []
 
 -- the line stands behind the lines of a type within another, as the first class that lines name counts
 abbrev pub own_class : List (List ℕ) → TypeDeclaration → List SectionLine
 own_class [] t = []
 own_class (scope ∷ scopes) t = class_line t.kind t.base t.name
 
+-- the type of a submodule, or the interface behind `like`, looked up in these scopes
+abbrev pub meant_type : TypesByName → List (List ℕ) → SubmoduleType → SubmoduleType
+meant_type types scopes (submodule_type.Named name) = submodule_type.Named (meant types scopes name)
+meant_type types scopes (submodule_type.Like p) = submodule_type.Like (record { given = p.given; interface = meant types scopes p.interface })
+
 -- a submodule, whose type is looked up in these scopes
 abbrev pub resolved_submodule : TypesByName → List (List ℕ) → Submodule → Submodule
-resolved_submodule types scopes s = record { name = s.name; type_name = meant types scopes s.type_name; body = s.body }
+resolved_submodule types scopes s = record { name = s.name; size = s.size; submodule_type = meant_type types scopes s.submodule_type; condition = s.condition; body = s.body }
+
+-- the channel of a connection, whose type is looked up in these scopes
+abbrev pub resolved_channel : TypesByName → List (List ℕ) → Channel → Channel
+resolved_channel types scopes c = record { type_name = option_map (meant types scopes) c.type_name; lines = c.lines }
+
+abbrev pub resolved_connection : TypesByName → List (List ℕ) → Connection → Connection
+resolved_connection types scopes c = record { left = c.left; arrow = c.arrow; channel = option_map (resolved_channel types scopes) c.channel; right = c.right }
+
+abbrev pub resolved_line : TypesByName → List (List ℕ) → ConnectionLine → ConnectionLine
+resolved_line types scopes l = record { connection = resolved_connection types scopes l.connection; clauses = l.clauses }
+
+abbrev pub resolved_item : TypesByName → List (List ℕ) → ConnectionItem → ConnectionItem
+resolved_item types scopes (item.Line l) = item.Line (resolved_line types scopes l)
+resolved_item types scopes (item.Group g) = item.Group (record { clauses = g.clauses; lines = map (resolved_line types scopes) g.lines })
+
+-- a section of connections, whose channels' types are looked up in these scopes
+abbrev pub resolved_connections : TypesByName → List (List ℕ) → ConnectionSection → ConnectionSection
+resolved_connections types scopes c = record { allow_unconnected = c.allow_unconnected; items = map (resolved_item types scopes) c.items }
 
 -- A TYPE WITH FULL NAMES: its head is looked up in the first scopes, and what stands within it in the others
 abbrev pub resolved : TypesByName → List (List ℕ) → List (List ℕ) → TypeDeclaration → TypeDeclaration
@@ -120,6 +152,7 @@ resolved types scopes own t = record {
   lines = t.lines ++ own_class scopes t;
   gates = t.gates;
   submodules = map (resolved_submodule types own) t.submodules;
+  connections = resolved_connections types own t.connections;
 }
 
 abbrev pub resolved_below : List (List ℕ) → List (List (List ℕ) → List TypeDeclaration) → List TypeDeclaration

@@ -2,9 +2,10 @@
 
 ghost use Rattle.std.specs.Prelude.{◌≡◌, ◌++◌, IfOk, OnOk};
 
+use crate::connections::copy_connections;
 use ned_trees::declarations::{
     Assignment, Declaration, GateDeclaration, GateLine, GateRefinement, GateSize, ParameterValue,
-    SectionLine, Submodule, TypeDeclaration,
+    ParametricType, SectionLine, Submodule, SubmoduleBody, SubmoduleType, TypeDeclaration,
 };
 use ned_trees::expressions::Expression;
 use ned_types::flat::copy_statistic;
@@ -23,7 +24,7 @@ fn copy_value(alloc: Global, value: &ParameterValue) -> Result<ParameterValue, A
 }
 
 /// An equal value, where there is one.
-fn copy_optional(
+pub(crate) fn copy_optional(
     alloc: Global,
     value: &Option<ParameterValue>,
 ) -> Result<Option<ParameterValue>, AllocError>
@@ -93,14 +94,39 @@ pub fn copy_lines(alloc: Global, lines: &[SectionLine]) -> Result<Items<SectionL
     Ok(copy)
 }
 
+/// An equal body of a submodule.
+pub(crate) fn copy_body(alloc: Global, body: &SubmoduleBody) -> Result<SubmoduleBody, AllocError>
+    ensures { IfOk result (λ copy. copy ≡ body.now) }
+{
+    Ok(SubmoduleBody {
+        lines: copy_lines(alloc, body.lines.as_slice())?,
+        gates: copy_gates(alloc, body.gates.as_slice())?,
+    })
+}
+
+/// An equal type of a submodule.
+fn copy_submodule_type(alloc: Global, of: &SubmoduleType) -> Result<SubmoduleType, AllocError>
+    ensures { IfOk result (λ copy. copy ≡ of.now) }
+{
+    match of {
+        SubmoduleType::Named(name) => Ok(SubmoduleType::Named(name.copy(alloc)?)),
+        SubmoduleType::Like(parametric) => Ok(SubmoduleType::Like(ParametricType {
+            given: copy_optional(alloc, &parametric.given)?,
+            interface: parametric.interface.copy(alloc)?,
+        })),
+    }
+}
+
 /// An equal submodule.
 fn copy_submodule(alloc: Global, submodule: &Submodule) -> Result<Submodule, AllocError>
     ensures { IfOk result (λ copy. copy ≡ submodule.now) }
 {
     Ok(Submodule {
         name: submodule.name.copy(alloc)?,
-        type_name: submodule.type_name.copy(alloc)?,
-        body: copy_lines(alloc, submodule.body.as_slice())?,
+        size: copy_expression(alloc, &submodule.size)?,
+        submodule_type: copy_submodule_type(alloc, &submodule.submodule_type)?,
+        condition: copy_expression(alloc, &submodule.condition)?,
+        body: copy_body(alloc, &submodule.body)?,
     })
 }
 
@@ -151,7 +177,7 @@ fn copy_gate(alloc: Global, gate: &GateDeclaration) -> Result<GateDeclaration, A
 }
 
 /// An equal expression, where there is one.
-fn copy_expression(
+pub(crate) fn copy_expression(
     alloc: Global,
     expression: &Option<Expression>,
 ) -> Result<Option<Expression>, AllocError>
@@ -250,5 +276,6 @@ pub fn copy_type(alloc: Global, declared: &TypeDeclaration) -> Result<TypeDeclar
         lines: copy_lines(alloc, declared.lines.as_slice())?,
         gates: copy_gates(alloc, declared.gates.as_slice())?,
         submodules: copy_submodules(alloc, declared.submodules.as_slice())?,
+        connections: copy_connections(alloc, &declared.connections)?,
     })
 }

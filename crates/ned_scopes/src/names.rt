@@ -2,11 +2,14 @@
 
 ghost use Rattle.std.specs.Prelude.{◌≡◌, ◌++◌, option_map, map, IfOk, OnOk};
 ghost use Rattle.ned_scopes.specs.Known.{is_known};
-ghost use Rattle.ned_scopes.specs.Scopes.{declaring, full_name, inner_name, meant, own_class, class_line, resolved, resolved_submodule, scopes_of};
+ghost use Rattle.ned_scopes.specs.Scopes.{declaring, full_name, inner_name, meant, meant_type, own_class, class_line, resolved, resolved_submodule, scopes_of};
 
-use crate::copies::{add_lines, copy_gates, copy_lines};
+use crate::connections::resolved_connections;
+use crate::copies::{add_lines, copy_body, copy_expression, copy_gates, copy_lines, copy_optional};
 use crate::known::TypesByName;
-use ned_trees::declarations::{SectionLine, Submodule, TypeDeclaration, TypeKind};
+use ned_trees::declarations::{
+    ParametricType, SectionLine, Submodule, SubmoduleType, TypeDeclaration, TypeKind,
+};
 use sim_values::text::Text;
 use sqlite_items::Items;
 use std::alloc::{AllocError, Global};
@@ -104,7 +107,7 @@ pub(crate) fn scopes_of(
 }
 
 /// The full names of what is extended.
-fn meant_base(
+pub(crate) fn meant_base(
     alloc: Global,
     types: &TypesByName,
     scopes: &[Text],
@@ -134,6 +137,26 @@ fn meant_names(
     Ok(full)
 }
 
+/// The type of a submodule, or the interface behind `like`, looked up in these scopes.
+fn meant_type(
+    alloc: Global,
+    types: &TypesByName,
+    scopes: &[Text],
+    of: &SubmoduleType,
+) -> Result<SubmoduleType, AllocError>
+    ensures { IfOk result (λ t. t ≡ meant_type types.now scopes.now of.now) }
+{
+    match of {
+        SubmoduleType::Named(name) => {
+            Ok(SubmoduleType::Named(meant(alloc, types, scopes, name)?))
+        }
+        SubmoduleType::Like(parametric) => Ok(SubmoduleType::Like(ParametricType {
+            given: copy_optional(alloc, &parametric.given)?,
+            interface: meant(alloc, types, scopes, &parametric.interface)?,
+        })),
+    }
+}
+
 /// A submodule, whose type is looked up in these scopes.
 fn resolved_submodule(
     alloc: Global,
@@ -145,8 +168,10 @@ fn resolved_submodule(
 {
     Ok(Submodule {
         name: submodule.name.copy(alloc)?,
-        type_name: meant(alloc, types, scopes, &submodule.type_name)?,
-        body: copy_lines(alloc, submodule.body.as_slice())?,
+        size: copy_expression(alloc, &submodule.size)?,
+        submodule_type: meant_type(alloc, types, scopes, &submodule.submodule_type)?,
+        condition: copy_expression(alloc, &submodule.condition)?,
+        body: copy_body(alloc, &submodule.body)?,
     })
 }
 
@@ -216,5 +241,6 @@ pub(crate) fn resolved(
         lines: resolved_lines(alloc, scopes, declared)?,
         gates: copy_gates(alloc, declared.gates.as_slice())?,
         submodules: resolved_submodules(alloc, types, own, declared.submodules.as_slice())?,
+        connections: resolved_connections(alloc, types, own, &declared.connections)?,
     })
 }

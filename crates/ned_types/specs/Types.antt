@@ -11,9 +11,11 @@ use Rattle.ned_trees.specs.declared.declarations.ParameterValue.TheVariants as p
 use Rattle.ned_trees.specs.declared.declarations.SectionLine.{SectionLine}
 use Rattle.ned_trees.specs.declared.declarations.SectionLine.TheVariants as line
 use Rattle.ned_trees.specs.declared.declarations.Submodule.{Submodule}
+use Rattle.ned_trees.specs.declared.declarations.SubmoduleType.{SubmoduleType}
+use Rattle.ned_trees.specs.declared.declarations.SubmoduleType.TheVariants as submodule_type
 use Rattle.ned_trees.specs.declared.declarations.TypeDeclaration.{TypeDeclaration}
 use Rattle.ned_trees.specs.declared.declarations.TypeKind.{TypeKind}
-use Rattle.ned_trees.specs.declared.declarations.TypeKind.TheVariants.{Simple, Network, Channel, ModuleInterface, ChannelInterface}
+use Rattle.ned_trees.specs.declared.declarations.TypeKind.TheVariants.{Simple, Module, Network, Channel, ModuleInterface, ChannelInterface}
 
 -- the first type of that name
 abbrev pub type_named : List ℕ → List TypeDeclaration → Option TypeDeclaration
@@ -35,11 +37,21 @@ abbrev pub has_duplicate : List TypeDeclaration → Bool
 has_duplicate [] = false
 has_duplicate (t ∷ ts) = (is_built_in t.name || is_type_named t.name ts) || has_duplicate ts
 
+-- ---- the type of a submodule
+
+-- the name that stands for it: that of the type, or that of the interface behind `like`
+abbrev pub name_in_type : SubmoduleType → List ℕ
+name_in_type (submodule_type.Named name) = name
+name_in_type (submodule_type.Like p) = p.interface
+
+abbrev pub type_name : Submodule → List ℕ
+type_name s = name_in_type s.submodule_type
+
 -- ---- a submodule of no type
 
 -- whether the submodule's type is there
 abbrev pub is_submodule_known : List TypeDeclaration → Submodule → Bool
-is_submodule_known types s = is_built_in s.type_name || is_type_named s.type_name types
+is_submodule_known types s = is_built_in (type_name s) || is_type_named (type_name s) types
 
 abbrev pub names_unknown : List TypeDeclaration → List Submodule → Bool
 names_unknown types submodules = list_any (λ s. not (is_submodule_known types s)) submodules
@@ -132,7 +144,7 @@ clashes_with body None = false
 clashes_with body (Some t) = body_clashes t.lines body
 
 abbrev pub has_unfit_body : List TypeDeclaration → Submodule → Bool
-has_unfit_body types s = clashes_with s.body (type_named s.type_name types)
+has_unfit_body types s = clashes_with s.body.lines (type_named (type_name s) types)
 
 -- whether the body of a submodule can't stand over the lines of its type
 abbrev pub bodies_clash : List TypeDeclaration → List Submodule → Bool
@@ -163,6 +175,7 @@ redeclares_gate (g ∷ gs) = is_declared_again gs g || redeclares_gate gs
 -- whether it is the kind of simple types
 abbrev pub is_simple_kind : TypeKind → Bool
 is_simple_kind Simple = true
+is_simple_kind Module = false
 is_simple_kind Network = false
 is_simple_kind Channel = false
 is_simple_kind ModuleInterface = false
@@ -171,6 +184,7 @@ is_simple_kind ChannelInterface = false
 -- whether it is the kind of networks
 abbrev pub is_network_kind : TypeKind → Bool
 is_network_kind Simple = false
+is_network_kind Module = false
 is_network_kind Network = true
 is_network_kind Channel = false
 is_network_kind ModuleInterface = false
@@ -179,6 +193,7 @@ is_network_kind ChannelInterface = false
 -- whether it is the kind of channels
 abbrev pub is_channel_kind : TypeKind → Bool
 is_channel_kind Simple = false
+is_channel_kind Module = false
 is_channel_kind Network = false
 is_channel_kind Channel = true
 is_channel_kind ModuleInterface = false
@@ -187,6 +202,7 @@ is_channel_kind ChannelInterface = false
 -- whether it is the kind of module interfaces
 abbrev pub is_module_interface : TypeKind → Bool
 is_module_interface Simple = false
+is_module_interface Module = false
 is_module_interface Network = false
 is_module_interface Channel = false
 is_module_interface ModuleInterface = true
@@ -195,6 +211,7 @@ is_module_interface ChannelInterface = false
 -- whether it is the kind of channel interfaces
 abbrev pub is_channel_interface : TypeKind → Bool
 is_channel_interface Simple = false
+is_channel_interface Module = false
 is_channel_interface Network = false
 is_channel_interface Channel = false
 is_channel_interface ModuleInterface = false
@@ -203,6 +220,7 @@ is_channel_interface ChannelInterface = true
 -- whether it is a kind of interfaces
 abbrev pub is_interface_kind : TypeKind → Bool
 is_interface_kind Simple = false
+is_interface_kind Module = false
 is_interface_kind Network = false
 is_interface_kind Channel = false
 is_interface_kind ModuleInterface = true
@@ -228,7 +246,7 @@ is_simple None = false
 is_simple (Some t) = is_simple_kind t.kind
 
 abbrev pub is_submodule_simple : List TypeDeclaration → Submodule → Bool
-is_submodule_simple types s = is_simple (type_named s.type_name types)
+is_submodule_simple types s = is_simple (type_named (type_name s) types)
 
 -- whether the type of a submodule isn't a simple type
 abbrev pub has_other_kind : List TypeDeclaration → List Submodule → Bool

@@ -11,7 +11,7 @@ use Rattle.ned_trees.specs.declared.declarations.Submodule.{Submodule}
 use Rattle.ned_trees.specs.declared.declarations.TypeDeclaration.{TypeDeclaration}
 use Rattle.ned_trees.specs.declared.declarations.TypeKind.{TypeKind}
 use Rattle.ned_trees.specs.declared.declarations.TypeKind.TheVariants.{Simple}
-use Rattle.ned_types.specs.Types.{is_built_in, is_fixed, name_in, value_in, is_vector}
+use Rattle.ned_types.specs.Types.{is_built_in, is_fixed, name_in, type_name, value_in, is_vector}
 
 -- it is one of these
 abbrev pub IsAmong : {X : Type 0} → X → List X → Type 0
@@ -77,8 +77,8 @@ pub record IsWellFormed (types : List TypeDeclaration) : Type 0 where
   -- no two submodules of a type have one name;
   pub submodules : (t : TypeDeclaration) → IsAmong t types → HaveOwnNames t.submodules
   -- the type of each is a simple type among these;
-  pub simple : (t : TypeDeclaration) → IsAmong t types → (s : Submodule) → IsAmong s t.submodules → IsSimpleType s.type_name types
+  pub simple : (t : TypeDeclaration) → IsAmong t types → (s : Submodule) → IsAmong s t.submodules → IsSimpleType (type_name s) types
   -- each type has what its interfaces have;
   pub interfaces : (t : TypeDeclaration) → IsAmong t types → (i : TypeDeclaration) → IsAmong i types → IsAmong i.name t.interfaces → HasMembers t i
   -- and the body of each submodule is sound behind the lines of its type.
-  pub bodies : (t : TypeDeclaration) → IsAmong t types → (s : Submodule) → IsAmong s t.submodules → (u : TypeDeclaration) → IsAmong u types → u.name ≡ s.type_name → IsSoundBody u.lines s.body
+  pub bodies : (t : TypeDeclaration) → IsAmong t types → (s : Submodule) → IsAmong s t.submodules → (u : TypeDeclaration) → IsAmong u types → u.name ≡ type_name s → IsSoundBody u.lines s.body.lines

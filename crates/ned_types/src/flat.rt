@@ -2,12 +2,13 @@
 
 ghost use Rattle.std.specs.Prelude.{◌≡◌, ◌++◌, IfOk, OnOk};
 ghost use Rattle.std.specs.Option.{option_copied, option_map};
+ghost use Rattle.ned_types.specs.Types.{type_name};
 ghost use Rattle.ned_types.specs.Flat.{declares_statistic, last_value, declaration_named, class_in, class_of, submodule_named, is_statistic_declared, statistic_named, last_statistic, statistic_at, statistics_of};
 
 use crate::given::{gives, value_in};
 use crate::made::changed;
 use ned_trees::declarations::{
-    Declaration, ParameterValue, SectionLine, Statistic, Submodule, TypeDeclaration,
+    Declaration, ParameterValue, SectionLine, Statistic, Submodule, SubmoduleType, TypeDeclaration,
 };
 use sqlite_items::Items;
 use std::alloc::{AllocError, Global};
@@ -59,6 +60,16 @@ pub fn class_of(declared: &TypeDeclaration) -> &[u8]
     match class_in(declared.lines.as_slice()) {
         Some(name) => name,
         None => declared.name.as_bytes(),
+    }
+}
+
+/// The name that stands for the type of a submodule: that of the type, or that of the interface behind `like`.
+pub fn type_name(submodule: &Submodule) -> &[u8]
+    ensures { result.now ≡ type_name submodule.now }
+{
+    match &submodule.submodule_type {
+        SubmoduleType::Named(name) => name.as_bytes(),
+        SubmoduleType::Like(parametric) => parametric.interface.as_bytes(),
     }
 }
 
