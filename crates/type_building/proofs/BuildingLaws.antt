@@ -1,12 +1,12 @@
 -- Types have no fault exactly where they can be built.
-use Rattle.std.proofs.Common.{◌≡◌, ◌≢◌, inl, inr, ℕ, Bool, true, false, not, ◌||◌, ◌&&◌, List, [], ◌∷◌, map, length, Option, Some, None, Result, Ok, Err, IfOk, refl, sym, ap, subst, ◌∙◌, if◌then◌else◌}
+use Rattle.std.proofs.Common.{◌≡◌, ◌≢◌, inl, inr, ℕ, Bool, true, false, not, ◌||◌, ◌&&◌, ◌⊎◌, List, [], ◌∷◌, map, length, Option, Some, None, Result, Ok, Err, IfOk, refl, sym, ap, subst, ◌∙◌, if◌then◌else◌}
 use Rattle.std.specs.Str.{bytes_eq}
 use Rattle.ned_trees.specs.declared.declarations.Submodule.{Submodule}
 use Rattle.ned_trees.specs.declared.declarations.TypeDeclaration.{TypeDeclaration}
 use Rattle.ned_trees.specs.declared.declarations.TypeKind.{TypeKind}
-use Rattle.ned_trees.specs.declared.declarations.TypeKind.TheVariants.{Simple, Network, Channel, ModuleInterface, ChannelInterface}
+use Rattle.ned_trees.specs.declared.declarations.TypeKind.TheVariants.{Simple, Module, Network, Channel, ModuleInterface, ChannelInterface}
 use Rattle.type_building.specs.declared.table.TypeFault.{TypeFault}
-use Rattle.type_building.specs.declared.table.TypeFault.TheVariants.{DuplicateType, UnknownType, InheritanceCircle, KindClash, Interface}
+use Rattle.type_building.specs.declared.table.TypeFault.TheVariants.{NotBuilt, DuplicateType, UnknownType, InheritanceCircle, KindClash, Interface}
 use Rattle.type_building.specs.declared.table.BuildError.{BuildError}
 use Rattle.type_building.specs.declared.table.BuildError.TheVariants.{Fault, NoMemory}
 use Rattle.type_building.specs.declared.places.Place.{Place}
@@ -15,9 +15,9 @@ use Rattle.ned_types.specs.Types as t
 use Rattle.type_building.specs.Interfaces as f
 use Rattle.type_building.specs.Circles.{ExtendsItself}
 use Rattle.type_building.specs.Inheritance as i
-use Rattle.type_building.specs.Building.{base_fault, flat_fault, fault_of, AreFaultless, Builds, AnswersTable, CanBuild, IsFlatPlace, IsPlace, MayExtend}
+use Rattle.type_building.specs.Building.{base_fault, flat_fault, rule_fault, AreFaultless, Flattens, CanBuild, IsFlatPlace, IsRulePlace, MayExtend}
 use Rattle.ned_types.specs.Flat.{or_else}
-use Rattle.ned_types.specs.WellFormed.{IsAmong, StandsBefore, IsWellFormed}
+use Rattle.ned_types.specs.WellFormed.{IsAmong, IsTypeOf, StandsBefore, IsWellFormed}
 use Rattle.type_building.proofs.WellFormedLaws.{types_apart, false_not, any_made, any_told, among_second, no_duplicate, no_unknown, no_clash, well_formed, named_is, named_found, or_second, any_is, names_same, type_is}
 use Rattle.type_building.proofs.Circles.{circle_is_one}
 use Rattle.type_building.proofs.InterfaceLaws.{kept_made, kept_told}
@@ -74,7 +74,7 @@ duplicate_flat all (a ∷ ts) =
     ∙ ap (λ (b : Bool). (t.is_built_in a.name || t.is_type_named a.name ts) || b) (duplicate_flat all ts)
 
 known_flat : (all types : List TypeDeclaration) (s : Submodule) → t.is_submodule_known (map (i.flat_type all) types) s ≡ t.is_submodule_known types s
-known_flat all types s = ap (λ (b : Bool). t.is_built_in s.type_name || b) (named_flat all s.type_name types)
+known_flat all types s = ap (λ (b : Bool). t.is_built_in (t.type_name s) || b) (named_flat all (t.type_name s) types)
 
 unknown_in : (all types : List TypeDeclaration) (ss : List Submodule) → t.names_unknown (map (i.flat_type all) types) ss ≡ t.names_unknown types ss
 unknown_in all types [] = refl
@@ -102,7 +102,7 @@ no_fault false true circle other clash broken h = absurd cc
 no_fault true unknown circle other clash broken h = absurd cc
 
 -- types without a fault have flat types that keep the rules
-pub flat_rules : (types : List TypeDeclaration) → fault_of types ≡ None → IsWellFormed (i.flat_types types)
+pub flat_rules : (types : List TypeDeclaration) → rule_fault types ≡ None → IsWellFormed (i.flat_types types)
 flat_rules types none =
     let parts = no_fault (t.has_duplicate types) (t.has_unknown types || (i.has_unknown_base types || f.has_unknown_interface types)) (i.has_circle types) (t.has_inner_network types || (i.has_other_base types || f.has_other_interface types)) (t.has_clash (i.flat_types types)) (f.has_broken (i.flat_types types)) none in
     let duplicate = duplicate_flat types types ∙ parts.0 in
@@ -113,9 +113,18 @@ flat_rules types none =
 or_first : (x y : Bool) → x ≡ true → (x || y) ≡ true
 or_first x y h = ap (λ b. b || y) h
 
+-- a compound module or a network of that name is found
+abbrev IsCompound : List TypeDeclaration → List ℕ → Type 0
+IsCompound types name = IsTypeOf Network name types ⊎ IsTypeOf Module name types
+
+compound_found : (types : List TypeDeclaration) (name : List ℕ) → IsCompound types name → t.is_type_named name types ≡ true
+compound_found types name (inl m) = named_found types Network name m
+compound_found types name (inr m) = named_found types Module name m
+
 known_name : (types : List TypeDeclaration) (kind : TypeKind) (name : List ℕ) → MayExtend kind name types → (t.is_built_in name || t.is_type_named name types) ≡ true
 known_name types Simple name m = or_second (t.is_built_in name) _ (named_found types Simple name m)
-known_name types Network name m = or_second (t.is_built_in name) _ (named_found types Network name m)
+known_name types Module name m = or_second (t.is_built_in name) _ (compound_found types name m)
+known_name types Network name m = or_second (t.is_built_in name) _ (compound_found types name m)
 known_name types Channel name (inl built_in) = or_first (t.is_built_in name) _ built_in
 known_name types Channel name (inr m) = or_second (t.is_built_in name) _ (named_found types Channel name m)
 known_name types ModuleInterface name m = absurd m
@@ -128,9 +137,14 @@ known_base types kind (Some name) h = false_not _ (known_name types kind name (h
 abbrev AreApart : List TypeDeclaration → Type 0
 AreApart types = (a b : TypeDeclaration) → StandsBefore a b types → a.name ≢ b.name
 
+compound_base : (types : List TypeDeclaration) (kind : TypeKind) (name : List ℕ) → AreApart types → ((k : TypeKind) → i.can_extend kind k ≡ i.is_compound_kind k) → IsCompound types name → i.is_base kind (t.type_named name types) ≡ true
+compound_base types kind name apart one (inl m) = ap (i.is_base kind) (named_is types Network name apart m) ∙ one m.0.kind ∙ ap i.is_compound_kind m.3
+compound_base types kind name apart one (inr m) = ap (i.is_base kind) (named_is types Module name apart m) ∙ one m.0.kind ∙ ap i.is_compound_kind m.3
+
 fitting : (types : List TypeDeclaration) (kind : TypeKind) (name : List ℕ) → AreApart types → MayExtend kind name types → (i.is_channel_of kind name || i.is_base kind (t.type_named name types)) ≡ true
 fitting types Simple name apart m = ap (i.is_base Simple) (named_is types Simple name apart m) ∙ ap t.is_simple_kind m.3
-fitting types Network name apart m = ap (i.is_base Network) (named_is types Network name apart m) ∙ ap t.is_network_kind m.3
+fitting types Module name apart m = compound_base types Module name apart (λ k. refl) m
+fitting types Network name apart m = compound_base types Network name apart (λ k. refl) m
 fitting types Channel name apart (inl built_in) = or_first (t.is_built_in name) _ built_in
 fitting types Channel name apart (inr m) = or_second (t.is_built_in name) _ (ap (i.is_base Channel) (named_is types Channel name apart m) ∙ ap t.is_channel_kind m.3)
 fitting types ModuleInterface name apart m = absurd m
@@ -166,13 +180,14 @@ inner_network a outer = of_kind a.kind refl
   where
     of_kind : (k : TypeKind) → a.kind ≡ k → (t.is_network_kind k && t.is_inner_name a.name) ≡ false
     of_kind Simple e = refl
+    of_kind Module e = refl
     of_kind Network e = outer e
     of_kind Channel e = refl
     of_kind ModuleInterface e = refl
     of_kind ChannelInterface e = refl
 
--- types that keep the rules have no fault
-pub faultless : (types : List TypeDeclaration) → CanBuild types → fault_of types ≡ None
+-- types that keep the rules break none
+pub faultless : (types : List TypeDeclaration) → CanBuild types → rule_fault types ≡ None
 faultless types w =
     let duplicate : t.has_duplicate types ≡ false = sym (duplicate_flat types types) ∙ no_duplicate (i.flat_types types) w.flat in
     let unknown : t.has_unknown types ≡ false = unknown_flat types (no_unknown (i.flat_types types) w.flat) in
@@ -186,34 +201,21 @@ faultless types w =
     let clash : t.has_clash (i.flat_types types) ≡ false = no_clash (i.flat_types types) w.flat in
     rw (duplicate, unknown, bases, interfaces, circle, outer, others, kept, clash, whole) refl
 
--- ---- answers
-
-pub rules_by : (types : List TypeDeclaration) (r : Result (List TypeDeclaration) BuildError) → Builds types r → IfOk r IsWellFormed
-rules_by types (Ok table) b = subst IsWellFormed (sym b.0) (flat_rules types b.1)
-rules_by types (Err e) b = tt
-
-some_none : {X : Type 0} (x : X) (o : Option X) → o ≡ Some x → o ≡ None → ⊥
-some_none x o e f = absurd cc
-
-pub complete_by : (types : List TypeDeclaration) (r : Result (List TypeDeclaration) BuildError) → Builds types r → CanBuild types → AnswersTable (i.flat_types types) r
-complete_by types (Ok table) b w = b.0
-complete_by types (Err (NoMemory _)) b w = tt
-complete_by types (Err (Fault fault _)) b w = some_none fault _ b.0 (faultless types w)
-
 -- ---- types whose names and bases have no fault: what is left is that of their flat types
 
 no_base_fault : (fault : Option TypeFault) (rest : Option TypeFault) → fault ≡ None → or_else fault rest ≡ rest
 no_base_fault None rest e = refl
 no_base_fault (Some fault) rest e = absurd cc
 
-flat_place : (types : List TypeDeclaration) (fault : TypeFault) (p : Place) → place_from (other_in types) 0 types ≡ None → IsFlatPlace (i.flat_types types) fault p → IsPlace types fault p
+flat_place : (types : List TypeDeclaration) (fault : TypeFault) (p : Place) → place_from (other_in types) 0 types ≡ None → IsFlatPlace (i.flat_types types) fault p → IsRulePlace types fault p
+flat_place types NotBuilt p none is = absurd is
 flat_place types DuplicateType p none is = absurd is
 flat_place types UnknownType p none is = absurd is
 flat_place types InheritanceCircle p none is = absurd is
 flat_place types KindClash p none is = subst (λ o. IsClashPlace types o p) (sym none) tt
 flat_place types Interface p none is = is
 
-pub built_flat : (types : List TypeDeclaration) (r : Result (List TypeDeclaration) BuildError) → base_fault types ≡ None → place_from (other_in types) 0 types ≡ None → AreFaultless (i.flat_types types) r → Builds types r
+pub built_flat : (types : List TypeDeclaration) (r : Result (List TypeDeclaration) BuildError) → base_fault types ≡ None → place_from (other_in types) 0 types ≡ None → AreFaultless (i.flat_types types) r → Flattens types r
 built_flat types (Ok table) e none h = (h.0, no_base_fault (base_fault types) (flat_fault (i.flat_types types)) e ∙ h.1)
 built_flat types (Err (NoMemory m)) e none h = tt
 built_flat types (Err (Fault fault p)) e none h = (no_base_fault (base_fault types) (flat_fault (i.flat_types types)) e ∙ h.0, flat_place types fault p none h.1)

@@ -10,3 +10,4 @@ pub mod OrderLaws
 pub mod LineLaws
 pub mod SectionLaws
 pub mod PlaceLaws
+pub mod UnbuiltLaws

@@ -18,7 +18,7 @@ use Rattle.type_building.specs.declared.table.TypeFault.TheVariants as fault
 use Rattle.type_building.specs.declared.table.BuildError.{BuildError}
 use Rattle.type_building.specs.declared.table.BuildError.TheVariants.{Fault}
 use Rattle.ned_types.specs.Types.{has_clash, has_duplicate}
-use Rattle.type_building.specs.Building.{base_fault, Builds, fault_of, flat_fault, IsPlace, TellsFlat}
+use Rattle.type_building.specs.Building.{base_fault, Flattens, rule_fault, flat_fault, IsRulePlace, TellsFlat}
 use Rattle.type_building.specs.Inheritance.{flat_types, has_circle}
 use Rattle.type_building.specs.Places.{IsClashPlace}
 use Rattle.type_building.proofs.Repeats.{mixed}
@@ -147,7 +147,7 @@ base_of duplicate unknown circle other = if duplicate then Some fault.DuplicateT
 base_is : (types : List TypeDeclaration) → base_fault types ≡ base_of (has_duplicate types) (is_unknown_named types types) (has_circle types) (is_other_named types types)
 base_is types = refl
 
-pub unknown_found : (types : List TypeDeclaration) (p : Place) → has_duplicate types ≡ false → place_from (unknown_in types) 0 types ≡ Some p → Builds types (Err (Fault fault.UnknownType p))
+pub unknown_found : (types : List TypeDeclaration) (p : Place) → has_duplicate types ≡ false → place_from (unknown_in types) 0 types ≡ Some p → Flattens types (Err (Fault fault.UnknownType p))
 unknown_found types p apart found =
     let unknown = sym (unknown_told types types) ∙ ap is_some found in (
       ap (λ b. or_else (base_of b (is_unknown_named types types) (has_circle types) (is_other_named types types)) (flat_fault (flat_types types))) apart
@@ -155,7 +155,7 @@ unknown_found types p apart found =
       found,
     )
 
-pub circle_found : (types : List TypeDeclaration) (p : Place) → has_duplicate types ≡ false → place_from (unknown_in types) 0 types ≡ None → has_circle types ≡ true → Builds types (Err (Fault fault.InheritanceCircle p))
+pub circle_found : (types : List TypeDeclaration) (p : Place) → has_duplicate types ≡ false → place_from (unknown_in types) 0 types ≡ None → has_circle types ≡ true → Flattens types (Err (Fault fault.InheritanceCircle p))
 circle_found types p apart none circle =
     let known = sym (unknown_told types types) ∙ ap is_some none in (
       ap (λ b. or_else (base_of b (is_unknown_named types types) (has_circle types) (is_other_named types types)) (flat_fault (flat_types types))) apart
@@ -165,14 +165,14 @@ circle_found types p apart none circle =
     )
 
 -- without its place
-pub circle_told : (types : List TypeDeclaration) → has_duplicate types ≡ false → place_from (unknown_in types) 0 types ≡ None → has_circle types ≡ true → fault_of types ≡ Some fault.InheritanceCircle
+pub circle_told : (types : List TypeDeclaration) → has_duplicate types ≡ false → place_from (unknown_in types) 0 types ≡ None → has_circle types ≡ true → rule_fault types ≡ Some fault.InheritanceCircle
 circle_told types apart none circle =
     let known = sym (unknown_told types types) ∙ ap is_some none in
     ap (λ b. or_else (base_of b (is_unknown_named types types) (has_circle types) (is_other_named types types)) (flat_fault (flat_types types))) apart
     ∙ ap (λ b. or_else (base_of false b (has_circle types) (is_other_named types types)) (flat_fault (flat_types types))) known
     ∙ ap (λ b. or_else (base_of false false b (is_other_named types types)) (flat_fault (flat_types types))) circle
 
-pub other_found : (types : List TypeDeclaration) (p : Place) → has_duplicate types ≡ false → place_from (unknown_in types) 0 types ≡ None → has_circle types ≡ false → place_from (other_in types) 0 types ≡ Some p → Builds types (Err (Fault fault.KindClash p))
+pub other_found : (types : List TypeDeclaration) (p : Place) → has_duplicate types ≡ false → place_from (unknown_in types) 0 types ≡ None → has_circle types ≡ false → place_from (other_in types) 0 types ≡ Some p → Flattens types (Err (Fault fault.KindClash p))
 other_found types p apart none roots found =
     let known = sym (unknown_told types types) ∙ ap is_some none in
     let other = sym (other_told types types) ∙ ap is_some found in (

@@ -14,7 +14,7 @@ use Rattle.ned_trees.specs.declared.declarations.SectionLine.TheVariants as line
 use Rattle.ned_trees.specs.declared.declarations.Submodule.{Submodule}
 use Rattle.ned_trees.specs.declared.declarations.TypeDeclaration.{TypeDeclaration}
 use Rattle.ned_trees.specs.declared.declarations.TypeKind.{TypeKind}
-use Rattle.ned_trees.specs.declared.declarations.TypeKind.TheVariants.{Simple, Network, Channel, ModuleInterface, ChannelInterface}
+use Rattle.ned_trees.specs.declared.declarations.TypeKind.TheVariants.{Simple, Module, Network, Channel, ModuleInterface, ChannelInterface}
 use Rattle.ned_types.specs.Types as t
 use Rattle.ned_types.specs.WellFormed.{IsAmong, StandsBefore, IsParameter, IsSoundSection, IsSoundBody, IsTypeOf, IsSimpleType, HaveOwnGates, HasMembers, IsWellFormed}
 
@@ -128,6 +128,7 @@ no_repeat ss apart = pairs_made {X = Submodule} (λ s. Unit {0}) (λ s r. s.name
 
 simple_kind : (k : TypeKind) → t.is_simple_kind k ≡ true → k ≡ Simple
 simple_kind Simple h = refl
+simple_kind Module h = absurd (false≢true h)
 simple_kind Network h = absurd (false≢true h)
 simple_kind Channel h = absurd (false≢true h)
 simple_kind ModuleInterface h = absurd (false≢true h)
@@ -168,13 +169,13 @@ or_second true y h = refl
 or_second false y h = h
 
 pub no_unknown : (types : List TypeDeclaration) → IsWellFormed types → t.has_unknown types ≡ false
-no_unknown types w = any_made (λ a. t.names_unknown types a.submodules) types (λ a is. any_made (λ s. not (t.is_submodule_known types s)) a.submodules (λ s in-a. false_not _ (or_second (t.is_built_in s.type_name) _ (named_found types Simple s.type_name (w.simple a is s in-a)))))
+no_unknown types w = any_made (λ a. t.names_unknown types a.submodules) types (λ a is. any_made (λ s. not (t.is_submodule_known types s)) a.submodules (λ s in-a. false_not _ (or_second (t.is_built_in (t.type_name s)) _ (named_found types Simple (t.type_name s) (w.simple a is s in-a)))))
 
 no_other_kind : (types : List TypeDeclaration) → IsWellFormed types → (a : TypeDeclaration) → IsAmong a types → t.has_other_kind types a.submodules ≡ false
-no_other_kind types w a is = any_made (λ s. not (t.is_submodule_simple types s)) a.submodules (λ s in-a. false_not _ (simple_is types s.type_name w.names (w.simple a is s in-a)))
+no_other_kind types w a is = any_made (λ s. not (t.is_submodule_simple types s)) a.submodules (λ s in-a. false_not _ (simple_is types (t.type_name s) w.names (w.simple a is s in-a)))
 
-all_simple : (types : List TypeDeclaration) (ss : List Submodule) → t.has_other_kind types ss ≡ false → (s : Submodule) → IsAmong s ss → IsSimpleType s.type_name types
-all_simple types ss h s is = simple_found types s.type_name (not_false _ (any_told (λ r. not (t.is_submodule_simple types r)) ss h s is))
+all_simple : (types : List TypeDeclaration) (ss : List Submodule) → t.has_other_kind types ss ≡ false → (s : Submodule) → IsAmong s ss → IsSimpleType (t.type_name s) types
+all_simple types ss h s is = simple_found types (t.type_name s) (not_false _ (any_told (λ r. not (t.is_submodule_simple types r)) ss h s is))
 
 -- ---- parameter sections
 
@@ -397,8 +398,8 @@ body_made lines body b =
     declared l is = and_made (is_some (t.value_in l)) _ (λ give. false_not _ (declared_is (t.name_in l) lines (fewer_lines (t.name_in l) lines body b.undeclaring (b.section.given l (among_second l lines body is) give))))
 
 -- the body of a submodule clashes with its type where it clashes with the lines of the one type of that name
-unfit_by : (types : List TypeDeclaration) (s : Submodule) (u : TypeDeclaration) → ((a b : TypeDeclaration) → StandsBefore a b types → a.name ≢ b.name) → IsAmong u types → u.name ≡ s.type_name → t.has_unfit_body types s ≡ t.body_clashes u.lines s.body
-unfit_by types s u apart is e = ap (t.clashes_with s.body) (ap (λ (n : List ℕ). t.type_named n types) (sym e) ∙ type_is types u apart is)
+unfit_by : (types : List TypeDeclaration) (s : Submodule) (u : TypeDeclaration) → ((a b : TypeDeclaration) → StandsBefore a b types → a.name ≢ b.name) → IsAmong u types → u.name ≡ (t.type_name s) → t.has_unfit_body types s ≡ t.body_clashes u.lines s.body.lines
+unfit_by types s u apart is e = ap (t.clashes_with s.body.lines) (ap (λ (n : List ℕ). t.type_named n types) (sym e) ∙ type_is types u apart is)
 
 -- ---- all rules
 
@@ -411,7 +412,7 @@ well_formed types duplicate clash kept = record {
   submodules = λ a is. submodules_apart a.submodules (members a is).0;
   simple = λ a is. all_simple types a.submodules (members a is).1;
   interfaces = kept;
-  bodies = λ a is s in-a u in-types e. body_told u.lines s.body (sound_told u.lines (section u in-types)) (sym (unfit_by types s u apart in-types e) ∙ any_told (λ r. t.has_unfit_body types r) a.submodules (members a is).2 s in-a);
+  bodies = λ a is s in-a u in-types e. body_told u.lines s.body.lines (sound_told u.lines (section u in-types)) (sym (unfit_by types s u apart in-types e) ∙ any_told (λ r. t.has_unfit_body types r) a.submodules (members a is).2 s in-a);
 }
   where
     apart : (a b : TypeDeclaration) → StandsBefore a b types → a.name ≢ b.name
@@ -438,4 +439,4 @@ no_clash types w = any_made (λ x. t.clashes types x) types (λ a is. or_false (
     fit : (a : TypeDeclaration) → IsAmong a types → (s : Submodule) → IsAmong s a.submodules → t.has_unfit_body types s ≡ false
     fit a is s in-a =
         let found = w.simple a is s in-a in
-        unfit_by types s found.0 w.names found.1 found.2 ∙ body_made found.0.lines s.body (w.bodies a is s in-a found.0 found.1 found.2)
+        unfit_by types s found.0 w.names found.1 found.2 ∙ body_made found.0.lines s.body.lines (w.bodies a is s in-a found.0 found.1 found.2)

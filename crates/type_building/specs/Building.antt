@@ -1,13 +1,14 @@
 -- Why declared types make no model, and the table of those that do.
-use Rattle.std.specs.Prelude.{◌≡◌, ◌⊎◌, ℕ, true, false, ◌||◌, List, [], Option, Some, None, Result, Ok, Err, if◌then◌else◌}
+use Rattle.std.specs.Prelude.{◌≡◌, ◌⊎◌, ◌↔◌, ℕ, true, false, ◌||◌, List, [], Option, Some, None, Result, Ok, Err, if◌then◌else◌}
 use Rattle.ned_trees.specs.declared.declarations.TypeDeclaration.{TypeDeclaration}
 use Rattle.ned_trees.specs.declared.declarations.TypeKind.{TypeKind}
-use Rattle.ned_trees.specs.declared.declarations.TypeKind.TheVariants.{Simple, Network, Channel, ModuleInterface, ChannelInterface}
+use Rattle.ned_trees.specs.declared.declarations.TypeKind.TheVariants.{Simple, Module, Network, Channel, ModuleInterface, ChannelInterface}
 use Rattle.type_building.specs.declared.table.TypeFault.{TypeFault}
-use Rattle.type_building.specs.declared.table.TypeFault.TheVariants.{DuplicateType, UnknownType, InheritanceCircle, KindClash, Interface}
+use Rattle.type_building.specs.declared.table.TypeFault.TheVariants.{NotBuilt, DuplicateType, UnknownType, InheritanceCircle, KindClash, Interface}
 use Rattle.type_building.specs.declared.table.BuildError.{BuildError}
 use Rattle.type_building.specs.declared.table.BuildError.TheVariants.{Fault, NoMemory}
 use Rattle.type_building.specs.declared.places.Place.{Place}
+use Rattle.type_building.specs.Unbuilt.{AreBuildable, IsBuildable, has_unbuilt, unbuilt_in}
 use Rattle.type_building.specs.Places.{duplicate_from, IsClashPlace, lacked_in, other_in, place_from, unknown_in}
 use Rattle.ned_types.specs.Types.{has_duplicate, has_inner_network, has_unknown, has_clash, is_built_in, is_inner_name}
 use Rattle.ned_types.specs.Flat.{or_else}
@@ -28,32 +29,57 @@ base_fault types =
 abbrev pub flat_fault : List TypeDeclaration → Option TypeFault
 flat_fault types = if has_clash types then Some KindClash else (if has_broken types then Some Interface else None)
 
--- why the types make no model, where they don't
-abbrev pub fault_of : List TypeDeclaration → Option TypeFault
-fault_of types = or_else (base_fault types) (flat_fault (flat_types types))
+-- the rule that the types break, where they break one
+abbrev pub rule_fault : List TypeDeclaration → Option TypeFault
+rule_fault types = or_else (base_fault types) (flat_fault (flat_types types))
 
--- THE PLACE of a fault: the first, type by type, that breaks its rule. A clash is one of names and kinds, or else one of flat types; of flat types
+-- why the types make no model, where they don't: no model is built of some of them yet, or they break a rule
+abbrev pub fault_of : List TypeDeclaration → Option TypeFault
+fault_of types = if has_unbuilt types then Some NotBuilt else rule_fault types
+
+-- THE PLACE of a broken rule: the first, type by type, that breaks it. A clash is one of names and kinds, or else one of flat types; of flat types
 -- the place is told where the rules say it (Places)
+abbrev pub IsRulePlace : List TypeDeclaration → TypeFault → Place → Type 0
+IsRulePlace types NotBuilt p = ⊥
+IsRulePlace types DuplicateType p = duplicate_from [] 0 types ≡ Some p.number
+IsRulePlace types UnknownType p = place_from (unknown_in types) 0 types ≡ Some p
+IsRulePlace types InheritanceCircle p = Unit {0}
+IsRulePlace types KindClash p = IsClashPlace types (place_from (other_in types) 0 types) p
+IsRulePlace types Interface p = place_from (lacked_in (flat_types types)) 0 (flat_types types) ≡ Some p
+
+-- THE PLACE of a fault: the first part of a type of which no model is built, or that of the broken rule
 abbrev pub IsPlace : List TypeDeclaration → TypeFault → Place → Type 0
-IsPlace types DuplicateType p = duplicate_from [] 0 types ≡ Some p.number
-IsPlace types UnknownType p = place_from (unknown_in types) 0 types ≡ Some p
-IsPlace types InheritanceCircle p = Unit {0}
-IsPlace types KindClash p = IsClashPlace types (place_from (other_in types) 0 types) p
-IsPlace types Interface p = place_from (lacked_in (flat_types types)) 0 (flat_types types) ≡ Some p
+IsPlace types NotBuilt p = place_from unbuilt_in 0 types ≡ Some p
+IsPlace types DuplicateType p = IsRulePlace types DuplicateType p
+IsPlace types UnknownType p = IsRulePlace types UnknownType p
+IsPlace types InheritanceCircle p = IsRulePlace types InheritanceCircle p
+IsPlace types KindClash p = IsRulePlace types KindClash p
+IsPlace types Interface p = IsRulePlace types Interface p
 
 -- the same of a fault of flat types
 abbrev pub IsFlatPlace : List TypeDeclaration → TypeFault → Place → Type 0
+IsFlatPlace types NotBuilt p = ⊥
 IsFlatPlace types DuplicateType p = ⊥
 IsFlatPlace types UnknownType p = ⊥
 IsFlatPlace types InheritanceCircle p = ⊥
 IsFlatPlace types KindClash p = Unit {0}
 IsFlatPlace types Interface p = place_from (lacked_in types) 0 types ≡ Some p
 
+-- the answer to types of which models are built: the flat type of each, or the first rule that they break and its place; or memory ran out
+abbrev pub Flattens : List TypeDeclaration → Result (List TypeDeclaration) BuildError → Type 0
+Flattens types (Ok table) = (table ≡ flat_types types) × (rule_fault types ≡ None)
+Flattens types (Err (NoMemory _)) = Unit {0}
+Flattens types (Err (Fault fault place)) = (rule_fault types ≡ Some fault) × IsRulePlace types fault place
+
 -- the answer to these types: the flat type of each, or their first fault and its place; or memory ran out
 abbrev pub Builds : List TypeDeclaration → Result (List TypeDeclaration) BuildError → Type 0
 Builds types (Ok table) = (table ≡ flat_types types) × (fault_of types ≡ None)
 Builds types (Err (NoMemory _)) = Unit {0}
 Builds types (Err (Fault fault place)) = (fault_of types ≡ Some fault) × IsPlace types fault place
+
+-- it is told exactly of types of which some are no types of which models are built
+abbrev pub NotBuiltIsTold : Type 0
+NotBuiltIsTold = (types : List TypeDeclaration) → (fault_of types ≡ Some NotBuilt) ↔ (AreBuildable types → ⊥)
 
 -- these flat types where they have no fault, or their first one and its place; or memory ran out
 abbrev pub AreFaultless : List TypeDeclaration → Result (List TypeDeclaration) BuildError → Type 0
@@ -75,13 +101,16 @@ AnswersTable types (Err (Fault _ _)) = ⊥
 -- a type of that kind may extend what has that name: a type among these, which is of its own kind, or for a channel a built-in one
 abbrev pub MayExtend : TypeKind → List ℕ → List TypeDeclaration → Type 0
 MayExtend Simple name types = IsTypeOf Simple name types
-MayExtend Network name types = IsTypeOf Network name types
+MayExtend Module name types = IsTypeOf Network name types ⊎ IsTypeOf Module name types
+MayExtend Network name types = IsTypeOf Network name types ⊎ IsTypeOf Module name types
 MayExtend Channel name types = (is_built_in name ≡ true) ⊎ IsTypeOf Channel name types
 MayExtend ModuleInterface name types = ⊥
 MayExtend ChannelInterface name types = ⊥
 
 -- THE RULES of types that extend others:
 pub record CanBuild (types : List TypeDeclaration) : Type 0 where
+  -- a model is built of each;
+  pub parts : (t : TypeDeclaration) → IsAmong t types → IsBuildable t
   -- what is extended is among these and of the kind of what extends it, or a built-in channel that a channel extends;
   pub bases : (t : TypeDeclaration) → IsAmong t types → (name : List ℕ) → t.base ≡ Some name → MayExtend t.kind name types
   -- each interface is among these too, and one for types of that kind;

@@ -1,5 +1,5 @@
 -- Types that extend others, and bodies of submodules, worked by hand.
-use Rattle.std.specs.Prelude.{◌≡◌, ℕ, pos, false, List, [], ◌∷◌, ◌++◌, Option, Some, None, codes}
+use Rattle.std.specs.Prelude.{◌≡◌, ℕ, pos, true, false, List, [], ◌∷◌, ◌++◌, Option, Some, None, codes}
 use Rattle.sim_values.specs.declared.value.Value.TheVariants as values
 use Rattle.sim_values.specs.declared.value.Dimension.TheVariants as dimension
 use Rattle.ned_trees.specs.declared.expressions.Expression.TheVariants as expression
@@ -11,21 +11,26 @@ use Rattle.ned_trees.specs.declared.declarations.GateSize.TheVariants as size
 use Rattle.ned_trees.specs.declared.declarations.ParameterValue.{ParameterValue}
 use Rattle.ned_trees.specs.declared.declarations.ParameterValue.TheVariants as parameter_value
 use Rattle.ned_trees.specs.declared.declarations.ParameterWord.TheVariants as word
+use Rattle.ned_trees.specs.declared.connections.Arrow.TheVariants as arrow
+use Rattle.ned_trees.specs.declared.connections.ConnectionItem.TheVariants as item
+use Rattle.ned_trees.specs.declared.connections.ConnectionSection.{ConnectionSection}
+use Rattle.ned_trees.specs.declared.connections.End.{End}
 use Rattle.ned_trees.specs.declared.declarations.SectionLine.{SectionLine}
 use Rattle.ned_trees.specs.declared.declarations.SectionLine.TheVariants as line
 use Rattle.ned_trees.specs.declared.declarations.Statistic.{Statistic}
 use Rattle.ned_trees.specs.declared.declarations.Submodule.{Submodule}
+use Rattle.ned_trees.specs.declared.declarations.SubmoduleType.TheVariants as submodule_type
 use Rattle.ned_trees.specs.declared.declarations.TypeDeclaration.{TypeDeclaration}
-use Rattle.ned_trees.specs.declared.declarations.TypeKind.TheVariants.{Simple, Network, Channel, ModuleInterface, ChannelInterface}
+use Rattle.ned_trees.specs.declared.declarations.TypeKind.TheVariants.{Simple, Module, Network, Channel, ModuleInterface, ChannelInterface}
 use Rattle.type_building.specs.declared.table.TypeFault.{TypeFault}
-use Rattle.type_building.specs.declared.table.TypeFault.TheVariants.{DuplicateType, UnknownType, InheritanceCircle, KindClash, Interface}
+use Rattle.type_building.specs.declared.table.TypeFault.TheVariants.{NotBuilt, DuplicateType, UnknownType, InheritanceCircle, KindClash, Interface}
 use Rattle.ned_types.specs.Flat.{class_of, last_value, statistics_of}
-use Rattle.type_building.specs.Inheritance.{flat_type}
+use Rattle.type_building.specs.Inheritance.{flat_type, no_connections}
 use Rattle.type_building.specs.Building.{fault_of}
 
 -- a simple type of that name with these lines, which extends what is said
 abbrev pub type_with : List ℕ → Option (List ℕ) → List SectionLine → TypeDeclaration
-type_with name base lines = record { kind = Simple; name = name; base = base; interfaces = []; lines = lines; gates = []; submodules = [] }
+type_with name base lines = record { kind = Simple; name = name; base = base; interfaces = []; lines = lines; gates = []; submodules = []; connections = no_connections }
 
 abbrev pub counted : Statistic
 counted = record { name = codes "fired"; source = codes "fired"; modes = record { mode = mode.Count; optional = false } ∷ [] }
@@ -85,27 +90,27 @@ double_named name = line.Declaration (record { name = name; word = word.Double; 
 
 -- `network N { parameters: LINES submodules: SUBMODULES }`
 abbrev pub network_of : List SectionLine → List Submodule → TypeDeclaration
-network_of lines submodules = record { kind = Network; name = codes "N"; base = None; interfaces = []; lines = lines; gates = []; submodules = submodules }
+network_of lines submodules = record { kind = Network; name = codes "N"; base = None; interfaces = []; lines = lines; gates = []; submodules = submodules; connections = no_connections }
 
 -- `t: TYPE { LINES }`
 abbrev pub t_with : List ℕ → List SectionLine → Submodule
-t_with name body = record { name = codes "t"; type_name = name; body = body }
+t_with name body = record { name = codes "t"; size = None; submodule_type = submodule_type.Named name; condition = None; body = record { lines = body; gates = [] } }
 
 -- `NAME: Tick;`
 abbrev pub tick_named : List ℕ → Submodule
-tick_named name = record { name = name; type_name = codes "Tick"; body = [] }
+tick_named name = record { name = name; size = None; submodule_type = submodule_type.Named (codes "Tick"); condition = None; body = record { lines = []; gates = [] } }
 
 -- `network NAME extends N { parameters: LINES submodules: SUBMODULES }`
 abbrev pub heir_network : List ℕ → List SectionLine → List Submodule → TypeDeclaration
-heir_network name lines submodules = record { kind = Network; name = name; base = Some (codes "N"); interfaces = []; lines = lines; gates = []; submodules = submodules }
+heir_network name lines submodules = record { kind = Network; name = name; base = Some (codes "N"); interfaces = []; lines = lines; gates = []; submodules = submodules; connections = no_connections }
 
 -- `channel NAME extends BASE {}`
 abbrev pub channel_of : List ℕ → Option (List ℕ) → TypeDeclaration
-channel_of name base = record { kind = Channel; name = name; base = base; interfaces = []; lines = []; gates = []; submodules = [] }
+channel_of name base = record { kind = Channel; name = name; base = base; interfaces = []; lines = []; gates = []; submodules = []; connections = no_connections }
 
 -- `channel NAME extends BASE { LINES }`
 abbrev pub channel_with : List ℕ → List ℕ → List SectionLine → TypeDeclaration
-channel_with name base lines = record { kind = Channel; name = name; base = Some base; interfaces = []; lines = lines; gates = []; submodules = [] }
+channel_with name base lines = record { kind = Channel; name = name; base = Some base; interfaces = []; lines = lines; gates = []; submodules = []; connections = no_connections }
 
 -- `channel Slow extends DelayChannel { delay = 1s; }`
 abbrev pub slow_channel : TypeDeclaration
@@ -141,15 +146,15 @@ three_of name = gate.Refinement (record { name = name; size = Some (expression.L
 
 -- `moduleinterface NAME extends BASES { parameters: LINES gates: GATES }`
 abbrev pub interface_of : List ℕ → List (List ℕ) → List SectionLine → List GateLine → TypeDeclaration
-interface_of name bases lines gates = record { kind = ModuleInterface; name = name; base = None; interfaces = bases; lines = lines; gates = gates; submodules = [] }
+interface_of name bases lines gates = record { kind = ModuleInterface; name = name; base = None; interfaces = bases; lines = lines; gates = gates; submodules = []; connections = no_connections }
 
 -- `channelinterface NAME {}`
 abbrev pub channel_interface : List ℕ → TypeDeclaration
-channel_interface name = record { kind = ChannelInterface; name = name; base = None; interfaces = []; lines = []; gates = []; submodules = [] }
+channel_interface name = record { kind = ChannelInterface; name = name; base = None; interfaces = []; lines = []; gates = []; submodules = []; connections = no_connections }
 
 -- `simple NAME extends BASE like INTERFACES { parameters: LINES gates: GATES }`
 abbrev pub keeping : List ℕ → Option (List ℕ) → List (List ℕ) → List SectionLine → List GateLine → TypeDeclaration
-keeping name base interfaces lines gates = record { kind = Simple; name = name; base = base; interfaces = interfaces; lines = lines; gates = gates; submodules = [] }
+keeping name base interfaces lines gates = record { kind = Simple; name = name; base = base; interfaces = interfaces; lines = lines; gates = gates; submodules = []; connections = no_connections }
 
 -- `moduleinterface I { parameters: double gap @unit(s); gates: input in; }`
 abbrev pub gap_and_in : TypeDeclaration
@@ -161,11 +166,25 @@ fault_like lines gates = fault_of (keeping (codes "A") None (codes "I" ∷ []) l
 
 -- `simple NAME extends BASE { gates: GATES }`
 abbrev pub gated : List ℕ → Option (List ℕ) → List GateLine → TypeDeclaration
-gated name base gates = record { kind = Simple; name = name; base = base; interfaces = []; lines = []; gates = gates; submodules = [] }
+gated name base gates = record { kind = Simple; name = name; base = base; interfaces = []; lines = []; gates = gates; submodules = []; connections = no_connections }
 
 -- why `t: TYPE { LINES }` makes no model, with Tick, Slow, and Fast, which extends Tick and gives nothing
 abbrev pub fault_with : List ℕ → List SectionLine → Option TypeFault
 fault_with name body = fault_of (network_of [] (t_with name body ∷ []) ∷ slow ∷ tick ∷ heir (codes "Fast") (codes "Tick") ∷ [])
+
+-- `connections: g --> h;`
+abbrev pub own_gate : List ℕ → End
+own_gate name = record { owner = None; gate = record { name = name; half = None; index = None } }
+
+abbrev pub one_connection : ConnectionSection
+one_connection = record {
+  allow_unconnected = false;
+  items = item.Line (record { connection = record { left = own_gate (codes "g"); arrow = arrow.Right; channel = None; right = own_gate (codes "h") }; clauses = [] }) ∷ [];
+}
+
+-- why `network N { submodules: SUBMODULE connections: .. }` makes no model, with Tick
+abbrev pub fault_inside : Submodule → ConnectionSection → Option TypeFault
+fault_inside s connections = fault_of (record { kind = Network; name = codes "N"; base = None; interfaces = []; lines = []; gates = []; submodules = s ∷ []; connections = connections } ∷ tick ∷ [])
 
 -- the members of the base and then its own, the class of the base, its own value, and its own statistic in the place of
 -- the base's; and so also where the base stands behind it
@@ -242,7 +261,7 @@ pub record ExampleChannels : Type 0 where
   pub no_delay : fault_of (channel_with (codes "C") (codes "IdealChannel") (second_for (codes "delay") ∷ []) ∷ []) ≡ Some KindClash
   pub again : fault_of (channel_with (codes "C") (codes "DelayChannel") (double_named (codes "delay") ∷ []) ∷ []) ≡ Some KindClash
   pub simple : fault_of (heir (codes "A") (codes "DelayChannel") ∷ []) ≡ Some KindClash
-  pub network : fault_of (record { kind = Network; name = codes "M"; base = Some (codes "DelayChannel"); interfaces = []; lines = []; gates = []; submodules = [] } ∷ []) ≡ Some KindClash
+  pub network : fault_of (record { kind = Network; name = codes "M"; base = Some (codes "DelayChannel"); interfaces = []; lines = []; gates = []; submodules = []; connections = no_connections } ∷ []) ≡ Some KindClash
   pub unknown : fault_of (channel_of (codes "C") (Some (codes "Zed")) ∷ []) ≡ Some UnknownType
   pub itself : fault_of (channel_of (codes "C") (Some (codes "C")) ∷ []) ≡ Some InheritanceCircle
 
@@ -253,7 +272,7 @@ pub record ExampleGates : Type 0 where
   pub sized : fault_of (gated (codes "A") None (output_gates (codes "out") ∷ []) ∷ gated (codes "B") (Some (codes "A")) (three_of (codes "out") ∷ three_of (codes "out") ∷ three_of (codes "in") ∷ []) ∷ []) ≡ None
   pub again : fault_of (gated (codes "A") None (input_gate (codes "g") ∷ []) ∷ gated (codes "B") (Some (codes "A")) (output_gates (codes "g") ∷ []) ∷ []) ≡ Some KindClash
   pub twice : fault_of (gated (codes "A") None (input_gate (codes "g") ∷ input_gate (codes "h") ∷ input_gate (codes "g") ∷ []) ∷ []) ≡ Some KindClash
-  pub other_kind : fault_of (record { kind = Simple; name = codes "A"; base = None; interfaces = []; lines = double_named (codes "g") ∷ []; gates = input_gate (codes "g") ∷ []; submodules = [] } ∷ []) ≡ None
+  pub other_kind : fault_of (record { kind = Simple; name = codes "A"; base = None; interfaces = []; lines = double_named (codes "g") ∷ []; gates = input_gate (codes "g") ∷ []; submodules = []; connections = no_connections } ∷ []) ≡ None
 
 -- a type has the parameters and gates of its interfaces, also those that these extend, as it or what it extends declares them:
 -- with their words, whatever their units, their directions, and as vectors where they are vectors
@@ -268,8 +287,8 @@ pub record ExampleInterfaces : Type 0 where
   pub more : fault_like (double_named (codes "own") ∷ double_named (codes "gap") ∷ []) (output_gates (codes "out") ∷ input_gate (codes "in") ∷ []) ≡ None
   pub of_base : fault_of (keeping (codes "A") (Some (codes "B")) (codes "I" ∷ []) [] (input_gate (codes "in") ∷ []) ∷ type_with (codes "B") None (double_named (codes "gap") ∷ []) ∷ gap_and_in ∷ []) ≡ None
   pub extended : fault_of (keeping (codes "A") None (codes "J" ∷ []) [] (input_gate (codes "in") ∷ []) ∷ interface_of (codes "J") (codes "I" ∷ []) [] [] ∷ gap_and_in ∷ []) ≡ Some Interface
-  pub network : fault_of (record { kind = Network; name = codes "N"; base = None; interfaces = codes "I" ∷ []; lines = []; gates = []; submodules = [] } ∷ gap_and_in ∷ []) ≡ Some Interface
-  pub channel : fault_of (record { kind = Channel; name = codes "C"; base = Some (codes "DelayChannel"); interfaces = codes "D" ∷ []; lines = []; gates = []; submodules = [] } ∷ record { kind = ChannelInterface; name = codes "D"; base = None; interfaces = []; lines = double_named (codes "delay") ∷ []; gates = []; submodules = [] } ∷ []) ≡ None
+  pub network : fault_of (record { kind = Network; name = codes "N"; base = None; interfaces = codes "I" ∷ []; lines = []; gates = []; submodules = []; connections = no_connections } ∷ gap_and_in ∷ []) ≡ Some Interface
+  pub channel : fault_of (record { kind = Channel; name = codes "C"; base = Some (codes "DelayChannel"); interfaces = codes "D" ∷ []; lines = []; gates = []; submodules = []; connections = no_connections } ∷ record { kind = ChannelInterface; name = codes "D"; base = None; interfaces = []; lines = double_named (codes "delay") ∷ []; gates = []; submodules = []; connections = no_connections } ∷ []) ≡ None
   pub last : fault_of (keeping (codes "A") None (codes "I" ∷ []) [] [] ∷ gap_and_in ∷ type_with (codes "B") None (second_for (codes "own") ∷ []) ∷ []) ≡ Some KindClash
 
 -- an interface has what those have that it extends, each once, in the order in which they are named; two declarations of one name
@@ -293,3 +312,17 @@ pub record ExampleExtending : Type 0 where
   pub circle : fault_of (interface_of (codes "J") (codes "K" ∷ []) [] [] ∷ interface_of (codes "K") (codes "J" ∷ []) [] [] ∷ []) ≡ Some InheritanceCircle
   pub mixed_circle : fault_of (interface_of (codes "J") (codes "A" ∷ []) [] [] ∷ heir (codes "A") (codes "J") ∷ []) ≡ Some InheritanceCircle
   pub kept_circle : fault_of (keeping (codes "A") None (codes "J" ∷ []) [] [] ∷ interface_of (codes "J") (codes "A" ∷ []) [] [] ∷ []) ≡ Some KindClash
+
+-- of a compound module that is no network, a vector of submodules, a condition, a parametric type, gates in the body of a submodule and
+-- connections no model is built yet, and this goes before every other fault; a section of connections without items says nothing that
+-- has to be built
+pub record ExampleUnbuilt : Type 0 where
+  pub none : fault_inside (tick_named (codes "t")) no_connections ≡ None
+  pub unconnected : fault_inside (tick_named (codes "t")) (record { allow_unconnected = true; items = [] }) ≡ None
+  pub connections : fault_inside (tick_named (codes "t")) one_connection ≡ Some NotBuilt
+  pub vector : fault_inside (record { name = codes "t"; size = Some (expression.Literal (values.Whole (pos 3))); submodule_type = submodule_type.Named (codes "Tick"); condition = None; body = record { lines = []; gates = [] } }) no_connections ≡ Some NotBuilt
+  pub condition : fault_inside (record { name = codes "t"; size = None; submodule_type = submodule_type.Named (codes "Tick"); condition = Some (expression.Literal (values.Truth false)); body = record { lines = []; gates = [] } }) no_connections ≡ Some NotBuilt
+  pub parametric : fault_inside (record { name = codes "t"; size = None; submodule_type = submodule_type.Like (record { given = None; interface = codes "I" }); condition = None; body = record { lines = []; gates = [] } }) no_connections ≡ Some NotBuilt
+  pub gates : fault_inside (record { name = codes "t"; size = None; submodule_type = submodule_type.Named (codes "Tick"); condition = None; body = record { lines = []; gates = three_of (codes "g") ∷ [] } }) no_connections ≡ Some NotBuilt
+  pub compound : fault_of (record { kind = Module; name = codes "M"; base = None; interfaces = []; lines = []; gates = []; submodules = []; connections = no_connections } ∷ []) ≡ Some NotBuilt
+  pub first : fault_of (tick ∷ tick ∷ heir (codes "B") (codes "Zed") ∷ record { kind = Module; name = codes "M"; base = None; interfaces = []; lines = []; gates = []; submodules = []; connections = no_connections } ∷ []) ≡ Some NotBuilt

@@ -5,11 +5,12 @@ use Rattle.std.specs.Borrow.{Bor}
 use Rattle.std.specs.List.{filter, list_any}
 use Rattle.std.specs.Option.{option_and_then}
 use Rattle.std.specs.Str.{bytes_eq}
+use Rattle.ned_trees.specs.declared.connections.ConnectionSection.{ConnectionSection}
 use Rattle.ned_trees.specs.declared.declarations.SectionLine.{SectionLine}
 use Rattle.ned_trees.specs.declared.declarations.SectionLine.TheVariants as line
 use Rattle.ned_trees.specs.declared.declarations.TypeDeclaration.{TypeDeclaration}
 use Rattle.ned_trees.specs.declared.declarations.TypeKind.{TypeKind}
-use Rattle.ned_trees.specs.declared.declarations.TypeKind.TheVariants.{Simple, Network, Channel, ModuleInterface, ChannelInterface}
+use Rattle.ned_trees.specs.declared.declarations.TypeKind.TheVariants.{Simple, Module, Network, Channel, ModuleInterface, ChannelInterface}
 use Rattle.ned_types.specs.Types.{type_named, is_built_in, is_type_named, is_simple_kind, is_network_kind, is_channel_kind, is_interface_kind}
 use Rattle.type_building.specs.Channels.{root_lines}
 use Rattle.ned_types.specs.Flat.{class_in, class_of, named_or}
@@ -82,11 +83,25 @@ extends_unknown types (Some name) = not (is_built_in name || is_type_named name 
 abbrev pub has_unknown_base : List TypeDeclaration → Bool
 has_unknown_base types = list_any (λ t. extends_unknown types t.base) types
 
--- whether a type of the first kind may extend one of the second: a simple type a simple type, a network a network, and a
+-- whether it is the kind of `module`
+abbrev pub is_module_kind : TypeKind → Bool
+is_module_kind Simple = false
+is_module_kind Module = true
+is_module_kind Network = false
+is_module_kind Channel = false
+is_module_kind ModuleInterface = false
+is_module_kind ChannelInterface = false
+
+-- whether it is a kind of compound modules
+abbrev pub is_compound_kind : TypeKind → Bool
+is_compound_kind kind = is_module_kind kind || is_network_kind kind
+
+-- whether a type of the first kind may extend one of the second: a simple type a simple type, a compound module or a network one of these two, and a
 -- channel a channel; what an interface extends stands among its interfaces
 abbrev pub can_extend : TypeKind → TypeKind → Bool
 can_extend Simple of = is_simple_kind of
-can_extend Network of = is_network_kind of
+can_extend Module of = is_compound_kind of
+can_extend Network of = is_compound_kind of
 can_extend Channel of = is_channel_kind of
 can_extend ModuleInterface of = false
 can_extend ChannelInterface of = false
@@ -109,6 +124,14 @@ has_other_base types = list_any (λ t. extends_other types t.kind t.base) types
 
 -- ---- flat types
 
+-- a section of connections without items
+abbrev pub no_connections : ConnectionSection
+no_connections = record { allow_unconnected = false; items = [] }
+
+-- the connections of two sections, those of the first one first; gates may stay unconnected where one of them says so
+abbrev pub joined_connections : ConnectionSection → ConnectionSection → ConnectionSection
+joined_connections c d = record { allow_unconnected = c.allow_unconnected || d.allow_unconnected; items = c.items ++ d.items }
+
 -- a type with the members of another one behind its own; those begin with what a built-in channel has that the other extends
 abbrev pub with_members : TypeDeclaration → TypeDeclaration → TypeDeclaration
 with_members flat t = record {
@@ -119,6 +142,7 @@ with_members flat t = record {
   lines = (flat.lines ++ root_lines t.base) ++ t.lines;
   gates = flat.gates ++ t.gates;
   submodules = flat.submodules ++ t.submodules;
+  connections = joined_connections flat.connections t.connections;
 }
 
 -- a type with the members of all these, those of the last one first
@@ -148,6 +172,7 @@ bare_heir_of line t = record {
   lines = class_lines (is_simple_kind t.kind) (class_along line);
   gates = [];
   submodules = [];
+  connections = no_connections;
 }
 
 abbrev pub bare_heir : List TypeDeclaration → TypeDeclaration → TypeDeclaration
@@ -198,10 +223,10 @@ gathered flat (t ∷ ts) = gathered (with_members flat t) ts
 
 -- a type without members
 abbrev pub bare : TypeDeclaration → TypeDeclaration
-bare t = record { kind = t.kind; name = t.name; base = None; interfaces = []; lines = []; gates = []; submodules = [] }
+bare t = record { kind = t.kind; name = t.name; base = None; interfaces = []; lines = []; gates = []; submodules = []; connections = no_connections }
 
 abbrev pub without_interfaces : TypeDeclaration → TypeDeclaration
-without_interfaces t = record { kind = t.kind; name = t.name; base = t.base; interfaces = []; lines = t.lines; gates = t.gates; submodules = t.submodules }
+without_interfaces t = record { kind = t.kind; name = t.name; base = t.base; interfaces = []; lines = t.lines; gates = t.gates; submodules = t.submodules; connections = t.connections }
 
 -- an interface with all that it extends, each once: its own members are the last
 abbrev pub flat_interface : List TypeDeclaration → TypeDeclaration → TypeDeclaration

@@ -16,7 +16,7 @@ use Rattle.ned_trees.specs.declared.declarations.SectionLine.{SectionLine}
 use Rattle.ned_trees.specs.declared.declarations.SectionLine.TheVariants as line
 use Rattle.ned_trees.specs.declared.declarations.TypeDeclaration.{TypeDeclaration}
 use Rattle.ned_trees.specs.declared.declarations.TypeKind.{TypeKind}
-use Rattle.ned_trees.specs.declared.declarations.TypeKind.TheVariants.{Simple, Network, Channel, ModuleInterface, ChannelInterface}
+use Rattle.ned_trees.specs.declared.declarations.TypeKind.TheVariants.{Simple, Module, Network, Channel, ModuleInterface, ChannelInterface}
 use Rattle.ned_types.specs.Types.{type_named, is_built_in, is_type_named, is_module_interface, is_channel_interface, is_vector}
 
 -- ---- names of interfaces
@@ -31,6 +31,7 @@ has_unknown_interface types = list_any (λ t. names_no_type types t.interfaces) 
 -- whether what stands among the interfaces of a type of the first kind may be of the second
 abbrev pub can_keep : TypeKind → TypeKind → Bool
 can_keep Simple of = is_module_interface of
+can_keep Module of = is_module_interface of
 can_keep Network of = is_module_interface of
 can_keep Channel of = is_channel_interface of
 can_keep ModuleInterface of = is_module_interface of

@@ -2,6 +2,7 @@ pub mod Channels
 pub mod Interfaces
 pub mod Inheritance
 pub mod Places
+pub mod Unbuilt
 pub mod Circles
 pub mod Building
 pub mod Seen

@@ -12,6 +12,7 @@ use crate::sections::{
 };
 use indexmap::IndexSet;
 use ned_trees::declarations::{SectionLine, Submodule};
+use ned_types::flat::type_name;
 use std::alloc::{AllocError, Global};
 
 /// The first line of the body of a submodule that can't stand over the lines of its type.
@@ -43,10 +44,10 @@ fn unfit_body(
 ) -> Result<Option<Member>, AllocError>
     ensures { IfOk result (λ member. is_some member ≡ has_unfit_body named.now submodule.now) }
 {
-    match named.find(submodule.type_name.as_bytes()) {
+    match named.find(type_name(submodule)) {
         Some(declared) => {
             let lines = declared.lines.as_slice();
-            unfit_over(alloc, number, lines, submodule.body.as_slice())
+            unfit_over(alloc, number, lines, submodule.body.lines.as_slice())
         }
         None => Ok(None),
     }

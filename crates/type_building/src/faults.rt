@@ -3,7 +3,8 @@
 ghost use Rattle.std.specs.Prelude.{◌≡◌, ◌||◌, false, not, is_some, IfOk, map};
 ghost use Rattle.ned_types.specs.Types.{has_duplicate, is_built_in, is_type_named, names_unknown, has_inner_network, is_inner_name, is_inner_network, is_submodule_known, has_clash, clashes, submodules_clash, is_submodule_simple, is_simple, repeats_submodule, has_other_kind};
 ghost use Rattle.type_building.specs.Inheritance.{flat_type, flat_types};
-ghost use Rattle.type_building.specs.Building.{Builds, AnswersTable, AreFaultless, CanBuild, TellsFlat};
+ghost use Rattle.type_building.specs.Building.{Builds, AnswersTable, AreFaultless, CanBuild, Flattens, TellsFlat};
+ghost use Rattle.type_building.specs.Unbuilt.{AreBuildable};
 ghost use Rattle.ned_types.specs.WellFormed.{IsWellFormed};
 ghost use Rattle.std.specs.List.{list_any};
 ghost use Rattle.type_building.specs.Named.{HaveLines, is_other_named, is_unknown_named};
@@ -19,9 +20,11 @@ use crate::named::{NamedTypes, by_name};
 use crate::places::{Member, Place, placed};
 use crate::sections::section_clash;
 use crate::table::{BuildError, TypeFault};
+use crate::unbuilt::unbuilt_place;
 use indexmap::IndexSet;
 use ned_trees::declarations::{Submodule, TypeDeclaration, TypeKind};
 use ned_trees::refusals::refused;
+use ned_types::flat::type_name;
 use sim_values::text::spells;
 use sqlite_items::Items;
 use std::alloc::{AllocError, Global};
@@ -32,6 +35,8 @@ pub(crate) fn flattened(
     types: &[TypeDeclaration],
 ) -> Result<Items<TypeDeclaration>, BuildError>
     ensures built { Builds types.now result }
+    // It is built of types of which models are built alone.
+    ensures parts { IfOk result (λ _. AreBuildable types.now) }
     // What is built keeps the rules of types.
     ensures rules { IfOk result IsWellFormed }
     // Types that keep the rules have no fault.
@@ -40,8 +45,19 @@ pub(crate) fn flattened(
     built(alloc, types)
 }
 
+#[tactic(auto, using(crate::proofs::UnbuiltLaws::not_built, crate::proofs::UnbuiltLaws::all_built))]
 fn built(alloc: Global, types: &[TypeDeclaration]) -> Result<Items<TypeDeclaration>, BuildError>
     ensures { Builds types.now result }
+{
+    match unbuilt_place(types) {
+        Some(place) => Err(BuildError::Fault(TypeFault::NotBuilt, place)),
+        None => by_rules(alloc, types),
+    }
+}
+
+/// The flat type of each of these types, of which models are built, or the first rule that they break.
+fn by_rules(alloc: Global, types: &[TypeDeclaration]) -> Result<Items<TypeDeclaration>, BuildError>
+    ensures { Flattens types.now result }
 {
     match by_name(alloc, types)? {
         Ok(named) => built_by(alloc, &named, types),
@@ -61,7 +77,7 @@ fn built_by<'a>(
 ) -> Result<Items<TypeDeclaration>, BuildError>
     requires names { named.now ≡ types.now }
     requires apart { has_duplicate types.now ≡ false }
-    ensures { Builds types.now result }
+    ensures { Flattens types.now result }
 {
     if let Some(place) = unknown_place(named, types) {
         return Err(BuildError::Fault(TypeFault::UnknownType, place));
@@ -211,7 +227,7 @@ fn first_unknown(named: &NamedTypes<'_>, submodules: &[Submodule]) -> Option<usi
 fn is_submodule_known(named: &NamedTypes<'_>, submodule: &Submodule) -> bool
     ensures { result ≡ is_submodule_known named.now submodule.now }
 {
-    is_taken(submodule.type_name.as_bytes(), named)
+    is_taken(type_name(submodule), named)
 }
 
 /// The first fault of flat types, which have names of their own, and its place.
@@ -345,7 +361,7 @@ fn first_of_other_kind(named: &NamedTypes<'_>, submodules: &[Submodule]) -> Opti
 fn is_submodule_simple(named: &NamedTypes<'_>, submodule: &Submodule) -> bool
     ensures { result ≡ is_submodule_simple named.now submodule.now }
 {
-    match named.find(submodule.type_name.as_bytes()) {
+    match named.find(type_name(submodule)) {
         Some(declared) => matches!(declared.kind, TypeKind::Simple),
         None => false,
     }

@@ -3,7 +3,7 @@
 ghost use Rattle.std.specs.Prelude.{◌≡◌, ◌++◌, [], map, IfOk, OnOk};
 ghost use Rattle.std.specs.Option.{option_copied};
 ghost use Rattle.ned_types.specs.Types.{is_channel_kind, is_simple_kind};
-ghost use Rattle.type_building.specs.Inheritance.{base_of, line_of, extends_unknown, extends_other, can_extend, is_base, is_channel_of, with_members, joined_with, class_along, class_lines, bare, bare_heir_of, flat_by, gathered, heir_of, flat_type, joined_behind, types_in};
+ghost use Rattle.type_building.specs.Inheritance.{base_of, line_of, extends_unknown, extends_other, can_extend, is_base, is_channel_of, with_members, joined_with, class_along, class_lines, bare, bare_heir_of, flat_by, gathered, heir_of, flat_type, is_compound_kind, joined_behind, joined_connections, no_connections, types_in};
 ghost use Rattle.type_building.specs.Named.{HaveLines, flat_by_lines, line_at};
 
 use crate::channels::add_root;
@@ -11,7 +11,9 @@ use crate::faults::{is_built_in, is_taken};
 use crate::lines::{Lines, add_lines_of};
 use crate::named::NamedTypes;
 use crate::order::is_interface_kind;
+use ned_scopes::connections::add_items;
 use ned_scopes::copies::{add_gates, add_lines, add_names, add_submodules, copy_type};
+use ned_trees::connections::ConnectionSection;
 use ned_trees::declarations::{SectionLine, TypeDeclaration, TypeKind};
 use ned_types::flat::{class_in, class_of};
 use ned_types::made::{behind, changed};
@@ -58,13 +60,20 @@ fn is_channel_of(kind: TypeKind, name: &[u8]) -> bool
     matches!(kind, TypeKind::Channel) && is_built_in(name)
 }
 
+/// Whether it is a kind of compound modules.
+fn is_compound_kind(kind: TypeKind) -> bool
+    ensures { result ≡ is_compound_kind kind }
+{
+    matches!(kind, TypeKind::Module | TypeKind::Network)
+}
+
 /// Whether a type of the first kind may extend one of the second.
 fn can_extend(kind: TypeKind, of: TypeKind) -> bool
     ensures { result ≡ can_extend kind of }
 {
     match kind {
         TypeKind::Simple => matches!(of, TypeKind::Simple),
-        TypeKind::Network => matches!(of, TypeKind::Network),
+        TypeKind::Module | TypeKind::Network => is_compound_kind(of),
         TypeKind::Channel => matches!(of, TypeKind::Channel),
         TypeKind::ModuleInterface | TypeKind::ChannelInterface => false,
     }
@@ -108,6 +117,29 @@ fn line_of<'a>(
     Ok(line)
 }
 
+/// A section of connections without items.
+fn no_connections(alloc: Global) -> ConnectionSection
+    ensures { result ≡ no_connections }
+{
+    ConnectionSection {
+        allow_unconnected: false,
+        items: Items::new(alloc),
+    }
+}
+
+/// Adds the connections of a section behind those of the other.
+fn add_connections(
+    alloc: Global,
+    section: &mut ConnectionSection,
+    more: &ConnectionSection,
+) -> Result<(), AllocError>
+    ensures { OnOk result (section.new ≡ joined_connections section.old more.now) }
+{
+    add_items(alloc, &mut section.items, more.items.as_slice())?;
+    section.allow_unconnected = section.allow_unconnected || more.allow_unconnected;
+    Ok(())
+}
+
 /// Adds the members of a type behind those of the other, and before them what the built-in channel has that it extends.
 fn add_members(
     alloc: Global,
@@ -120,7 +152,8 @@ fn add_members(
     add_root(alloc, &mut flat.lines, &declared.base)?;
     add_lines(alloc, &mut flat.lines, declared.lines.as_slice())?;
     add_gates(alloc, &mut flat.gates, declared.gates.as_slice())?;
-    add_submodules(alloc, &mut flat.submodules, declared.submodules.as_slice())
+    add_submodules(alloc, &mut flat.submodules, declared.submodules.as_slice())?;
+    add_connections(alloc, &mut flat.connections, &declared.connections)
 }
 
 /// Adds the members of these types, those of the last one first.
@@ -201,6 +234,7 @@ fn bare_heir(
         lines,
         gates: Items::new(alloc),
         submodules: Items::new(alloc),
+        connections: no_connections(alloc),
     })
 }
 
@@ -248,6 +282,7 @@ fn bare(alloc: Global, declared: &TypeDeclaration) -> Result<TypeDeclaration, Al
         lines: Items::new(alloc),
         gates: Items::new(alloc),
         submodules: Items::new(alloc),
+        connections: no_connections(alloc),
     })
 }
 

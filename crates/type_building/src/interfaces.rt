@@ -39,7 +39,7 @@ fn can_keep(kind: TypeKind, of: TypeKind) -> bool
     ensures { result ≡ can_keep kind of }
 {
     match kind {
-        TypeKind::Simple | TypeKind::Network | TypeKind::ModuleInterface => {
+        TypeKind::Simple | TypeKind::Module | TypeKind::Network | TypeKind::ModuleInterface => {
             matches!(of, TypeKind::ModuleInterface)
         }
         TypeKind::Channel | TypeKind::ChannelInterface => matches!(of, TypeKind::ChannelInterface),

@@ -1,7 +1,8 @@
 //! Laws of types.
 
+ghost use Rattle.type_building.specs.Building.{NotBuiltIsTold};
 ghost use Rattle.type_building.specs.Circles.{CirclesAreFound};
-ghost use Rattle.type_building.specs.Example.{ExampleBodies, ExampleChannels, ExampleExtending, ExampleFaults, ExampleGates, ExampleInterfaces, ExampleIsFlat, ExampleNetworks};
+ghost use Rattle.type_building.specs.Example.{ExampleBodies, ExampleChannels, ExampleExtending, ExampleFaults, ExampleGates, ExampleInterfaces, ExampleIsFlat, ExampleNetworks, ExampleUnbuilt};
 
 /// The flat types of small examples, their faults, and those of bodies of submodules.
 pub fn examples()
@@ -13,10 +14,16 @@ pub fn examples()
     ensures gates { ExampleGates }
     ensures interfaces { ExampleInterfaces }
     ensures extending { ExampleExtending }
+    ensures unbuilt { ExampleUnbuilt }
 {}
 
 /// A circle is found exactly where one of the types extends itself, perhaps by way of others: it is no matter that the
 /// definition counts steps.
 pub fn circles()
     ensures { CirclesAreFound }
+{}
+
+/// That no model is built of types yet is told exactly where some of them have such a part.
+pub fn unbuilt()
+    ensures { NotBuiltIsTold }
 {}

@@ -14,4 +14,5 @@ mod order;
 pub mod places;
 mod sections;
 pub mod table;
+mod unbuilt;
 mod webs;

@@ -7,7 +7,7 @@ ghost use Rattle.type_building.specs.Places.{placed};
 /// rule speaks of flat types: it has those of its bases before its own.
 #[derive(Clone, Copy)]
 pub enum Member {
-    /// The type itself: its name, or that it stands within a network.
+    /// The type itself: its name, that it stands within a network, or that it is a compound module.
     Whole,
     /// What it extends.
     Base,
@@ -33,6 +33,16 @@ pub enum Member {
     LacksParameter(usize, usize),
     /// It lacks the gate that the interface of the first number declares in its line of gates of the second.
     LacksGate(usize, usize),
+    /// The submodule of that number is a vector.
+    Vector(usize),
+    /// Its type is parametric, `<..> like NAME`.
+    Parametric(usize),
+    /// It has a condition.
+    Condition(usize),
+    /// Its body says something of gates.
+    BodyGates(usize),
+    /// The type has connections.
+    Connections,
 }
 
 /// The place of a fault: the type of that number among the types of the files, and what of it.

@@ -5,6 +5,7 @@ ghost use Rattle.ned_scopes.specs.Scopes.{types_of};
 ghost use Rattle.ned_types.specs.WellFormed.{IsWellFormed};
 ghost use Rattle.type_building.specs.Inheritance.{flat_types};
 ghost use Rattle.type_building.specs.Building.{AnswersTable, Builds, CanBuild};
+ghost use Rattle.type_building.specs.Unbuilt.{AreBuildable};
 
 use crate::faults;
 use crate::places::Place;
@@ -18,6 +19,9 @@ use std::alloc::{AllocError, Global};
 /// Why declared types make no model. Of several reasons the first in this order is told.
 #[derive(Clone, Copy)]
 pub enum TypeFault {
+    /// No model is built of a part of a type yet, which is right in NED: a compound module that is no network, a vector of
+    /// submodules, a parametric type, a condition, gates in the body of a submodule, or connections.
+    NotBuilt,
     /// Two types have one name, or one has that of a built-in channel.
     DuplicateType,
     /// A submodule's type, what a type extends, or one of its interfaces isn't declared.
@@ -60,6 +64,8 @@ pub fn flat_types(
 ) -> Result<Items<TypeDeclaration>, BuildError>
     // Each flat type, or the first fault with its place.
     ensures built { Builds types.now result }
+    // It is built of types of which models are built alone.
+    ensures parts { IfOk result (λ _. AreBuildable types.now) }
     // What is built keeps the rules of types.
     ensures rules { IfOk result IsWellFormed }
     // Types that keep the rules have no fault.
@@ -72,6 +78,8 @@ pub fn flat_types(
 pub fn build(alloc: Global, files: Vec<NedFile>) -> Result<TypeTable, BuildError>
     // The table has the flat types of all files, or the first fault is told with its place.
     ensures built { Builds (types_of files.items) result }
+    // It is built of types of which models are built alone.
+    ensures parts { IfOk result (λ _. AreBuildable (types_of files.items)) }
     // What is built keeps the rules of types.
     ensures rules { IfOk result IsWellFormed }
     // Types that keep the rules are built, unless memory runs out.

@@ -24,3 +24,6 @@ returns-clause-interfaces c = record { none = refl; no_parameter = refl; no_gate
 
 pub returns-clause-extending : goal.returns-clause-extending
 returns-clause-extending c = record { flat = refl; two_ways = refl; two_ways_fine = refl; named_twice = refl; twice = refl; gate_twice = refl; unknown = refl; unknown_base = refl; simple = refl; built_in = refl; for_channels = refl; base_for_channels = refl; extended_by_simple = refl; submodule = refl; itself = refl; circle = refl; mixed_circle = refl; kept_circle = refl }
+
+pub returns-clause-unbuilt : goal.returns-clause-unbuilt
+returns-clause-unbuilt c = record { none = refl; unconnected = refl; connections = refl; vector = refl; condition = refl; parametric = refl; gates = refl; compound = refl; first = refl }
