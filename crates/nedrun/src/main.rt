@@ -20,7 +20,7 @@ mod refusals;
 use desk_clients::clients;
 use model_texts::begin::BeginFault;
 use program_stops::stops::Stop;
-use program_streams::{endings, files, output};
+use program_streams::{endings, files};
 use program_user::user::User;
 use program_words::words::Words;
 use std::process::ExitCode;
@@ -101,7 +101,6 @@ fn work<R: Files + Env + Input + Print + Eprint + AllocGlobal>(rt: &R) -> Result
     let words = Words::read(rt)?;
     let ini = files::read_text(rt, words.ini.as_str())?;
     let texts = files::read_texts(rt, words.texts.as_slice())?;
-    output::make_folder(rt, words.directory.as_str())?;
     let sources = Sources {
         ini_path: words.ini.as_str(),
         ini: ini.as_slice(),

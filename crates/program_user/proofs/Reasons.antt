@@ -8,7 +8,7 @@ use Rattle.program_stops.specs.Stops.{IsOutOfMemory}
 use Rattle.program_stops.specs.declared.stops.Stop.{Stop}
 use Rattle.program_stops.specs.declared.stops.Stop.TheVariants as stop
 use Rattle.program_streams.specs.Stops.{IsShortOf, IsShortOfRun, IsUnadvised, IsUnsaid, IsUnwritable}
-use Rattle.program_user.specs.Stops.{IsLost, IsOneUnwritable, IsReason, IsUntold}
+use Rattle.program_user.specs.Stops.{IsAskless, IsLost, IsOneUnwritable, IsReason, IsUnmade, IsUntold}
 
 -- ---- reasons
 
@@ -32,7 +32,7 @@ reason_untold waiting s (inr h) = reason_unadvised waiting s h
 
 pub reason_unwritable : (path : List ℕ) (waiting : Waiting) (s : Stop) → IsUnwritable path s → IsReason waiting s
 reason_unwritable path waiting stop.Spent h = absurd h
-reason_unwritable path waiting (stop.Failed line error) h = inr (inr (inr (path, h)))
+reason_unwritable path waiting (stop.Failed line error) h = inr (inr (inr (inl (path, h))))
 reason_unwritable path waiting (stop.NoMemory _) h = tt
 reason_unwritable path waiting (stop.Words _) h = h
 reason_unwritable path waiting (stop.Refused _ _) h = h
@@ -73,10 +73,23 @@ reason_out_of_memory waiting (stop.Words _) h = h
 reason_out_of_memory waiting (stop.Refused _ _) h = h
 
 -- nothing is asked
-pub reason_unasked : (a : Ask) (failures failures' : ℕ) (waiting : Waiting) (s : Stop) → IsUnasked a failures failures' waiting s → IsReason waiting s
+reason_unasked : (a : Ask) (failures failures' : ℕ) (waiting : Waiting) (s : Stop) → IsUnasked a failures failures' waiting s → IsReason waiting s
 reason_unasked ask.Run failures failures' waiting s h = reason_out_of_memory waiting s h
 reason_unasked ask.Write failures failures' waiting s h = reason_out_of_memory waiting s h
 reason_unasked ask.Line failures failures' waiting s h = reason_unread failures failures' waiting s h
+
+reason_unmade : (directory : List ℕ) (waiting : Waiting) (s : Stop) → IsUnmade directory s → IsReason waiting s
+reason_unmade directory waiting stop.Spent h = absurd h
+reason_unmade directory waiting (stop.Failed line error) h = inr (inr (inr (inr (directory, h))))
+reason_unmade directory waiting (stop.NoMemory _) h = tt
+reason_unmade directory waiting (stop.Words _) h = h
+reason_unmade directory waiting (stop.Refused _ _) h = h
+
+-- the user asks nothing
+pub reason_askless : (directory : List ℕ) (a : Ask) (failures failures' : ℕ) (waiting : Waiting) (s : Stop)
+    → IsAskless directory a failures failures' waiting s → IsReason waiting s
+reason_askless directory a failures failures' waiting s (inl h) = reason_unmade directory waiting s h
+reason_askless directory a failures failures' waiting s (inr h) = reason_unasked a failures failures' waiting s h
 
 -- a user who can't go on, for that reason
 pub stuck_for : (noted : Option Stop) (waiting : Waiting) (s : Stop) → noted ≡ Some s → IsReason waiting s → IsSomeAnd noted (IsReason waiting)

@@ -2,6 +2,9 @@
 use Rattle.std.specs.Prelude.{◌≡◌, ◌⊎◌, ℕ, List, ◌++◌, codes}
 use Rattle.std.specs.String.{string_bytes}
 use Rattle.line_reading.specs.Waits.{Waiting, IsSpent}
+use Rattle.program_dialogue.specs.Asking.{IsUnasked}
+use Rattle.program_dialogue.specs.declared.dialogue.Ask.{Ask}
+use Rattle.program_stops.specs.Stops.{Fails}
 use Rattle.program_stops.specs.declared.stops.Stop.{Stop}
 use Rattle.program_stops.specs.declared.stops.Stop.TheVariants as stop
 use Rattle.program_streams.specs.Stops.{IsUnadvised, IsUnsaid, IsUnwritable}
@@ -18,14 +21,24 @@ IsUntold s = IsUnsaid s ⊎ IsUnadvised s
 abbrev pub IsLost : Stop → Type 0
 IsLost s = (path : List ℕ) × IsUnwritable path s
 
--- what is told of a stream of the user, or of a file of a run
+-- the folder of that path can't be made
+abbrev pub IsUnmade : List ℕ → Stop → Type 0
+IsUnmade directory s = Fails (codes "this folder can't be made") directory s
+
+-- why a user asks nothing: the folder of the result files can't be made, or the dialogue asks nothing
+abbrev pub IsAskless : List ℕ → Ask → ℕ → ℕ → Waiting → Stop → Type 0
+IsAskless directory a failures failures' waiting s = IsUnmade directory s ⊎ IsUnasked a failures failures' waiting s
+
+-- what is told of a stream of the user, or of a file or the folder of a run
 abbrev pub IsOfUser : List ℕ → Type 0
 IsOfUser line = (line ≡ codes "standard input: the next command can't be read")
     ⊎ ((line ≡ codes "standard output: the answer can't be printed")
     ⊎ ((line ≡ codes "standard error: a warning can't be printed")
-    ⊎ ((path : List ℕ) × (line ≡ path ++ codes ": this file can't be written"))))
+    ⊎ (((path : List ℕ) × (line ≡ path ++ codes ": this file can't be written"))
+    ⊎ ((path : List ℕ) × (line ≡ path ++ codes ": this folder can't be made")))))
 
--- WHY A USER CAN'T GO ON: as many lines as are read are counted; a stream of the user or a file of a run failed; or memory ran out
+-- WHY A USER CAN'T GO ON: as many lines as are read are counted; a stream of the user, a file of a run
+-- or the folder of its files failed; or memory ran out
 abbrev pub IsReason : Waiting → Stop → Type 0
 IsReason waiting stop.Spent = IsSpent waiting
 IsReason waiting (stop.Failed line error) = IsOfUser (string_bytes line)

@@ -2,8 +2,9 @@
 
 ghost use Rattle.std.specs.Prelude.{◌≡◌, ◌⊎◌, ◌<◌, [], ◌∷◌, ◌++◌, Some, None, IsSomeAnd, IfSome, IfOk, IfErr, OnOk, OnErr, codes, string_bytes};
 ghost use Rattle.program_user.specs.Devices.{path_of};
-ghost use Rattle.program_user.specs.Stops.{IsLost, IsOneUnwritable, IsReason, IsUntold};
-ghost use Rattle.program_dialogue.specs.Asking.{left_in, HasAskedAll, IsInOrder, IsUnasked};
+ghost use Rattle.program_user.specs.Stops.{IsAskless, IsLost, IsOneUnwritable, IsReason, IsUntold};
+ghost use Rattle.program_dialogue.specs.Asking.{left_in, HasAskedAll, IsInOrder};
+ghost use Rattle.program_dialogue.specs.Typing.{AsksNext};
 ghost use Rattle.program_stops.specs.declared.stops.Stop.{Stop as StopValue};
 ghost use Rattle.program_streams.specs.Devices.{taken_by, unwritten};
 ghost use Rattle.program_streams.specs.Paths.{file_path};
@@ -33,6 +34,8 @@ pub struct User<'a, R: Files + Input> {
     words: &'a Words,
     sources: &'a Sources<'a>,
     pub dialogue: Dialogue<R::Reader>,
+    /// Whether the folder of the result files is there.
+    has_folder: bool,
     /// Whether an answer was heard.
     heard_any: bool,
     /// Whether the model is the one that the files make: no edit was made.
@@ -55,6 +58,7 @@ impl<'a, R: Files + Input + Print + Eprint + AllocGlobal> User<'a, R> {
             words,
             sources,
             dialogue: Dialogue::new(rt.alloc(), words.limit, rt.reader()),
+            has_folder: false,
             heard_any: false,
             is_as_read: true,
             stop: None,
@@ -71,6 +75,7 @@ impl<'a, R: Files + Input + Print + Eprint + AllocGlobal> User<'a, R> {
             words: _,
             sources: _,
             dialogue: _,
+            has_folder: _,
             heard_any: _,
             is_as_read: _,
             stop,
@@ -89,6 +94,28 @@ impl<'a, R: Files + Input + Print + Eprint + AllocGlobal> User<'a, R> {
     {
         self.stop = Some(stop);
         Gone
+    }
+
+    /// What is asked next. The folder of the result files is made before the first thing: only a user who is served asks, so where the
+    /// texts are refused none is made.
+    fn ask(&mut self) -> Result<Option<Asked>, Stop>
+        requires kept { IsInOrder self.old.dialogue }
+        ensures kept { IsInOrder self.new.dialogue }
+        ensures limit { self.new.dialogue.limit ≡ self.old.dialogue.limit }
+        ensures next { AsksNext self.old.dialogue.transcript.asked (left_in self.old.dialogue) result
+            self.new.dialogue.transcript.asked (left_in self.new.dialogue) }
+        ensures over { IfOk result (λ next. next ≡ None → HasAskedAll self.new.dialogue) }
+        ensures reason { IfErr result (IsAskless (string_bytes self.old.words.now.directory) self.old.dialogue.ask
+            self.old.dialogue.lines.source.failures self.new.dialogue.lines.source.failures
+            self.new.dialogue.lines.buffer) }
+        ensures heard { self.new.dialogue.transcript.heard ≡ self.old.dialogue.transcript.heard }
+        ensures words { self.new.words ≡ self.old.words }
+    {
+        if !self.has_folder {
+            output::make_folder(self.rt, self.words.directory.as_str())?;
+            self.has_folder = true;
+        }
+        self.dialogue.next(self.rt.alloc())
     }
 
     /// Notes that both files are kept, of which nothing is left to write.
@@ -204,7 +231,7 @@ impl<'a, R: Files + Input + Print + Eprint + AllocGlobal> Client<FileOut<'a, R>>
     ghost stops = { λ user why. at_stop (HasAskedAll user.dialogue)
         (IsSomeAnd user.stop (IsReason user.dialogue.lines.buffer)) (λ _ _. IsSomeAnd user.stop IsLost) why };
 
-    #[tactic(auto, using(crate::proofs::Reasons::reason_unasked))]
+    #[tactic(auto, using(crate::proofs::Reasons::reason_askless))]
     fn next(&mut self) -> Result<Option<Asked>, Gone>
         requires kept { IsInOrder self.old.dialogue }
         ensures kept { IsInOrder self.new.dialogue }
@@ -217,14 +244,15 @@ impl<'a, R: Files + Input + Print + Eprint + AllocGlobal> Client<FileOut<'a, R>>
             → self.new.dialogue.transcript.asked ≡ self.old.dialogue.transcript.asked) }
         ensures over { IfOk result (λ next. next ≡ None → HasAskedAll self.new.dialogue) }
         ensures stuck { OnErr result (IsSomeAnd self.new.stop (IsReason self.new.dialogue.lines.buffer)) }
-        ensures reason { OnErr result (IsSomeAnd self.new.stop (IsUnasked self.old.dialogue.ask
+        ensures reason { OnErr result (IsSomeAnd self.new.stop (IsAskless
+            (string_bytes self.old.words.now.directory) self.old.dialogue.ask
             self.old.dialogue.lines.source.failures self.new.dialogue.lines.source.failures
             self.new.dialogue.lines.buffer)) }
         ensures gone { OnErr result (self.new.dialogue.transcript.asked
             ≡ self.old.dialogue.transcript.asked) }
         ensures heard { self.new.dialogue.transcript.heard ≡ self.old.dialogue.transcript.heard }
     {
-        match self.dialogue.next(self.rt.alloc()) {
+        match self.ask() {
             Ok(next) => Ok(next),
             Err(stop) => Err(self.gone(stop)),
         }
