@@ -1,9 +1,11 @@
 pub mod KeptLaws
 pub mod LineLaws
 pub mod MergeLaws
+pub mod NameLaws
 pub mod NumberLaws
 pub mod NumberedLaws
 pub mod RowLaws
+pub mod SaidLaws
 pub mod ScanLaws
 pub mod TextLaws
 pub mod WalkLaws

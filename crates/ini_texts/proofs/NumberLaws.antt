@@ -7,12 +7,9 @@ use Rattle.std.proofs.lemmas.List.Elements.{All-head, All-tail, All-cons}
 use Rattle.std.proofs.lemmas.Slice.Eq.{bytes_eq-Decides}
 use Rattle.ini_texts.specs.Merge.{tail, stands_in, stands_behind, first_free, without_head, without, IsMerge}
 use Rattle.ini_texts.specs.Counts.{same_number, AreBelow, AreAllBelow}
+use Rattle.ini_texts.specs.Numbers.{AreApart}
 use Rattle.ini_texts.specs.Words.{Bytes}
 use Rattle.ini_texts.proofs.MergeLaws.{all_without_below}
-
--- different numbers below that one have different names
-abbrev pub AreApart : (ℕ → Bytes) → ℕ → Type 0
-AreApart f n = (i j : ℕ) → i < n → j < n → f i ≡ f j → i ≡ j
 
 same_by : (f : ℕ → Bytes) (n i j : ℕ) → AreApart f n → i < n → j < n → bytes_eq (f i) (f j) ≡ (i == j)
 same_by f n i j apart h k = go (i == j) refl (bytes_eq (f i) (f j)) refl

@@ -13,12 +13,12 @@ use Rattle.ini_texts.specs.declared.lines.LineMeaning.{LineMeaning}
 use Rattle.ini_texts.specs.declared.lines.LineMeaning.TheVariants as line
 use Rattle.ini_texts.specs.Counts.{same_number, AreBelow, AreAllBelow}
 use Rattle.ini_texts.specs.Merge.{without, IsMerge}
-use Rattle.ini_texts.specs.Numbers.{holds, with_section, names_behind, name_at, AreNumbers, FitRows, row_list, bases_at, AreRows, ReachedIn, IsOrdered, IsWithin}
+use Rattle.ini_texts.specs.Numbers.{AreApart, holds, with_section, names_behind, name_at, AreNumbers, FitRows, row_list, bases_at, AreRows, ReachedIn, IsOrdered, IsWithin}
 use Rattle.ini_texts.specs.Numbered.{line_at, SettlesRow, HasNoLine, IsNumberLine, SettlesChain}
 use Rattle.ini_texts.specs.Sections.{general, bases_of, bases_named, is_section_line, is_section, IsLineWithin, IsLine, IsChain, RefusesChain, AnswersChain}
 use Rattle.ini_texts.specs.Words.{Bytes}
 use Rattle.ini_texts.proofs.LineLaws.{HasLines, base_line, line_from, no_line_from, no_line_by_base, no_line_by_absence, one_chain_law}
-use Rattle.ini_texts.proofs.NumberLaws.{AreApart, free_below, names_merge, numbers_merge}
+use Rattle.ini_texts.proofs.NumberLaws.{free_below, names_merge, numbers_merge}
 use Rattle.ini_texts.proofs.MergeLaws.{all_without_below}
 
 same_name : (a b : Bytes) → bytes_eq a b ≡ true → a ≡ b

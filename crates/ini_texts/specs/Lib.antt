@@ -2,8 +2,10 @@ pub mod Counts
 pub mod Entries
 pub mod Kept
 pub mod Merge
+pub mod Names
 pub mod Numbered
 pub mod Numbers
+pub mod Said
 pub mod Scans
 pub mod Sections
 pub mod Words

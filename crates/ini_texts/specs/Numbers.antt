@@ -30,6 +30,10 @@ names_behind names (l ∷ ls) = names_behind (with_section names l.meaning) ls
 abbrev pub name_at : List Bytes → ℕ → Bytes
 name_at names k = slice_index_or names k []
 
+-- different numbers below that one have different names
+abbrev pub AreApart : (ℕ → Bytes) → ℕ → Type 0
+AreApart f n = (i j : ℕ) → i < n → j < n → f i ≡ f j → i ≡ j
+
 -- a number of the name, or that it has none
 abbrev pub IsNumber : List Bytes → Bytes → Option ℕ → Type 0
 IsNumber names name (Some k) = (k < length names) × (name_at names k ≡ name)

@@ -1,15 +1,16 @@
-//! The sections of a text by numbers, and what each of them extends.
+//! What each section of a text extends, by numbers. Two walks over the text find it for all sections at once.
 
-ghost use Rattle.std.specs.Prelude.{◌≡◌, ◌∷◌, ◌++◌, [], IfOk, OnOk};
-ghost use Rattle.std.specs.List.{list_any};
+ghost use Rattle.std.specs.Prelude.{◌≡◌, [], length, IfOk};
 ghost use Rattle.std.specs.Option.{option_copied};
 ghost use Rattle.std.specs.Str.{bytes_eq};
-ghost use Rattle.ini_texts.specs.Sections.{general, bases_said, or_bases, bases_of, bases_named};
-ghost use Rattle.ini_texts.specs.Numbers.{holds, with_section, names_behind, others, IsNumber, AreNumbers, FitRows};
+ghost use Rattle.ini_texts.specs.Sections.{general, bases_said, or_bases};
+ghost use Rattle.ini_texts.specs.Numbers.{name_at, others, AreApart, AreNumbers, FitRows};
+ghost use Rattle.ini_texts.specs.Said.{bases_in, HaveSaid, Notes};
 
 use crate::entry::EntryMeaning;
 use crate::lines::{IniLine, LineMeaning};
-use crate::scan::{Wanted, first_under};
+use crate::names::SectionNames;
+use crate::scan::section_behind;
 use sim_values::text::{Text, spells};
 use sqlite_items::Items;
 use std::alloc::{AllocError, Global};
@@ -19,48 +20,6 @@ pub fn is_general(name: &[u8]) -> bool
     ensures { result ≡ bytes_eq name.now general }
 {
     spells(name, b"General")
-}
-
-/// Whether a name is one of those.
-fn holds(names: &[Text], name: &[u8]) -> bool
-    ensures { result ≡ holds names.now name.now }
-{
-    names.iter().any(|other| other.is(name))
-}
-
-/// Adds the name of the section that a line begins.
-fn add_section(alloc: Global, names: &mut Items<Text>, line: &IniLine) -> Result<(), AllocError>
-    ensures { OnOk result (names.new ≡ with_section names.old line.now.meaning) }
-{
-    if let LineMeaning::Section(name) = &line.meaning {
-        if !holds(names.as_slice(), name.as_bytes()) {
-            names.push(name.copy(alloc)?)?;
-        }
-    }
-    Ok(())
-}
-
-/// The names of the sections, each once. A section's number is its place among them.
-pub fn section_names(alloc: Global, lines: &[IniLine]) -> Result<Items<Text>, AllocError>
-    ensures { IfOk result (λ names. names ≡ names_behind [] lines.now) }
-{
-    let mut names = Items::new(alloc);
-    for line in lines {
-        add_section(alloc, &mut names, line)?;
-    }
-    Ok(names)
-}
-
-/// The number of a name.
-pub fn number_of(names: &[Text], name: &[u8]) -> Option<usize>
-    ensures { IsNumber names.now name.now result }
-{
-    for (at, other) in names.iter().enumerate() {
-        if other.is(name) {
-            return Some(at);
-        }
-    }
-    None
 }
 
 /// The names that an entry of the option `extends` has.
@@ -73,20 +32,10 @@ fn bases_said(meaning: &EntryMeaning) -> Option<&[Text]>
     }
 }
 
-/// The bases that the first entry of the option `extends` names in the section of that name.
-fn bases_of<'a>(lines: &'a [IniLine], name: &[u8]) -> Option<&'a [Text]>
-    ensures { or_bases (option_copied result) [] ≡ bases_of name.now lines.now }
-{
-    match first_under(lines, name, Wanted::Bases) {
-        Some(entry) => bases_said(&entry.meaning),
-        None => None,
-    }
-}
-
 /// The numbers of these names without General, if they all have one.
 fn numbers_of(
     alloc: Global,
-    names: &[Text],
+    names: &SectionNames<'_>,
     bases: &[Text],
 ) -> Result<Option<Items<usize>>, AllocError>
     ensures { IfOk result (λ row. AreNumbers names.now (others bases.now) row) }
@@ -94,7 +43,7 @@ fn numbers_of(
     let mut row = Items::new(alloc);
     for base in bases {
         if !is_general(base.as_bytes()) {
-            match number_of(names, base.as_bytes()) {
+            match names.number_of(base.as_bytes()) {
                 Some(number) => row.push(number)?,
                 None => return Ok(None),
             }
@@ -103,16 +52,68 @@ fn numbers_of(
     Ok(Some(row))
 }
 
-/// The numbers of those that the section of that name extends, if they are all there.
+/// The names of the bases that a line has, where it is an entry of the option `extends`.
+fn bases_in(line: &IniLine) -> Option<&[Text]>
+    ensures { option_copied result ≡ bases_in line.now.meaning }
+{
+    match &line.meaning {
+        LineMeaning::Entry(entry) => bases_said(&entry.meaning),
+        _ => None,
+    }
+}
+
+/// Notes what a line says that the section extends in which it stands, unless a line before has said so.
+fn note<'a>(
+    said: &mut [Option<&'a [Text]>],
+    names: &SectionNames<'_>,
+    section: Option<&[u8]>,
+    line: &'a IniLine,
+)
+    requires apart { AreApart (name_at names.now) (length names.now) }
+    requires size { length said.old ≡ length names.now }
+    ensures { Notes names.now (option_copied section.entry) line.now.meaning said.old said.new }
+{
+    let Some(bases) = bases_in(line) else {
+        return;
+    };
+    let Some(name) = section else {
+        return;
+    };
+    let Some(number) = names.number_of(name) else {
+        return;
+    };
+    if said[number].is_none() {
+        said[number] = Some(bases);
+    }
+}
+
+/// For each section the names that the first entry of the option `extends` has there, if there is one.
+fn said_bases<'a>(
+    alloc: Global,
+    lines: &'a [IniLine],
+    names: &SectionNames<'_>,
+) -> Result<Vec<Option<&'a [Text]>>, AllocError>
+    requires apart { AreApart (name_at names.now) (length names.now) }
+    ensures { IfOk result (λ said. HaveSaid lines.now names.now said.items) }
+{
+    let mut said = vec![in alloc; None; names.len()]?;
+    let mut section = None;
+    for line in lines {
+        note(said.as_mut_slice(), names, section, line);
+        section = section_behind(section, line);
+    }
+    Ok(said)
+}
+
+/// The numbers of those that a section extends, if they are all there.
 fn row_of(
     alloc: Global,
-    lines: &[IniLine],
-    names: &[Text],
-    name: &[u8],
+    names: &SectionNames<'_>,
+    said: Option<&[Text]>,
 ) -> Result<Option<Items<usize>>, AllocError>
-    ensures { IfOk result (λ row. AreNumbers names.now (bases_named name.now lines.now) row) }
+    ensures { IfOk result (λ row. AreNumbers names.now (others (or_bases (option_copied said.entry) [])) row) }
 {
-    match bases_of(lines, name) {
+    match said {
         Some(bases) => numbers_of(alloc, names, bases),
         None => numbers_of(alloc, names, &[]),
     }
@@ -122,13 +123,15 @@ fn row_of(
 pub fn base_rows(
     alloc: Global,
     lines: &[IniLine],
-    names: &[Text],
+    names: &SectionNames<'_>,
 ) -> Result<Items<Option<Items<usize>>>, AllocError>
+    requires apart { AreApart (name_at names.now) (length names.now) }
     ensures { IfOk result (λ rows. FitRows lines.now names.now rows) }
 {
+    let said = said_bases(alloc, lines, names)?;
     let mut rows = Items::new(alloc);
-    for name in names {
-        rows.push(row_of(alloc, lines, names, name.as_bytes())?)?;
+    for bases in said.as_slice() {
+        rows.push(row_of(alloc, names, *bases)?)?;
     }
     Ok(rows)
 }

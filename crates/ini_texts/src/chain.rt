@@ -13,10 +13,11 @@ ghost use Rattle.ini_texts.specs.Numbered.{line_at, SettlesLine, SettlesRow, Set
 ghost use Rattle.ini_texts.specs.Sections.{general, is_section_line, is_section, IsChain, RefusesChain, AnswersChain};
 ghost use Rattle.ini_texts.specs.Words.{Bytes};
 
-use crate::bases::{base_rows, is_general, number_of, section_names};
+use crate::bases::{base_rows, is_general};
 use crate::error::ChainError;
 use crate::lines::{IniLine, IniText, LineMeaning};
 use crate::merge::{Rest, merge};
+use crate::names::{SectionNames, section_names};
 use crate::order::{bases_at, order_behind};
 use sim_values::text::Text;
 use sqlite_items::Items;
@@ -151,7 +152,7 @@ fn nothing_counted(alloc: Global, count: usize) -> Result<Vec<u128>, AllocError>
 fn line_along(
     alloc: Global,
     _text: &[IniLine],
-    names: &[Text],
+    names: &SectionNames<'_>,
     rows: &[Option<Items<usize>>],
     order: &[usize],
     root: usize,
@@ -181,7 +182,7 @@ fn line_along(
 fn ordered_line(
     alloc: Global,
     lines: &[IniLine],
-    names: &[Text],
+    names: &SectionNames<'_>,
     rows: &[Option<Items<usize>>],
     order: &[usize],
     root: usize,
@@ -210,7 +211,7 @@ fn ordered_line(
 fn numbered_line(
     alloc: Global,
     lines: &[IniLine],
-    names: &[Text],
+    names: &SectionNames<'_>,
     root: usize,
 ) -> Result<Option<Items<usize>>, AllocError>
     requires names { names.now ≡ names_behind [] lines.now }
@@ -225,13 +226,17 @@ fn numbered_line(
 }
 
 /// The names of these numbers, and at last General.
-fn chain_named(alloc: Global, names: &[Text], line: &[usize]) -> Result<Items<Text>, AllocError>
+fn chain_named(
+    alloc: Global,
+    names: &SectionNames<'_>,
+    line: &[usize],
+) -> Result<Items<Text>, AllocError>
     requires { AreBelow (length names.now) line.now }
     ensures { IfOk result (λ chain. chain ≡ map (name_at names.now) line.now ++ general ∷ []) }
 {
     let mut chain = Items::new(alloc);
     for number in line {
-        chain.push(names[*number].copy(alloc)?)?;
+        chain.push(Text::from_bytes(alloc, names.name(*number))?)?;
     }
     chain.push(Text::from_bytes(alloc, b"General")?)?;
     Ok(chain)
@@ -241,7 +246,7 @@ fn chain_named(alloc: Global, names: &[Text], line: &[usize]) -> Result<Items<Te
 fn chain_from(
     alloc: Global,
     lines: &[IniLine],
-    names: &[Text],
+    names: &SectionNames<'_>,
     root: usize,
 ) -> Result<Items<Text>, ChainError>
     requires names { names.now ≡ names_behind [] lines.now }
@@ -273,8 +278,8 @@ fn chain_of(alloc: Global, lines: &[IniLine], config: &[u8]) -> Result<Items<Tex
         return Ok(chain_of_general(alloc)?);
     }
     let names = section_names(alloc, lines)?;
-    match number_of(names.as_slice(), config) {
-        Some(root) => chain_from(alloc, lines, names.as_slice(), root),
+    match names.number_of(config) {
+        Some(root) => chain_from(alloc, lines, &names, root),
         None => Err(ChainError::ChainFault),
     }
 }

@@ -13,6 +13,7 @@ pub mod error;
 pub mod laws;
 pub mod lines;
 pub mod merge;
+pub mod names;
 pub mod order;
 pub mod scan;
 pub mod speaks;

@@ -10,5 +10,5 @@ use Rattle.ini_texts.proofs.chain.chain_of.Goals as goal
 pub returns : goal.returns
 returns c =
     let other : c.args.config.now ≢ general = λ e. false≢true (sym c.if-is_general.false ∙ c.is_general.ensures ∙ (bytes_eq-Decides c.args.config.now general).1 e) in
-    let none : holds c.in_ok-names.names c.args.config.now ≡ false = subst (λ (ns : List Bytes). holds ns c.args.config.now ≡ false) c.as_slice.ensures c.in-None.ensures in
+    let none : holds c.in_ok-names.names c.args.config.now ≡ false = c.in-None.ensures in
     absurd (held_there c.args.lines.now c.in_ok-names.names c.args.config.now (sections_of c.args.lines.now c.in_ok-names.names c.in_ok-names.ensures) other c.requires none)

@@ -24,3 +24,6 @@ returns c =
     let settled = subst (λ (o : Option (List ℕ)). SettlesOrder {E = AllocError} c.as_slice.result.now c.args.root (Ok o)) c.in-None.is c.in_ok-order.ensures in
     let none : (d : ℕ) → IsWithin d c.in_ok-rows.rows c.args.root → ⊥ = subst (λ (rs : List (Option (List ℕ))). (d : ℕ) → IsWithin d rs c.args.root → ⊥) c.as_slice.ensures settled in
     no_line_by_depth c.args.lines.now c.args.names.now c.in_ok-rows.rows c.args.root (sections_of c.args.lines.now c.args.names.now c.requires.names) c.in_ok-rows.ensures c.requires.within none
+
+pub base_rows-requires : goal.base_rows-requires
+base_rows-requires c = record { apart = (sections_of c.args.lines.now c.args.names.now c.requires.names).apart; }
