@@ -2,7 +2,7 @@
 
 ghost use Rattle.std.specs.Prelude.{◌≡◌};
 ghost use Rattle.std.specs.Option.{option_and_then, option_copied};
-ghost use Rattle.ini_texts.specs.Scans.{is_wanted, wanted_of, first_wanted};
+ghost use Rattle.ini_texts.specs.Scans.{is_wanted, wanted_of, first_wanted, IsPlace, IsWantedAmong};
 ghost use Rattle.ini_texts.specs.Sections.{is_in, entry_here, section_behind, entries_under, entries_along};
 
 use crate::entry::EntryMeaning;
@@ -46,6 +46,9 @@ pub fn entry_in<'a>(name: &[u8], section: Option<&[u8]>, line: &'a IniLine) -> O
 }
 
 // ---- the first that is wanted
+
+/// A chain of so many sections is short: to look through the text for each of them costs less than to compare all its entries.
+const FEW: usize = 16;
 
 /// Which entries are looked for.
 #[derive(Clone, Copy)]
@@ -105,8 +108,8 @@ pub(crate) fn first_under<'a>(
     None
 }
 
-/// The first entry that is looked for along a chain.
-pub(crate) fn first_along<'a>(
+/// The first entry that is looked for along a chain of few sections. The text is looked through once for each of them.
+fn first_along_few<'a>(
     lines: &'a [IniLine],
     chain: &[Text],
     wanted: Wanted<'_>,
@@ -119,4 +122,80 @@ pub(crate) fn first_along<'a>(
         }
     }
     None
+}
+
+// ---- along many sections
+
+/// The place of the first of these names that is that one.
+fn place_of(names: &[Text], name: &[u8]) -> Option<usize>
+    ensures { IsPlace names.now name.now result }
+{
+    for (at, other) in names.iter().enumerate() {
+        if other.is(name) {
+            return Some(at);
+        }
+    }
+    None
+}
+
+/// The entry of a line, which stands in `section`, where this is one of these sections and the entry is looked for; and the place of
+/// the section.
+fn wanted_among<'a>(
+    names: &[Text],
+    section: Option<&[u8]>,
+    line: &'a IniLine,
+    wanted: Wanted<'_>,
+) -> Option<(usize, &'a Entry)>
+    ensures { IsWantedAmong wanted.entry names.now (option_copied section.entry) line.now.meaning result }
+{
+    let LineMeaning::Entry(entry) = &line.meaning else {
+        return None;
+    };
+    let Some(name) = section else {
+        return None;
+    };
+    if !is_wanted(wanted, &entry.meaning) {
+        return None;
+    }
+    match place_of(names, name) {
+        Some(at) => Some((at, entry)),
+        None => None,
+    }
+}
+
+/// The first entry that is looked for along a chain of many sections. The text is looked through once: behind an entry that is
+/// found, only one of a section before that one's counts.
+fn first_along_many<'a>(
+    lines: &'a [IniLine],
+    chain: &[Text],
+    wanted: Wanted<'_>,
+) -> Option<&'a Entry>
+    ensures { option_copied result ≡ first_wanted wanted.entry (entries_along chain.now lines.now) }
+{
+    let mut found = None;
+    let mut before = chain;
+    let mut section = None;
+    for line in lines {
+        if let Some((at, entry)) = wanted_among(before, section, line, wanted) {
+            found = Some(entry);
+            before = &before[..at];
+        }
+        section = section_behind(section, line);
+    }
+    found
+}
+
+/// The first entry that is looked for along a chain.
+pub(crate) fn first_along<'a>(
+    lines: &'a [IniLine],
+    chain: &[Text],
+    wanted: Wanted<'_>,
+) -> Option<&'a Entry>
+    ensures { option_copied result ≡ first_wanted wanted.entry (entries_along chain.now lines.now) }
+{
+    if chain.len() <= FEW {
+        first_along_few(lines, chain, wanted)
+    } else {
+        first_along_many(lines, chain, wanted)
+    }
 }

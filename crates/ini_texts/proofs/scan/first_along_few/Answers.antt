@@ -3,7 +3,7 @@ use Rattle.ini_texts.specs.Scans.{first_wanted}
 use Rattle.ini_texts.specs.Sections.{entries_under}
 use Rattle.ini_texts.specs.Words.{Bytes}
 use Rattle.ini_texts.proofs.ScanLaws.{said_first, said_behind, wanted_along}
-use Rattle.ini_texts.proofs.scan.first_along.Goals as goal
+use Rattle.ini_texts.proofs.scan.first_along_few.Goals as goal
 
 pub returns-in-Some : goal.returns-in-Some
 returns-in-Some c =
