@@ -1,5 +1,5 @@
 -- Laws of the lines of sections by their numbers.
-use Rattle.std.proofs.Common.{◌≡◌, ◌≢◌, inl, inr, ℕ, zero, suc, ◌+◌, ◌<◌, Bool, true, false, not, ◌||◌, List, [], ◌∷◌, ◌++◌, length, get_or, set, map, take, Option, Some, None, Result, Ok, Err, IfOk, IfErr, refl, sym, ap, subst, ◌∙◌, arith, if◌then◌else◌, slice_get}
+use Rattle.std.proofs.Common.{◌≡◌, ◌≢◌, inl, inr, ◌⊎◌, ℕ, zero, suc, ◌+◌, ◌<◌, ◌≤◌, Bool, true, false, not, ◌||◌, List, [], ◌∷◌, ◌++◌, length, get_or, set, map, take, Option, Some, None, Result, Ok, Err, IfOk, IfErr, refl, sym, ap, subst, ◌∙◌, arith, if◌then◌else◌, slice_get}
 use Rattle.std.specs.List.{Contains, list_any}
 use Rattle.std.specs.Str.{bytes_eq}
 use Rattle.std.proofs.lemmas.Bool.{cases_Bool, cases_lt, cases_eq, false≢true}
@@ -13,7 +13,7 @@ use Rattle.ini_texts.specs.declared.lines.LineMeaning.{LineMeaning}
 use Rattle.ini_texts.specs.declared.lines.LineMeaning.TheVariants as line
 use Rattle.ini_texts.specs.Counts.{same_number, AreBelow, AreAllBelow}
 use Rattle.ini_texts.specs.Merge.{without, IsMerge}
-use Rattle.ini_texts.specs.Numbers.{AreApart, holds, with_section, names_behind, name_at, AreNumbers, FitRows, row_list, bases_at, AreRows, ReachedIn, IsOrdered, IsWithin}
+use Rattle.ini_texts.specs.Numbers.{AreApart, AreLast, holds, with_section, names_behind, name_at, AreNumbers, FitRows, row_list, bases_at, AreRows, ReachedIn, IsOrdered, IsWithin}
 use Rattle.ini_texts.specs.Numbered.{line_at, SettlesRow, HasNoLine, IsNumberLine, SettlesChain}
 use Rattle.ini_texts.specs.Sections.{general, bases_of, bases_named, is_section_line, is_section, IsLineWithin, IsLine, IsChain, RefusesChain, AnswersChain}
 use Rattle.ini_texts.specs.Words.{Bytes}
@@ -292,30 +292,42 @@ line_missing text names lines row number s n have none =
 
 -- ---- along an order
 
--- each section of the order so far has its line
-abbrev pub AreFound : List IniLine → List Bytes → List (List ℕ) → List ℕ → Type 0
-AreFound text names lines front = (k : ℕ) → Contains front k → IsNumberLine text names k (line_at lines k)
+-- each section of the order so far has its line that is extended from that place on, and so has the root
+abbrev pub AreFound : List IniLine → List Bytes → List ℕ → ℕ → ℕ → List (List ℕ) → List ℕ → Type 0
+AreFound text names last root i lines front = (k : ℕ) → Contains front k → (k ≡ root) ⊎ (i ≤ get_or last k 0) → IsNumberLine text names k (line_at lines k)
 
-pub have_lines : (text : List IniLine) (names : List Bytes) (rows : List (Option (List ℕ))) (lines : List (List ℕ)) (order : List ℕ) (i number : ℕ) → FitRows text names rows → IsOrdered rows order → i < length order → get_or order i 0 ≡ number → AreFound text names lines (take i order) → HaveLines text names lines (bases_at rows number)
-have_lines text names rows lines order i number fit ordered h at found b c =
+pub have_lines : (text : List IniLine) (names : List Bytes) (rows : List (Option (List ℕ))) (lines : List (List ℕ)) (order last : List ℕ) (root i number : ℕ) → FitRows text names rows → IsOrdered rows order → AreLast rows order last → i < length order → get_or order i 0 ≡ number → AreFound text names last root i lines (take i order) → HaveLines text names lines (bases_at rows number)
+have_lines text names rows lines order last root i number fit ordered uses h at found b c =
     let below : b < length rows = All-contains (λ x. x < length rows) (bases_at rows number) b (rows_below text names rows fit number) c in
-    let before = ordered i h b (subst (λ (n : ℕ). Contains (bases_at rows n) b) (sym at) c) in (
+    let extended = subst (λ (n : ℕ). Contains (bases_at rows n) b) (sym at) c in
+    let before = ordered i h b extended in (
       omega (arith, fit.0),
-      found b before,
+      found b before (inr (uses i h b extended)),
     )
 
-pub found_more : (text : List IniLine) (names : List Bytes) (lines : List (List ℕ)) (order line : List ℕ) (i number : ℕ) → i < length order → get_or order i 0 ≡ number → number < length lines → IsNumberLine text names number line → AreFound text names lines (take i order) → AreFound text names (set lines number line) (take (i + 1) order)
-found_more text names lines order line i number h at within is found k c =
+pub found_more : (text : List IniLine) (names : List Bytes) (lines : List (List ℕ)) (order last line : List ℕ) (root i number : ℕ) → i < length order → get_or order i 0 ≡ number → number < length lines → IsNumberLine text names number line → AreFound text names last root i lines (take i order) → AreFound text names last root i (set lines number line) (take (i + 1) order)
+found_more text names lines order last line root i number h at within is found k c extended =
     let same : line_at (set lines number line) number ≡ line = get_or-set_same lines number line [] within in
     elim (cases_eq k number) [
       | inl e ↦ subst (λ (n : ℕ). IsNumberLine text names n (line_at (set lines number line) n)) (sym e) (subst (IsNumberLine text names number) (sym same) is)
       | inr apart ↦
           let other : line_at (set lines number line) k ≡ line_at lines k = get_or-set_other lines number k line [] apart in
           elim (Contains-push_cases (take i order) number k (subst (λ (l : List ℕ). Contains l k) (take_more order i 0 h ∙ ap (λ (n : ℕ). take i order ++ n ∷ []) at) c)) [
-            | inl old ↦ subst (IsNumberLine text names k) (sym other) (found k old)
+            | inl old ↦ subst (IsNumberLine text names k) (sym other) (found k old extended)
             | inr e ↦ absurd (apart (sym e))
           ]
     ]
+
+-- the lines that are given up in a place are not needed behind it
+pub found_kept : (text : List IniLine) (names : List Bytes) (lines kept : List (List ℕ)) (front last : List ℕ) (root i : ℕ) → ((k : ℕ) → (k ≡ root) ⊎ (get_or last k 0 ≢ i) → line_at kept k ≡ line_at lines k) → AreFound text names last root i lines front → AreFound text names last root (i + 1) kept front
+found_kept text names lines kept front last root i same found k c (inl e) = subst (IsNumberLine text names k) (sym (same k (inl e))) (found k c (inl e))
+found_kept text names lines kept front last root i same found k c (inr h) =
+    let other : get_or last k 0 ≢ i = λ e. omega (arith, e, h) in
+    subst (IsNumberLine text names k) (sym (same k (inr other))) (found k c (inr (omega (arith, h))))
+
+-- and where none is given up
+pub found_still : (text : List IniLine) (names : List Bytes) (lines : List (List ℕ)) (front last : List ℕ) (root i : ℕ) → AreFound text names last root i lines front → AreFound text names last root (i + 1) lines front
+found_still text names lines front last root i found = found_kept text names lines lines front last root i (λ k h. refl) found
 
 pub row_settled : (E : Type 0) (text : List IniLine) (names : List Bytes) (rows : List (Option (List ℕ))) (lines : List (List ℕ)) (number : ℕ) (line : List ℕ) → AreSections text names → FitRows text names rows → number < length names → HaveLines text names lines (bases_at rows number) → SettlesRow {E = E} (get_or rows number None) number lines (Ok (Some line)) → IsNumberLine text names number line
 row_settled E text names rows lines number line s fit h have w = go (get_or rows number None) (fit.1 number h) have w

@@ -1,6 +1,6 @@
 -- Laws of what sections say that they extend.
-use Rattle.std.proofs.Common.{◌≡◌, ℕ, ◌<◌, Bool, true, false, List, [], ◌∷◌, length, get_or, set, ◌⊎◌, inl, inr, Option, Some, None, refl, sym, ap, subst, ◌∙◌, arith, Bor}
-use Rattle.std.specs.List.{cons_option, find}
+use Rattle.std.proofs.Common.{◌≡◌, ℕ, ◌<◌, Bool, true, false, List, [], ◌∷◌, length, get_or, set, ◌⊎◌, inl, inr, Option, Some, None, refl, sym, ap, ◌∙◌, arith, Bor}
+use Rattle.std.specs.List.{cons_option}
 use Rattle.std.specs.Option.{option_and_then, option_copied, option_or}
 use Rattle.std.specs.Prelude.{is_some}
 use Rattle.std.specs.Str.{bytes_eq}
@@ -13,7 +13,7 @@ use Rattle.ini_texts.specs.declared.lines.LineMeaning.{LineMeaning}
 use Rattle.ini_texts.specs.declared.lines.LineMeaning.TheVariants as line
 use Rattle.ini_texts.specs.Numbers.{holds, name_at, AreApart}
 use Rattle.ini_texts.specs.Said.{bases_in, line_says, said_at, said_in, Notes}
-use Rattle.ini_texts.specs.Sections.{bases_said, entries_from, entry_here, first_bases, is_in, names_bases, or_bases, section_behind}
+use Rattle.ini_texts.specs.Sections.{bases_said, entries_from, entry_here, first_bases, is_in, or_bases, section_behind}
 use Rattle.ini_texts.specs.Words.{Bytes}
 use Rattle.ini_texts.proofs.NumberedLaws.{held_at}
 
@@ -90,11 +90,13 @@ says_of names name m i apart within is k h =
 
 -- where it was said before, nothing has to be noted
 pub notes_known : (names : List Bytes) (name : Bytes) (m : LineMeaning) (i : ℕ) (said : List (Option (Bor (List Bytes)))) → AreApart (name_at names) (length names) → i < length names → name_at names i ≡ name → is_some (get_or said i None) ≡ true → Notes names (Some name) m said said
-notes_known names name m i said apart within is known =
-    (refl, λ k h. elim (says_of names name m i apart within is k h) [
-      | inl here ↦ known_at k (ap (λ (j : ℕ). is_some (get_or said j None)) here.0 ∙ known)
-      | inr there ↦ sym (ap (option_or (said_at said k)) there.1 ∙ or_none (said_at said k))
-    ])
+notes_known names name m i said apart within is known = (
+  refl,
+  λ k h. elim (says_of names name m i apart within is k h) [
+    | inl here ↦ known_at k (ap (λ (j : ℕ). is_some (get_or said j None)) here.0 ∙ known)
+    | inr there ↦ sym (ap (option_or (said_at said k)) there.1 ∙ or_none (said_at said k))
+  ],
+)
   where
     known_so : (o : Option (Bor (List Bytes))) (b : Option (List Bytes)) → is_some o ≡ true → option_copied o ≡ option_or (option_copied o) b
     known_so None b h = absurd (false≢true h)
@@ -105,14 +107,16 @@ notes_known names name m i said apart within is known =
 
 -- and else it is noted
 pub notes_new : (names : List Bytes) (name : Bytes) (m : LineMeaning) (i : ℕ) (bases : Bor (List Bytes)) (said : List (Option (Bor (List Bytes)))) → AreApart (name_at names) (length names) → length said ≡ length names → i < length names → name_at names i ≡ name → Some bases.now ≡ bases_in m → is_some (get_or said i None) ≡ false → Notes names (Some name) m said (set said i (Some bases))
-notes_new names name m i bases said apart size within is says new =
-    (length-set said i (Some bases), λ k h. elim (says_of names name m i apart within is k h) [
-      | inl here ↦
-          let at : get_or (set said i (Some bases)) k None ≡ Some bases = ap (λ (j : ℕ). get_or (set said i (Some bases)) j None) here.0 ∙ get_or-set_same said i (Some bases) None (omega (arith, within, size)) in
-          ap option_copied at ∙ says ∙ sym here.1 ∙ sym (fresh (get_or said k None) (line_says (name_at names k) (Some name) m) (ap (λ (j : ℕ). is_some (get_or said j None)) here.0 ∙ new))
-      | inr there ↦
-          ap option_copied (get_or-set_other said i k (Some bases) None there.0) ∙ sym (ap (option_or (said_at said k)) there.1 ∙ or_none (said_at said k))
-    ])
+notes_new names name m i bases said apart size within is says new = (
+  length-set said i (Some bases),
+  λ k h. elim (says_of names name m i apart within is k h) [
+    | inl here ↦
+        let at : get_or (set said i (Some bases)) k None ≡ Some bases = ap (λ (j : ℕ). get_or (set said i (Some bases)) j None) here.0 ∙ get_or-set_same said i (Some bases) None (omega (arith, within, size)) in
+        ap option_copied at ∙ says ∙ sym here.1 ∙ sym (fresh (get_or said k None) (line_says (name_at names k) (Some name) m) (ap (λ (j : ℕ). is_some (get_or said j None)) here.0 ∙ new))
+    | inr there ↦
+        ap option_copied (get_or-set_other said i k (Some bases) None there.0) ∙ sym (ap (option_or (said_at said k)) there.1 ∙ or_none (said_at said k))
+  ],
+)
   where
     fresh : (o : Option (Bor (List Bytes))) (b : Option (List Bytes)) → is_some o ≡ false → option_or (option_copied o) b ≡ b
     fresh None b h = refl

@@ -1,5 +1,5 @@
 -- Names that references in a set lead to.
-use Rattle.std.specs.Prelude.{◌≡◌, List, [], ◌∷◌, ◌++◌, map, if◌then◌else◌}
+use Rattle.std.specs.Prelude.{List, [], ◌∷◌, ◌++◌, map, if◌then◌else◌}
 use Rattle.std.specs.Borrow.{Bor}
 use Rattle.ini_texts.specs.Words.{Bytes}
 use Rattle.ini_texts.specs.Numbers.{holds}

@@ -1,5 +1,5 @@
 -- Sections by numbers, and what each extends.
-use Rattle.std.specs.Prelude.{◌≡◌, ◌⊎◌, ℕ, zero, suc, ◌+◌, ◌-◌, ◌<◌, Bool, true, false, not, List, [], ◌∷◌, ◌++◌, length, map, slice_index_or, take, Option, Some, None, Result, Ok, Err, if◌then◌else◌}
+use Rattle.std.specs.Prelude.{◌≡◌, ◌⊎◌, ℕ, zero, suc, ◌+◌, ◌-◌, ◌<◌, ◌≤◌, Bool, true, false, not, List, [], ◌∷◌, ◌++◌, length, map, slice_index_or, take, Option, Some, None, Result, Ok, Err, if◌then◌else◌}
 use Rattle.std.specs.List.{Contains, filter, list_any}
 use Rattle.std.specs.Str.{bytes_eq}
 use Rattle.ini_texts.specs.declared.order.Walk.{Walk}
@@ -82,6 +82,11 @@ IsReached rows root k = (k < length rows) × (steps : ℕ) × ReachedIn steps ro
 abbrev pub IsOrdered : List (Option (List ℕ)) → List ℕ → Type 0
 IsOrdered rows order =
     (i : ℕ) → i < length order → (base : ℕ) → Contains (bases_at rows (slice_index_or order i 0)) base → Contains (take i order) base
+
+-- for each section a place of an order behind which no section stands that extends it
+abbrev pub AreLast : List (Option (List ℕ)) → List ℕ → List ℕ → Type 0
+AreLast rows order last =
+    (j : ℕ) → j < length order → (b : ℕ) → Contains (bases_at rows (slice_index_or order j 0)) b → j ≤ slice_index_or last b 0
 
 -- ---- a walk
 

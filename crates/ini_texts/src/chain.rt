@@ -2,13 +2,13 @@
 //!
 //! OMNeT++ Simulation Manual, "Section Inheritance".
 
-ghost use Rattle.std.specs.Prelude.{◌≡◌, ◌≢◌, ℕ, ◌<◌, [], ◌∷◌, ◌++◌, true, false, List, None, Err, map, length, slice_index_or, IfOk, IfErr, OnOk};
+ghost use Rattle.std.specs.Prelude.{◌≡◌, ◌≢◌, ◌⊎◌, ℕ, ◌<◌, [], ◌∷◌, ◌++◌, true, false, List, None, Err, map, length, slice_index_or, IfOk, IfErr, OnOk};
 ghost use Rattle.std.specs.List.{Contains, list_any};
 ghost use Rattle.std.specs.Str.{bytes_eq};
 ghost use Rattle.ini_texts.specs.declared.error.ChainError.TheVariants as errors;
 ghost use Rattle.ini_texts.specs.declared.lines.IniLine.{IniLine as LineSaid};
 ghost use Rattle.ini_texts.specs.Counts.{AreBelow, AreAllBelow, HoldsZeros, ZerosBehind};
-ghost use Rattle.ini_texts.specs.Numbers.{name_at, names_behind, bases_at, FitRows, IsOrdered, IsReached};
+ghost use Rattle.ini_texts.specs.Numbers.{name_at, names_behind, bases_at, AreLast, AreRows, FitRows, IsOrdered, IsReached};
 ghost use Rattle.ini_texts.specs.Numbered.{line_at, SettlesLine, SettlesRow, SettlesNumbered, SettlesChain};
 ghost use Rattle.ini_texts.specs.Sections.{general, is_section_line, is_section, IsChain, RefusesChain, AnswersChain};
 ghost use Rattle.ini_texts.specs.Words.{Bytes};
@@ -147,33 +147,113 @@ fn nothing_counted(alloc: Global, count: usize) -> Result<Vec<u128>, AllocError>
     Ok(vec![in alloc; 0; count]?)
 }
 
+/// The numbers of those that a section extends; none where they are not all there.
+fn row_at(rows: &[Option<Items<usize>>], number: usize) -> &[usize]
+    ensures { result.now ≡ bases_at rows.now number }
+{
+    match bases_at(rows, number) {
+        Some(row) => row,
+        None => &[],
+    }
+}
+
+/// Notes that the section in this place of an order extends those.
+fn use_bases(last: &mut [usize], row: &[usize], place: usize)
+    requires { AreBelow (length last.old) row.now }
+    ensures used { (k : ℕ) → Contains row.now k → slice_index_or last.new k 0 ≡ place }
+    ensures others { (k : ℕ) → (slice_index_or last.new k 0 ≡ place) ⊎ (slice_index_or last.new k 0 ≡ slice_index_or last.old k 0) }
+{
+    for base in row {
+        last[*base] = place;
+    }
+}
+
+/// Notes for each section the last place of an order where a section stands that extends it.
+fn use_order(last: &mut [usize], rows: &[Option<Items<usize>>], order: &[usize])
+    requires rows { AreRows rows.now }
+    requires size { length last.old ≡ length rows.now }
+    ensures { AreLast rows.now order.now last.new }
+{
+    for (place, number) in order.iter().enumerate() {
+        use_bases(last, row_at(rows, *number), place);
+    }
+}
+
+/// For each section the last place of an order where a section stands that extends it.
+fn last_uses(
+    alloc: Global,
+    rows: &[Option<Items<usize>>],
+    order: &[usize],
+) -> Result<Vec<usize>, AllocError>
+    requires { AreRows rows.now }
+    ensures { IfOk result (λ last. AreLast rows.now order.now last.items) }
+{
+    let mut last = vec![in alloc; 0; rows.len()]?;
+    use_order(last.as_mut_slice(), rows, order);
+    Ok(last)
+}
+
+/// Gives up the lines of those among these sections that were used last in this place of an order, but for that of the root.
+fn give_up(
+    alloc: Global,
+    lines: &mut Items<Items<usize>>,
+    row: &[usize],
+    last: &[usize],
+    place: usize,
+    root: usize,
+)
+    requires { AreBelow (length lines.old) row.now }
+    ensures size { length lines.new ≡ length lines.old }
+    ensures kept { (k : ℕ) → (k ≡ root) ⊎ (slice_index_or last.now k 0 ≢ place) → line_at lines.new k ≡ line_at lines.old k }
+{
+    for base in row {
+        if *base != root && used_last(last, *base) == place {
+            lines.set(*base, Items::new(alloc));
+        }
+    }
+}
+
+/// The last place of an order where a section stands that extends this one.
+fn used_last(last: &[usize], number: usize) -> usize
+    ensures { result ≡ slice_index_or last.now number 0 }
+{
+    match last.get(number) {
+        Some(place) => *place,
+        None => 0,
+    }
+}
+
 /// The line of a section, if it has one, from those of the sections before it in an order, in which each section stands behind those
-/// that it extends. The text is named in the contract alone.
+/// that it extends. A line is given up when all sections that extend its own have theirs.
 fn line_along(
     alloc: Global,
-    _text: &[IniLine],
+    text: &[IniLine],
     names: &SectionNames<'_>,
     rows: &[Option<Items<usize>>],
     order: &[usize],
     root: usize,
     waiting: &mut [u128],
 ) -> Result<Option<Items<usize>>, AllocError>
-    requires names { names.now ≡ names_behind [] _text.now }
-    requires rows { FitRows _text.now names.now rows.now }
+    requires names { names.now ≡ names_behind [] text.now }
+    requires rows { FitRows text.now names.now rows.now }
     requires within { root < length names.now }
     requires ordered { IsOrdered rows.now order.now }
     requires whole { Contains order.now root }
     requires reached { (k : ℕ) → Contains order.now k → IsReached rows.now root k }
     requires counted { length waiting.old ≡ length names.now }
     requires zeros { HoldsZeros waiting.old }
-    ensures { SettlesNumbered _text.now names.now root result }
+    ensures { SettlesNumbered text.now names.now root result }
 {
+    let _text = text;
+    let last = last_uses(alloc, rows, order)?;
     let mut lines = no_lines(alloc, names.len())?;
-    for number in order {
+    for (place, number) in order.iter().enumerate() {
         match line_in(alloc, rows, lines.as_slice(), *number, waiting)? {
             Some(line) => lines.set(*number, line),
             None => return Ok(None),
         }
+        let row = row_at(rows, *number);
+        give_up(alloc, &mut lines, row, last.as_slice(), place, root);
     }
     Ok(Some(lines.remove(root)))
 }

@@ -2,7 +2,7 @@ use Rattle.std.proofs.Common.{◌≡◌, ◌++◌, ◌∷◌, ◌+◌, ◌<◌, 
 use Rattle.std.proofs.lemmas.List.{length_push, get_or_default}
 use Rattle.std.specs.Option.{option_copied}
 use Rattle.ini_texts.specs.Numbers.{name_at, others, AreNumbers}
-use Rattle.ini_texts.specs.Said.{said_at, said_in}
+use Rattle.ini_texts.specs.Said.{said_at}
 use Rattle.ini_texts.specs.Sections.{bases_named, bases_of, entries_under, or_bases}
 use Rattle.ini_texts.specs.Words.{Bytes}
 use Rattle.ini_texts.proofs.RowLaws.{rows_more}

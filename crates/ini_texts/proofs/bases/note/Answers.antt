@@ -1,8 +1,8 @@
-use Rattle.std.proofs.Common.{◌≡◌, None, Option, Some, sym, ap, subst, ◌∙◌}
+use Rattle.std.proofs.Common.{◌≡◌, Option, Some, sym, ap, subst}
 use Rattle.std.specs.Option.{option_copied}
 use Rattle.ini_texts.specs.Said.{Notes}
 use Rattle.ini_texts.specs.Words.{Bytes}
-use Rattle.ini_texts.proofs.SaidLaws.{notes_nothing, notes_known, notes_new, says_nothing, says_of_none}
+use Rattle.ini_texts.proofs.SaidLaws.{notes_nothing, says_of_none}
 use Rattle.ini_texts.proofs.bases.note.Goals as goal
 
 pub returns-in_default-number_of : goal.returns-in_default-number_of

@@ -1,9 +1,8 @@
-use Rattle.std.proofs.Common.{◌≡◌, ◌≢◌, false, List, sym, ◌∙◌, subst}
+use Rattle.std.proofs.Common.{◌≡◌, ◌≢◌, false, sym, ◌∙◌}
 use Rattle.std.proofs.lemmas.Bool.{false≢true}
 use Rattle.std.proofs.lemmas.Slice.Eq.{bytes_eq-Decides}
 use Rattle.ini_texts.specs.Numbers.{holds}
 use Rattle.ini_texts.specs.Sections.{general}
-use Rattle.ini_texts.specs.Words.{Bytes}
 use Rattle.ini_texts.proofs.NumberedLaws.{sections_of, held_there}
 use Rattle.ini_texts.proofs.chain.chain_of.Goals as goal
 

@@ -3,10 +3,10 @@ use Rattle.ini_texts.specs.Counts.{HoldsZeros}
 use Rattle.ini_texts.proofs.NumberedLaws.{AreFound}
 use Rattle.ini_texts.proofs.chain.line_along.Given as goal
 
-abbrev pub invariant-loop-number : goal.invariant-loop-number
-invariant-loop-number l = record {
+abbrev pub invariant-loop-place : goal.invariant-loop-place
+invariant-loop-place l = record {
   size : length l.lines ≡ length l.names;
   counted : length l.waiting ≡ length l.names;
   zeros : HoldsZeros l.waiting;
-  found : AreFound l._text l.names l.lines (take l.number-index l.order);
+  found : AreFound l.text l.names l.last.items l.root l.place l.lines (take l.place l.order);
 }

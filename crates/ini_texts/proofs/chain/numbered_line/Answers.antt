@@ -26,4 +26,4 @@ returns c =
     no_line_by_depth c.args.lines.now c.args.names.now c.in_ok-rows.rows c.args.root (sections_of c.args.lines.now c.args.names.now c.requires.names) c.in_ok-rows.ensures c.requires.within none
 
 pub base_rows-requires : goal.base_rows-requires
-base_rows-requires c = record { apart = (sections_of c.args.lines.now c.args.names.now c.requires.names).apart; }
+base_rows-requires c = record { apart = (sections_of c.args.lines.now c.args.names.now c.requires.names).apart }
