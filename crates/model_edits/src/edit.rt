@@ -62,7 +62,7 @@ pub enum Refusal {
     IniSyntax(usize, Reason),
     /// The selected configuration isn't in the ini text.
     NoSuchConfig,
-    /// The selected configuration extends one that isn't in the ini text, several, or in the end itself.
+    /// The selected configuration extends one that isn't in the ini text, one twice, several that can't be put in order, or in the end itself.
     ChainFault,
     /// The option `network` names no network.
     NoSuchNetwork,

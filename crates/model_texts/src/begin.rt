@@ -54,7 +54,7 @@ pub enum BeginFault {
     Interface,
     /// The configuration isn't in the ini text.
     NoSuchConfig,
-    /// The configuration extends one that isn't in the ini text, several, or in the end itself.
+    /// The configuration extends one that isn't in the ini text, one twice, several that can't be put in order, or in the end itself.
     ChainFault,
     /// The option `network` names no network.
     NoSuchNetwork,
