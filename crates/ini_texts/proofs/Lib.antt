@@ -4,6 +4,7 @@ pub mod MergeLaws
 pub mod NameLaws
 pub mod NumberLaws
 pub mod NumberedLaws
+pub mod OnceLaws
 pub mod RowLaws
 pub mod SaidLaws
 pub mod ScanLaws

@@ -5,6 +5,7 @@ pub mod Merge
 pub mod Names
 pub mod Numbered
 pub mod Numbers
+pub mod Once
 pub mod Said
 pub mod Scans
 pub mod Sections

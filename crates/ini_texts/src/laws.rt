@@ -1,6 +1,7 @@
 //! What holds of the definitions themselves.
 
 ghost use Rattle.ini_texts.specs.Kept.{KeepsOrder};
+ghost use Rattle.ini_texts.specs.Once.{NamesOnce};
 ghost use Rattle.ini_texts.specs.Sections.{HasOneChain};
 
 use crate::lines::IniLine;
@@ -13,4 +14,9 @@ pub fn one_chain(lines: &[IniLine], config: &[u8])
 /// In the line of a configuration those that it extends stand as it names them, and the line of each of them stands in its order.
 pub fn keeps_order(lines: &[IniLine], config: &[u8])
     ensures { KeepsOrder lines.now config.now }
+{}
+
+/// A chain names each configuration once.
+pub fn names_once(lines: &[IniLine], config: &[u8])
+    ensures { NamesOnce lines.now config.now }
 {}
