@@ -12,7 +12,7 @@ use Rattle.ini_texts.specs.Sections.{bases_named, IsLineWithin}
 use Rattle.ini_texts.specs.Words.{Bytes}
 use Rattle.ini_texts.proofs.LineLaws.{IsBaseLine, only_line}
 
-kept_more : {X : Type 0} (xs ys : List X) (y : X) → IsKept xs ys → IsKept xs (y ∷ ys)
+pub kept_more : {X : Type 0} (xs ys : List X) (y : X) → IsKept xs ys → IsKept xs (y ∷ ys)
 kept_more [] ys y k = tt
 kept_more (x ∷ xs) ys y k = inr k
 
@@ -48,7 +48,7 @@ keeps_within (suc d) e text name base (x ∷ xs) other w c v =
     let same : get_or w.1 c.0 other ≡ other = only_line d text e base (get_or w.1 c.0 other) other here.1 v in
     kept_more other xs x (merge_keeps (w.1 ++ bases ∷ []) xs other w.3 (Contains-append_left w.1 (bases ∷ []) other (c.0, at.0, same)))
 
-bases_kept : (d : ℕ) (text : List IniLine) (name : Bytes) (line : List Bytes) → IsLineWithin d text name line → IsKept (bases_named name text) line
+pub bases_kept : (d : ℕ) (text : List IniLine) (name : Bytes) (line : List Bytes) → IsLineWithin d text name line → IsKept (bases_named name text) line
 bases_kept zero text name line w = absurd w
 bases_kept (suc d) text name [] w = absurd w
 bases_kept (suc d) text name (x ∷ xs) w =

@@ -1,3 +1,4 @@
+pub mod BeforeLaws
 pub mod KeptLaws
 pub mod LineLaws
 pub mod MergeLaws

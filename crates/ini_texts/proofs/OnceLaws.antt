@@ -13,17 +13,17 @@ use Rattle.ini_texts.specs.Words.{Bytes}
 use Rattle.ini_texts.proofs.LineLaws.{IsBaseLine, only_line}
 
 -- the list has the name
-abbrev Has : Bytes → List Bytes → Type 0
+abbrev pub Has : Bytes → List Bytes → Type 0
 Has x [] = ⊥
 Has x (y ∷ ys) = (y ≡ x) ⊎ Has x ys
 
 -- one of the lists has it
-abbrev OneHas : Bytes → List (List Bytes) → Type 0
+abbrev pub OneHas : Bytes → List (List Bytes) → Type 0
 OneHas x [] = ⊥
 OneHas x (l ∷ ls) = Has x l ⊎ OneHas x ls
 
 -- each name stands once in the list
-abbrev AreOnce : List Bytes → Type 0
+abbrev pub AreOnce : List Bytes → Type 0
 AreOnce [] = Unit {0}
 AreOnce (x ∷ xs) = (Has x xs → ⊥) × AreOnce xs
 
@@ -81,7 +81,7 @@ was_there x y (l ∷ ls) (inl h) = inl (head_had x y l h)
 was_there x y (l ∷ ls) (inr h) = inr (was_there x y ls h)
 
 -- what a merge has, one of the lists has
-merge_has : (ls : List (List Bytes)) (m : List Bytes) (y : Bytes) → IsMerge bytes_eq ls m → Has y m → OneHas y ls
+pub merge_has : (ls : List (List Bytes)) (m : List Bytes) (y : Bytes) → IsMerge bytes_eq ls m → Has y m → OneHas y ls
 merge_has ls [] y w h = absurd h
 merge_has ls (x ∷ more) y w (inl e) = subst (λ (n : Bytes). OneHas n ls) e (free_stands ls ls x w.0).1
 merge_has ls (x ∷ more) y w (inr h) = was_there x y ls (merge_has (without bytes_eq x ls) more y w.1 h)
@@ -92,7 +92,7 @@ merge_once ls [] w = tt
 merge_once ls (x ∷ more) w =
     (λ h. taken_away x ls (free_stands ls ls x w.0).0 (merge_has (without bytes_eq x ls) more x w.1 h), merge_once (without bytes_eq x ls) more w.1)
 
-one_of : (y : Bytes) (ls : List (List Bytes)) (l : List Bytes) → OneHas y (ls ++ l ∷ []) → OneHas y ls ⊎ Has y l
+pub one_of : (y : Bytes) (ls : List (List Bytes)) (l : List Bytes) → OneHas y (ls ++ l ∷ []) → OneHas y ls ⊎ Has y l
 one_of y [] l (inl h) = inr h
 one_of y [] l (inr h) = absurd h
 one_of y (m ∷ ls) l (inl h) = inl (inl h)
@@ -151,7 +151,7 @@ not_again (suc n) (suc d) le text name x xs w h =
     let same : x ∷ xs ≡ below.2 = only_line (suc d) text below.0 name (x ∷ xs) below.2 w below.3 in
     not_again n below.0 (omega (arith, le, below.1)) text name x xs (subst (IsLineWithin below.0 text name) (sym same) below.3) h
 
-line_once : (d : ℕ) (text : List IniLine) (name : Bytes) (line : List Bytes) → IsLineWithin d text name line → AreOnce line
+pub line_once : (d : ℕ) (text : List IniLine) (name : Bytes) (line : List Bytes) → IsLineWithin d text name line → AreOnce line
 line_once zero text name line w = absurd w
 line_once (suc d) text name [] w = absurd w
 line_once (suc d) text name (x ∷ xs) w =
@@ -164,7 +164,7 @@ other_not n ns true e later h = later h
 other_not n ns false e later (inl is) = false≢true (sym e ∙ (bytes_eq-Decides n general).1 is)
 other_not n ns false e later (inr h) = later h
 
-others_not : (names : List Bytes) → Has general (filter (λ base. not (bytes_eq base general)) names) → ⊥
+pub others_not : (names : List Bytes) → Has general (filter (λ base. not (bytes_eq base general)) names) → ⊥
 others_not [] h = h
 others_not (n ∷ ns) h = other_not n (filter (λ base. not (bytes_eq base general)) ns) (bytes_eq n general) refl (others_not ns) h
 
@@ -180,7 +180,7 @@ all_not d text bs ls later none z (inl h) = lines_not d text later bs ls none z 
 all_not d text bs ls later none z (inr h) = none h
 
 -- General stands in the line of no other configuration
-line_not : (d : ℕ) (text : List IniLine) (name : Bytes) (line : List Bytes) → IsLineWithin d text name line → name ≢ general → Has general line → ⊥
+pub line_not : (d : ℕ) (text : List IniLine) (name : Bytes) (line : List Bytes) → IsLineWithin d text name line → name ≢ general → Has general line → ⊥
 line_not zero text name line w other h = w
 line_not (suc d) text name [] w other h = h
 line_not (suc d) text name (x ∷ xs) w other (inl e) = other (sym w.0 ∙ e)
@@ -211,7 +211,7 @@ once_behind (y ∷ ys) x once none = (first, once_behind ys x once.1 (λ h. none
         go (inl h) = once.0 h
         go (inr e) = none (inl (sym e))
 
-had_at : (xs : List Bytes) (k : ℕ) → k < length xs → Has (get_or xs k []) xs
+pub had_at : (xs : List Bytes) (k : ℕ) → k < length xs → Has (get_or xs k []) xs
 had_at [] k h = absurd (omega (arith, h))
 had_at (x ∷ xs) zero h = inl refl
 had_at (x ∷ xs) (suc k) h = inr (had_at xs k (omega (arith, h)))

@@ -1,7 +1,7 @@
 //! What holds of the definitions themselves.
 
 ghost use Rattle.ini_texts.specs.Kept.{KeepsOrder};
-ghost use Rattle.ini_texts.specs.Once.{NamesOnce};
+ghost use Rattle.ini_texts.specs.Once.{NamesOnce, StandsBefore};
 ghost use Rattle.ini_texts.specs.Sections.{HasOneChain};
 
 use crate::lines::IniLine;
@@ -19,4 +19,9 @@ pub fn keeps_order(lines: &[IniLine], config: &[u8])
 /// A chain names each configuration once.
 pub fn names_once(lines: &[IniLine], config: &[u8])
     ensures { NamesOnce lines.now config.now }
+{}
+
+/// Each configuration of a chain but General stands before those that it extends.
+pub fn stands_before(lines: &[IniLine], config: &[u8])
+    ensures { StandsBefore lines.now config.now }
 {}
