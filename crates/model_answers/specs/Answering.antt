@@ -5,7 +5,7 @@ use Rattle.ned_trees.specs.declared.declarations.SectionLine.{SectionLine}
 use Rattle.ned_trees.specs.declared.declarations.SectionLine.TheVariants as line
 use Rattle.ned_trees.specs.declared.declarations.TypeDeclaration.{TypeDeclaration}
 use Rattle.ned_trees.specs.declared.declarations.TypeKind.{TypeKind}
-use Rattle.ned_trees.specs.declared.declarations.TypeKind.TheVariants.{Simple, Network, Channel, ModuleInterface, ChannelInterface}
+use Rattle.ned_trees.specs.declared.declarations.TypeKind.TheVariants.{Simple, Module, Network, Channel, ModuleInterface, ChannelInterface}
 use Rattle.sim_values.specs.declared.value.Value.{Value}
 use Rattle.run_questions.specs.declared.answer.Answer.{Answer}
 use Rattle.run_questions.specs.declared.answer.Answer.TheVariants as answer
@@ -40,6 +40,7 @@ inside_of m path t = built_answer (built_all m (told_by_type path t) t.submodule
 abbrev pub inside_by : Model → List ℕ → TypeDeclaration → TypeKind → Answer
 inside_by m path t Network = inside_of m path t
 inside_by m path t Simple = answer.Absent
+inside_by m path t Module = answer.Absent
 inside_by m path t Channel = answer.Absent
 inside_by m path t ModuleInterface = answer.Absent
 inside_by m path t ChannelInterface = answer.Absent

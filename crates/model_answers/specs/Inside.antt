@@ -5,8 +5,9 @@ use Rattle.ned_trees.specs.declared.declarations.SectionLine.TheVariants as line
 use Rattle.ned_trees.specs.declared.declarations.Submodule.{Submodule}
 use Rattle.ned_trees.specs.declared.declarations.TypeDeclaration.{TypeDeclaration}
 use Rattle.ned_trees.specs.declared.declarations.TypeKind.{TypeKind}
-use Rattle.ned_trees.specs.declared.declarations.TypeKind.TheVariants.{Simple, Network, Channel, ModuleInterface, ChannelInterface}
+use Rattle.ned_trees.specs.declared.declarations.TypeKind.TheVariants.{Simple, Module, Network, Channel, ModuleInterface, ChannelInterface}
 use Rattle.sim_values.specs.declared.value.Value.{Value}
+use Rattle.ned_types.specs.Types.{type_name}
 use Rattle.ned_types.specs.Flat.{class_of}
 use Rattle.run_questions.specs.declared.answer.Built.{Built}
 use Rattle.run_questions.specs.declared.answer.ModelFault.{ModelFault}
@@ -46,6 +47,7 @@ fault_of_site site = fault_in site site.own.lines
 
 abbrev pub class_by : TypeKind → List ℕ → Option (List ℕ)
 class_by Simple class = Some class
+class_by Module class = None
 class_by Network class = None
 class_by Channel class = None
 class_by ModuleInterface class = None
@@ -66,7 +68,7 @@ built_of m around path s (Some t) = built_without path s.name t (fault_of_site (
 
 -- one submodule of a module, or its first fault: its type, then its parameters
 abbrev pub built_one : Model → Told → Submodule → Result Built PlacedFault
-built_one m around s = built_of m around (path_under around.path s.name) s (named_type m s.type_name)
+built_one m around s = built_of m around (path_under around.path s.name) s (named_type m (type_name s))
 
 abbrev pub and_then : Result Built PlacedFault → Result (List Built) PlacedFault → Result (List Built) PlacedFault
 and_then (Err fault) rest = Err fault

@@ -3,6 +3,7 @@ use Rattle.std.specs.Prelude.{ℕ, ◌==◌, List, [], Option, Some, None, if◌
 use Rattle.std.specs.Option.{option_and_then}
 use Rattle.ned_trees.specs.declared.declarations.Submodule.{Submodule}
 use Rattle.ned_trees.specs.declared.declarations.TypeDeclaration.{TypeDeclaration}
+use Rattle.ned_types.specs.Types.{type_name}
 use Rattle.ned_types.specs.Flat.{submodule_named}
 use Rattle.models.specs.declared.model.Model.{Model}
 use Rattle.run_questions.specs.declared.record.Record.{Record}
@@ -21,7 +22,7 @@ network_site m path t = record { entries = entries_in m; own = told_by_type path
 -- a submodule of a module, of that path and type
 abbrev pub submodule_site : Model → Told → List ℕ → Submodule → TypeDeclaration → Site
 submodule_site m around path s t =
-    record { entries = entries_in m; own = record { path = path; lines = t.lines; body = s.body }; around = Some around }
+    record { entries = entries_in m; own = record { path = path; lines = t.lines; body = s.body.lines }; around = Some around }
 
 abbrev pub network_site_by : Model → List ℕ → Option TypeDeclaration → Option Site
 network_site_by m path None = None
@@ -33,7 +34,7 @@ typed_site m around path s (Some t) = Some (submodule_site m around path s t)
 
 abbrev pub inner_site : Model → Told → List ℕ → Option Submodule → Option Site
 inner_site m around path None = None
-inner_site m around path (Some s) = typed_site m around path s (named_type m s.type_name)
+inner_site m around path (Some s) = typed_site m around path s (named_type m (type_name s))
 
 -- a submodule of that path and name in a module of that path and type
 abbrev pub site_inside : Model → List ℕ → List ℕ → List ℕ → Option TypeDeclaration → Option Site

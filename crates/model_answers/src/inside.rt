@@ -11,7 +11,7 @@ use crate::scene::{Placed, Told};
 use answer_engine::table::Table;
 use models::model::Model;
 use ned_trees::declarations::{SectionLine, Submodule, TypeDeclaration, TypeKind};
-use ned_types::flat::class_of;
+use ned_types::flat::{class_of, type_name};
 use parameter_values::key::Key;
 use run_questions::answer::{Built, ModelFault};
 use run_questions::record::path_under;
@@ -82,7 +82,7 @@ fn built_one(
     ensures { IfOk result (λ made. made ≡ built_one model.now (told_of around.entry) submodule.now) }
 {
     let path = path_under(alloc, around.path, submodule.name.as_bytes())?;
-    let Some(declared) = model.types.find(submodule.type_name.as_bytes()) else {
+    let Some(declared) = model.types.find(type_name(submodule)) else {
         return Ok(Err(PlacedFault {
             path,
             fault: ModelFault::UnknownType,

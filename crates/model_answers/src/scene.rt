@@ -14,7 +14,7 @@ use models::model::Model;
 use ned_trees::declarations::{
     Declaration, ParameterValue, ParameterWord, SectionLine, Submodule, TypeDeclaration,
 };
-use ned_types::flat::{declaration_named, last_value};
+use ned_types::flat::{declaration_named, last_value, type_name};
 use parameter_values::key::Key;
 use parameter_values::kind::Kind;
 use parameter_values::scene::{Given, Parameter, Scene, Section, Written};
@@ -150,7 +150,7 @@ impl<'m> Placed<'m> {
             own: Told {
                 path,
                 lines: declared.lines.as_slice(),
-                body: submodule.body.as_slice(),
+                body: submodule.body.lines.as_slice(),
             },
             around: Some(around),
         }
@@ -172,7 +172,7 @@ impl<'m> Placed<'m> {
         }
         let around = Told::of_type(path.around(), network);
         let submodule = model.submodule_of(network, record.name.as_bytes(), id)?;
-        let declared = model.types.find(submodule.type_name.as_bytes())?;
+        let declared = model.types.find(type_name(submodule))?;
         Some(Placed::of_submodule(model, around, path.whole(), submodule, declared))
     }
 

@@ -3,7 +3,7 @@ use Rattle.std.proofs.Common.{◌≡◌, ℕ, Bool, true, false, List, [], ◌�
 use Rattle.std.specs.Option.{option_and_then}
 use Rattle.ned_trees.specs.declared.declarations.TypeDeclaration.{TypeDeclaration}
 use Rattle.ned_trees.specs.declared.declarations.TypeKind.{TypeKind}
-use Rattle.ned_trees.specs.declared.declarations.TypeKind.TheVariants.{Simple, Network, Channel, ModuleInterface, ChannelInterface}
+use Rattle.ned_trees.specs.declared.declarations.TypeKind.TheVariants.{Simple, Module, Network, Channel, ModuleInterface, ChannelInterface}
 use Rattle.ned_types.specs.Types.{type_named}
 use Rattle.ned_types.specs.WellFormed.{IsAmong}
 use Rattle.ini_texts.specs.Entries.{last_name, network_entry}
@@ -21,6 +21,7 @@ named_among name (u ∷ ts) t e = by (bytes_eq u.name name) (named_among name ts
 kind_same : (k : TypeKind) (u t : TypeDeclaration) → of_kind k u ≡ Some t → u ≡ t
 kind_same Network u t e = cc
 kind_same Simple u t e = cc
+kind_same Module u t e = cc
 kind_same Channel u t e = cc
 kind_same ModuleInterface u t e = cc
 kind_same ChannelInterface u t e = cc

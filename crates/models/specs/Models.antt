@@ -7,8 +7,8 @@ use Rattle.ini_texts.specs.Sections.{entries_along}
 use Rattle.ned_trees.specs.declared.declarations.Submodule.{Submodule}
 use Rattle.ned_trees.specs.declared.declarations.TypeDeclaration.{TypeDeclaration}
 use Rattle.ned_trees.specs.declared.declarations.TypeKind.{TypeKind}
-use Rattle.ned_trees.specs.declared.declarations.TypeKind.TheVariants.{Simple, Network, Channel, ModuleInterface, ChannelInterface}
-use Rattle.ned_types.specs.Types.{type_named}
+use Rattle.ned_trees.specs.declared.declarations.TypeKind.TheVariants.{Simple, Module, Network, Channel, ModuleInterface, ChannelInterface}
+use Rattle.ned_types.specs.Types.{type_name, type_named}
 use Rattle.ned_types.specs.Flat.{submodule_named}
 use Rattle.models.specs.declared.model.Model.{Model}
 use Rattle.run_questions.specs.declared.record.Record.{Record}
@@ -21,6 +21,7 @@ entries_in m = entries_along m.chain m.ini
 abbrev pub of_kind : TypeKind → TypeDeclaration → Option TypeDeclaration
 of_kind Network t = Some t
 of_kind Simple t = None
+of_kind Module t = None
 of_kind Channel t = None
 of_kind ModuleInterface t = None
 of_kind ChannelInterface t = None
@@ -45,7 +46,7 @@ time_limit_of m = time_limit_entry (entries_in m)
 
 abbrev pub submodule_type : Model → Option Submodule → Option TypeDeclaration
 submodule_type m None = None
-submodule_type m (Some s) = named_type m s.type_name
+submodule_type m (Some s) = named_type m (type_name s)
 
 -- the type of the submodule of that name in a module of that type
 abbrev pub inner_type : Model → Option TypeDeclaration → List ℕ → Option TypeDeclaration

@@ -12,6 +12,7 @@ use ini_texts::lines::IniText;
 use ini_texts::speaks::last_name;
 use injection_order::injection::Injection;
 use ned_trees::declarations::{Submodule, TypeDeclaration, TypeKind};
+use ned_types::flat::type_name;
 use ned_types::table::TypeTable;
 use run_questions::record::{Record, record_at};
 use sim_values::NoMemory;
@@ -98,7 +99,7 @@ impl Model {
     {
         let network = self.network()?;
         let submodule = self.submodule_of(network, name, id)?;
-        self.types.find(submodule.type_name.as_bytes())
+        self.types.find(type_name(submodule))
     }
 
     /// The network's submodule of that name. It is looked for first where one of that id stands.
