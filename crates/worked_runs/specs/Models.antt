@@ -3,6 +3,7 @@ use Rattle.std.specs.Prelude.{ℕ, pos, false, List, [], ◌∷◌, ◌++◌, ma
 use Rattle.sim_values.specs.declared.value.Dimension.TheVariants as dimension
 use Rattle.sim_values.specs.declared.value.Value.{Value}
 use Rattle.sim_values.specs.declared.value.Value.TheVariants as values
+use Rattle.ned_trees.specs.declared.connections.ConnectionSection.{ConnectionSection}
 use Rattle.ned_trees.specs.declared.expressions.Expression.TheVariants as expression
 use Rattle.ned_trees.specs.declared.modes.Mode.TheVariants as mode
 use Rattle.ned_trees.specs.declared.declarations.ParameterValue.TheVariants as parameter_value
@@ -10,6 +11,7 @@ use Rattle.ned_trees.specs.declared.declarations.ParameterWord.TheVariants as wo
 use Rattle.ned_trees.specs.declared.declarations.SectionLine.{SectionLine}
 use Rattle.ned_trees.specs.declared.declarations.SectionLine.TheVariants as line
 use Rattle.ned_trees.specs.declared.declarations.Submodule.{Submodule}
+use Rattle.ned_trees.specs.declared.declarations.SubmoduleType.TheVariants as submodule_type
 use Rattle.ned_trees.specs.declared.declarations.TypeDeclaration.{TypeDeclaration}
 use Rattle.ned_trees.specs.declared.declarations.TypeKind.TheVariants as kind
 use Rattle.ini_pattern.specs.declared.piece.Piece.{Piece}
@@ -42,6 +44,10 @@ gap_line = line.Declaration (record {
   value = Some (parameter_value.Default (expression.Literal (values.Quantity dimension.Time (pos 1000000000000))));
 })
 
+-- no connections
+abbrev pub no_connections : ConnectionSection
+no_connections = record { allow_unconnected = false; items = [] }
+
 -- the type `Tick`, with its two statistics
 abbrev pub tick : TypeDeclaration
 tick = record {
@@ -62,15 +68,16 @@ tick = record {
       ∷ [];
   gates = [];
   submodules = [];
+  connections = no_connections;
 }
 
 -- `NAME: Tick;`
 abbrev pub tick_named : List ℕ → Submodule
-tick_named name = record { name = name; type_name = codes "Tick"; body = [] }
+tick_named name = record { name = name; size = None; submodule_type = submodule_type.Named (codes "Tick"); condition = None; body = record { lines = []; gates = [] } }
 
 -- `network N` with Ticks of these names
 abbrev pub network : List (List ℕ) → TypeDeclaration
-network names = record { kind = kind.Network; name = codes "N"; base = None; interfaces = []; lines = []; gates = []; submodules = map tick_named names }
+network names = record { kind = kind.Network; name = codes "N"; base = None; interfaces = []; lines = []; gates = []; submodules = map tick_named names; connections = no_connections }
 
 -- the pattern `**.NAME`
 abbrev pub any_path_to : List ℕ → List Piece
