@@ -146,6 +146,7 @@ pub fn has_named(types: &[&TypeDeclaration], name: &[u8]) -> bool {
 pub fn kind_name(kind: TypeKind) -> &'static str {
     match kind {
         TypeKind::Simple => "simple module",
+        TypeKind::Module => "compound module",
         TypeKind::Network => "network",
         TypeKind::Channel => "channel",
         TypeKind::ModuleInterface => "module interface",

@@ -7,6 +7,7 @@ use crate::ned_files::{Files, place_of};
 use crate::origins::is_built_in;
 use crate::places::{Sign, Spot};
 use ned_trees::declarations::{Submodule, TypeDeclaration, TypeKind};
+use ned_types::flat::type_name;
 
 /// A name in the head of a type, or the type of a submodule.
 #[derive(Clone, Copy)]
@@ -58,7 +59,7 @@ pub fn submodule_of(it: &TypeDeclaration, number: usize) -> Option<Named<'_>> {
         submodule: Some(submodule),
         sign: Sign::Submodule,
         does: " is of the type ",
-        name: submodule.type_name.as_bytes(),
+        name: type_name(submodule),
         kind: TypeKind::Simple,
     })
 }

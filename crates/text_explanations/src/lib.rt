@@ -16,4 +16,5 @@ pub mod sources;
 pub mod tokens;
 mod twice;
 pub mod types;
+mod unbuilt;
 pub mod values;

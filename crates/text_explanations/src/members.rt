@@ -7,7 +7,7 @@ use crate::origins::{Kind, Origin, declaring_channel, origin_of};
 use crate::places::{Sign, Spot};
 use crate::twice::{parameter, tell_shared};
 use ned_trees::declarations::{SectionLine, Submodule, TypeDeclaration};
-use ned_types::flat::declaration_named;
+use ned_types::flat::{declaration_named, type_name};
 use ned_types::given::{fixes, name_in};
 
 /// What is wrong with a line.
@@ -284,7 +284,7 @@ fn tell_body_line(
     at: usize,
     again: bool,
 ) {
-    let Some((before, line)) = parted(submodule.body.as_slice(), at) else {
+    let Some((before, line)) = parted(submodule.body.lines.as_slice(), at) else {
         return;
     };
     let clash = if again {
@@ -301,7 +301,7 @@ fn tell_body_line(
     told.say(" of the submodule ");
     told.say_name(own);
     told.say(" ");
-    tell_body_words(told, clash, order, submodule.type_name.as_bytes(), name);
+    tell_body_words(told, clash, order, type_name(submodule), name);
 }
 
 /// Says what is wrong with the line of the second number in the body of the submodule of the first, of the flat type of the last of these types:
@@ -320,7 +320,7 @@ pub fn tell_body(
     let Some(submodule) = origin.it.submodules.as_slice().get(origin.at) else {
         return;
     };
-    let Some(of) = type_named(files.types, submodule.type_name.as_bytes()) else {
+    let Some(of) = type_named(files.types, type_name(submodule)) else {
         return;
     };
     match root_first(told.alloc(), files.types, of) {

@@ -11,8 +11,10 @@ use std::alloc::Global;
 pub enum Sign {
     /// The word that begins the type.
     Type,
-    /// `NAME :`, a submodule, behind `submodules:`, another submodule or a body.
+    /// `NAME :` or `NAME [..] :`, a submodule of the type itself, behind `submodules:`, another submodule or a body.
     Submodule,
+    /// `connections`, of the type itself.
+    Connections,
     /// `int NAME`, or another word of a parameter.
     Parameter,
     /// `input NAME`, or another word of a gate.
@@ -126,6 +128,20 @@ fn begins_submodule(tokens: &[Token], at: usize) -> bool {
         || begins_section(tokens, at, Keyword::Submodules)
 }
 
+/// Whether what stands behind a name is `:`, or an index and then `:`.
+fn is_before_colon(behind: &[Token]) -> bool {
+    let mut depth = 0u64;
+    for token in behind {
+        match token {
+            Token::Mark(Mark::LeftBracket) => depth = depth.saturating_add(1),
+            Token::Mark(Mark::RightBracket) if depth > 0 => depth = depth.saturating_sub(1),
+            _ if depth == 0 => return is_mark(Some(token), Mark::Colon),
+            _ => {}
+        }
+    }
+    false
+}
+
 /// Whether a name at that place is one of a head, behind `extends`, `like`, a comma or a dot.
 fn stands_in_head(tokens: &[Token], at: usize) -> bool {
     matches!(
@@ -153,8 +169,10 @@ fn says(tokens: &[Token], at: usize, sign: Sign, name: &[u8]) -> bool {
     match sign {
         Sign::Type => true,
         Sign::Submodule => {
-            is_name(token, name) && is_mark(behind, Mark::Colon) && begins_submodule(tokens, at)
+            let rest = tokens.get(at.saturating_add(1)..).unwrap_or(&[]);
+            is_name(token, name) && is_before_colon(rest) && begins_submodule(tokens, at)
         }
+        Sign::Connections => is_word(token, Keyword::Connections),
         Sign::Parameter => is_parameter_word(token) && is_name(behind, name),
         Sign::Gate => is_gate_word(token) && is_name(behind, name),
         Sign::Base => {
@@ -166,7 +184,24 @@ fn says(tokens: &[Token], at: usize, sign: Sign, name: &[u8]) -> bool {
     }
 }
 
-/// The first token, from that one on, where the sign says that of a name, behind so many such places.
+/// Whether what the sign speaks of stands directly within the type, and not in a type or a body within it.
+fn is_direct(sign: Sign) -> bool {
+    matches!(sign, Sign::Submodule | Sign::Connections)
+}
+
+/// How many braces are open behind a token.
+fn braces_behind(open: u64, token: Option<&Token>) -> u64 {
+    if is_mark(token, Mark::Open) {
+        return open.saturating_add(1);
+    }
+    if is_mark(token, Mark::Close) {
+        return open.saturating_sub(1);
+    }
+    open
+}
+
+/// The first token, from that one on, where the sign says that of a name, behind so many such places. For what stands directly within
+/// a type it is the token that begins the type.
 fn place_of(
     tokens: &[Token],
     from: usize,
@@ -175,8 +210,10 @@ fn place_of(
     behind: usize,
 ) -> Option<usize> {
     let mut left = behind;
+    let mut open = 0u64;
     for at in from..tokens.len() {
-        if says(tokens, at, sign, name) {
+        open = braces_behind(open, tokens.get(at));
+        if (open == 1 || !is_direct(sign)) && says(tokens, at, sign, name) {
             if left == 0 {
                 return Some(at);
             }
@@ -247,6 +284,7 @@ fn is_head(token: &Token) -> bool {
         token,
         Token::Word(
             Keyword::Simple
+                | Keyword::Module
                 | Keyword::Network
                 | Keyword::Channel
                 | Keyword::ModuleInterface

@@ -3,13 +3,13 @@
 use crate::explanation::Explanation;
 use crate::names::shown;
 use ned_tokens::lines::tokenize;
-use ned_tokens::token::{Keyword, Token};
+use ned_tokens::token::Token;
 use sim_values::NoMemory;
 use std::alloc::Global;
 
 /// The words and marks of the language.
 const WRITTEN: &str =
-    "package import simple module network channel moduleinterface channelinterface extends like parameters volatile bool int string double default gates input output inout types submodules if connections allowunconnected for true false this parent index parentIndex sizeof exists { } ( ) [ ] < > , ; : . = @ + - * / % ^ ! ~ ? | & # .. == != <= >= << >> && || ## ++ --> <-- <-->";
+    "package import simple module network channel moduleinterface channelinterface extends like parameters volatile bool int string double default gates input output inout types submodules if connections allowunconnected for true false this parent index parentIndex sizeof exists { } ( ) [ ] < > , ; : . = @ + - * / % ^ ! ~ ? | & # .. == != <= >= << >> && || ## ++ --> <-- <--> $i $o";
 
 /// The token that a word or mark is.
 pub fn token_of(alloc: Global, written: &str) -> Result<Token, NoMemory> {
@@ -98,18 +98,4 @@ pub fn tell_token(told: &mut Explanation, token: &Token) {
         ),
         Token::Stray(byte) => tell_stray(told, *byte),
     }
-}
-
-/// Whether it is a word that begins a part of the language that is not read yet.
-pub fn is_for_later(token: &Token) -> bool {
-    matches!(
-        token,
-        Token::Word(
-            Keyword::Module
-                | Keyword::If
-                | Keyword::Connections
-                | Keyword::AllowUnconnected
-                | Keyword::For
-        )
-    )
 }

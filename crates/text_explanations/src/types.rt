@@ -11,6 +11,7 @@ use crate::members::{tell_body, tell_declared_again, tell_given_again, tell_unde
 use crate::ned_files::Files;
 use crate::origins::{Kind, origin_of};
 use crate::twice::tell_twice;
+use crate::unbuilt::tell_unbuilt;
 use ned_trees::declarations::TypeDeclaration;
 use type_building::places::{Member, Place};
 use type_building::table::TypeFault;
@@ -72,7 +73,14 @@ fn tell_member(
         }
         Member::LacksGate(number, at) => tell_lacked(told, files, order, number, Kind::Gate, at),
         Member::Submodule(at) => tell_other_submodule(told, files, order, at),
-        Member::Whole | Member::Base | Member::Interface(_) => {}
+        Member::Whole
+        | Member::Base
+        | Member::Interface(_)
+        | Member::Vector(_)
+        | Member::Parametric(_)
+        | Member::Condition(_)
+        | Member::BodyGates(_)
+        | Member::Connections => {}
     }
 }
 
@@ -90,6 +98,7 @@ pub fn tell_types(told: &mut Explanation, files: &Files<'_>, fault: TypeFault, p
         return;
     };
     match (fault, place.member) {
+        (TypeFault::NotBuilt, member) => tell_unbuilt(told, files, it, member),
         (TypeFault::DuplicateType, _) => {
             tell_taken(told, files, place.number, it.name.as_bytes())
         }

@@ -37,7 +37,7 @@ fn lines_of<'a>(it: &'a TypeDeclaration, submodule: Option<&[u8]>) -> Option<&'a
         return Some(it.lines.as_slice());
     };
     let found = submodule_named(name, it.submodules.as_slice())?;
-    Some(found.body.as_slice())
+    Some(found.body.lines.as_slice())
 }
 
 /// The place in a type where it gives the parameter its value.
