@@ -58,6 +58,7 @@ abbrev pub refusal_name : BeginFault → List ℕ
 refusal_name refusal.TooLarge = codes "TooLarge"
 refusal_name (refusal.NedSyntax file line) = codes "NedSyntax"
 refusal_name (refusal.IniSyntax line reason) = codes "IniSyntax"
+refusal_name refusal.NotBuilt = codes "NotBuilt"
 refusal_name refusal.DuplicateType = codes "DuplicateType"
 refusal_name refusal.UnknownType = codes "UnknownType"
 refusal_name refusal.InheritanceCircle = codes "InheritanceCircle"

@@ -118,6 +118,7 @@ fn refusal_name(fault: BeginFault) -> &'static [u8]
         BeginFault::TooLarge => b"TooLarge",
         BeginFault::NedSyntax(_, _) => b"NedSyntax",
         BeginFault::IniSyntax(_, _) => b"IniSyntax",
+        BeginFault::NotBuilt => b"NotBuilt",
         BeginFault::DuplicateType => b"DuplicateType",
         BeginFault::UnknownType => b"UnknownType",
         BeginFault::InheritanceCircle => b"InheritanceCircle",

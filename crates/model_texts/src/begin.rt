@@ -41,6 +41,9 @@ pub enum BeginFault {
     NedSyntax(usize, usize),
     /// The first line of the ini text that means nothing, and why.
     IniSyntax(usize, Reason),
+    /// No model is built of a part of a type yet, which is right in NED: a compound module that is no network, a vector of
+    /// submodules, a parametric type, a condition, gates in the body of a submodule, or connections.
+    NotBuilt,
     /// Two types have one name, or one has that of a built-in channel.
     DuplicateType,
     /// A submodule's type, what a type extends, or one of its interfaces isn't declared.
@@ -150,6 +153,7 @@ fn refusal_of(fault: TypeFault) -> BeginFault
     ensures { result ≡ refusal_of fault }
 {
     match fault {
+        TypeFault::NotBuilt => BeginFault::NotBuilt,
         TypeFault::DuplicateType => BeginFault::DuplicateType,
         TypeFault::UnknownType => BeginFault::UnknownType,
         TypeFault::InheritanceCircle => BeginFault::InheritanceCircle,
