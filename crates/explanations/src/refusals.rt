@@ -69,7 +69,8 @@ fn tell_refusal(told: &mut Explanation, fault: BeginFault, sources: &Sources<'_>
             told.say(": ");
             tell_ini_line(told, line_at(sources.ini, line), reason);
         }
-        BeginFault::DuplicateType
+        BeginFault::NotBuilt
+        | BeginFault::DuplicateType
         | BeginFault::UnknownType
         | BeginFault::InheritanceCircle
         | BeginFault::KindClash

@@ -12,7 +12,7 @@ use ned_trees::declarations::{
     Declaration, ParameterValue, ParameterWord, SectionLine, TypeDeclaration,
 };
 use ned_trees::expressions::Expression;
-use ned_types::flat::{class_of, last_value, submodule_named};
+use ned_types::flat::{class_of, last_value, submodule_named, type_name};
 use run_questions::answer::ModelFault;
 use run_questions::record::path_under;
 use sim_values::NoMemory;
@@ -59,7 +59,7 @@ fn found_at<'a>(model: &'a Model, path: &'a str) -> Option<Found<'a>> {
         });
     };
     let submodule = submodule_named(name.as_bytes(), network.submodules.as_slice())?;
-    let of = model.types.find(submodule.type_name.as_bytes())?;
+    let of = model.types.find(type_name(submodule))?;
     let around = Told::of_type(root.as_bytes(), network);
     Some(Found {
         placed: Placed::of_submodule(model, around, path.as_bytes(), submodule, of),

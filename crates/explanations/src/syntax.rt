@@ -7,11 +7,11 @@ use sim_values::NoMemory;
 use sqlite_items::Items;
 use std::alloc::Global;
 use text_explanations::explanation::Explanation;
-use text_explanations::tokens::{is_for_later, tell_token, token_of};
+use text_explanations::tokens::{tell_token, token_of};
 
 /// What a text can go on with, as it is written: words and marks, `1` for an expression, `+` for an operator and `x` for a name.
 const GOES_ON: &str =
-    "; } { = ( ) [ ] : , parameters gates types submodules simple network channel moduleinterface channelinterface package import extends like input output inout bool int string double volatile default @ . 1 + x";
+    "; } { = ( ) [ ] : , parameters gates types submodules connections allowunconnected simple module network channel moduleinterface channelinterface package import extends like if for input output inout bool int string double volatile default @ . .. < > --> <-- <--> ++ $i $o 1 + x";
 
 /// How many tokens are left at the first with which no file goes on, where this stands behind the tokens; none where they
 /// are a file with it.
@@ -60,8 +60,24 @@ fn wants_expression(found: &[&str]) -> bool {
     false
 }
 
-/// What is wanted behind the tokens: what they can go on with, but where an expression is wanted not what it begins with, and
-/// where anything may stand only what ends that.
+/// Whether it is a comparison where an operator can stand.
+fn is_angle(written: &str) -> bool {
+    written == "<" || written == ">"
+}
+
+/// How many of these are comparisons: one alone begins or ends the type of a submodule.
+fn count_angles(found: &[&str]) -> usize {
+    let mut count = 0usize;
+    for it in found {
+        if is_angle(*it) {
+            count = count.saturating_add(1);
+        }
+    }
+    count
+}
+
+/// What is wanted behind the tokens: what they can go on with, but where an expression is wanted not what it begins with, where
+/// an operator is wanted no comparison, and where anything may stand only what ends that.
 fn wanted(alloc: Global, tokens: &mut Items<Token>) -> Result<Vec<&'static str>, NoMemory> {
     let mut found = found_behind(alloc, tokens)?;
     if found.len() == GOES_ON.split(' ').count() {
@@ -70,6 +86,9 @@ fn wanted(alloc: Global, tokens: &mut Items<Token>) -> Result<Vec<&'static str>,
     }
     if wants_expression(found.as_slice()) {
         found.retain(|it| !is_front(*it));
+    }
+    if count_angles(found.as_slice()) > 1 {
+        found.retain(|it| !is_angle(*it));
     }
     Ok(found)
 }
@@ -98,20 +117,13 @@ fn tell_wanted(told: &mut Explanation, wanted: &[&str]) {
     }
 }
 
-/// Says why a text can't go on at a token, or behind its last. Answers whether that says all.
-fn tell_blamed(told: &mut Explanation, blamed: Option<&Token>) -> bool {
+/// Says that a text can't go on at a token, or behind its last.
+fn tell_blamed(told: &mut Explanation, blamed: Option<&Token>) {
     let Some(token) = blamed else {
-        told.say("unexpected end of the text");
-        return false;
+        return told.say("unexpected end of the text");
     };
-    if is_for_later(token) {
-        tell_token(told, token);
-        told.say(" is not supported yet");
-        return true;
-    }
     told.say("unexpected ");
     tell_token(told, token);
-    false
 }
 
 /// Takes tokens away, until so many are left.
@@ -124,9 +136,7 @@ fn cut(tokens: &mut Items<Token>, left: usize) {
 /// Says what is wrong with tokens that are no NED, of which so many are left at the first that can't go on.
 fn tell_tokens(told: &mut Explanation, tokens: &mut Items<Token>, left: usize) {
     let before = tokens.len().saturating_sub(left);
-    if tell_blamed(told, tokens.get(before)) {
-        return;
-    }
+    tell_blamed(told, tokens.get(before));
     cut(tokens, before);
     match wanted(told.alloc(), tokens) {
         Ok(wanted) => tell_wanted(told, wanted.as_slice()),

@@ -9,6 +9,7 @@ use ini_texts::lines::{Entry, IniLine, IniText};
 use ini_texts::scan::{entry_in, section_behind};
 use ini_texts::speaks::last_name;
 use ned_trees::declarations::{SectionLine, Submodule, TypeDeclaration};
+use ned_types::flat::type_name;
 use sim_values::NoMemory;
 use sim_values::text::Text;
 use std::alloc::Global;
@@ -93,7 +94,7 @@ impl Paths {
         root: &str,
         it: &Submodule,
     ) -> Result<(), NoMemory> {
-        let Some(of) = type_named(types, it.type_name.as_bytes()) else {
+        let Some(of) = type_named(types, type_name(it)) else {
             return Ok(());
         };
         let path = format!(in alloc; "{root}.{}", shown(it.name.as_bytes()))?;
