@@ -1,10 +1,11 @@
 -- Which positions a run leaves.
-use Rattle.std.proofs.Common.{◌≡◌, ◌⊎◌, inl, inr, ⊎_elim, eq-or-lt_of_le, ℕ, zero, suc, ◌+◌, ◌-◌, ◌%◌, ◌≤◌, ◌<◌, ◌==◌, ◌&&◌, nat_le, nat_lt, not, Bool, true, false, cond, List, [], ◌∷◌, ◌++◌, Option, Some, None, option_map, Result, Ok, Err, IfOk, OnErr, OnOk, refl, sym, ap, ◌∙◌, arith, subst, append-nil}
+use Rattle.std.proofs.Common.{◌≡◌, ⊎_elim, eq-or-lt_of_le, ℕ, zero, suc, ◌+◌, ◌-◌, ◌≤◌, ◌<◌, ◌==◌, ◌&&◌, ◌||◌, nat_le, nat_lt, not, Bool, true, false, cond, List, [], ◌∷◌, ◌++◌, Option, Some, None, option_map, length, Result, Ok, Err, IfOk, OnErr, OnOk, refl, sym, ap, ◌∙◌, arith, subst, if◌then◌else◌}
 use Rattle.std.specs.List.{filter}
 use Rattle.std.proofs.Math.Nat.{zero-mod}
 use Rattle.std.proofs.lemmas.Bool.Decides.{nat_tests}
 use Rattle.std.proofs.lemmas.List.Elements.{filter-append}
-use Rattle.checkpoints.specs.Stored.{counts_of, up_to, last_of, last_from as last_position_from, AreBelow}
+use Rattle.checkpoints.specs.Stored.{begun, counts_in, counts_of, doubled, ends_at, is_multiple, left, most_stored, stays, thinned, up_to, last_of, last_from as last_position_from, with_count, with_position, AreBelow, IsBegun, Timeline}
+use Rattle.checkpoints.proofs.Keeping.{counts_stay}
 use Rattle.kernel_actions.specs.declared.position.Position.{Position}
 use Rattle.kernel_actions.specs.Positions.{position_of}
 use Rattle.module_api.specs.Behaviour.{Behaviour}
@@ -12,10 +13,10 @@ use Rattle.run_questions.specs.Answers.{Answers}
 use Rattle.run_semantics.specs.declared.outcome.Outcome.{Outcome}
 use Rattle.run_semantics.specs.Run.{Ran, run_to, is_fault}
 use Rattle.run_semantics.specs.World.{World}
-use Rattle.checkpointed_runs.specs.Kept.{kept_if, kept_up_to, lasting, is_owed, HasBegun, HasLeft}
+use Rattle.checkpointed_runs.specs.Kept.{kept_up_to, lasting, is_owed, taken_if, HasBegun, HasLeft}
 use Rattle.checkpointed_runs.specs.declared.running.Stood.{Stood}
 use Rattle.checkpointed_runs.specs.declared.running.Stood.TheVariants as stood
-use Rattle.checkpointed_runs.specs.Positions.{numbers_from, is_multiple, multiples_from, last_from, last_count, up_to_event, first_behind, starts_within, start_of, is_left, positions_left, positions_begun, positions_after, CanGoOn, HasStored}
+use Rattle.checkpointed_runs.specs.Positions.{behind, cut, numbers_from, passed, last_from, last_count, up_to_event, first_behind, starts_within, start_of, is_left, positions_left, positions_begun, positions_after, CanGoOn, HasStored}
 
 -- what holds anyway holds where it is asked for
 pub on_err : {A E P : Type 0} (r : Result A E) → P → OnErr r P
@@ -43,26 +44,70 @@ numbers_more first (suc k) =
     let e : suc first + k ≡ first + suc k = omega arith in
     ap (λ ns. first ∷ ns) (numbers_more (suc first) k ∙ ap (λ n. numbers_from (suc first) k ++ n ∷ []) e)
 
--- it alone, where it is due
-abbrev pub count_if : Bool → ℕ → List ℕ
-count_if true n = n ∷ []
-count_if false n = []
+behind_more : (due : ℕ → ℕ → Bool) (t : Timeline ℕ) (ns : List ℕ) (n : ℕ) → behind due t (ns ++ n ∷ []) ≡ passed due (behind due t ns) n
+behind_more due t [] n = refl
+behind_more due t (k ∷ ns) n = behind_more due (passed due t k) ns n
 
-one_filtered : (test : ℕ → Bool) (n : ℕ) → filter test (n ∷ []) ≡ count_if (test n) n
-one_filtered test n = by (test n)
+-- one event more
+pub behind_next : (due : ℕ → ℕ → Bool) (t : Timeline ℕ) (first k : ℕ) → behind due t (numbers_from first (suc k)) ≡ passed due (behind due t (numbers_from first k)) (first + k)
+behind_next due t first k = ap (behind due t) (numbers_more first k) ∙ behind_more due t (numbers_from first k) (first + k)
+
+-- ---- counts below
+
+abbrev pub Below : ℕ → List ℕ → Type 0
+Below n [] = Unit {0}
+Below n (x ∷ xs) = (x < n) × Below n xs
+
+pub to_counts : (n : ℕ) (ps : List Position) → AreBelow n ps → Below n (counts_of ps)
+to_counts n [] h = tt
+to_counts n (p ∷ ps) h = (h.0, to_counts n ps h.1)
+
+pub of_counts : (n : ℕ) (ps : List Position) → Below n (counts_of ps) → AreBelow n ps
+of_counts n [] h = tt
+of_counts n (p ∷ ps) h = (h.0, of_counts n ps h.1)
+
+below_both : (n : ℕ) (xs ys : List ℕ) → Below n xs → Below n ys → Below n (xs ++ ys)
+below_both n [] ys h g = g
+below_both n (x ∷ xs) ys h g = (h.0, below_both n xs ys h.1 g)
+
+pub below_more : (n k : ℕ) (xs : List ℕ) → n ≤ k → Below n xs → Below k xs
+below_more n k [] l h = tt
+below_more n k (x ∷ xs) l h = (omega (arith, l, h.0), below_more n k xs l h.1)
+
+below_filter : (n : ℕ) (test : ℕ → Bool) (xs : List ℕ) → Below n xs → Below n (filter test xs)
+below_filter n test [] h = tt
+below_filter n test (x ∷ xs) h = by (test x) (below_filter n test xs h.1)
   where
-    by : (t : Bool) → cond t (n ∷ []) [] ≡ count_if t n
-    by true = refl
-    by false = refl
+    by : (t : Bool) → Below n (filter test xs) → Below n (cond t (x ∷ filter test xs) (filter test xs))
+    by true rest = (h.0, rest)
+    by false rest = rest
 
--- one number more
-filter_more : (test : ℕ → Bool) (first k : ℕ) → filter test (numbers_from first (suc k)) ≡ filter test (numbers_from first k) ++ count_if (test (first + k)) (first + k)
-filter_more test first k =
-    ap (filter test) (numbers_more first k) ∙ filter-append test (numbers_from first k) ((first + k) ∷ [])
-    ∙ ap (λ ns. filter test (numbers_from first k) ++ ns) (one_filtered test (first + k))
+pub below_numbers : (n first k : ℕ) → first + k ≤ n → Below n (numbers_from first k)
+below_numbers n first zero h = tt
+below_numbers n first (suc k) h = (omega (arith, h), below_numbers n (suc first) k (omega (arith, h)))
 
-pub multiples_more : (i first k : ℕ) → multiples_from i first (suc k) ≡ multiples_from i first k ++ count_if (is_multiple i (first + k)) (first + k)
-multiples_more i first k = filter_more (is_multiple i) first k
+below_thinned : (n newest : ℕ) (t : Timeline ℕ) → Below n t.stored → Below n (thinned (λ k. k) newest t).stored
+below_thinned n newest t h = by (nat_lt most_stored (length t.stored))
+  where
+    by : (test : Bool) → Below n (Timeline.stored (if test then record { first = t.first; interval = doubled t.interval; stored = filter (λ k. stays (doubled t.interval) newest k) t.stored } else t))
+    by true = below_filter n (λ k. stays (doubled t.interval) newest k) t.stored h
+    by false = h
+
+below_taken : (n k : ℕ) (t : Timeline ℕ) → k < n → Below n t.stored → Below n (with_count k t).stored
+below_taken n k t l h = below_thinned n k (record { first = t.first; interval = t.interval; stored = t.stored ++ k ∷ [] }) (below_both n t.stored (k ∷ []) h (l, tt))
+
+below_passed : (due : ℕ → ℕ → Bool) (n k : ℕ) (t : Timeline ℕ) → k < n → Below n t.stored → Below n (passed due t k).stored
+below_passed due n k t l h = by (due t.interval k)
+  where
+    by : (test : Bool) → Below n (Timeline.stored (if test then with_count k t else t))
+    by true = below_taken n k t l h
+    by false = h
+
+pub below_behind : (due : ℕ → ℕ → Bool) (n : ℕ) (t : Timeline ℕ) (ns : List ℕ) → Below n t.stored → Below n ns → Below n (behind due t ns).stored
+below_behind due n t [] h g = h
+below_behind due n t (k ∷ ns) h g = below_behind due n (passed due t k) ns (below_passed due n k t g.0 h) g.1
+
+-- ---- the last event
 
 other : (m n : ℕ) → m < n → (m == n) ≡ false
 other m n h = grind (arith, nat_tests)
@@ -70,45 +115,59 @@ other m n h = grind (arith, nat_tests)
 equal : (n : ℕ) → (n == n) ≡ true
 equal n = grind (arith, nat_tests)
 
--- before its last event a run leaves the multiples
-before_last : (i m : ℕ) (f : Bool) (first k : ℕ) → first + k ≤ m → filter (is_left i m f) (numbers_from first k) ≡ multiples_from i first k
-before_last i m f first zero h = refl
-before_last i m f first (suc k) h = rw (other first m (omega (arith, h))) (by (is_multiple i first) (before_last i m f (suc first) k (omega (arith, h))))
-  where
-    by : (t : Bool) → filter (is_left i m f) (numbers_from (suc first) k) ≡ multiples_from i (suc first) k
-        → cond t (first ∷ filter (is_left i m f) (numbers_from (suc first) k)) (filter (is_left i m f) (numbers_from (suc first) k)) ≡ cond t (first ∷ multiples_from i (suc first) k) (multiples_from i (suc first) k)
-    by true e = ap (λ ns. first ∷ ns) e
-    by false e = e
+or_true : (s t : Bool) → t ≡ true → s || t ≡ true
+or_true true t e = refl
+or_true false t e = e
 
--- what is left of a last event
-last_left : (i m : ℕ) (f : Bool) → is_left i m f m ≡ not f
-last_left i m f = rw (equal m) refl
+-- before its last event a run takes those of the multiples
+passed_before : (m : ℕ) (f : Bool) (t : Timeline ℕ) (n : ℕ) → n < m → passed (is_left m f) t n ≡ passed is_multiple t n
+passed_before m f t n h = ap (λ c. if (if c then not f else is_multiple t.interval n) then with_count n t else t) (other n m h)
 
-abbrev without_fault : Bool → ℕ → ℕ
-without_fault true k = k
-without_fault false k = suc k
+before_last : (m : ℕ) (f : Bool) (t : Timeline ℕ) (first k : ℕ) → first + k ≤ m → behind (is_left m f) t (numbers_from first k) ≡ behind is_multiple t (numbers_from first k)
+before_last m f t first zero h = refl
+before_last m f t first (suc k) h =
+    before_last m f (passed (is_left m f) t first) (suc first) k (omega (arith, h))
+    ∙ ap (λ u. behind is_multiple u (numbers_from (suc first) k)) (passed_before m f t first (omega (arith, h)))
+
+-- after its last one it takes one, unless that ended in a fault
+passed_last : (m : ℕ) (f : Bool) (t : Timeline ℕ) → passed (is_left m f) t m ≡ (if not f then with_count m t else t)
+passed_last m f t = ap (λ c. if (if c then not f else is_multiple t.interval m) then with_count m t else t) (equal m)
 
 -- of events of which the last is this one
-left_behind : (i first k m : ℕ) (f : Bool) → m ≡ first + k
-    → filter (is_left i m f) (numbers_from first (suc k)) ≡ multiples_from i first (without_fault f k) ++ count_if (not f && not (is_multiple i m)) m
-left_behind i first k m f e =
-    let front : filter (is_left i m f) (numbers_from first k) ≡ multiples_from i first k = before_last i m f first k (omega (arith, e)) in
-    filter_more (is_left i m f) first k
-    ∙ ap (λ n. filter (is_left i m f) (numbers_from first k) ++ count_if (is_left i m f n) n) (sym e)
-    ∙ ap (λ t. filter (is_left i m f) (numbers_from first k) ++ count_if t m) (last_left i m f)
-    ∙ ap (λ ns. ns ++ count_if (not f) m) front
-    ∙ by f
-  where
-    last_two : (xs : List ℕ) (t : Bool) → xs ++ m ∷ [] ≡ (xs ++ count_if t m) ++ count_if (not t) m
-    last_two xs true = sym (append-nil (xs ++ m ∷ []))
-    last_two xs false = ap (λ ns. ns ++ m ∷ []) (sym (append-nil xs))
+left_behind : (first k m : ℕ) (f : Bool) (t : Timeline ℕ) → m ≡ first + k
+    → behind (is_left m f) t (numbers_from first (suc k)) ≡ (if not f then with_count m (behind is_multiple t (numbers_from first k)) else behind is_multiple t (numbers_from first k))
+left_behind first k m f t e =
+    behind_next (is_left m f) t first k
+    ∙ ap (λ n. passed (is_left m f) (behind (is_left m f) t (numbers_from first k)) n) (sym e)
+    ∙ ap (λ u. passed (is_left m f) u m) (before_last m f t first k (omega (arith, e)))
+    ∙ passed_last m f (behind is_multiple t (numbers_from first k))
 
-    by : (f : Bool) → multiples_from i first k ++ count_if (not f) m ≡ multiples_from i first (without_fault f k) ++ count_if (not f && not (is_multiple i m)) m
-    by true = refl
-    by false =
-        last_two (multiples_from i first k) (is_multiple i m)
-        ∙ ap (λ ns. ns ++ count_if (not (is_multiple i m)) m)
-        (ap (λ n. multiples_from i first k ++ count_if (is_multiple i n) n) e ∙ sym (multiples_more i first k))
+ends_more : (n : ℕ) (ns : List ℕ) → ends_at n (ns ++ n ∷ []) ≡ true
+ends_more n [] = equal n
+ends_more n (k ∷ []) = equal n
+ends_more n (k ∷ l ∷ ns) = ends_more n (l ∷ ns)
+
+-- the one just taken is the last
+ends_taken : (n : ℕ) (t : Timeline ℕ) → ends_at n (with_count n t).stored ≡ true
+ends_taken n t = by (nat_lt most_stored (length (t.stored ++ n ∷ [])))
+  where
+    wide : ℕ
+    wide = doubled t.interval
+
+    stay : ℕ → Bool
+    stay k = stays wide n k
+
+    one : filter stay (n ∷ []) ≡ n ∷ []
+    one = ap (λ c. cond c (n ∷ []) []) (or_true (is_multiple wide n) (n == n) (equal n))
+
+    by : (test : Bool) → ends_at n (Timeline.stored (if test then record { first = t.first; interval = wide; stored = filter stay (t.stored ++ n ∷ []) } else record { first = t.first; interval = t.interval; stored = t.stored ++ n ∷ [] })) ≡ true
+    by true = ap (ends_at n) (filter-append stay t.stored (n ∷ []) ∙ ap (λ ns. filter stay t.stored ++ ns) one) ∙ ends_more n (filter stay t.stored)
+    by false = ends_more n t.stored
+
+ends_below : (n : ℕ) (ns : List ℕ) → Below n ns → ends_at n ns ≡ false
+ends_below n [] h = refl
+ends_below n (k ∷ []) h = other k n h.0
+ends_below n (k ∷ l ∷ ns) h = ends_below n (l ∷ ns) h.1
 
 less_is : (m n : ℕ) → m < n → nat_lt m n ≡ true
 less_is m n h = grind (arith, nat_tests)
@@ -116,58 +175,100 @@ less_is m n h = grind (arith, nat_tests)
 less_not : (n : ℕ) → nat_lt n n ≡ false
 less_not n = grind (arith, nat_tests)
 
-and_false : (t : Bool) → t && false ≡ false
-and_false true = refl
-and_false false = refl
-
 not_true : (f : Bool) → (f ≡ true → ⊥) → f ≡ false
 not_true true h = absurd (h refl)
 not_true false h = refl
 
-left_at : (i m : ℕ) (f : Bool) → f ≡ false → filter (is_left i m f) (numbers_from (suc m) (m - m)) ≡ multiples_from i (suc m) (lasting f m - m) ++ count_if (is_owed i m f m) m
-left_at i m f e = let z : m - m ≡ 0 = omega arith in rw e (rw (z, less_not m) refl)
+-- it takes one more where that is owed
+abbrev pub paid : ℕ → Bool → ℕ → Timeline ℕ → Timeline ℕ
+paid from f m t = if is_owed from f m t.stored then with_count m t else t
+
+-- where none is taken after an event, one is owed there
+paid_last : (from m : ℕ) (t : Timeline ℕ) → from < m → Below m t.stored → with_count m t ≡ paid from false m (passed is_multiple t m)
+paid_last from m t l h = by (is_multiple t.interval m)
+  where
+    behind_it : nat_lt from m ≡ true
+    behind_it = less_is from m l
+
+    by : (test : Bool) → with_count m t ≡ paid from false m (if test then with_count m t else t)
+    by true = sym (ap (λ c. if (c && not (ends_at m (with_count m t).stored)) then with_count m (with_count m t) else with_count m t) behind_it
+        ∙ ap (λ c. if not c then with_count m (with_count m t) else with_count m t) (ends_taken m t))
+    by false = sym (ap (λ c. if (c && not (ends_at m t.stored)) then with_count m t else t) behind_it ∙ ap (λ c. if not c then with_count m t else t) (ends_below m t.stored h))
+
+abbrev without_fault : Bool → ℕ → ℕ
+without_fault true k = k
+without_fault false k = suc k
 
 lasting_is : (f : Bool) (from k m : ℕ) → m ≡ suc from + k → lasting f m - from ≡ without_fault f k
 lasting_is true from k m e = omega (arith, e)
 lasting_is false from k m e = omega (arith, e)
 
-left_after : (i from k m : ℕ) (f : Bool) → m ≡ suc from + k → filter (is_left i m f) (numbers_from (suc from) (m - from)) ≡ multiples_from i (suc from) (lasting f m - from) ++ count_if (is_owed i from f m) m
-left_after i from k m f e =
-    let d : m - from ≡ suc k = omega (arith, e) in
-    rw (lasting_is f from k m e, less_is from m (omega (arith, e))) (rw d (left_behind i (suc from) k m f e))
+pub stored_below : (from k m : ℕ) (t : Timeline ℕ) → suc from + k ≤ m → Below (suc from) t.stored → Below m (behind is_multiple t (numbers_from (suc from) k)).stored
+stored_below from k m t l h = below_behind is_multiple m t (numbers_from (suc from) k) (below_more (suc from) m t.stored (omega (arith, l)) h) (below_numbers m (suc from) k l)
 
--- WHAT A RUN LEAVES behind where it went on: the multiples up to its last event that did not end in a fault, and the last one, where it is owed
-pub left_is : (i from m : ℕ) (f : Bool) → from ≤ m → (f ≡ true → from < m)
-    → filter (is_left i m f) (numbers_from (suc from) (m - from)) ≡ multiples_from i (suc from) (lasting f m - from) ++ count_if (is_owed i from f m) m
-left_is i from m f h g =
+left_after : (from k m : ℕ) (f : Bool) (t : Timeline ℕ) → m ≡ suc from + k → Below (suc from) t.stored
+    → behind (is_left m f) t (numbers_from (suc from) (m - from)) ≡ paid from f m (behind is_multiple t (numbers_from (suc from) (lasting f m - from)))
+left_after from k m f t e h =
+    let d : m - from ≡ suc k = omega (arith, e) in
+    ap (λ n. behind (is_left m f) t (numbers_from (suc from) n)) d ∙ left_behind (suc from) k m f t e
+    ∙ by f
+    ∙ ap (λ n. paid from f m (behind is_multiple t (numbers_from (suc from) n))) (sym (lasting_is f from k m e))
+  where
+    before : Timeline ℕ
+    before = behind is_multiple t (numbers_from (suc from) k)
+
+    by : (f : Bool) → (if not f then with_count m before else before) ≡ paid from f m (behind is_multiple t (numbers_from (suc from) (without_fault f k)))
+    by true = refl
+    by false =
+        paid_last from m before (omega (arith, e)) (stored_below from k m t (omega (arith, e)) h)
+        ∙ ap (λ n. paid from false m (passed is_multiple before n)) e
+        ∙ ap (paid from false m) (sym (behind_next is_multiple t (suc from) k))
+
+left_at : (m : ℕ) (f : Bool) (t : Timeline ℕ) → f ≡ false → behind (is_left m f) t (numbers_from (suc m) (m - m)) ≡ paid m f m (behind is_multiple t (numbers_from (suc m) (lasting f m - m)))
+left_at m f t e = let z : m - m ≡ 0 = omega arith in rw e (rw (z, less_not m) refl)
+
+-- WHAT A RUN LEAVES behind where it went on: those of the multiples up to its last event that did not end in a fault, and the last one, where it is owed
+pub left_is : (from m : ℕ) (f : Bool) (t : Timeline ℕ) → from ≤ m → (f ≡ true → from < m) → Below (suc from) t.stored
+    → behind (is_left m f) t (numbers_from (suc from) (m - from)) ≡ paid from f m (behind is_multiple t (numbers_from (suc from) (lasting f m - from)))
+left_is from m f t h g below =
     ⊎_elim
-    (λ (e : from ≡ m). subst (λ k. filter (is_left i m f) (numbers_from (suc k) (m - k)) ≡ multiples_from i (suc k) (lasting f m - k) ++ count_if (is_owed i k f m) m) (sym e)
-    (left_at i m f (not_true f (λ t. let l = g t in omega (arith, l, e)))))
-    (λ (l : from < m). left_after i from (m - suc from) m f (omega (arith, l)))
+    (λ (e : from ≡ m). subst (λ k. behind (is_left m f) t (numbers_from (suc k) (m - k)) ≡ paid k f m (behind is_multiple t (numbers_from (suc k) (lasting f m - k)))) (sym e)
+    (left_at m f t (not_true f (λ t. let l = g t in omega (arith, l, e)))))
+    (λ (l : from < m). left_after from (m - suc from) m f t (omega (arith, l)) below)
     (eq-or-lt_of_le h)
+
+-- where the last event has none, none was taken there
+pub passed_not : (m : ℕ) (t : Timeline ℕ) → ends_at m (passed is_multiple t m).stored ≡ false → passed is_multiple t m ≡ t
+passed_not m t = by (is_multiple t.interval m)
+  where
+    true_false : true ≡ false → ⊥
+    true_false e = cc
+
+    by : (test : Bool) → ends_at m (Timeline.stored (if test then with_count m t else t)) ≡ false → (if test then with_count m t else t) ≡ t
+    by true e = absurd (true_false (sym (ends_taken m t) ∙ e))
+    by false e = refl
 
 -- ---- from setup
 
-zero_left : (i m : ℕ) (f : Bool) → (f ≡ true → 0 < m) → is_left i m f 0 ≡ true
+zero_left : (i m : ℕ) (f : Bool) → (f ≡ true → 0 < m) → is_left m f i 0 ≡ true
 zero_left i zero f g = rw (not_true f (λ t. let l = g t in omega (arith, l))) refl
 zero_left i (suc m) f g = rw (zero-mod i) (rw (other 0 (suc m) (omega arith)) refl)
 
-setup_left : (i m : ℕ) (f : Bool) → (f ≡ true → 0 < m) → filter (is_left i m f) (numbers_from 0 (suc m - 0)) ≡ 0 ∷ filter (is_left i m f) (numbers_from 1 (m - 0))
+-- with the position of event zero
+pub setup_left : (i m : ℕ) (f : Bool) → (f ≡ true → 0 < m) → behind (is_left m f) (with_count 0 (begun i)) (numbers_from 1 (m - 0)) ≡ behind (is_left m f) (begun i) (numbers_from 0 (suc m - 0))
 setup_left i m f g =
-    let a : suc m - 0 ≡ suc m = omega arith in
+    let a : suc m ≡ suc m - 0 = omega arith in
     let c : m - 0 ≡ m = omega arith in
-    rw (a, c) (rw (zero_left i m f g) refl)
+    ap (λ n. behind (is_left m f) (with_count 0 (begun i)) (numbers_from 1 n)) c
+    ∙ ap (λ d. behind (is_left m f) (if d then with_count 0 (begun i) else begun i) (numbers_from 1 m)) (sym (zero_left i m f g))
+    ∙ ap (λ n. behind (is_left m f) (begun i) (numbers_from 0 n)) a
 
--- of events that go on from event zero, with the position there
-pub setup_leaves : (i m : ℕ) (f : Bool) (counts : List ℕ) → (f ≡ true → 0 < m) → counts ≡ 0 ∷ filter (is_left i m f) (numbers_from 1 (m - 0)) → counts ≡ positions_left i [] None m f
-setup_leaves i m f counts g e = e ∙ sym (setup_left i m f g)
+setup_begins : (i more : ℕ) → behind is_multiple (with_count 0 (begun i)) (numbers_from 1 more) ≡ behind is_multiple (begun i) (numbers_from 0 (suc more))
+setup_begins i more = ap (λ n. behind is_multiple (if n == 0 then with_count 0 (begun i) else begun i) (numbers_from 1 more)) (sym (zero-mod i))
 
 -- of a fault in event zero
-pub fault_leaves : (i : ℕ) → positions_left i [] None 0 true ≡ []
+fault_leaves : (i : ℕ) → positions_left (begun i) None 0 true ≡ begun i
 fault_leaves i = refl
-
-pub setup_begins : (i more : ℕ) → 0 ∷ multiples_from i 1 more ≡ multiples_from i 0 (suc more)
-setup_begins i more = rw (zero-mod i) refl
 
 -- ---- positions and their counts
 
@@ -175,13 +276,32 @@ counts_more : (ps qs : List Position) → counts_of (ps ++ qs) ≡ counts_of ps 
 counts_more [] qs = refl
 counts_more (p ∷ ps) qs = ap (λ ns. p.count ∷ ns) (counts_more ps qs)
 
-counts_if : (due : Bool) (p : Position) → counts_of (kept_if due p) ≡ count_if due p.count
-counts_if true p = refl
-counts_if false p = refl
+counts_length : (ps : List Position) → length (counts_of ps) ≡ length ps
+counts_length [] = refl
+counts_length (p ∷ ps) = ap suc (counts_length ps)
+
+counts_thinned : (newest : ℕ) (t : Timeline Position) → counts_in (thinned (λ (p : Position). p.count) newest t) ≡ thinned (λ k. k) newest (counts_in t)
+counts_thinned newest t =
+    by (nat_lt most_stored (length t.stored))
+    ∙ ap (λ n. if nat_lt most_stored n then record { first = t.first; interval = doubled t.interval; stored = filter (λ k. stays (doubled t.interval) newest k) (counts_of t.stored) } else counts_in t) (sym (counts_length t.stored))
+  where
+    by : (test : Bool) → counts_in (if test then record { first = t.first; interval = doubled t.interval; stored = filter (λ (p : Position). stays (doubled t.interval) newest p.count) t.stored } else t)
+        ≡ (if test then record { first = t.first; interval = doubled t.interval; stored = filter (λ k. stays (doubled t.interval) newest k) (counts_of t.stored) } else counts_in t)
+    by true = ap (λ (ns : List ℕ). record { first = t.first; interval = doubled t.interval; stored = ns }) (sym (counts_stay (λ k. stays (doubled t.interval) newest k) t.stored))
+    by false = refl
+
+counts_taken : (p : Position) (t : Timeline Position) → counts_in (with_position p t) ≡ with_count p.count (counts_in t)
+counts_taken p t =
+    counts_thinned p.count (record { first = t.first; interval = t.interval; stored = t.stored ++ p ∷ [] })
+    ∙ ap (λ (ns : List ℕ). thinned (λ k. k) p.count (record { first = t.first; interval = t.interval; stored = ns })) (counts_more t.stored (p ∷ []))
 
 -- one more, where it is due
-pub one_stored : (due : Bool) (p : Position) (old new : List Position) → new ≡ old ++ kept_if due p → counts_of new ≡ counts_of old ++ count_if due p.count
-one_stored due p old new e = ap counts_of e ∙ counts_more old (kept_if due p) ∙ ap (λ ns. counts_of old ++ ns) (counts_if due p)
+pub one_stored : (due : Bool) (p : Position) (old new : Timeline Position) → new ≡ taken_if due p old → counts_in new ≡ (if due then with_count p.count (counts_in old) else counts_in old)
+one_stored due p old new e = ap counts_in e ∙ by due
+  where
+    by : (due : Bool) → counts_in (taken_if due p old) ≡ (if due then with_count p.count (counts_in old) else counts_in old)
+    by true = counts_taken p old
+    by false = refl
 
 counts_up_to : (v : ℕ) (ps : List Position) → counts_of (up_to v ps) ≡ filter (λ n. nat_le n v) (counts_of ps)
 counts_up_to v [] = refl
@@ -192,9 +312,24 @@ counts_up_to v (p ∷ ps) = by (nat_le p.count v) (counts_up_to v ps)
     by true e = ap (λ ns. p.count ∷ ns) e
     by false e = e
 
-pub kept_counts : (event : Option ℕ) (ps : List Position) → counts_of (kept_up_to event ps) ≡ up_to_event event (counts_of ps)
-kept_counts None ps = refl
-kept_counts (Some v) ps = counts_up_to v ps
+counts_left : (t : Timeline Position) (ps : List Position) → counts_in (left t ps) ≡ left (counts_in t) (counts_of ps)
+counts_left t [] = refl
+counts_left t (p ∷ ps) = refl
+
+pub kept_counts : (event : Option ℕ) (t : Timeline Position) → counts_in (kept_up_to event t) ≡ cut event (counts_in t)
+kept_counts None t = refl
+kept_counts (Some v) t = counts_left t (up_to v t.stored) ∙ ap (left (counts_in t)) (counts_up_to v t.stored)
+
+pub left_stored : {A : Type 0} (t : Timeline A) (xs : List A) → (left t xs).stored ≡ xs
+left_stored t [] = refl
+left_stored t (x ∷ xs) = refl
+
+-- a run that finds nothing stored begins with setup
+pub begun_start : (limit : ℕ) (t : Timeline Position) → IsBegun t → None ≡ start_of limit (counts_of t.stored)
+begun_start limit t none = sym (ap (λ (u : Timeline Position). start_of limit (counts_of u.stored)) none)
+
+pub begun_is : {A : Type 0} (t : Timeline A) (i : ℕ) → t ≡ begun i → IsBegun t
+begun_is {A = A} t i e = e ∙ ap begun (sym (ap (λ (u : Timeline A). u.first) e))
 
 last_counts : (p : Position) (ps : List Position) → last_from p.count (counts_of ps) ≡ (last_position_from p ps).count
 last_counts p [] = refl
@@ -209,21 +344,6 @@ pub start_is : (limit : ℕ) (ps : List Position) → start_of limit (counts_of 
 start_is limit ps = ap last_count (sym (counts_up_to limit ps)) ∙ last_count_is (up_to limit ps)
 
 -- ---- of smaller counts
-
-pub below_up : (n k : ℕ) (ps : List Position) → n ≤ k → AreBelow n ps → AreBelow k ps
-below_up n k [] l h = tt
-below_up n k (p ∷ ps) l h = (omega (arith, l, h.0), below_up n k ps l h.1)
-
-below_one : (n : ℕ) (ps : List Position) (p : Position) → p.count < n → AreBelow n ps → AreBelow n (ps ++ p ∷ [])
-below_one n [] p l h = (l, tt)
-below_one n (q ∷ qs) p l h = (h.0, below_one n qs p l h.1)
-
-below_if : (n : ℕ) (ps : List Position) (due : Bool) (p : Position) → p.count < n → AreBelow n ps → AreBelow n (ps ++ kept_if due p)
-below_if n ps true p l h = below_one n ps p l h
-below_if n ps false p l h = subst (AreBelow n) (sym (append-nil ps)) h
-
-pub below_stored : (n : ℕ) (due : Bool) (p : Position) (old new : List Position) → new ≡ old ++ kept_if due p → p.count < n → AreBelow n old → AreBelow n new
-below_stored n due p old new e l h = subst (AreBelow n) (sym e) (below_if n old due p l h)
 
 up_to_is : (n v : ℕ) → nat_le n v ≡ true → n ≤ v
 up_to_is n v h = grind (arith, nat_tests)
@@ -254,118 +374,141 @@ last_within limit ps p e =
 
 -- ---- what is stored behind a start
 
-pub left_after_start : (b : Behaviour) (m : Answers) (limit i s : ℕ) (old : List ℕ) (before after : List Position) → start_of limit old ≡ Some s → counts_of before ≡ up_to_event (Some s) old
-    → HasLeft i s before after (run_to b m limit) → counts_of after ≡ positions_after b m limit i old
-left_after_start b m limit i s old before after e c h =
+pub left_after_start : (b : Behaviour) (m : Answers) (limit s : ℕ) (old : Timeline ℕ) (before new : Timeline Position) → start_of limit old.stored ≡ Some s → counts_in before ≡ cut (Some s) old
+    → HasLeft s before new (run_to b m limit) → counts_in new ≡ positions_after b m limit old
+left_after_start b m limit s old before new e c h =
     let ran : Ran = run_to b m limit in
     let last : ℕ = ran.world.count in
     let f : Bool = is_fault ran.outcome in
     let d : suc last - suc s ≡ last - s = omega arith in
-    subst (λ o. counts_of after ≡ positions_left i old o last f) (sym e)
-    (h.counts ∙ ap (λ ns. ns ++ filter (is_left i last f) (numbers_from (suc s) (last - s))) c
-    ∙ ap (λ k. up_to_event (Some s) old ++ filter (is_left i last f) (numbers_from (suc s) k)) (sym d))
+    subst (λ o. counts_in new ≡ positions_left old o last f) (sym e)
+    (h.counts ∙ ap (λ t. behind (is_left last f) t (numbers_from (suc s) (last - s))) c
+    ∙ ap (λ k. behind (is_left last f) (cut (Some s) old) (numbers_from (suc s) k)) (sym d))
 
-pub start_stored : (b : Behaviour) (m : Answers) (limit i s : ℕ) (old : List ℕ) (at : Stood) (before after : List Position) → start_of limit old ≡ Some s → counts_of before ≡ up_to_event (Some s) old
-    → HasBegun b m i s at before after (run_to b m limit) → HasStored b m limit i old at (counts_of after)
-start_stored b m limit i s old stood.Before before after e c h = absurd h
-start_stored b m limit i s old (stood.After k) before after e c h =
+pub start_stored : (b : Behaviour) (m : Answers) (limit s : ℕ) (old : Timeline ℕ) (at : Stood) (before new : Timeline Position) → start_of limit old.stored ≡ Some s → counts_in before ≡ cut (Some s) old
+    → HasBegun b m s at before new (run_to b m limit) → HasStored b m limit old at (counts_in new)
+start_stored b m limit s old stood.Before before new e c h = absurd h
+start_stored b m limit s old (stood.After k) before new e c h =
     let d : k - s ≡ suc k - suc s = omega arith in
     record {
       going = h.going;
       within = subst (λ (o : Option ℕ). starts_within o k) (sym e) h.grew;
-      positions = subst (λ (o : Option ℕ). counts_of after ≡ positions_begun i old o (suc k - first_behind o)) (sym e)
-          (h.counts ∙ ap (λ ns. ns ++ multiples_from i (suc s) (k - s)) c ∙ ap (λ n. up_to_event (Some s) old ++ multiples_from i (suc s) n) d);
+      positions = subst (λ (o : Option ℕ). counts_in new ≡ positions_begun old o (suc k - first_behind o)) (sym e)
+          (h.counts ∙ ap (λ t. behind is_multiple t (numbers_from (suc s) (k - s))) c ∙ ap (λ n. behind is_multiple (cut (Some s) old) (numbers_from (suc s) n)) d);
     }
-start_stored b m limit i s old (stood.Untaken k) before after e c h =
+start_stored b m limit s old (stood.Untaken k) before new e c h =
     let l = h.grew in
     record {
       going = h.going;
       within = subst (λ (o : Option ℕ). starts_within o k) (sym e) (omega (arith, l));
-      positions = subst (λ (o : Option ℕ). counts_of after ≡ positions_begun i old o (k - first_behind o)) (sym e) (h.counts ∙ ap (λ ns. ns ++ multiples_from i (suc s) (k - suc s)) c);
+      positions = subst (λ (o : Option ℕ). counts_in new ≡ positions_begun old o (k - first_behind o)) (sym e) (h.counts ∙ ap (λ t. behind is_multiple t (numbers_from (suc s) (k - suc s))) c);
     }
-start_stored b m limit i s old stood.Ending before after e c h = left_after_start b m limit i s old before after e c h
+start_stored b m limit s old stood.Ending before new e c h = left_after_start b m limit s old before new e c h
 
 -- where a run can't go back to its start, none is stored behind it
-pub back_stored : (b : Behaviour) (m : Answers) (limit i s : ℕ) (old new : List ℕ) → start_of limit old ≡ Some s → CanGoOn b m s → new ≡ up_to_event (Some s) old → HasStored b m limit i old (stood.After s) new
-back_stored b m limit i s old new e going c =
+pub back_stored : (b : Behaviour) (m : Answers) (limit s : ℕ) (old new : Timeline ℕ) → start_of limit old.stored ≡ Some s → CanGoOn b m s → new ≡ cut (Some s) old → HasStored b m limit old (stood.After s) new
+back_stored b m limit s old new e going c =
     let z : suc s - suc s ≡ 0 = omega arith in
     record {
       going = going;
       within = subst (λ (o : Option ℕ). starts_within o s) (sym e) (omega arith);
-      positions = subst (λ (o : Option ℕ). new ≡ positions_begun i old o (suc s - first_behind o)) (sym e)
-          (c ∙ sym (append-nil (up_to_event (Some s) old)) ∙ ap (λ n. up_to_event (Some s) old ++ multiples_from i (suc s) n) (sym z));
+      positions = subst (λ (o : Option ℕ). new ≡ positions_begun old o (suc s - first_behind o)) (sym e)
+          (c ∙ ap (λ n. behind is_multiple (cut (Some s) old) (numbers_from (suc s) n)) (sym z));
     }
 
 -- where a run begins with setup, it doesn't matter which positions there were
-pub setup_stored : (b : Behaviour) (m : Answers) (limit i : ℕ) (old : List ℕ) (at : Stood) (new : List ℕ) → start_of limit old ≡ None → HasStored b m limit i [] at new → HasStored b m limit i old at new
-setup_stored b m limit i old stood.Before new e h = (e, h.1)
-setup_stored b m limit i old (stood.After k) new e h = record {
+setup_begun : (b : Behaviour) (m : Answers) (limit : ℕ) (old : Timeline ℕ) (at : Stood) (new : Timeline ℕ) → start_of limit old.stored ≡ None → HasStored b m limit (begun old.first) at new → HasStored b m limit old at new
+setup_begun b m limit old stood.Before new e h = (e, h.1)
+setup_begun b m limit old (stood.After k) new e h = record {
   going = h.going;
   within = subst (λ (o : Option ℕ). starts_within o k) (sym e) tt;
-  positions = subst (λ (o : Option ℕ). new ≡ positions_begun i old o (suc k - first_behind o)) (sym e) h.positions;
+  positions = subst (λ (o : Option ℕ). new ≡ positions_begun old o (suc k - first_behind o)) (sym e) h.positions;
 }
-setup_stored b m limit i old (stood.Untaken k) new e h = record {
+setup_begun b m limit old (stood.Untaken k) new e h = record {
   going = h.going;
   within = subst (λ (o : Option ℕ). starts_within o k) (sym e) tt;
-  positions = subst (λ (o : Option ℕ). new ≡ positions_begun i old o (k - first_behind o)) (sym e) h.positions;
+  positions = subst (λ (o : Option ℕ). new ≡ positions_begun old o (k - first_behind o)) (sym e) h.positions;
 }
-setup_stored b m limit i old stood.Ending new e h =
+setup_begun b m limit old stood.Ending new e h =
     let ran : Ran = run_to b m limit in
-    subst (λ o. new ≡ positions_left i old o ran.world.count (is_fault ran.outcome)) (sym e) h
+    subst (λ o. new ≡ positions_left old o ran.world.count (is_fault ran.outcome)) (sym e) h
 
-pub setup_after : (b : Behaviour) (m : Answers) (limit i : ℕ) (old new : List ℕ) → start_of limit old ≡ None → new ≡ positions_after b m limit i [] → new ≡ positions_after b m limit i old
-setup_after b m limit i old new e g =
-    let ran : Ran = run_to b m limit in
-    subst (λ o. new ≡ positions_left i old o ran.world.count (is_fault ran.outcome)) (sym e) g
+pub setup_stored : (b : Behaviour) (m : Answers) (limit : ℕ) (old begins : Timeline ℕ) (at : Stood) (new : Timeline ℕ) → start_of limit old.stored ≡ None → begins ≡ begun old.first → HasStored b m limit begins at new → HasStored b m limit old at new
+setup_stored b m limit old begins at new e is h = setup_begun b m limit old at new e (subst (λ (t : Timeline ℕ). HasStored b m limit t at new) is h)
+
+pub setup_after : (b : Behaviour) (m : Answers) (limit : ℕ) (old begins new : Timeline ℕ) → start_of limit old.stored ≡ None → begins ≡ begun old.first → new ≡ positions_after b m limit begins → new ≡ positions_after b m limit old
+setup_after b m limit old begins new e is h = setup_stored b m limit old begins stood.Ending new e is h
 
 -- ---- a run from setup
 
 -- with the position of event zero before it
-pub setup_left_all : (b : Behaviour) (m : Answers) (limit i : ℕ) (before after : List Position) → counts_of before ≡ 0 ∷ [] → HasLeft i 0 before after (run_to b m limit) → counts_of after ≡ positions_after b m limit i []
-setup_left_all b m limit i before after c h =
+begun_left : (b : Behaviour) (m : Answers) (limit i : ℕ) (before new : Timeline Position) → counts_in before ≡ with_count 0 (begun i) → HasLeft 0 before new (run_to b m limit) → counts_in new ≡ positions_after b m limit (begun i)
+begun_left b m limit i before new c h =
     let ran : Ran = run_to b m limit in
     let last : ℕ = ran.world.count in
     let f : Bool = is_fault ran.outcome in
-    setup_leaves i last f (counts_of after) h.faulted (h.counts ∙ ap (λ ns. ns ++ filter (is_left i last f) (numbers_from 1 (last - 0))) c)
+    h.counts ∙ ap (λ t. behind (is_left last f) t (numbers_from 1 (last - 0))) c ∙ setup_left i last f h.faulted
 
-pub setup_stored_all : (b : Behaviour) (m : Answers) (limit i : ℕ) (at : Stood) (before after : List Position) → counts_of before ≡ 0 ∷ [] → HasBegun b m i 0 at before after (run_to b m limit) → HasStored b m limit i [] at (counts_of after)
-setup_stored_all b m limit i stood.Before before after c h = absurd h
-setup_stored_all b m limit i (stood.After k) before after c h =
+begun_stored : (b : Behaviour) (m : Answers) (limit i : ℕ) (at : Stood) (before new : Timeline Position) → counts_in before ≡ with_count 0 (begun i) → HasBegun b m 0 at before new (run_to b m limit) → HasStored b m limit (begun i) at (counts_in new)
+begun_stored b m limit i stood.Before before new c h = absurd h
+begun_stored b m limit i (stood.After k) before new c h =
     let a : suc k - 0 ≡ suc k = omega arith in
     let z : k - 0 ≡ k = omega arith in
     record {
       going = h.going;
       within = tt;
-      positions = h.counts ∙ ap (λ ns. ns ++ multiples_from i 1 (k - 0)) c ∙ ap (λ n. 0 ∷ multiples_from i 1 n) z ∙ setup_begins i k ∙ ap (multiples_from i 0) (sym a);
+      positions = h.counts ∙ ap (λ t. behind is_multiple t (numbers_from 1 (k - 0))) c ∙ ap (λ n. behind is_multiple (with_count 0 (begun i)) (numbers_from 1 n)) z ∙ setup_begins i k
+          ∙ ap (λ n. behind is_multiple (begun i) (numbers_from 0 n)) (sym a);
     }
-setup_stored_all b m limit i (stood.Untaken zero) before after c h = let l = h.grew in absurd (omega (arith, l))
-setup_stored_all b m limit i (stood.Untaken (suc k)) before after c h =
+begun_stored b m limit i (stood.Untaken zero) before new c h = let l = h.grew in absurd (omega (arith, l))
+begun_stored b m limit i (stood.Untaken (suc k)) before new c h =
     let a : suc k - 0 ≡ suc k = omega arith in
     let z : suc k - suc 0 ≡ k = omega arith in
     record {
       going = h.going;
       within = tt;
-      positions = h.counts ∙ ap (λ ns. ns ++ multiples_from i 1 (suc k - suc 0)) c ∙ ap (λ n. 0 ∷ multiples_from i 1 n) z ∙ setup_begins i k ∙ ap (multiples_from i 0) (sym a);
+      positions = h.counts ∙ ap (λ t. behind is_multiple t (numbers_from 1 (suc k - suc 0))) c ∙ ap (λ n. behind is_multiple (with_count 0 (begun i)) (numbers_from 1 n)) z ∙ setup_begins i k
+          ∙ ap (λ n. behind is_multiple (begun i) (numbers_from 0 n)) (sym a);
     }
-setup_stored_all b m limit i stood.Ending before after c h = setup_left_all b m limit i before after c h
+begun_stored b m limit i stood.Ending before new c h = begun_left b m limit i before new c h
+
+pub setup_left_all : (b : Behaviour) (m : Answers) (limit : ℕ) (old before new : Timeline Position) → IsBegun old → counts_in before ≡ with_count 0 (begun old.first) → HasLeft 0 before new (run_to b m limit)
+    → counts_in new ≡ positions_after b m limit (counts_in old)
+setup_left_all b m limit old before new none c h = begun_left b m limit old.first before new c h ∙ ap (positions_after b m limit) (sym (ap counts_in none))
+
+pub setup_stored_all : (b : Behaviour) (m : Answers) (limit : ℕ) (at : Stood) (old before new : Timeline Position) → IsBegun old → counts_in before ≡ with_count 0 (begun old.first) → HasBegun b m 0 at before new (run_to b m limit)
+    → HasStored b m limit (counts_in old) at (counts_in new)
+setup_stored_all b m limit at old before new none c h = subst (λ (t : Timeline ℕ). HasStored b m limit t at (counts_in new)) (sym (ap counts_in none)) (begun_stored b m limit old.first at before new c h)
 
 -- the position of event zero alone
-pub first_counts : (w : World) (old new : List Position) → old ≡ [] → new ≡ old ++ kept_if true (position_of w) → w.count ≡ 0 → counts_of new ≡ 0 ∷ []
-first_counts w old new none e count = ap counts_of (e ∙ ap (λ ps. ps ++ position_of w ∷ []) none) ∙ ap (λ n. n ∷ []) count
+pub first_counts : (w : World) (old new : Timeline Position) → IsBegun old → new ≡ taken_if true (position_of w) old → w.count ≡ 0 → counts_in new ≡ with_count 0 (begun old.first)
+first_counts w old new none e count = one_stored true (position_of w) old new e ∙ ap (with_count w.count) (ap counts_in none) ∙ ap (λ n. with_count n (begun old.first)) count
+
+pub first_below : (n i : ℕ) (new : Timeline Position) → 0 < n → counts_in new ≡ with_count 0 (begun i) → AreBelow n new.stored
+first_below n i new l e = of_counts n new.stored (subst (λ (t : Timeline ℕ). Below n t.stored) (sym e) (l, tt))
 
 -- nothing is stored yet
-pub none_stored : (b : Behaviour) (m : Answers) (limit i : ℕ) (at : Stood) (ps : List Position) → at ≡ stood.Before → ps ≡ [] → HasStored b m limit i [] at (counts_of ps)
-none_stored b m limit i at ps e none = subst (λ (x : Stood). HasStored b m limit i [] x (counts_of ps)) (sym e) (refl, ap counts_of none)
+pub none_stored : (b : Behaviour) (m : Answers) (limit : ℕ) (at : Stood) (old new : Timeline Position) → at ≡ stood.Before → IsBegun old → new ≡ old → HasStored b m limit (counts_in old) at (counts_in new)
+none_stored b m limit at old new e none same =
+    let is : counts_in old ≡ begun old.first = ap counts_in none in
+    subst (λ (t : Timeline ℕ). HasStored b m limit t at (counts_in new)) (sym is) (subst (λ (x : Stood). HasStored b m limit (begun old.first) x (counts_in new)) (sym e) (refl, ap counts_in same ∙ is))
 
 -- the first position could not be taken
-pub first_untaken : (b : Behaviour) (m : Answers) (limit i : ℕ) (at : Stood) (ps : List Position) → at ≡ stood.Untaken 0 → CanGoOn b m 0 → ps ≡ [] → HasStored b m limit i [] at (counts_of ps)
-first_untaken b m limit i at ps e going none =
+pub first_untaken : (b : Behaviour) (m : Answers) (limit : ℕ) (at : Stood) (old new : Timeline Position) → at ≡ stood.Untaken 0 → CanGoOn b m 0 → IsBegun old → new ≡ old → HasStored b m limit (counts_in old) at (counts_in new)
+first_untaken b m limit at old new e going none same =
     let z : 0 - 0 ≡ 0 = omega arith in
-    subst (λ (x : Stood). HasStored b m limit i [] x (counts_of ps)) (sym e) (record { going = going; within = tt; positions = ap counts_of none ∙ ap (multiples_from i 0) (sym z) })
+    let is : counts_in old ≡ begun old.first = ap counts_in none in
+    subst (λ (t : Timeline ℕ). HasStored b m limit t at (counts_in new)) (sym is) (subst (λ (x : Stood). HasStored b m limit (begun old.first) x (counts_in new)) (sym e) (record {
+      going = going;
+      within = tt;
+      positions = ap counts_in same ∙ is ∙ ap (λ n. behind is_multiple (begun old.first) (numbers_from 0 n)) (sym z);
+    }))
 
 -- a fault in event zero leaves none
-pub fault_left : (b : Behaviour) (m : Answers) (limit i : ℕ) (w : World) (outcome : Outcome) (ps : List Position) → ps ≡ [] → run_to b m limit ≡ record { world = w; outcome = outcome } → w.count ≡ 0 → is_fault outcome ≡ true
-    → counts_of ps ≡ positions_after b m limit i []
-fault_left b m limit i w outcome ps none ran c f =
-    subst (λ (r : Ran). counts_of ps ≡ positions_left i [] None r.world.count (is_fault r.outcome)) (sym ran)
-    (rw (c, f) (ap counts_of none ∙ sym (fault_leaves i)))
+pub fault_left : (b : Behaviour) (m : Answers) (limit : ℕ) (w : World) (outcome : Outcome) (old new : Timeline Position) → IsBegun old → new ≡ old → run_to b m limit ≡ record { world = w; outcome = outcome } → w.count ≡ 0 → is_fault outcome ≡ true
+    → counts_in new ≡ positions_after b m limit (counts_in old)
+fault_left b m limit w outcome old new none same ran c f =
+    let is : counts_in old ≡ begun old.first = ap counts_in none in
+    subst (λ (r : Ran). counts_in new ≡ positions_left (counts_in old) (start_of limit (counts_in old).stored) r.world.count (is_fault r.outcome)) (sym ran)
+    (subst (λ (t : Timeline ℕ). counts_in new ≡ positions_left t (start_of limit t.stored) w.count (is_fault outcome)) (sym is)
+    (rw (c, f) (ap counts_in same ∙ is ∙ sym (fault_leaves old.first))))

@@ -1,5 +1,5 @@
 -- Stored positions stay good: while a run goes on, behind an edit, and where a run goes back.
-use Rattle.std.proofs.Common.{◌≡◌, ℕ, suc, ◌≤◌, ◌<◌, nat_le, Bool, true, false, cond, List, [], ◌∷◌, ◌++◌, Some, map, length, take, refl, sym, ap, ◌∙◌, arith, subst, append-nil}
+use Rattle.std.proofs.Common.{◌≡◌, ℕ, suc, ◌≤◌, ◌<◌, nat_le, Bool, true, false, cond, List, [], ◌∷◌, ◌++◌, Some, map, length, take, refl, sym, ap, ◌∙◌, arith, subst, append-nil, nat_lt, if◌then◌else◌}
 use Rattle.std.proofs.Math.Seq.{take-append_seam}
 use Rattle.std.proofs.lemmas.Bool.Decides.{nat_tests}
 use Rattle.module_api.specs.Behaviour.{Behaviour}
@@ -11,14 +11,15 @@ use Rattle.run_semantics.specs.Laws.{GoesOn, AreStates}
 use Rattle.run_semantics.specs.Run.{Running, after, standing, world_at}
 use Rattle.run_semantics.specs.World.{World, HasRoom}
 use Rattle.run_semantics.proofs.States.{states_of_run}
-use Rattle.checkpoints.specs.Stored.{up_to, last_of, last_from, AreBelow, AreRising}
+use Rattle.std.specs.List.{filter}
+use Rattle.checkpoints.specs.Stored.{doubled, most_stored, stays as stays_at, thinned, up_to, last_of, last_from, AreBelow, AreRising, Timeline}
 use Rattle.kernel_actions.specs.declared.position.Position.{Position}
 use Rattle.saved_boxes.specs.Saved.{CanTake}
 use Rattle.kernel_actions.specs.Positions.{cut_to, lengths_of, position_of, world_back, IsGrownFrom, IsSameBesideModules}
 use Rattle.saved_boxes.specs.Seats.{Seat, instance_of, AreKept, AreOfKinds}
 use Rattle.kernel_actions.proofs.Growing.{growth_on, run_grows}
 use Rattle.kernel_actions.proofs.Positions.{back_when_grown}
-use Rattle.checkpointed_runs.specs.Kept.{kept_if, AreGood, IsGood}
+use Rattle.checkpointed_runs.specs.Kept.{taken_if, AreGood, IsGood}
 use Rattle.checkpointed_runs.specs.Positions.{CanGoOn}
 use Rattle.checkpointed_runs.proofs.Counting.{below_up_to, last_within}
 
@@ -68,24 +69,37 @@ taken_good b m ss w going room modules = record {
   same = ap standing (sym modules);
 }
 
--- one more, where it is due
-pub good_stored : (b : Behaviour) (m : Answers) (ss : List Seat) (w : World) (due : Bool) (old new : List Position) → (due ≡ true → Running w ≡ after b m w.count) → HasRoom w → w.modules ≡ map instance_of ss
-    → new ≡ old ++ kept_if due (position_of w) → AreGood b m ss w old → AreGood b m ss w new
-good_stored b m ss w due old new going room modules e h = subst (AreGood b m ss w) (sym e) (by due going)
+-- some of them
+good_some : (b : Behaviour) (m : Answers) (ss : List Seat) (w : World) (test : Position → Bool) (ps : List Position) → AreGood b m ss w ps → AreGood b m ss w (filter test ps)
+good_some b m ss w test [] h = tt
+good_some b m ss w test (p ∷ ps) h = by (test p) (good_some b m ss w test ps h.1)
   where
-    by : (due : Bool) → (due ≡ true → Running w ≡ after b m w.count) → AreGood b m ss w (old ++ kept_if due (position_of w))
-    by true going = good_more b m ss w old (position_of w) h (taken_good b m ss w (going refl) room modules)
-    by false going = subst (AreGood b m ss w) (sym (append-nil old)) h
+    by : (t : Bool) → AreGood b m ss w (filter test ps) → AreGood b m ss w (cond t (p ∷ filter test ps) (filter test ps))
+    by true rest = (h.0, rest)
+    by false rest = rest
+
+good_thinned : (b : Behaviour) (m : Answers) (ss : List Seat) (w : World) (newest : ℕ) (t : Timeline Position) → AreGood b m ss w t.stored → AreGood b m ss w (thinned (λ (p : Position). p.count) newest t).stored
+good_thinned b m ss w newest t h = by (nat_lt most_stored (length t.stored))
+  where
+    by : (test : Bool) → AreGood b m ss w (Timeline.stored (if test then record { first = t.first; interval = doubled t.interval; stored = filter (λ (p : Position). stays_at (doubled t.interval) newest p.count) t.stored } else t))
+    by true = good_some b m ss w (λ (p : Position). stays_at (doubled t.interval) newest p.count) t.stored h
+    by false = h
+
+-- one more, where it is due
+pub good_stored : (b : Behaviour) (m : Answers) (ss : List Seat) (w : World) (due : Bool) (old new : Timeline Position) → (due ≡ true → Running w ≡ after b m w.count) → HasRoom w → w.modules ≡ map instance_of ss
+    → new ≡ taken_if due (position_of w) old → AreGood b m ss w old.stored → AreGood b m ss w new.stored
+good_stored b m ss w due old new going room modules e h = subst (λ (t : Timeline Position). AreGood b m ss w t.stored) (sym e) (by due going)
+  where
+    by : (due : Bool) → (due ≡ true → Running w ≡ after b m w.count) → AreGood b m ss w (taken_if due (position_of w) old).stored
+    by true going =
+        good_thinned b m ss w w.count (record { first = old.first; interval = old.interval; stored = old.stored ++ position_of w ∷ [] })
+        (good_more b m ss w old.stored (position_of w) h (taken_good b m ss w (going refl) room modules))
+    by false going = h
 
 -- ---- those up to an event
 
 pub good_up_to : (b : Behaviour) (m : Answers) (ss : List Seat) (w : World) (v : ℕ) (ps : List Position) → AreGood b m ss w ps → AreGood b m ss w (up_to v ps)
-good_up_to b m ss w v [] h = tt
-good_up_to b m ss w v (p ∷ ps) h = by (nat_le p.count v) (good_up_to b m ss w v ps h.1)
-  where
-    by : (t : Bool) → AreGood b m ss w (up_to v ps) → AreGood b m ss w (cond t (p ∷ up_to v ps) (up_to v ps))
-    by true rest = (h.0, rest)
-    by false rest = rest
+good_up_to b m ss w v ps h = good_some b m ss w (λ (p : Position). nat_le p.count v) ps h
 
 good_last_from : (b : Behaviour) (m : Answers) (ss : List Seat) (w : World) (p : Position) (ps : List Position) → IsGood b m ss w p → AreGood b m ss w ps → IsGood b m ss w (last_from p ps)
 good_last_from b m ss w p [] g h = g

@@ -3,3 +3,4 @@ pub mod Filling
 pub mod Going
 pub mod Good
 pub mod Whole
+pub mod Few

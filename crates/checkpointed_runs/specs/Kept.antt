@@ -1,7 +1,6 @@
 -- Stored positions, and how a run leaves them.
-use Rattle.std.specs.Prelude.{◌≡◌, ◌⊎◌, ◌≤◌, ℕ, suc, ◌-◌, ◌<◌, ◌&&◌, nat_lt, not, Bool, true, false, List, [], ◌∷◌, ◌++◌, Option, Some, None, map}
-use Rattle.std.specs.List.{filter}
-use Rattle.checkpoints.specs.Stored.{counts_of, up_to, AreBelow}
+use Rattle.std.specs.Prelude.{◌≡◌, ◌⊎◌, ◌≤◌, ℕ, suc, ◌-◌, ◌<◌, ◌&&◌, nat_lt, not, Bool, true, false, List, [], ◌∷◌, Option, Some, None, map, if◌then◌else◌}
+use Rattle.checkpoints.specs.Stored.{counts_in, cut_after, ends_at, begun, is_multiple, with_position, AreBelow, Timeline}
 use Rattle.kernel_actions.specs.declared.position.Position.{Position}
 use Rattle.saved_boxes.specs.Seats.{Members}
 use Rattle.kernel.specs.Kernels.{seats_in, world_in}
@@ -12,7 +11,7 @@ use Rattle.run_questions.specs.Answers.{Answers}
 use Rattle.run_semantics.specs.declared.outcome.Outcome.{Outcome}
 use Rattle.run_semantics.specs.Run.{Running, Ran, after, standing, is_fault}
 use Rattle.run_semantics.specs.World.{World, HasRoom}
-use Rattle.checkpointed_runs.specs.Positions.{CanGoOn, is_left, is_multiple, multiples_from, numbers_from}
+use Rattle.checkpointed_runs.specs.Positions.{behind, CanGoOn, is_left, numbers_from}
 use Rattle.checkpointed_runs.specs.declared.running.Runner.{Runner}
 use Rattle.checkpointed_runs.specs.declared.running.Stood.{Stood}
 use Rattle.checkpointed_runs.specs.declared.running.Stood.TheVariants as stood
@@ -31,10 +30,10 @@ abbrev pub AreGood : Behaviour → Answers → List Seat → World → List Posi
 AreGood b m seats w [] = Unit {0}
 AreGood b m seats w (p ∷ ps) = IsGood b m seats w p × AreGood b m seats w ps
 
--- those up to an event; up to none there is none
-abbrev pub kept_up_to : Option ℕ → List Position → List Position
-kept_up_to None ps = []
-kept_up_to (Some event) ps = up_to event ps
+-- those up to an event are left; up to none there is none
+abbrev pub kept_up_to : Option ℕ → Timeline Position → Timeline Position
+kept_up_to None t = begun t.first
+kept_up_to (Some event) t = cut_after event t
 
 -- the lists that only grow, cut to what a position has of them
 abbrev pub cut_to_last : Option Position → World → World
@@ -43,53 +42,52 @@ cut_to_last (Some p) w = cut_to p.lengths w
 
 -- ---- how a run adds to them
 
--- it alone, where it is due
-abbrev pub kept_if : Bool → Position → List Position
-kept_if true p = p ∷ []
-kept_if false p = []
+-- it is taken, where it is due
+abbrev pub taken_if : Bool → Position → Timeline Position → Timeline Position
+taken_if due p t = if due then with_position p t else t
 
 -- of events up to this one, those that did not end in a fault
 abbrev pub lasting : Bool → ℕ → ℕ
 lasting true last = last - 1
 lasting false last = last
 
--- whether a run that went on from so many events owes a position after its last one, which no multiple of the interval is
-abbrev pub is_owed : ℕ → ℕ → Bool → ℕ → Bool
-is_owed interval from faulted last = not faulted && (nat_lt from last && not (is_multiple interval last))
+-- whether a run that went on from so many events owes a position after its last one: where none is taken there
+abbrev pub is_owed : ℕ → Bool → ℕ → List ℕ → Bool
+is_owed from faulted last counts = not faulted && (nat_lt from last && not (ends_at last counts))
 
 -- A run went on from so many events to its end: behind the positions that there were stand those of the multiples. Where it did not end in a fault it
 -- could go on from there.
-pub record HasGoneOn (b : Behaviour) (m : Answers) (interval from : ℕ) (before new : List Position) (w : World) (outcome : Outcome) : Type 0 where
+pub record HasGoneOn (b : Behaviour) (m : Answers) (from : ℕ) (before new : Timeline Position) (w : World) (outcome : Outcome) : Type 0 where
   pub grew : from ≤ w.count
   pub faulted : is_fault outcome ≡ true → from < w.count
   pub lasts : is_fault outcome ≡ false → Running w ≡ after b m w.count
-  pub counts : counts_of new ≡ counts_of before ++ multiples_from interval (suc from) (lasting (is_fault outcome) w.count - from)
+  pub counts : counts_in new ≡ behind is_multiple (counts_in before) (numbers_from (suc from) (lasting (is_fault outcome) w.count - from))
 
 -- behind them stand its own; a fault is that of an event behind where it went on
-pub record HasLeft (interval from : ℕ) (before after : List Position) (ran : Ran) : Type 0 where
+pub record HasLeft (from : ℕ) (before new : Timeline Position) (ran : Ran) : Type 0 where
   pub grew : from ≤ ran.world.count
   pub faulted : is_fault ran.outcome ≡ true → from < ran.world.count
-  pub counts : counts_of after ≡ counts_of before ++ filter (is_left interval ran.world.count (is_fault ran.outcome)) (numbers_from (suc from) (ran.world.count - from))
+  pub counts : counts_in new ≡ behind (is_left ran.world.count (is_fault ran.outcome)) (counts_in before) (numbers_from (suc from) (ran.world.count - from))
 
 -- It has executed so many events, at least this many; behind them stand the multiples among so many numbers.
-pub record HasGone (b : Behaviour) (m : Answers) (interval from least k more : ℕ) (before after : List Position) : Type 0 where
+pub record HasGone (b : Behaviour) (m : Answers) (from least k more : ℕ) (before new : Timeline Position) : Type 0 where
   pub going : CanGoOn b m k
   pub grew : least ≤ k
-  pub counts : counts_of after ≡ counts_of before ++ multiples_from interval (suc from) more
+  pub counts : counts_in new ≡ behind is_multiple (counts_in before) (numbers_from (suc from) more)
 
 -- what stands behind them, by where the run stands that went on from so many events
-abbrev pub HasBegun : Behaviour → Answers → ℕ → ℕ → Stood → List Position → List Position → Ran → Type 0
-HasBegun b m interval from stood.Before before after ran = ⊥
-HasBegun b m interval from (stood.After k) before after ran = HasGone b m interval from from k (k - from) before after
-HasBegun b m interval from (stood.Untaken k) before after ran = HasGone b m interval from (suc from) k (k - suc from) before after
-HasBegun b m interval from stood.Ending before after ran = HasLeft interval from before after ran
+abbrev pub HasBegun : Behaviour → Answers → ℕ → Stood → Timeline Position → Timeline Position → Ran → Type 0
+HasBegun b m from stood.Before before new ran = ⊥
+HasBegun b m from (stood.After k) before new ran = HasGone b m from from k (k - from) before new
+HasBegun b m from (stood.Untaken k) before new ran = HasGone b m from (suc from) k (k - suc from) before new
+HasBegun b m from stood.Ending before new ran = HasLeft from before new ran
 
 -- ---- in a runner
 
 module _ {C X : Type 0} {Y : X → Type 0} where
   -- its positions are good
   abbrev pub HasGood : Behaviour → Answers → Members X Y → Runner C X Y → Type 0
-  HasGood b m members r = AreGood b m (seats_in members r.kernel) (world_in members r.kernel) r.positions
+  HasGood b m members r = AreGood b m (seats_in members r.kernel) (world_in members r.kernel) r.positions.stored
 
   -- the run of the model goes on from where its kernel stands, which is up to the limit; numbers are far from running out
   pub record IsGoing (b : Behaviour) (m : Answers) (members : Members X Y) (limit : ℕ) (r : Runner C X Y) : Type 0 where
@@ -97,16 +95,15 @@ module _ {C X : Type 0} {Y : X → Type 0} where
     pub within : (world_in members r.kernel).count ≤ limit
     pub room : HasRoom (world_in members r.kernel)
     pub good : HasGood b m members r
-    pub below : AreBelow (suc (world_in members r.kernel).count) r.positions
-    pub interval : 1 ≤ r.interval
+    pub below : AreBelow (suc (world_in members r.kernel).count) r.positions.stored
     pub stood : r.stood ≡ stood.After (world_in members r.kernel).count
 
   -- Where there is a start the run goes on from there, and of the positions those up to it are left; else nothing has changed.
   abbrev pub IsBack : Behaviour → Answers → Members X Y → ℕ → Runner C X Y → Runner C X Y → Option ℕ → Type 0
   IsBack b m members limit before after None = after ≡ before
   IsBack b m members limit before after (Some start) =
-      IsGoing b m members limit after × ((world_in members after.kernel).count ≡ start) × (after.positions ≡ up_to start before.positions)
+      IsGoing b m members limit after × ((world_in members after.kernel).count ≡ start) × (after.positions ≡ cut_after start before.positions)
 
   -- all but its kernel stays
   abbrev pub IsBesideKernel : Runner C X Y → Runner C X Y → Type 0
-  IsBesideKernel before after = (after.positions ≡ before.positions) × (after.interval ≡ before.interval) × (after.stood ≡ before.stood)
+  IsBesideKernel before after = (after.positions ≡ before.positions) × (after.stood ≡ before.stood)

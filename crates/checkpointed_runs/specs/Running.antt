@@ -17,7 +17,8 @@ use Rattle.checkpointed_runs.specs.declared.running.Advance.{Advance}
 use Rattle.checkpointed_runs.specs.declared.running.Advance.TheVariants as advance
 use Rattle.checkpointed_runs.specs.declared.running.Standing.{Standing}
 use Rattle.checkpointed_runs.specs.declared.running.Standing.TheVariants as stands
-use Rattle.checkpointed_runs.specs.Positions.{positions_after, start_of, starts_within}
+use Rattle.checkpoints.specs.Stored.{Timeline}
+use Rattle.checkpointed_runs.specs.Positions.{cut, positions_after, start_of, starts_within}
 
 -- A FRESH RUN of the model, stopped after at most so many events, with its ending
 abbrev pub fresh_run : Behaviour → Answers → ℕ → Ran
@@ -100,23 +101,23 @@ Wants m kept phase (stands.Over outcome) = (phase ≡ Declined) ⊎ (wanted_by m
 Wants m kept phase stands.Ready = (phase ≡ Declined) ⊎ (wanted_by m kept ≡ None)
 
 -- a run waits with the boxes that it kept, as it begins with setup; no position is stored
-pub record IsWaiting (b : Behaviour) (m : Answers) (limit kept : ℕ) (phase : Phase) (old : List ℕ) (w : World) (new : List ℕ) (request : Request) : Type 0 where
+pub record IsWaiting (b : Behaviour) (m : Answers) (limit kept : ℕ) (phase : Phase) (old : Timeline ℕ) (w : World) (new : Timeline ℕ) (request : Request) : Type 0 where
   pub filled : IsFilled b m w
   pub kept_is : length w.modules ≡ kept
   pub undeclined : IsUndeclined phase
   pub wanted : wanted_by m kept ≡ Some request
-  pub start : start_of limit old ≡ None
-  pub positions : new ≡ []
+  pub start : start_of limit old.stored ≡ None
+  pub positions : new ≡ cut None old
 
 -- a run is done that began there, and it has left its positions
-pub record IsEnded (b : Behaviour) (m : Answers) (limit interval kept : ℕ) (phase : Phase) (old : List ℕ) (w : World) (new : List ℕ) (from : Option ℕ) (outcome : Outcome) : Type 0 where
+pub record IsEnded (b : Behaviour) (m : Answers) (limit kept : ℕ) (phase : Phase) (old : Timeline ℕ) (w : World) (new : Timeline ℕ) (from : Option ℕ) (outcome : Outcome) : Type 0 where
   pub whole : whole_run b m limit w outcome
-  pub start : from ≡ start_of limit old
+  pub start : from ≡ start_of limit old.stored
   pub within : starts_within from w.count
-  pub needs_none : (phase ≡ Declined) ⊎ (needed_by m (start_of limit old) kept ≡ None)
-  pub positions : new ≡ positions_after b m limit interval old
+  pub needs_none : (phase ≡ Declined) ⊎ (needed_by m (start_of limit old.stored) kept ≡ None)
+  pub positions : new ≡ positions_after b m limit old
 
 -- where a run is after it was asked for, with the positions before and after
-abbrev pub Advances : Behaviour → Answers → ℕ → ℕ → ℕ → Phase → List ℕ → World → List ℕ → Advance → Type 0
-Advances b m limit interval kept phase old w new (advance.Waits request) = IsWaiting b m limit kept phase old w new request
-Advances b m limit interval kept phase old w new (advance.Ends from outcome) = IsEnded b m limit interval kept phase old w new from outcome
+abbrev pub Advances : Behaviour → Answers → ℕ → ℕ → Phase → Timeline ℕ → World → Timeline ℕ → Advance → Type 0
+Advances b m limit kept phase old w new (advance.Waits request) = IsWaiting b m limit kept phase old w new request
+Advances b m limit kept phase old w new (advance.Ends from outcome) = IsEnded b m limit kept phase old w new from outcome

@@ -1,4 +1,5 @@
 //! Runs of a model that begin with setup or at a stored position, and leave positions.
 #![tactic(auto)]
 
+pub mod laws;
 pub mod running;

@@ -1,15 +1,15 @@
 //! A run, from setup or from a position, and the positions that it leaves.
 
-ghost use Rattle.std.specs.Prelude.{◌≡◌, ◌++◌, ◌≤◌, true, None, [], OnOk, OnErr, IfOk, length};
+ghost use Rattle.std.specs.Prelude.{◌≡◌, ◌≤◌, ◌&&◌, nat_lt, not, true, None, OnOk, OnErr, IfOk, length};
 ghost use Rattle.model_answers.specs.Answering.{answers_of};
 ghost use Rattle.run_semantics.specs.Perform.{On};
 ghost use Rattle.run_semantics.specs.Run.{ready, run_to};
 ghost use Rattle.kernel_actions.specs.Positions.{position_of};
 ghost use Rattle.kernel.specs.Kernels.{seats_in, world_in, ran_in, HasKinds};
-ghost use Rattle.checkpoints.specs.Stored.{counts_of, last_of, AreBelow, AreRising};
+ghost use Rattle.checkpoints.specs.Stored.{counts_in, counts_of, is_multiple, last_of, AreBelow, AreRising, IsBegun};
 ghost use Rattle.checkpointed_runs.specs.Running.{fresh_run, kept_boxes, Advances, IsDeclined, IsFilled, IsLive, IsStopped, IsUndeclined, Stands, Wants};
-ghost use Rattle.checkpointed_runs.specs.Kept.{cut_to_last, is_owed, kept_if, kept_up_to, HasBegun, HasGood, HasGoneOn, HasLeft, IsBack, IsBesideKernel, IsGoing};
-ghost use Rattle.checkpointed_runs.specs.Positions.{is_multiple, last_count, positions_after, start_of, HasStored};
+ghost use Rattle.checkpointed_runs.specs.Kept.{cut_to_last, kept_up_to, taken_if, HasBegun, HasGood, HasGoneOn, HasLeft, IsBack, IsBesideKernel, IsGoing};
+ghost use Rattle.checkpointed_runs.specs.Positions.{last_count, positions_after, start_of, HasStored};
 ghost use Rattle.checkpointed_runs.specs.declared.running.Phase.{Phase};
 ghost use Rattle.checkpointed_runs.specs.declared.running.Stood.{Stood};
 
@@ -73,9 +73,8 @@ pub enum Advance {
 /// The kernel of a session, and the positions to which it can go back.
 pub struct Runner<C: Catalogue> {
     pub kernel: Kernel<C>,
+    /// With the interval: after each multiple of so many events a run leaves a position.
     pub positions: Positions,
-    /// After each multiple of so many events a run leaves a position.
-    pub interval: u64,
     /// Where the run stands that was asked for last.
     pub stood: Stood,
     /// What the kernel holds, so that contracts can name what boxes say of themselves.
@@ -88,7 +87,6 @@ impl<C: Catalogue> Drop for Runner<C> {
         let Runner {
             kernel: _,
             positions: _,
-            interval: _,
             stood: _,
             holds: _,
         } = self;
@@ -184,11 +182,10 @@ impl<C: Catalogue> Runner<C> {
     /// Stores the position where the run stands, if it is due, and notes where that is. Where memory runs out the stored ones stay.
     fn keep_if(&mut self, alloc: Global, due: bool) -> Result<(), NoMemory>
         requires below { due ≡ true
-            → AreBelow (world_in SimpleModule-box self.old.kernel).count self.old.positions }
-        ensures kept { (self.new.kernel ≡ self.old.kernel)
-            × (self.new.interval ≡ self.old.interval) }
+            → AreBelow (world_in SimpleModule-box self.old.kernel).count self.old.positions.stored }
+        ensures kept { self.new.kernel ≡ self.old.kernel }
         ensures ok { let position = position_of (world_in SimpleModule-box self.old.kernel) in
-            OnOk result (self.new.positions ≡ self.old.positions ++ kept_if due position) }
+            OnOk result (self.new.positions ≡ taken_if due position self.old.positions) }
         ensures stood { let count = (world_in SimpleModule-box self.old.kernel).count in
             OnOk result (self.new.stood ≡ Stood.After count) }
         ensures err { OnErr result (self.new.positions ≡ self.old.positions) }
@@ -211,15 +208,13 @@ impl<C: Catalogue> Runner<C> {
     fn go_back(&mut self, alloc: Global, model: &Model, limit: u64) -> Result<Option<u64>, NoMemory>
         requires kinds { HasKinds C.behaviour SimpleModule-box self.old.kernel }
         requires good { HasGood C.behaviour (answers_of model.now) SimpleModule-box self.old }
-        requires interval { 1 ≤ self.old.interval }
         ensures kinds { HasKinds C.behaviour SimpleModule-box self.new.kernel }
-        ensures interval { self.new.interval ≡ self.old.interval }
         ensures good { HasGood C.behaviour (answers_of model.now) SimpleModule-box self.new }
         ensures back { IfOk result (λ start.
-            (start ≡ start_of limit (counts_of self.old.positions))
+            (start ≡ start_of limit (counts_of self.old.positions.stored))
             × IsBack C.behaviour (answers_of model.now) SimpleModule-box limit self.old self.new start) }
-        ensures err { OnErr result (HasStored C.behaviour (answers_of model.now) limit self.old.interval
-            (counts_of self.old.positions) self.new.stood (counts_of self.new.positions)) }
+        ensures err { OnErr result (HasStored C.behaviour (answers_of model.now) limit (counts_in self.old.positions)
+            self.new.stood (counts_in self.new.positions)) }
     {
         let _model = model;
         let Some(position) = self.positions.at_most(limit) else {
@@ -234,14 +229,13 @@ impl<C: Catalogue> Runner<C> {
     }
 
     /// Gives up the positions behind an event, or all of them.
-    pub fn keep_up_to(&mut self, alloc: Global, event: Option<u64>)
+    pub fn keep_up_to(&mut self, event: Option<u64>)
         ensures kernel { self.new.kernel ≡ self.old.kernel }
-        ensures interval { self.new.interval ≡ self.old.interval }
         ensures positions { self.new.positions ≡ kept_up_to event self.old.positions }
     {
         match event {
             Some(event) => self.positions.cut_after(event),
-            None => self.positions = Positions::new(alloc),
+            None => self.positions.clear(),
         }
     }
 
@@ -251,13 +245,12 @@ impl<C: Catalogue> Runner<C> {
         requires { HasKinds C.behaviour SimpleModule-box self.old.kernel }
         ensures seats { seats_in SimpleModule-box self.new.kernel
             ≡ seats_in SimpleModule-box self.old.kernel }
-        ensures interval { self.new.interval ≡ self.old.interval }
         ensures positions { self.new.positions ≡ self.old.positions }
         ensures stood { self.new.stood ≡ self.old.stood }
-        ensures rising { AreRising self.old.positions }
-        ensures last { result ≡ last_count (counts_of self.old.positions) }
+        ensures rising { AreRising self.old.positions.stored }
+        ensures last { result ≡ last_count (counts_of self.old.positions.stored) }
         ensures world { world_in SimpleModule-box self.new.kernel
-            ≡ cut_to_last (last_of self.old.positions) (world_in SimpleModule-box self.old.kernel) }
+            ≡ cut_to_last (last_of self.old.positions.stored) (world_in SimpleModule-box self.old.kernel) }
     {
         let Some(position) = self.positions.last() else {
             return None;
@@ -268,23 +261,23 @@ impl<C: Catalogue> Runner<C> {
 
     // ---- events
 
-    /// Goes on to the limit or to an end. After each event whose number is a multiple of the interval, a position is stored.
+    /// Goes on to the limit or to an end. After each event whose number is a multiple of the interval as it is then, a position is
+    /// stored.
     fn go_on(&mut self, alloc: Global, model: &Model, limit: u64) -> Result<Outcome, NoMemory>
         requires going { IsGoing C.behaviour (answers_of model.now) SimpleModule-box limit self.old }
         requires kinds { HasKinds C.behaviour SimpleModule-box self.old.kernel }
         ensures kinds { HasKinds C.behaviour SimpleModule-box self.new.kernel }
-        ensures interval { self.new.interval ≡ self.old.interval }
         ensures good { HasGood C.behaviour (answers_of model.now) SimpleModule-box self.new }
         ensures begun { let from = (world_in SimpleModule-box self.old.kernel).count in
             let ran = run_to C.behaviour (answers_of model.now) limit in
-            OnErr result (HasBegun C.behaviour (answers_of model.now) self.old.interval from self.new.stood
-            self.old.positions self.new.positions ran) }
+            OnErr result (HasBegun C.behaviour (answers_of model.now) from self.new.stood self.old.positions
+            self.new.positions ran) }
         ensures ran { IfOk result (λ outcome. IsStopped C.behaviour (answers_of model.now) limit
             (ran_in SimpleModule-box outcome self.new.kernel)) }
         ensures stored { let from = (world_in SimpleModule-box self.old.kernel).count in
             let left = world_in SimpleModule-box self.new.kernel in
-            IfOk result (λ outcome. HasGoneOn C.behaviour (answers_of model.now) self.old.interval from
-            self.old.positions self.new.positions left outcome) }
+            IfOk result (λ outcome. HasGoneOn C.behaviour (answers_of model.now) from self.old.positions
+            self.new.positions left outcome) }
     {
         let last_time = time_limit(model);
         let mut shown = ShownModules::new(alloc);
@@ -292,7 +285,7 @@ impl<C: Catalogue> Runner<C> {
             if let Some(outcome) = self.kernel.step(alloc, model, last_time, &mut shown)? {
                 return Ok(outcome);
             }
-            let due = is_multiple(self.interval, self.kernel.count());
+            let due = is_multiple(self.positions.interval(), self.kernel.count());
             self.keep_if(alloc, due)?;
         }
         Ok(self.kernel.outcome_of(None))
@@ -303,21 +296,21 @@ impl<C: Catalogue> Runner<C> {
         requires going { IsGoing C.behaviour (answers_of model.now) SimpleModule-box limit self.old }
         requires kinds { HasKinds C.behaviour SimpleModule-box self.old.kernel }
         ensures kinds { HasKinds C.behaviour SimpleModule-box self.new.kernel }
-        ensures interval { self.new.interval ≡ self.old.interval }
         ensures good { HasGood C.behaviour (answers_of model.now) SimpleModule-box self.new }
         ensures ran { IfOk result (λ outcome. fresh_run C.behaviour (answers_of model.now) limit
             ≡ ran_in SimpleModule-box outcome self.new.kernel) }
         ensures left { let from = (world_in SimpleModule-box self.old.kernel).count in
             let ran = run_to C.behaviour (answers_of model.now) limit in
-            OnOk result (HasLeft self.old.interval from self.old.positions self.new.positions ran) }
+            OnOk result (HasLeft from self.old.positions self.new.positions ran) }
         ensures stopped { let from = (world_in SimpleModule-box self.old.kernel).count in
             let ran = run_to C.behaviour (answers_of model.now) limit in
-            HasBegun C.behaviour (answers_of model.now) self.old.interval from self.new.stood
-            self.old.positions self.new.positions ran }
+            HasBegun C.behaviour (answers_of model.now) from self.new.stood self.old.positions
+            self.new.positions ran }
     {
         let from = self.kernel.count();
         let outcome = self.go_on(alloc, model, limit)?;
-        let due = is_owed(self.interval, from, outcome.is_fault(), self.kernel.count());
+        let last = self.kernel.count();
+        let due = is_owed(from, outcome.is_fault(), last, self.positions.ends_at(last));
         self.keep_if(alloc, due)?;
         self.stood = Stood::Ending;
         self.kernel.finish(alloc, model, outcome)
@@ -329,18 +322,16 @@ impl<C: Catalogue> Runner<C> {
             On world ≡ ready C.behaviour (answers_of model.now) }
         requires next { (world_in SimpleModule-box self.old.kernel).next ≡ 0 }
         requires kinds { HasKinds C.behaviour SimpleModule-box self.old.kernel }
-        requires interval { 1 ≤ self.old.interval }
-        requires none { self.old.positions ≡ [] }
+        requires none { IsBegun self.old.positions }
         requires stood { self.old.stood ≡ Stood.Before }
         ensures kinds { HasKinds C.behaviour SimpleModule-box self.new.kernel }
-        ensures interval { self.new.interval ≡ self.old.interval }
         ensures good { HasGood C.behaviour (answers_of model.now) SimpleModule-box self.new }
         ensures ran { IfOk result (λ outcome. fresh_run C.behaviour (answers_of model.now) limit
             ≡ ran_in SimpleModule-box outcome self.new.kernel) }
-        ensures left { OnOk result (counts_of self.new.positions
-            ≡ positions_after C.behaviour (answers_of model.now) limit self.old.interval []) }
-        ensures stopped { HasStored C.behaviour (answers_of model.now) limit self.old.interval [] self.new.stood
-            (counts_of self.new.positions) }
+        ensures left { OnOk result (counts_in self.new.positions
+            ≡ positions_after C.behaviour (answers_of model.now) limit (counts_in self.old.positions)) }
+        ensures stopped { HasStored C.behaviour (answers_of model.now) limit (counts_in self.old.positions)
+            self.new.stood (counts_in self.new.positions) }
     {
         match self.kernel.start(alloc, model)? {
             Some(outcome) => self.kernel.finish(alloc, model, outcome),
@@ -362,20 +353,18 @@ impl<C: Catalogue> Runner<C> {
         requires live { let world = world_in SimpleModule-box self.old.kernel in
             IsLive C.behaviour (answers_of model.now) world phase }
         requires kinds { HasKinds C.behaviour SimpleModule-box self.old.kernel }
-        requires interval { 1 ≤ self.old.interval }
-        requires none { self.old.positions ≡ [] }
+        requires none { IsBegun self.old.positions }
         requires stood { self.old.stood ≡ Stood.Before }
         ensures kinds { HasKinds C.behaviour SimpleModule-box self.new.kernel }
-        ensures interval { self.new.interval ≡ self.old.interval }
         ensures good { HasGood C.behaviour (answers_of model.now) SimpleModule-box self.new }
         ensures advances { let world = world_in SimpleModule-box self.old.kernel in
             let kept = kept_boxes phase (length world.modules) in
             let left = world_in SimpleModule-box self.new.kernel in
             IfOk result (λ advance.
-            Advances C.behaviour (answers_of model.now) limit self.old.interval kept phase [] left
-            (counts_of self.new.positions) advance) }
-        ensures stopped { HasStored C.behaviour (answers_of model.now) limit self.old.interval [] self.new.stood
-            (counts_of self.new.positions) }
+            Advances C.behaviour (answers_of model.now) limit kept phase (counts_in self.old.positions) left
+            (counts_in self.new.positions) advance) }
+        ensures stopped { HasStored C.behaviour (answers_of model.now) limit (counts_in self.old.positions)
+            self.new.stood (counts_in self.new.positions) }
     {
         match self.stand(alloc, model, phase)? {
             Standing::Over(outcome) => Ok(Advance::Ends(None, outcome)),
@@ -398,21 +387,17 @@ impl<C: Catalogue> Runner<C> {
         requires live { let world = world_in SimpleModule-box self.old.kernel in
             IsLive C.behaviour (answers_of model.now) world phase }
         requires kinds { HasKinds C.behaviour SimpleModule-box self.old.kernel }
-        requires interval { 1 ≤ self.old.interval }
         requires good { HasGood C.behaviour (answers_of model.now) SimpleModule-box self.old }
         ensures kinds { HasKinds C.behaviour SimpleModule-box self.new.kernel }
-        ensures interval { self.new.interval ≡ self.old.interval }
         ensures good { HasGood C.behaviour (answers_of model.now) SimpleModule-box self.new }
         ensures advances { let world = world_in SimpleModule-box self.old.kernel in
             let kept = kept_boxes phase (length world.modules) in
             let left = world_in SimpleModule-box self.new.kernel in
             IfOk result (λ advance.
-            Advances C.behaviour (answers_of model.now) limit self.old.interval kept phase
-            (counts_of self.old.positions) left
-            (counts_of self.new.positions) advance) }
-        ensures stopped { HasStored C.behaviour (answers_of model.now) limit self.old.interval
-            (counts_of self.old.positions) self.new.stood
-            (counts_of self.new.positions) }
+            Advances C.behaviour (answers_of model.now) limit kept phase (counts_in self.old.positions) left
+            (counts_in self.new.positions) advance) }
+        ensures stopped { HasStored C.behaviour (answers_of model.now) limit (counts_in self.old.positions)
+            self.new.stood (counts_in self.new.positions) }
     {
         match self.go_back(alloc, model, limit)? {
             Some(start) => {
@@ -420,7 +405,7 @@ impl<C: Catalogue> Runner<C> {
                 Ok(Advance::Ends(Some(start), outcome))
             }
             None => {
-                self.positions = Positions::new(alloc);
+                self.positions.clear();
                 self.stood = Stood::Before;
                 self.begin(alloc, model, phase, limit)
             }
@@ -436,10 +421,9 @@ fn is_multiple(interval: u64, count: u64) -> bool
     count % interval == 0
 }
 
-/// Whether a run that went on from so many events owes a position after its last one, which no multiple of the interval is.
-fn is_owed(interval: u64, from: u64, fault: bool, last: u64) -> bool
-    requires { 1 ≤ interval }
-    ensures { result ≡ is_owed interval from fault last }
+/// Whether a run that went on from so many events owes a position after its last one: where none is taken there.
+fn is_owed(from: u64, fault: bool, last: u64, ends_there: bool) -> bool
+    ensures { result ≡ not fault && (nat_lt from last && not ends_there) }
 {
-    !fault && from < last && last % interval != 0
+    !fault && from < last && !ends_there
 }

@@ -1,11 +1,10 @@
 use Rattle.model_answers.specs.Answering.{answers_of}
-use Rattle.std.proofs.Common.{◌≡◌, [], Some, None, inr, length, refl, sym, ap, ◌∙◌, arith, subst}
-use Rattle.checkpoints.specs.Stored.{counts_of}
+use Rattle.std.proofs.Common.{◌≡◌, Some, None, inr, length, refl, sym, ap, ◌∙◌, arith, subst}
+use Rattle.checkpoints.specs.Stored.{counts_in}
 use Rattle.kernel.specs.Kernels.{world_in}
 use Rattle.run_semantics.specs.Run.{run_to}
 use Rattle.checkpointed_runs.specs.Running.{kept_boxes, needed_by}
 use Rattle.checkpointed_runs.specs.Kept.{HasBegun, HasLeft}
-use Rattle.checkpointed_runs.specs.Positions.{HasStored}
 use Rattle.checkpointed_runs.proofs.Counting.{kept_counts, left_after_start, setup_stored, start_stored}
 use Rattle.checkpointed_runs.proofs.Whole.{whole_count}
 use Rattle.checkpointed_runs.proofs.running.Runner.carry_on.Goals as goal
@@ -18,10 +17,9 @@ returns-in_err-outcome-in-Some-clause-stopped g c =
     let after = c.run_on.new.self.positions in
     let ran = run_to b m c.args.limit in
     let back = rw c.in-Some.is at c.in_ok-start.ensures.back in
-    start_stored b m c.args.limit c.args.self.now.interval c.in-Some.start (counts_of c.args.self.now.positions) c.run_on.new.self.stood before after (sym back.0)
-    (ap counts_of back.1.2 ∙ kept_counts (Some c.in-Some.start) c.args.self.now.positions)
-    (subst (λ i. HasBegun b m i c.in-Some.start c.run_on.new.self.stood before after ran) c.go_back.ensures.interval
-    (subst (λ n. HasBegun b m c.go_back.new.self.interval n c.run_on.new.self.stood before after ran) back.1.1 c.run_on.ensures.stopped))
+    start_stored b m c.args.limit c.in-Some.start (counts_in c.args.self.now.positions) c.run_on.new.self.stood before after (sym back.0)
+    (ap counts_in back.1.2 ∙ kept_counts (Some c.in-Some.start) c.args.self.now.positions)
+    (subst (λ n. HasBegun b m n c.run_on.new.self.stood before after ran) back.1.1 c.run_on.ensures.stopped)
 
 pub returns-in_ok-outcome-in-Some-clause-stopped : goal.returns-in_ok-outcome-in-Some-clause-stopped
 returns-in_ok-outcome-in-Some-clause-stopped g c =
@@ -31,10 +29,9 @@ returns-in_ok-outcome-in-Some-clause-stopped g c =
     let after = c.run_on.new.self.positions in
     let ran = run_to b m c.args.limit in
     let back = rw c.in-Some.is at c.in_ok-start.ensures.back in
-    start_stored b m c.args.limit c.args.self.now.interval c.in-Some.start (counts_of c.args.self.now.positions) c.run_on.new.self.stood before after (sym back.0)
-    (ap counts_of back.1.2 ∙ kept_counts (Some c.in-Some.start) c.args.self.now.positions)
-    (subst (λ i. HasBegun b m i c.in-Some.start c.run_on.new.self.stood before after ran) c.go_back.ensures.interval
-    (subst (λ n. HasBegun b m c.go_back.new.self.interval n c.run_on.new.self.stood before after ran) back.1.1 c.run_on.ensures.stopped))
+    start_stored b m c.args.limit c.in-Some.start (counts_in c.args.self.now.positions) c.run_on.new.self.stood before after (sym back.0)
+    (ap counts_in back.1.2 ∙ kept_counts (Some c.in-Some.start) c.args.self.now.positions)
+    (subst (λ n. HasBegun b m n c.run_on.new.self.stood before after ran) back.1.1 c.run_on.ensures.stopped)
 
 pub returns-in_ok-outcome-in-Some-clause-advances : goal.returns-in_ok-outcome-in-Some-clause-advances
 returns-in_ok-outcome-in-Some-clause-advances g c =
@@ -45,21 +42,21 @@ returns-in_ok-outcome-in-Some-clause-advances g c =
     let ran = run_to b m c.args.limit in
     let kept = kept_boxes c.args.phase (length (world_in (λ b. (g.dyn-1.0.entry b.vtable).1) c.args.self.now.kernel).modules) in
     let back = rw c.in-Some.is at c.in_ok-start.ensures.back in
-    let left : HasLeft c.args.self.now.interval c.in-Some.start before after ran =
-    subst (λ i. HasLeft i c.in-Some.start before after ran) c.go_back.ensures.interval (subst (λ n. HasLeft c.go_back.new.self.interval n before after ran) back.1.1 c.in_ok-outcome-in-Some.ensures.left) in
+    let left : HasLeft c.in-Some.start before after ran = subst (λ n. HasLeft n before after ran) back.1.1 c.in_ok-outcome-in-Some.ensures.left in
     let count = whole_count b m c.args.limit (world_in (λ b. (g.dyn-1.0.entry b.vtable).1) c.run_on.new.self.kernel) c.in_ok-outcome-in-Some.outcome c.in_ok-outcome-in-Some.ensures.ran in
     record {
       whole = c.in_ok-outcome-in-Some.ensures.ran;
       start = back.0;
       within = omega (arith, left.grew, count);
       needs_none = inr (subst (λ o. needed_by m o kept ≡ None) back.0 refl);
-      positions = left_after_start b m c.args.limit c.args.self.now.interval c.in-Some.start (counts_of c.args.self.now.positions) before after (sym back.0)
-          (ap counts_of back.1.2 ∙ kept_counts (Some c.in-Some.start) c.args.self.now.positions)
+      positions = left_after_start b m c.args.limit c.in-Some.start (counts_in c.args.self.now.positions) before after (sym back.0)
+          (ap counts_in back.1.2 ∙ kept_counts (Some c.in-Some.start) c.args.self.now.positions)
           left;
     }
 
 pub returns-in-None-clause-stopped : goal.returns-in-None-clause-stopped
 returns-in-None-clause-stopped g c =
     let back = rw c.in-None.is at c.in_ok-start.ensures.back in
-    setup_stored g.C.Catalogue.behaviour (answers_of c.args.model.now) c.args.limit c.args.self.now.interval (counts_of c.args.self.now.positions) c.begin.new.self.stood (counts_of c.begin.new.self.positions) (sym back.0)
-    (subst (λ i. HasStored g.C.Catalogue.behaviour (answers_of c.args.model.now) c.args.limit i [] c.begin.new.self.stood (counts_of c.begin.new.self.positions)) c.go_back.ensures.interval c.begin.ensures.stopped)
+    setup_stored g.C.Catalogue.behaviour (answers_of c.args.model.now) c.args.limit (counts_in c.args.self.now.positions) (counts_in c.clear.new.self) c.begin.new.self.stood (counts_in c.begin.new.self.positions) (sym back.0)
+    (rw back.1 at (ap counts_in c.clear.ensures))
+    c.begin.ensures.stopped

@@ -7,7 +7,7 @@ use Rattle.checkpointed_runs.proofs.running.Runner.cut_back.Goals as goal
 
 pub returns-clause-last : goal.returns-clause-last
 returns-clause-last g c =
-    ap Some c.count.ensures ∙ ap (option_map (λ (p : Position). p.count)) c.in-Some.ensures.last ∙ sym (last_count_is c.args.self.now.positions)
+    ap Some c.count.ensures ∙ ap (option_map (λ (p : Position). p.count)) c.in-Some.ensures.last ∙ sym (last_count_is c.args.self.now.positions.stored)
 
 pub returns-clause-world : goal.returns-clause-world
 returns-clause-world g c =

@@ -9,7 +9,7 @@ use Rattle.checkpointed_runs.specs.declared.running.Stood.TheVariants as stood
 use Rattle.checkpointed_runs.proofs.Going.{StoredAt}
 use Rattle.checkpointed_runs.proofs.running.Runner.go_on.Given as goal
 
--- so many events are executed, and behind the positions that there were stand the multiples of the interval
+-- so many events are executed, and behind the positions that there were stand those of the multiples
 abbrev pub invariant-loop-k : goal.invariant-loop-k
 invariant-loop-k g l =
     let first = world_in (λ b. (g.dyn-1.0.entry b.vtable).1) l.fn.self.kernel in
@@ -20,8 +20,7 @@ invariant-loop-k g l =
       room : HasRoom world;
       kinds : HasKinds g.C.Catalogue.behaviour (λ b. (g.dyn-1.0.entry b.vtable).1) l.self.kernel;
       good : HasGood g.C.Catalogue.behaviour (answers_of l.model) (λ b. (g.dyn-1.0.entry b.vtable).1) l.self;
-      interval : l.self.interval ≡ l.fn.self.interval;
       shown : AreShown (answers_of l.model) world.records l.shown;
       stood : l.self.stood ≡ stood.After l._k;
-      stored : StoredAt l.fn.self.interval first.count l.fn.self.positions l.self.positions l._k;
+      stored : StoredAt first.count l.fn.self.positions l.self.positions l._k;
     }
