@@ -11,9 +11,10 @@ use Rattle.run_semantics.specs.Run.{IsReached, after, world_at}
 use Rattle.run_semantics.specs.World.{World}
 use Rattle.run_semantics.proofs.Reached.{reached_before}
 use Rattle.run_semantics.proofs.Reuse.{reached_same_up_to}
-use Rattle.checkpoints.specs.Stored.{up_to}
+use Rattle.checkpoints.specs.Stored.{up_to, Timeline}
 use Rattle.kernel_actions.specs.declared.position.Position.{Position}
 use Rattle.saved_boxes.specs.Seats.{Seat}
+use Rattle.checkpointed_runs.proofs.Counting.{left_stored}
 use Rattle.checkpointed_runs.proofs.Good.{up_to_is}
 use Rattle.checkpointed_runs.specs.Kept.{kept_up_to, AreGood, IsGood}
 use Rattle.edit_session.specs.Reuse.{IsAskedUpTo, IsKnown}
@@ -54,13 +55,14 @@ edited_up_to b m n ss w v (p ∷ ps) f h = by (nat_le p.count v) refl (edited_up
     by true e rest = (edited_good b m n ss w p (f p.count (up_to_is p.count v e)) h.0, rest)
     by false e rest = rest
 
-good_edited : (b : Behaviour) → IsLawful b → (m n : Answers) (ss : List Seat) (w : World) (ps : List Position) (known : ℕ) (found : Option ℕ) → IsAskedUpTo b m w known → IsAgreement m n w.records known w.questions found
-    → AreGood b m ss w ps → AreGood b n ss w (kept_up_to found ps)
-good_edited b law m n ss w ps known None h a g = tt
-good_edited b law m n ss w ps known (Some v) h a g = edited_up_to b m n ss w v ps (λ k l. same_run b law m n w known v k h a.0 a.1 l) g
+good_edited : (b : Behaviour) → IsLawful b → (m n : Answers) (ss : List Seat) (w : World) (t : Timeline Position) (known : ℕ) (found : Option ℕ) → IsAskedUpTo b m w known → IsAgreement m n w.records known w.questions found
+    → AreGood b m ss w t.stored → AreGood b n ss w (kept_up_to found t).stored
+good_edited b law m n ss w t known None h a g = tt
+good_edited b law m n ss w t known (Some v) h a g =
+    subst (AreGood b n ss w) (sym (left_stored t (up_to v t.stored))) (edited_up_to b m n ss w v t.stored (λ k l. same_run b law m n w known v k h a.0 a.1 l) g)
 
 -- THE POSITIONS UP TO WHERE A RUN STAYS VALID are good ones of the model as edited
-pub good_of : (b : Behaviour) → IsLawful b → (m n : Answers) (ss : List Seat) (w : World) (ps : List Position) (known : Option ℕ) (last : ℕ) (told : Result (Option ℕ) NoMemory) → known ≡ Some last → IsKnown b m w known
-    → AreGood b m ss w ps → IfOk told (λ found. IsAgreement m n w.records last w.questions found) → IfOk told (λ found. AreGood b n ss w (kept_up_to found ps))
-good_of b law m n ss w ps known last (Err error) e h g a = tt
-good_of b law m n ss w ps known last (Ok found) e h g a = good_edited b law m n ss w ps last found (subst (IsKnown b m w) e h) a g
+pub good_of : (b : Behaviour) → IsLawful b → (m n : Answers) (ss : List Seat) (w : World) (t : Timeline Position) (known : Option ℕ) (last : ℕ) (told : Result (Option ℕ) NoMemory) → known ≡ Some last → IsKnown b m w known
+    → AreGood b m ss w t.stored → IfOk told (λ found. IsAgreement m n w.records last w.questions found) → IfOk told (λ found. AreGood b n ss w (kept_up_to found t).stored)
+good_of b law m n ss w t known last (Err error) e h g a = tt
+good_of b law m n ss w t known last (Ok found) e h g a = good_edited b law m n ss w t last found (subst (IsKnown b m w) e h) a g

@@ -1,5 +1,5 @@
 -- What a session keeps of a run that is given up.
-use Rattle.std.proofs.Common.{◌≡◌, ℕ, ◌≤◌, List, Option, Some, None, option_map, refl, sym, ap, ◌∙◌, arith, subst}
+use Rattle.std.proofs.Common.{◌≡◌, List, Option, Some, None, option_map, refl, sym, ap, ◌∙◌, arith, subst}
 use Rattle.module_api.specs.Behaviour.{Behaviour}
 use Rattle.models.specs.declared.model.Model.{Model}
 use Rattle.model_answers.specs.Answering.{answers_of}
@@ -7,7 +7,7 @@ use Rattle.run_questions.specs.Answers.{Answers}
 use Rattle.run_semantics.specs.Run.{after, world_at}
 use Rattle.run_semantics.specs.World.{World}
 use Rattle.run_semantics.proofs.Counts.{reached_after}
-use Rattle.checkpoints.specs.Stored.{counts_of, last_of, AreRising}
+use Rattle.checkpoints.specs.Stored.{counts_of, last_of, AreRising, Timeline}
 use Rattle.kernel_actions.specs.declared.position.Position.{Position}
 use Rattle.kernel_actions.specs.Positions.{cut_to, lengths_of, IsGrownFrom}
 use Rattle.saved_boxes.specs.Seats.{Seat, AreOfKinds}
@@ -33,19 +33,18 @@ known_cut b m ss w u p h e =
       agrees = agrees_itself p.count m u.records u.questions;
     }
 
-cut_kept : (b : Behaviour) (m : Model) (ss : List Seat) (w u : World) (interval : ℕ) (ps : List Position) (last : Option Position) → last_of ps ≡ last → AreOfKinds b ss → AreGood b (answers_of m) ss w ps → AreRising ps
-    → u ≡ cut_to_last last w → 1 ≤ interval → IsKept b ss u m Idle None (option_map (λ (p : Position). p.count) last) interval ps
-cut_kept b m ss w u interval ps None l kinds good rising e i = record {
+cut_kept : (b : Behaviour) (m : Model) (ss : List Seat) (w u : World) (ps : Timeline Position) (last : Option Position) → last_of ps.stored ≡ last → AreOfKinds b ss → AreGood b (answers_of m) ss w ps.stored → AreRising ps.stored
+    → u ≡ cut_to_last last w → IsKept b ss u m Idle None (option_map (λ (p : Position). p.count) last) ps
+cut_kept b m ss w u ps None l kinds good rising e = record {
   kinds = kinds;
   live = tt;
   left = tt;
   undone = tt;
   asked = tt;
-  good = subst (λ (x : World). AreGood b (answers_of m) ss x ps) (sym e) good;
-  interval_is = i;
+  good = subst (λ (x : World). AreGood b (answers_of m) ss x ps.stored) (sym e) good;
 }
-cut_kept b m ss w u interval ps (Some p) l kinds good rising e i =
-    let h : IsGood b (answers_of m) ss w p = good_last b (answers_of m) ss w ps p good l in
+cut_kept b m ss w u ps (Some p) l kinds good rising e =
+    let h : IsGood b (answers_of m) ss w p = good_last b (answers_of m) ss w ps.stored p good l in
     let cut : u ≡ cut_to (lengths_of h.world) w = e ∙ ap (λ (q : Position). cut_to q.lengths w) h.position in
     record {
       kinds = kinds;
@@ -53,16 +52,15 @@ cut_kept b m ss w u interval ps (Some p) l kinds good rising e i =
       left = tt;
       undone = tt;
       asked = known_cut b (answers_of m) ss w u p h cut;
-      good = cut_good b (answers_of m) ss w u p ps h (subst (IsGrownFrom h.world) (sym cut) (cut_grown h.world w h.grown)) (last_below ps p rising l) good;
-      interval_is = i;
+      good = cut_good b (answers_of m) ss w u p ps.stored h (subst (IsGrownFrom h.world) (sym cut) (cut_grown h.world w h.grown)) (last_below ps.stored p rising l) good;
     }
 
 -- WHAT A SESSION KEEPS of a run that is given up
-pub kept_given_up : (b : Behaviour) (m : Model) (ss : List Seat) (w u : World) (interval : ℕ) (ps : List Position) → AreOfKinds b ss → AreGood b (answers_of m) ss w ps → AreRising ps → u ≡ cut_to_last (last_of ps) w → 1 ≤ interval
-    → IsKept b ss u m Idle None (last_count (counts_of ps)) interval ps
-kept_given_up b m ss w u interval ps kinds good rising e i =
-    subst (λ k. IsKept b ss u m Idle None k interval ps) (sym (last_count_is ps)) (cut_kept b m ss w u interval ps (last_of ps) refl kinds good rising e i)
+pub kept_given_up : (b : Behaviour) (m : Model) (ss : List Seat) (w u : World) (ps : Timeline Position) → AreOfKinds b ss → AreGood b (answers_of m) ss w ps.stored → AreRising ps.stored → u ≡ cut_to_last (last_of ps.stored) w
+    → IsKept b ss u m Idle None (last_count (counts_of ps.stored)) ps
+kept_given_up b m ss w u ps kinds good rising e =
+    subst (λ k. IsKept b ss u m Idle None k ps) (sym (last_count_is ps.stored)) (cut_kept b m ss w u ps (last_of ps.stored) refl kinds good rising e)
 
-pub kept_cut : (b : Behaviour) (m : Model) (ss ts : List Seat) (w u : World) (interval j : ℕ) (ps qs : List Position) (known : Option ℕ) → ts ≡ ss → j ≡ interval → qs ≡ ps → known ≡ last_count (counts_of ps)
-    → AreOfKinds b ss → AreGood b (answers_of m) ss w ps → AreRising ps → u ≡ cut_to_last (last_of ps) w → 1 ≤ interval → IsKept b ts u m Idle None known j qs
-kept_cut b m ss ts w u interval j ps qs known t i q k kinds good rising e one = rw (t, i, q, k) (kept_given_up b m ss w u interval ps kinds good rising e one)
+pub kept_cut : (b : Behaviour) (m : Model) (ss ts : List Seat) (w u : World) (ps qs : Timeline Position) (known : Option ℕ) → ts ≡ ss → qs ≡ ps → known ≡ last_count (counts_of ps.stored)
+    → AreOfKinds b ss → AreGood b (answers_of m) ss w ps.stored → AreRising ps.stored → u ≡ cut_to_last (last_of ps.stored) w → IsKept b ts u m Idle None known qs
+kept_cut b m ss ts w u ps qs known t q k kinds good rising e = rw (t, q, k) (kept_given_up b m ss w u ps kinds good rising e)

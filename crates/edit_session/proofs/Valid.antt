@@ -23,7 +23,8 @@ use Rattle.saved_boxes.specs.Seats.{Seat, AreOfKinds}
 use Rattle.checkpointed_runs.specs.Kept.{AreGood}
 use Rattle.checkpointed_runs.specs.declared.running.Phase.TheVariants.{Idle}
 use Rattle.edit_session.specs.declared.session.Change.{Change}
-use Rattle.checkpointed_runs.specs.Positions.{up_to_event}
+use Rattle.checkpoints.specs.Stored.{Timeline}
+use Rattle.checkpointed_runs.specs.Positions.{cut}
 use Rattle.edit_session.specs.Editing.{Editing, edited_by, files_in, IsKept}
 use Rattle.checkpointed_runs.specs.Running.{whole_run}
 use Rattle.checkpointed_runs.proofs.Whole.{stopped_world}
@@ -126,19 +127,18 @@ known_of b m n w known last (Err error) e h a = tt
 known_of b m n w known last (Ok found) e h a = known_edited b m n w last found (subst (IsKnown b m w) e h) a
 
 -- what is kept of a run that is done
-pub kept_done : (b : Behaviour) (ss : List Seat) (w : World) (m : Model) (limit : ℕ) (outcome : Outcome) (files : ResultFiles) (known interval : ℕ) (ps : List Position) → AreOfKinds b ss → whole_run b (answers_of m) limit w outcome
-    → files ≡ files_in m w → known ≡ w.count → AreGood b (answers_of m) ss w ps → 1 ≤ interval → IsKept b ss w m Idle (Some (record { limit = limit; outcome = outcome; files = files })) (Some known) interval ps
-kept_done b ss w m limit outcome files known interval ps kinds whole e n good i = record {
+pub kept_done : (b : Behaviour) (ss : List Seat) (w : World) (m : Model) (limit : ℕ) (outcome : Outcome) (files : ResultFiles) (known : ℕ) (ps : Timeline Position) → AreOfKinds b ss → whole_run b (answers_of m) limit w outcome
+    → files ≡ files_in m w → known ≡ w.count → AreGood b (answers_of m) ss w ps.stored → IsKept b ss w m Idle (Some (record { limit = limit; outcome = outcome; files = files })) (Some known) ps
+kept_done b ss w m limit outcome files known ps kinds whole e n good = record {
   kinds = kinds;
   live = tt;
   left = (whole, e);
   undone = tt;
   asked = subst (IsAskedUpTo b (answers_of m) w) (sym n) (known_done b (answers_of m) limit w outcome whole);
   good = good;
-  interval_is = i;
 }
 
 -- what an accepted edit leaves
-pub edited_same : (before : Editing) (change : Change) (held interval : ℕ) (positions : List ℕ) → held ≡ before.held → interval ≡ before.interval → positions ≡ up_to_event change.edited.valid_to before.positions
-    → record { model = change.model; done = None; phase = Idle; held = held; known = change.edited.valid_to; interval = interval; positions = positions } ≡ edited_by before change
-edited_same before change held interval positions h i p = rw (h, i, p) refl
+pub edited_same : (before : Editing) (change : Change) (held : ℕ) (positions : Timeline ℕ) → held ≡ before.held → positions ≡ cut change.edited.valid_to before.positions
+    → record { model = change.model; done = None; phase = Idle; held = held; known = change.edited.valid_to; positions = positions } ≡ edited_by before change
+edited_same before change held positions h p = rw (h, p) refl

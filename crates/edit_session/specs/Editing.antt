@@ -12,6 +12,7 @@ use Rattle.model_edits.specs.Edited.{number_given, IsEditOf, IsOnlyEditOf}
 use Rattle.result_files.specs.declared.files.ResultFiles.{ResultFiles}
 use Rattle.result_files.specs.Files.{files_of}
 use Rattle.kernel_actions.specs.declared.position.Position.{Position}
+use Rattle.checkpoints.specs.Stored.{begun, IsBegun, Timeline}
 use Rattle.kernel.specs.declared.request.Request.{Request}
 use Rattle.saved_boxes.specs.Seats.{Seat, AreOfKinds}
 use Rattle.checkpointed_runs.specs.declared.running.Phase.{Phase}
@@ -23,7 +24,7 @@ use Rattle.edit_session.specs.declared.session.Progress.TheVariants as progress
 use Rattle.edit_session.specs.declared.session.Report.{Report}
 use Rattle.checkpointed_runs.specs.Kept.{AreGood}
 use Rattle.checkpointed_runs.specs.declared.running.Stood.{Stood}
-use Rattle.checkpointed_runs.specs.Positions.{events_behind, last_count, positions_after, start_of, up_to_event, HasStored}
+use Rattle.checkpointed_runs.specs.Positions.{cut, events_behind, last_count, positions_after, start_of, HasStored}
 use Rattle.checkpointed_runs.specs.Running.{fresh_run, kept_boxes, needed_by, wanted_by, whole_run, IsLive, IsUndeclined}
 use Rattle.edit_session.specs.Reuse.{IsKnown, IsValidTo}
 
@@ -48,16 +49,15 @@ abbrev pub boxes_left : Behaviour → Model → ℕ → ℕ
 boxes_left b m limit = length (fresh_run b (answers_of m) limit).world.modules
 
 -- what callers see of a session: the model; the last run, where it is done; where a run stands that isn't; how many boxes it holds; the last
--- event of a run of the model whose questions are known, where there is one; after how many events each a position is stored; and the positions
--- that are stored, by their counts of events
+-- event of a run of the model whose questions are known, where there is one; and the positions that are stored, by their counts of events, with the
+-- interval
 pub record Editing : Type 0 where
   pub model : Model
   pub done : Option Completed
   pub phase : Phase
   pub held : ℕ
   pub known : Option ℕ
-  pub interval : ℕ
-  pub positions : List ℕ
+  pub positions : Timeline ℕ
 
 -- what a session waits for
 abbrev pub waited_for : Phase → Model → ℕ → Option Request
@@ -70,7 +70,7 @@ wanted_of e = waited_for e.phase e.model e.held
 
 -- the box that a run to that limit needs first
 abbrev pub needed : Editing → ℕ → Option Request
-needed e limit = needed_by (answers_of e.model) (start_of limit e.positions) (kept_boxes e.phase e.held)
+needed e limit = needed_by (answers_of e.model) (start_of limit e.positions.stored) (kept_boxes e.phase e.held)
 
 -- ---- what it keeps
 
@@ -81,20 +81,19 @@ IsLeft b m w (Some done) =
     whole_run b (answers_of m) done.limit w done.outcome × (done.files ≡ files_in m w)
 
 -- while a run waits, none is done, nothing is known of one, and no position is stored
-abbrev pub IsUndone : Phase → Option Completed → Option ℕ → List Position → Type 0
+abbrev pub IsUndone : Phase → Option Completed → Option ℕ → Timeline Position → Type 0
 IsUndone Idle last known ps = Unit {0}
-IsUndone Waiting last known ps = (last ≡ None) × (known ≡ None) × (ps ≡ [])
-IsUndone Declined last known ps = (last ≡ None) × (known ≡ None) × (ps ≡ [])
+IsUndone Waiting last known ps = (last ≡ None) × (known ≡ None) × IsBegun ps
+IsUndone Declined last known ps = (last ≡ None) × (known ≡ None) × IsBegun ps
 
 -- all that a session keeps
-pub record IsKept (b : Behaviour) (seats : List Seat) (w : World) (m : Model) (phase : Phase) (done : Option Completed) (known : Option ℕ) (interval : ℕ) (ps : List Position) : Type 0 where
+pub record IsKept (b : Behaviour) (seats : List Seat) (w : World) (m : Model) (phase : Phase) (done : Option Completed) (known : Option ℕ) (ps : Timeline Position) : Type 0 where
   pub kinds : AreOfKinds b seats
   pub live : IsLive b (answers_of m) w phase
   pub left : IsLeft b m w done
   pub undone : IsUndone phase done known ps
   pub asked : IsKnown b (answers_of m) w known
-  pub good : AreGood b (answers_of m) seats w ps
-  pub interval_is : 1 ≤ interval
+  pub good : AreGood b (answers_of m) seats w ps.stored
 
 -- ---- premises and answers
 
@@ -112,21 +111,21 @@ IsUnknown b (Some request) = b.known request.kind ≡ false
 -- there is none; behind that it executed all events of the fresh run, and it left its positions. It needs no box, or none that there is.
 pub record IsFreshRun (b : Behaviour) (before : Editing) (limit : ℕ) (report : Report) (after : Editing) : Type 0 where
   pub outcome : report.outcome ≡ (fresh_run b (answers_of before.model) limit).outcome
-  pub started_from : report.started_from ≡ start_of limit before.positions
-  pub executed : report.executed ≡ events_behind (start_of limit before.positions) (fresh_run b (answers_of before.model) limit).world.count
+  pub started_from : report.started_from ≡ start_of limit before.positions.stored
+  pub executed : report.executed ≡ events_behind (start_of limit before.positions.stored) (fresh_run b (answers_of before.model) limit).world.count
   pub done : after.done ≡ Some (completed b before.model limit)
   pub held : after.held ≡ boxes_left b before.model limit
   pub known : after.known ≡ Some (fresh_run b (answers_of before.model) limit).world.count
-  pub positions : after.positions ≡ positions_after b (answers_of before.model) limit before.interval before.positions
+  pub positions : after.positions ≡ positions_after b (answers_of before.model) limit before.positions
   pub needs_none : (before.phase ≡ Declined) ⊎ (needed before limit ≡ None)
 
 -- It waits for the box that its model wants next, with those that it kept, and none is done. It began with setup, as there was no position up to its
 -- limit, and there is none now. No box was declined before.
 pub record WaitsFor (before : Editing) (limit : ℕ) (request : Request) (after : Editing) : Type 0 where
   pub undeclined : IsUndeclined before.phase
-  pub start : start_of limit before.positions ≡ None
+  pub start : start_of limit before.positions.stored ≡ None
   pub wanted : wanted_by (answers_of before.model) (kept_boxes before.phase before.held) ≡ Some request
-  pub waits : after ≡ record { model = before.model; done = None; phase = Waiting; held = kept_boxes before.phase before.held; known = None; interval = before.interval; positions = [] }
+  pub waits : after ≡ record { model = before.model; done = None; phase = Waiting; held = kept_boxes before.phase before.held; known = None; positions = cut None before.positions }
 
 -- the last number that was used, where one was given
 abbrev pub last_used : ℕ → Option ℕ → Option ℕ
@@ -150,8 +149,7 @@ edited_by before change = record {
   phase = Idle;
   held = before.held;
   known = change.edited.valid_to;
-  interval = before.interval;
-  positions = up_to_event change.edited.valid_to before.positions;
+  positions = cut change.edited.valid_to before.positions;
 }
 
 -- WHAT AN ACCEPTED EDIT LEAVES, and what it tells
@@ -167,12 +165,12 @@ pub record IsGivenUp (b : Behaviour) (before : Editing) (limit : ℕ) (after : E
   pub stood : Stood
   pub done : after.done ≡ None
   pub idle : after.phase ≡ Idle
-  pub known : after.known ≡ last_count after.positions
-  pub positions : HasStored b (answers_of before.model) limit before.interval before.positions stood after.positions
+  pub known : after.known ≡ last_count after.positions.stored
+  pub positions : HasStored b (answers_of before.model) limit before.positions stood after.positions
 
 -- a session of that model, without a run
 abbrev pub fresh_editing : Model → ℕ → Editing
-fresh_editing m interval = record { model = m; done = None; phase = Idle; held = 0; known = None; interval = interval; positions = [] }
+fresh_editing m interval = record { model = m; done = None; phase = Idle; held = 0; known = None; positions = begun interval }
 
 abbrev pub IfDone : Progress → (Report → Type 0) → Type 0
 IfDone (progress.Want request) P = Unit {0}

@@ -6,7 +6,7 @@ use Rattle.model_edits.specs.declared.edit.Edit.{Edit}
 use Rattle.saved_boxes.specs.Seats.{Members}
 use Rattle.kernel.specs.Kernels.{seats_in, world_in}
 use Rattle.edit_session.specs.Editing.{Completed, Editing, IsChangeBy, IsKept}
-use Rattle.checkpoints.specs.Stored.{counts_of}
+use Rattle.checkpoints.specs.Stored.{counts_in}
 use Rattle.checkpointed_runs.specs.Kept.{kept_up_to, AreGood}
 use Rattle.checkpointed_runs.specs.declared.running.Stood.{Stood}
 use Rattle.edit_session.specs.Reuse.{IsKnown}
@@ -26,8 +26,7 @@ module _ {C X : Type 0} {Y : X → Type 0} where
     phase = s.phase;
     held = length (seats_in members s.runner.kernel);
     known = s.known;
-    interval = s.runner.interval;
-    positions = counts_of s.runner.positions;
+    positions = counts_in s.runner.positions;
   }
 
   -- where the run stood that was asked for last, if memory ran out for it
@@ -37,16 +36,15 @@ module _ {C X : Type 0} {Y : X → Type 0} where
   -- what it keeps
   abbrev pub IsSound : Behaviour → Members X Y → Session C X Y → Type 0
   IsSound b members s =
-      IsKept b (seats_in members s.runner.kernel) (world_in members s.runner.kernel) s.model s.phase (option_map completed_of s.done) s.known s.runner.interval s.runner.positions
+      IsKept b (seats_in members s.runner.kernel) (world_in members s.runner.kernel) s.model s.phase (option_map completed_of s.done) s.known s.runner.positions
 
-  -- It is sound, and of the same model and interval as before.
+  -- It is sound, and of the same model as before.
   pub record KeepsModel (b : Behaviour) (members : Members X Y) (before after : Session C X Y) : Type 0 where
     pub sound : IsSound b members after
     pub model : (editing_of members after).model ≡ (editing_of members before).model
-    pub interval : (editing_of members after).interval ≡ (editing_of members before).interval
 
   -- The change is what the edit makes of this session. Up to where it says the questions stay known and the positions good.
   pub record IsChangeOf (b : Behaviour) (members : Members X Y) (s : Session C X Y) (e : Edit) (change : Change) : Type 0 where
     pub by : IsChangeBy b (editing_of members s) e change
     pub known : IsKnown b (answers_of change.model) (world_in members s.runner.kernel) change.edited.valid_to
-    pub good : AreGood b (answers_of change.model) (seats_in members s.runner.kernel) (world_in members s.runner.kernel) (kept_up_to change.edited.valid_to s.runner.positions)
+    pub good : AreGood b (answers_of change.model) (seats_in members s.runner.kernel) (world_in members s.runner.kernel) (kept_up_to change.edited.valid_to s.runner.positions).stored

@@ -16,7 +16,7 @@ ghost use Rattle.kernel.specs.declared.request.Request.{Request};
 ghost use Rattle.edit_session.specs.Reuse.{IsKnown, IsValidTo};
 ghost use Rattle.edit_session.specs.Sessions.{editing_of, stood_in, IsChangeOf, IsSound, KeepsModel};
 ghost use Rattle.kernel.specs.Kernels.{seats_in, world_in, HasKinds};
-ghost use Rattle.checkpoints.specs.Stored.{counts_of};
+ghost use Rattle.checkpoints.specs.Stored.{counts_in};
 ghost use Rattle.model_edits.specs.declared.edit.Edit.{Edit};
 
 use agreement::agreement::agreement;
@@ -148,7 +148,8 @@ impl<C: Catalogue> Drop for Session<C> {
 
 impl<C: Catalogue> Session<C> {
     /// A session of the model that these texts make, or why they make none. A run leaves a position after each multiple of
-    /// `interval` events, to which a later one can go back.
+    /// `interval` events, to which a later one can go back. At most 64 are stored: where there would be one more, the interval is
+    /// doubled, up to 2^62, and of all those stay that are at its multiples, and the newest. Where none is left it is again the first.
     pub fn begin(
         alloc: Global,
         texts: &NedTexts,
@@ -181,8 +182,7 @@ impl<C: Catalogue> Session<C> {
             // did not take.
             runner: Runner {
                 kernel: Kernel::new(alloc, Tree::new(alloc)),
-                positions: Positions::new(alloc),
-                interval,
+                positions: Positions::new(alloc, interval),
                 stood: Stood::Before,
                 holds: PhantomData,
             },
@@ -259,7 +259,7 @@ impl<C: Catalogue> Session<C> {
             (world_in SimpleModule-box self.now.runner.kernel) valid) }
         ensures good { let kernel = self.now.runner.kernel in
             IfOk result (λ valid. AreGood C.behaviour (answers_of model.now) (seats_in SimpleModule-box kernel)
-            (world_in SimpleModule-box kernel) (kept_up_to valid self.now.runner.positions)) }
+            (world_in SimpleModule-box kernel) (kept_up_to valid self.now.runner.positions).stored) }
     {
         let Some(last) = self.known else {
             return Ok(None);
@@ -290,7 +290,7 @@ impl<C: Catalogue> Session<C> {
         self.model = model;
         self.give_up();
         self.known = edited.valid_to;
-        self.runner.keep_up_to(self.alloc, edited.valid_to);
+        self.runner.keep_up_to(edited.valid_to);
         edited
     }
 
@@ -342,7 +342,7 @@ impl<C: Catalogue> Session<C> {
             (editing_of SimpleModule-box self.new)) }
         ensures stood { let before = editing_of SimpleModule-box self.old in
             let after = editing_of SimpleModule-box self.new in
-            OnErr result (HasStored C.behaviour (answers_of before.model) limit before.interval before.positions
+            OnErr result (HasStored C.behaviour (answers_of before.model) limit before.positions
             (stood_in self.new) after.positions) }
     {
         match self.run_through(limit) {
@@ -358,13 +358,12 @@ impl<C: Catalogue> Session<C> {
     /// The same, but that after want of memory nothing is said of what is known.
     fn run_through(&mut self, limit: u64) -> Result<Progress, NoMemory>
         requires sound { IsSound C.behaviour SimpleModule-box self.old }
-        ensures model { (self.new.model ≡ self.old.model)
-            × (self.new.runner.interval ≡ self.old.runner.interval) }
+        ensures model { self.new.model ≡ self.old.model }
         ensures kinds { HasKinds C.behaviour SimpleModule-box self.new.runner.kernel }
         ensures good { HasGood C.behaviour (answers_of self.new.model) SimpleModule-box self.new.runner }
-        ensures stored { HasStored C.behaviour (answers_of self.old.model) limit self.old.runner.interval
-            (counts_of self.old.runner.positions) self.new.runner.stood
-            (counts_of self.new.runner.positions) }
+        ensures stored { HasStored C.behaviour (answers_of self.old.model) limit
+            (counts_in self.old.runner.positions) self.new.runner.stood
+            (counts_in self.new.runner.positions) }
         ensures sound { OnOk result (IsSound C.behaviour SimpleModule-box self.new) }
         ensures done { let before = editing_of SimpleModule-box self.old in
             let after = editing_of SimpleModule-box self.new in
@@ -506,7 +505,7 @@ impl<C: Catalogue> Session<C> {
 
     /// The positions that are stored, by their counts of events, which rise.
     pub fn positions(&self) -> &[u64]
-        ensures { result.now ≡ (editing_of SimpleModule-box self.now).positions }
+        ensures { result.now ≡ (editing_of SimpleModule-box self.now).positions.stored }
     {
         self.runner.positions.counts()
     }

@@ -1,5 +1,6 @@
-use Rattle.std.proofs.Common.{◌≤◌, refl, sym, ap, ◌∙◌, subst}
-use Rattle.checkpoints.specs.Stored.{counts_of}
+use Rattle.std.proofs.Common.{refl, sym, ap, ◌∙◌, subst}
+use Rattle.kernel_actions.specs.declared.position.Position.{Position}
+use Rattle.checkpoints.specs.Stored.{counts_in, counts_of, Timeline}
 use Rattle.model_answers.specs.Answering.{answers_of}
 use Rattle.checkpointed_runs.specs.Positions.{last_count, HasStored}
 use Rattle.kernel.specs.Kernels.{seats_in, world_in}
@@ -10,15 +11,12 @@ pub returns-in-Err-clause-kept : goal.returns-in-Err-clause-kept
 returns-in-Err-clause-kept g c =
     let old = c.run_through.new.self.runner in
     let new = c.cut_back-self.new.self in
-    let interval = rw c.give_up.ensures at c.cut_back-self.ensures.interval in
     record {
       sound = rw c.give_up.ensures (kept_cut g.C.Catalogue.behaviour c.run_through.new.self.model (seats_in (λ b. (g.dyn-1.0.entry b.vtable).1) old.kernel) (seats_in (λ b. (g.dyn-1.0.entry b.vtable).1) new.kernel) (world_in (λ b. (g.dyn-1.0.entry b.vtable).1) old.kernel) (world_in (λ b. (g.dyn-1.0.entry b.vtable).1) new.kernel)
-          old.interval new.interval old.positions new.positions c.cut_back-self.result
-          (rw c.give_up.ensures at c.cut_back-self.ensures.seats) interval (rw c.give_up.ensures at c.cut_back-self.ensures.positions) (rw c.give_up.ensures at c.cut_back-self.ensures.last)
-          c.run_through.ensures.kinds c.run_through.ensures.good (rw c.give_up.ensures at c.cut_back-self.ensures.rising) (rw c.give_up.ensures at c.cut_back-self.ensures.world)
-          (subst (λ i. 1 ≤ i) (sym c.run_through.ensures.model.1) c.requires.sound.interval_is));
-      model = rw c.give_up.ensures c.run_through.ensures.model.0;
-      interval = interval ∙ c.run_through.ensures.model.1;
+          old.positions new.positions c.cut_back-self.result
+          (rw c.give_up.ensures at c.cut_back-self.ensures.seats) (rw c.give_up.ensures at c.cut_back-self.ensures.positions) (rw c.give_up.ensures at c.cut_back-self.ensures.last)
+          c.run_through.ensures.kinds c.run_through.ensures.good (rw c.give_up.ensures at c.cut_back-self.ensures.rising) (rw c.give_up.ensures at c.cut_back-self.ensures.world));
+      model = rw c.give_up.ensures c.run_through.ensures.model;
     }
 
 pub returns-in-Err-clause-memory : goal.returns-in-Err-clause-memory
@@ -29,8 +27,8 @@ returns-in-Err-clause-memory g c =
       stood = c.run_through.new.self.runner.stood;
       done = rw c.give_up.ensures refl;
       idle = rw c.give_up.ensures refl;
-      known = rw c.give_up.ensures at c.cut_back-self.ensures.last ∙ ap (λ ps. last_count (counts_of ps)) (sym positions);
-      positions = subst (λ ps. HasStored g.C.Catalogue.behaviour (answers_of old.model) c.args.limit old.runner.interval (counts_of old.runner.positions) c.run_through.new.self.runner.stood (counts_of ps)) (sym positions)
+      known = rw c.give_up.ensures at c.cut_back-self.ensures.last ∙ ap (λ (t : Timeline Position). last_count (counts_of t.stored)) (sym positions);
+      positions = subst (λ ps. HasStored g.C.Catalogue.behaviour (answers_of old.model) c.args.limit (counts_in old.runner.positions) c.run_through.new.self.runner.stood (counts_in ps)) (sym positions)
           c.run_through.ensures.stored;
     }
 
@@ -39,6 +37,6 @@ returns-in-Err-clause-stood g c =
     let old = c.args.self.now in
     let positions = rw c.give_up.ensures at c.cut_back-self.ensures.positions in
     let stood = rw c.give_up.ensures at c.cut_back-self.ensures.stood in
-    subst (λ at. HasStored g.C.Catalogue.behaviour (answers_of old.model) c.args.limit old.runner.interval (counts_of old.runner.positions) at (counts_of c.cut_back-self.new.self.positions)) (sym stood)
-    (subst (λ ps. HasStored g.C.Catalogue.behaviour (answers_of old.model) c.args.limit old.runner.interval (counts_of old.runner.positions) c.run_through.new.self.runner.stood (counts_of ps)) (sym positions)
+    subst (λ at. HasStored g.C.Catalogue.behaviour (answers_of old.model) c.args.limit (counts_in old.runner.positions) at (counts_in c.cut_back-self.new.self.positions)) (sym stood)
+    (subst (λ ps. HasStored g.C.Catalogue.behaviour (answers_of old.model) c.args.limit (counts_in old.runner.positions) c.run_through.new.self.runner.stood (counts_in ps)) (sym positions)
     c.run_through.ensures.stored)

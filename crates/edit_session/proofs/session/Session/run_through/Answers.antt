@@ -1,4 +1,3 @@
-use Rattle.std.proofs.Common.{◌≤◌, sym, subst}
 use Rattle.kernel.specs.Kernels.{seats_in, world_in}
 use Rattle.edit_session.proofs.Valid.{kept_done}
 use Rattle.edit_session.proofs.session.Session.run_through.Goals as goal
@@ -10,8 +9,7 @@ pub returns-in_ok-files-in-Ends-clause-sound : goal.returns-in_ok-files-in-Ends-
 returns-in_ok-files-in-Ends-clause-sound g c =
     let kernel = c.carry_on.new.self.kernel in
     rw c.give_up.ensures (kept_done g.C.Catalogue.behaviour (seats_in (λ b. (g.dyn-1.0.entry b.vtable).1) kernel) (world_in (λ b. (g.dyn-1.0.entry b.vtable).1) kernel) c.args.self.now.model c.args.limit
-    c.in-Ends.outcome c.in_ok-files-in-Ends.files c.count-count.result c.carry_on.new.self.interval c.carry_on.new.self.positions c.carry_on.ensures.kinds
+    c.in-Ends.outcome c.in_ok-files-in-Ends.files c.count-count.result c.carry_on.new.self.positions c.carry_on.ensures.kinds
     (rw (c.in-Ends.is, c.give_up.ensures) at c.in_ok-request.ensures.advances).whole
     (rw (c.give_up.ensures, c.records.ensures.records, c.finished.ensures, c.scalars.ensures, c.emissions.ensures) at c.in_ok-files-in-Ends.ensures)
-    c.count-count.ensures (rw c.give_up.ensures at c.carry_on.ensures.good)
-    (subst (λ i. 1 ≤ i) (sym (rw c.give_up.ensures at c.carry_on.ensures.interval)) c.requires.sound.interval_is))
+    c.count-count.ensures (rw c.give_up.ensures at c.carry_on.ensures.good))
