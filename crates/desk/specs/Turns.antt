@@ -12,7 +12,7 @@ use Rattle.command_lines.specs.declared.commands.Command.TheVariants as command
 use Rattle.saved_boxes.specs.Seats.{Members}
 use Rattle.edit_session.specs.Editing.{Editing, boxes_left, completed, IsGivenUp, WaitsFor}
 use Rattle.checkpointed_runs.specs.Running.{fresh_run}
-use Rattle.checkpointed_runs.specs.Positions.{events_behind, positions_after, start_of, up_to_event}
+use Rattle.checkpointed_runs.specs.Positions.{cut, events_behind, positions_after, start_of}
 use Rattle.checkpointed_runs.specs.declared.running.Phase.TheVariants.{Idle}
 use Rattle.edit_session.specs.Reuse.{IsValidTo}
 use Rattle.edit_session.specs.Sessions.{editing_of, IsSound, KeepsModel}
@@ -34,7 +34,7 @@ module _ {C X : Type 0} {Y : X → Type 0} where
   abbrev pub IsSettled : Behaviour → Members X Y → Desk C X Y → Type 0
   IsSettled b members d = IsSound b members d.session
 
-  -- it keeps that, and its model and its interval are those before
+  -- it keeps that, and its model is that before
   abbrev pub StaysSettled : Behaviour → Members X Y → Desk C X Y → Desk C X Y → Type 0
   StaysSettled b members before after = KeepsModel b members before.session after.session
 
@@ -55,11 +55,11 @@ pub record IsDone (b : Behaviour) (before : Editing) (limit : ℕ) (after : Edit
   pub done : after.done ≡ Some (completed b before.model limit)
   pub held : after.held ≡ boxes_left b before.model limit
   pub known : after.known ≡ Some (fresh_run b (answers_of before.model) limit).world.count
-  pub positions : after.positions ≡ positions_after b (answers_of before.model) limit before.interval before.positions
+  pub positions : after.positions ≡ positions_after b (answers_of before.model) limit before.positions
 
 -- The same, and the text is its answer.
 pub record HasRun (b : Behaviour) (before : Editing) (limit : ℕ) (text : List ℕ) (after : Editing) : Type 0 where
-  pub answer : text ≡ run_answer b before.model limit before.positions
+  pub answer : text ≡ run_answer b before.model limit before.positions.stored
   pub done : IsDone b before limit after
 
 -- WHAT A RUN COMES TO: it is done, and its answer is that of a fresh run; or it waits for a box
@@ -92,7 +92,7 @@ pub record IsRefused (m : Model) (e : Edit) (text : List ℕ) : Type 0 where
 abbrev pub AnswersEdit : Behaviour → Editing → Edit → List ℕ → Editing → Type 0
 AnswersEdit b before e text after =
     ((valid : Option ℕ) × IsMade b before.model before.known e text after.model valid
-    × (after ≡ record { model = after.model; done = None; phase = Idle; held = before.held; known = valid; interval = before.interval; positions = up_to_event valid before.positions }))
+    × (after ≡ record { model = after.model; done = None; phase = Idle; held = before.held; known = valid; positions = cut valid before.positions }))
     ⊎ (IsRefused before.model e text × (after ≡ before))
 
 -- ---- lines
@@ -104,9 +104,9 @@ IsTextOf (turn.Want request) P = ⊥
 
 -- WHAT A COMMAND IS ANSWERED, and what it leaves
 abbrev pub AnswersCommand : Behaviour → Editing → Command → DeskTurn → Editing → Type 0
-AnswersCommand b before (command.Run limit) answer after = IsRunTurn b before limit answer after × (after.model ≡ before.model) × (after.interval ≡ before.interval)
+AnswersCommand b before (command.Run limit) answer after = IsRunTurn b before limit answer after × (after.model ≡ before.model)
 AnswersCommand b before (command.Edit e) answer after = IsTextOf answer (λ text. AnswersEdit b before e text after)
-AnswersCommand b before command.Positions answer after = (answer ≡ turn.Text (positions_text before.positions)) × (after ≡ before)
+AnswersCommand b before command.Positions answer after = (answer ≡ turn.Text (positions_text before.positions.stored)) × (after ≡ before)
 AnswersCommand b before command.Held answer after = (answer ≡ turn.Text (held_text before.held)) × (after ≡ before)
 AnswersCommand b before command.Write answer after = (answer ≡ turn.Text (codes "refused Command")) × (after ≡ before)
 AnswersCommand b before command.Unknown answer after = (answer ≡ turn.Text (codes "refused Command")) × (after ≡ before)
@@ -115,9 +115,9 @@ AnswersCommand b before command.TooLarge answer after = (answer ≡ turn.Text (c
 abbrev pub AnswersLine : Behaviour → Editing → List ℕ → DeskTurn → Editing → Type 0
 AnswersLine b before line answer after = AnswersCommand b before (command_of line) answer after
 
--- WHAT WANT OF MEMORY LEAVES behind a command: of a run the model, the interval and what it stored; and of all else everything as it was
+-- WHAT WANT OF MEMORY LEAVES behind a command: of a run the model and what it stored; and of all else everything as it was
 abbrev pub Forgoes : Behaviour → Command → Editing → Editing → Type 0
-Forgoes b (command.Run limit) before after = MayBeDone b before limit after × (after.model ≡ before.model) × (after.interval ≡ before.interval)
+Forgoes b (command.Run limit) before after = MayBeDone b before limit after × (after.model ≡ before.model)
 Forgoes b _ before after = after ≡ before
 
 -- the limit of the last run, behind a command

@@ -192,7 +192,7 @@ impl<C: Catalogue> Desk<C> {
     /// Answers after which events a position is stored.
     pub fn positions(&self) -> Result<Text, NoMemory>
         ensures { let editing = editing_at SimpleModule-box self.now in
-            IfOk result (λ text. text ≡ positions_text editing.positions) }
+            IfOk result (λ text. text ≡ positions_text editing.positions.stored) }
     {
         Ok(positions_text(self.alloc, self.session.positions())?)
     }

@@ -6,7 +6,8 @@ use Rattle.model_answers.specs.Answering.{answers_of}
 use Rattle.run_semantics.specs.declared.outcome.Outcome.{Outcome}
 use Rattle.edit_session.specs.Editing.{Completed, Editing, boxes_left, completed}
 use Rattle.checkpointed_runs.specs.declared.running.Stood.{Stood}
-use Rattle.checkpointed_runs.specs.Positions.{last_count, up_to_event, HasStored}
+use Rattle.checkpoints.specs.Stored.{Timeline}
+use Rattle.checkpointed_runs.specs.Positions.{cut, last_count, HasStored}
 use Rattle.edit_session.specs.Files.{scalars_of_run, vectors_of_run}
 use Rattle.desk.specs.Answers.{held_text, positions_text}
 use Rattle.desk.specs.Turns.{AnswersEdit, HasRun, IsDone, IsMade, IsRefused, MayBeDone}
@@ -70,10 +71,9 @@ tells_going b limit before after text (next.Stop (stop.Device page written)) ask
 
 -- ---- runs
 
--- its model and its interval stay
+-- its model stays
 pub record StaysOf (before after : Editing) : Type 0 where
   pub model : after.model ≡ before.model
-  pub interval : after.interval ≡ before.interval
 
 -- a run is done: the session is where the machine then is
 at_done : (b : Behaviour) (limit : ℕ) (before after : Editing) (s : Machine) → StaysOf before after → IsDone b before limit after → RunsAlike limit before s
@@ -83,7 +83,6 @@ at_done b limit before after s stays done same = record {
   done = done.done ∙ ap (λ (m : Model). Some (completed b m limit)) same.model;
   held = done.held ∙ ap (λ (m : Model). boxes_left b m limit) same.model;
   known = done.known ∙ ap (λ (m : Model). Some (events_of b m limit)) same.model;
-  interval = stays.interval ∙ same.interval;
   positions = done.positions ∙ same_positions b limit before s same;
 }
 
@@ -100,24 +99,23 @@ tells_run b limit before after text n asked may running stays ran heard = tells_
 -- Memory ran out for a run, and none is done: the positions are those that it stored up to where it stood, and nothing is known but the events up to the last of them.
 pub record LeavesNone (b : Behaviour) (before : Editing) (limit : ℕ) (after : Editing) : Type 0 where
   pub done : after.done ≡ None
-  pub known : after.known ≡ last_count after.positions
+  pub known : after.known ≡ last_count after.positions.stored
   pub stood : Stood
-  pub positions : HasStored b (answers_of before.model) limit before.interval before.positions stood after.positions
+  pub positions : HasStored b (answers_of before.model) limit before.positions stood after.positions
 
 none_left : (b : Behaviour) (limit : ℕ) (before after : Editing) (s : Machine) → StaysOf before after → LeavesNone b before limit after → RunsAlike limit before s
     → Told b (command.Run limit) (codes "refused NoMemory") s after
 none_left b limit before after s stays none same = (
-  record { model = s.model; last = None; held = after.held; known = last_count after.positions; interval = s.interval; positions = after.positions },
+  record { model = s.model; last = None; held = after.held; known = last_count after.positions.stored; positions = after.positions },
   inr (
     refl,
-    inl (record { model = refl; last = refl; known = refl; interval = refl; stood = none.stood; positions = same_stored b limit before s none.stood after.positions same none.positions }),
+    inl (record { model = refl; last = refl; known = refl; stood = none.stood; positions = same_stored b limit before s none.stood after.positions same none.positions }),
   ),
   record {
     model = stays.model ∙ same.model;
     done = none.done;
     held = refl;
     known = none.known;
-    interval = stays.interval ∙ same.interval;
     positions = refl;
   },
 )
@@ -150,15 +148,14 @@ tells_memory b limit before after n asked may running stays is heard =
 edited : (b : Behaviour) (e : Edit) (before after : Editing) (text : List ℕ) → AnswersEdit b before e text after → (s : Machine) → IsAt b before s
     → Told b (command.Edit e) text s after
 edited b e before after text (inl made) s at = (
-  record { model = after.model; last = None; held = s.held; known = made.0; interval = s.interval; positions = up_to_event made.0 s.positions },
-  inl (text, refl, inl (subst (λ k. IsMade b s.model k e text after.model made.0) at.known (subst (λ m. IsMade b m before.known e text after.model made.0) at.model made.1), refl, refl, refl, refl)),
+  record { model = after.model; last = None; held = s.held; known = made.0; positions = cut made.0 s.positions },
+  inl (text, refl, inl (subst (λ k. IsMade b s.model k e text after.model made.0) at.known (subst (λ m. IsMade b m before.known e text after.model made.0) at.model made.1), refl, refl, refl)),
   record {
     model = refl;
     done = ap (λ (x : Editing). x.done) made.2;
     held = ap (λ (x : Editing). x.held) made.2 ∙ at.held;
     known = ap (λ (x : Editing). x.known) made.2;
-    interval = ap (λ (x : Editing). x.interval) made.2 ∙ at.interval;
-    positions = ap (λ (x : Editing). x.positions) made.2 ∙ ap (up_to_event made.0) at.positions;
+    positions = ap (λ (x : Editing). x.positions) made.2 ∙ ap (cut made.0) at.positions;
   },
 )
 edited b e before after text (inr refused) s at = (
@@ -195,11 +192,11 @@ tells_no_line b command.TooLarge before after n is asked may running same heard 
 
 -- what is told of the positions
 pub tells_positions : (b : Behaviour) (before after : Seen) (text : List ℕ) (n : Next) → after.asked ≡ before.asked → after.may ≡ before.may → after.running ≡ None
-    → after.editing ≡ before.editing → text ≡ positions_text before.editing.positions → HearsAnswer text before.heard after.heard n
+    → after.editing ≡ before.editing → text ≡ positions_text before.editing.positions.stored → HearsAnswer text before.heard after.heard n
     → HearsNext b command.Positions before after n
 tells_positions b before after text n asked may running same is heard = tells b command.Positions before after text n asked may running heard (λ s at. (
   s,
-  (inl (ap (λ (t : List ℕ). Answer t ∷ []) (is ∙ ap positions_text at.positions)), refl),
+  (inl (ap (λ (t : List ℕ). Answer t ∷ []) (is ∙ ap (λ (p : Timeline ℕ). positions_text p.stored) at.positions)), refl),
   subst (λ x. IsAt b x s) (sym same) at,
 ))
 

@@ -1,12 +1,13 @@
 -- One turn of a desk with a client after the other.
 use Rattle.std.proofs.Common.{◌≡◌, ℕ, ◌+◌, ◌*◌, ◌<◌, ◌≤◌, List, [], ◌∷◌, ◌++◌, Option, Some, None, IsSome, codes, arith, inl, inr, refl, sym, ap, ◌∙◌, subst}
 use Rattle.module_api.specs.Behaviour.{Behaviour}
-use Rattle.checkpoints.specs.Stored.{counts_of}
+use Rattle.checkpoints.specs.Stored.{begun, counts_in, IsBegun, Timeline}
 use Rattle.command_lines.specs.declared.commands.Command.{Command}
 use Rattle.command_lines.specs.declared.commands.Command.TheVariants as command
 use Rattle.edit_session.specs.Editing.{Completed, Editing, IsUndone, fresh_editing, waited_for, wanted_of}
 use Rattle.checkpointed_runs.specs.declared.running.Stood.TheVariants.{Before}
 use Rattle.checkpointed_runs.specs.Positions.{last_count, start_of}
+use Rattle.checkpointed_runs.proofs.Counting.{begun_is}
 use Rattle.checkpointed_runs.specs.declared.running.Phase.{Phase}
 use Rattle.kernel_actions.specs.declared.position.Position.{Position}
 use Rattle.models.specs.declared.model.Model.{Model}
@@ -171,34 +172,34 @@ some_limit : (o : Option ℕ) → IsSome o → (limit : ℕ) × (o ≡ Some limi
 some_limit None is = absurd cc
 some_limit (Some limit) is = (limit, refl)
 
-undone : (phase : Phase) (m : Model) (held : ℕ) (done : Option Completed) (known : Option ℕ) (ps : List Position) → IsSome (waited_for phase m held)
-    → IsUndone phase done known ps → (done ≡ None) × (known ≡ None) × (ps ≡ [])
+undone : (phase : Phase) (m : Model) (held : ℕ) (done : Option Completed) (known : Option ℕ) (ps : Timeline Position) → IsSome (waited_for phase m held)
+    → IsUndone phase done known ps → (done ≡ None) × (known ≡ None) × IsBegun ps
 undone Idle m held d k ps is none = absurd cc
 undone Waiting m held d k ps is none = none
 undone Declined m held d k ps is none = absurd cc
 
 -- a run that waits leaves nothing: neither it nor one before it is done, and no position is stored
-waits_for_none : (b : Behaviour) (limit : ℕ) (e : Editing) (ps : List Position) → IsSome (wanted_of e) → IsUndone e.phase e.done e.known ps
-    → e.positions ≡ counts_of ps → LeavesNone b e limit e
+waits_for_none : (b : Behaviour) (limit : ℕ) (e : Editing) (ps : Timeline Position) → IsSome (wanted_of e) → IsUndone e.phase e.done e.known ps
+    → e.positions ≡ counts_in ps → LeavesNone b e limit e
 waits_for_none b limit e ps waits none counts =
     let left = undone e.phase e.model e.held e.done e.known ps waits none in
-    let no_counts : e.positions ≡ [] = counts ∙ ap counts_of left.2 in
+    let no_counts : e.positions ≡ begun ps.first = counts ∙ ap counts_in left.2 in
     record {
       done = left.0;
-      known = left.1 ∙ sym (ap last_count no_counts);
+      known = left.1 ∙ sym (ap (λ (t : Timeline ℕ). last_count t.stored) no_counts);
       stood = Before;
-      positions = (ap (start_of limit) no_counts, no_counts);
+      positions = (ap (λ (t : Timeline ℕ). start_of limit t.stored) no_counts, begun_is e.positions ps.first no_counts);
     }
 
-pub memory_turn : (b : Behaviour) (before after : Seen) (n : Next) (ps : List Position) → IsSome before.running → IsSome (wanted_of before.editing)
-    → IsUndone before.editing.phase before.editing.done before.editing.known ps → before.editing.positions ≡ counts_of ps
+pub memory_turn : (b : Behaviour) (before after : Seen) (n : Next) (ps : Timeline Position) → IsSome before.running → IsSome (wanted_of before.editing)
+    → IsUndone before.editing.phase before.editing.done before.editing.known ps → before.editing.positions ≡ counts_in ps
     → after.editing ≡ before.editing → after.asked ≡ before.asked → after.may ≡ before.may → after.running ≡ None
     → HearsAnswer (codes "refused NoMemory") before.heard after.heard n → IsNextServing b before after n
 memory_turn b before after n ps going waits none counts same asked may running heard =
     let at = some_limit before.running going in
     run_turn b at.0 before after (turn.Over n) at.1
     (tells_none b at.0 before after n asked may running
-    (record { model = ap (λ (e : Editing). e.model) same; interval = ap (λ (e : Editing). e.interval) same })
+    (record { model = ap (λ (e : Editing). e.model) same })
     (subst (LeavesNone b before.editing at.0) (sym same) (waits_for_none b at.0 before.editing ps waits none counts)) heard)
 
 -- a box is placed, or it isn't, and the turn goes on
@@ -225,7 +226,6 @@ served_first b m interval v fresh asked heard = record {
     done = ap (λ (e : Editing). e.done) fresh;
     held = ap (λ (e : Editing). e.held) fresh;
     known = ap (λ (e : Editing). e.known) fresh;
-    interval = ap (λ (e : Editing). e.interval) fresh;
     positions = ap (λ (e : Editing). e.positions) fresh;
   };
   heard = rw (asked, heard) (refl, refl);

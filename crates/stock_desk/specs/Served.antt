@@ -11,7 +11,8 @@ use Rattle.edit_session.specs.Editing.{boxes_left}
 use Rattle.checkpointed_runs.specs.Running.{fresh_run}
 use Rattle.edit_session.specs.Files.{scalars_of_run, vectors_of_run}
 use Rattle.checkpointed_runs.specs.declared.running.Stood.{Stood}
-use Rattle.checkpointed_runs.specs.Positions.{last_count, positions_after, up_to_event, HasStored}
+use Rattle.checkpoints.specs.Stored.{begun, Timeline}
+use Rattle.checkpointed_runs.specs.Positions.{cut, last_count, positions_after, HasStored}
 use Rattle.desk.specs.Answers.{held_text, positions_text}
 use Rattle.desk.specs.Turns.{run_answer, IsMade, IsRefused}
 use Rattle.transcripts.specs.Heard.{Answer, Files, Heard}
@@ -19,14 +20,13 @@ use Rattle.transcripts.specs.declared.asked.Asked.{Asked}
 use Rattle.transcripts.specs.declared.asked.Asked.TheVariants as asked
 
 -- THE PLAIN MACHINE holds a model, the limit of the last run that is done, if there is one, how many boxes there are, of how many events of a run of
--- the model the questions are known, after how many events each a position is stored, and after which events one is. It keeps nothing else of a run.
+-- the model the questions are known, and after which events a position is stored, with the interval. It keeps nothing else of a run.
 pub record Machine : Type 0 where
   pub model : Model
   pub last : Option ℕ
   pub held : ℕ
   pub known : Option ℕ
-  pub interval : ℕ
-  pub positions : List ℕ
+  pub positions : Timeline ℕ
 
 -- how many events a run of the model has, up to that limit
 abbrev pub events_of : Behaviour → Model → ℕ → ℕ
@@ -47,8 +47,7 @@ behind_run b s limit = record {
   last = Some limit;
   held = boxes_left b s.model limit;
   known = Some (events_of b s.model limit);
-  interval = s.interval;
-  positions = positions_after b (answers_of s.model) limit s.interval s.positions;
+  positions = positions_after b (answers_of s.model) limit s.positions;
 }
 
 -- Memory ran out for a run to that limit, and none is done: its positions are those that it stored up to where it stood, known are the events up to the
@@ -56,15 +55,14 @@ behind_run b s limit = record {
 pub record GivesUpRun (b : Behaviour) (s : Machine) (limit : ℕ) (s' : Machine) : Type 0 where
   pub model : s'.model ≡ s.model
   pub last : s'.last ≡ None
-  pub known : s'.known ≡ last_count s'.positions
-  pub interval : s'.interval ≡ s.interval
+  pub known : s'.known ≡ last_count s'.positions.stored
   pub stood : Stood
-  pub positions : HasStored b (answers_of s.model) limit s.interval s.positions stood s'.positions
+  pub positions : HasStored b (answers_of s.model) limit s.positions stood s'.positions
 
 -- A RUN is answered as a fresh run of the model that begins at the greatest position up to the limit. Or memory ran out: the run may be done nevertheless.
 abbrev pub HearsRun : Behaviour → Machine → ℕ → List Heard → Machine → Type 0
 HearsRun b s limit heard s' =
-    ((heard ≡ Answer (run_answer b s.model limit s.positions) ∷ []) × (s' ≡ behind_run b s limit))
+    ((heard ≡ Answer (run_answer b s.model limit s.positions.stored) ∷ []) × (s' ≡ behind_run b s limit))
     ⊎ ((heard ≡ out_of_memory ∷ []) × (GivesUpRun b s limit s' ⊎ (s' ≡ behind_run b s limit)))
 
 -- AN EDIT is made, and then no run is done, the boxes stay, and so do the positions up to which the last run stays valid; or it is refused, or memory ran
@@ -73,7 +71,7 @@ abbrev pub HearsEdit : Behaviour → Machine → Edit → List Heard → Machine
 HearsEdit b s e heard s' =
     ((text : List ℕ) × (heard ≡ Answer text ∷ [])
     × ((IsMade b s.model s.known e text s'.model s'.known × (s'.last ≡ None) × (s'.held ≡ s.held)
-    × (s'.interval ≡ s.interval) × (s'.positions ≡ up_to_event s'.known s.positions)) ⊎ (IsRefused s.model e text × (s' ≡ s))))
+    × (s'.positions ≡ cut s'.known s.positions)) ⊎ (IsRefused s.model e text × (s' ≡ s))))
     ⊎ ((heard ≡ out_of_memory ∷ []) × (s' ≡ s))
 
 -- AFTER WHICH EVENTS a position is stored is told, or memory ran out.
@@ -94,7 +92,7 @@ HearsFiles b m (Some limit) heard = heard ≡ Files m.config (scalars_of_run b m
 abbrev pub Hears : Behaviour → Machine → Command → List Heard → Machine → Type 0
 Hears b s (command.Run limit) heard s' = HearsRun b s limit heard s'
 Hears b s (command.Edit e) heard s' = HearsEdit b s e heard s'
-Hears b s command.Positions heard s' = HearsPositions s.positions heard × (s' ≡ s)
+Hears b s command.Positions heard s' = HearsPositions s.positions.stored heard × (s' ≡ s)
 Hears b s command.Held heard s' = HearsHeld s.held heard × (s' ≡ s)
 Hears b s command.Write heard s' = HearsFiles b s.model s.last heard × (s' ≡ s)
 Hears b s command.Unknown heard s' = (heard ≡ Answer (codes "refused Command") ∷ []) × (s' ≡ s)
@@ -108,7 +106,7 @@ AreHeard b s (a ∷ more) heard s' = (front rest : List Heard) × (mid : Machine
 
 -- a machine that has run nothing has no boxes and no positions
 abbrev pub fresh_machine : Model → ℕ → Machine
-fresh_machine m interval = record { model = m; last = None; held = 0; known = None; interval = interval; positions = [] }
+fresh_machine m interval = record { model = m; last = None; held = 0; known = None; positions = begun interval }
 
 -- THE FIRST PART of what a command is answered is heard, or nothing; what comes next is missed.
 pub record BeginsToHear (b : Behaviour) (s : Machine) (c : Command) (heard : List Heard) : Type 0 where

@@ -8,7 +8,7 @@ use Rattle.stock_modules.specs.Modules.{module_of}
 use Rattle.stock_modules.specs.declared.modules.StockModule.{StockModule}
 use Rattle.edit_session.specs.Editing.{Completed, Editing, completed, wanted_of, IsFor}
 use Rattle.edit_session.specs.Files.{scalars_of_run, vectors_of_run}
-use Rattle.checkpointed_runs.specs.Positions.{start_of, up_to_event}
+use Rattle.checkpointed_runs.specs.Positions.{cut, start_of}
 use Rattle.saved_boxes.specs.Seats.{Members}
 use Rattle.desk.specs.Turns.{editing_at, IsSettled}
 use Rattle.checkpointed_runs.specs.declared.running.Phase.TheVariants.{Declined}
@@ -44,16 +44,14 @@ pub record IsAt (b : Behaviour) (e : Editing) (s : Machine) : Type 0 where
   pub done : e.done ≡ option_map (completed b s.model) s.last
   pub held : e.held ≡ s.held
   pub known : e.known ≡ s.known
-  pub interval : e.interval ≡ s.interval
   pub positions : e.positions ≡ s.positions
 
--- A run to that limit is the same of the session and of the plain machine: of the same model and interval, it begins at the same position, and up to there
--- the same ones stay.
+-- A run to that limit is the same of the session and of the plain machine: of the same model, it begins at the same position, and up to there the same
+-- ones stay, with the same interval.
 pub record RunsAlike (limit : ℕ) (e : Editing) (s : Machine) : Type 0 where
   pub model : e.model ≡ s.model
-  pub interval : e.interval ≡ s.interval
-  pub start : start_of limit e.positions ≡ start_of limit s.positions
-  pub kept : up_to_event (start_of limit e.positions) e.positions ≡ up_to_event (start_of limit s.positions) s.positions
+  pub start : start_of limit e.positions.stored ≡ start_of limit s.positions.stored
+  pub kept : cut (start_of limit e.positions.stored) e.positions ≡ cut (start_of limit s.positions.stored) s.positions
 
 -- All that was asked is heard.
 pub record IsServed (b : Behaviour) (s : Machine) (v : Seen) : Type 0 where
@@ -239,9 +237,8 @@ pub record WaitsIn (before after : Seen) (limit : ℕ) : Type 0 where
   pub may : after.may ≡ before.may
   pub running : after.running ≡ Some limit
   pub model : after.editing.model ≡ before.editing.model
-  pub interval : after.editing.interval ≡ before.editing.interval
-  pub start : start_of limit before.editing.positions ≡ None
-  pub positions : after.editing.positions ≡ []
+  pub start : start_of limit before.editing.positions.stored ≡ None
+  pub positions : after.editing.positions ≡ cut None before.editing.positions
 
 -- a box is made for what the run waits for, or there may be no such box, and the run is told so
 abbrev pub IsMetIn : Behaviour → Editing → Editing → Turn → Type 0
