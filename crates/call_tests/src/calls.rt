@@ -54,7 +54,7 @@ pub fn desk_of(alloc: Global, interval: u64) -> Result<Desk<Stock>, Fail>
 fn boxed(alloc: Global, calls: &Rc<Cell<u64>>) -> Result<Box<dyn SimpleModule>, Fail>
     ensures { IfOk result (λ held. IsFresh stock (codes "Tick") (meaning held)) }
 {
-    let made = Counted::of_kind(b"Tick".as_slice(), Rc::clone(calls)?).ok_or("unknown")?;
+    let made = Counted::of_kind(alloc, b"Tick".as_slice(), Rc::clone(calls)?).ok_or("unknown")?;
     Ok(Box::new(alloc, made)?)
 }
 

@@ -24,10 +24,10 @@ pub struct Counted {
 
 impl Counted {
     /// A fresh module of that kind, or none where the stock catalogue does not know it.
-    pub fn of_kind(kind: &[u8], calls: Rc<Cell<u64>>) -> Option<Counted>
+    pub fn of_kind(alloc: Global, kind: &[u8], calls: Rc<Cell<u64>>) -> Option<Counted>
         ensures { IfSome result (λ made. IsFresh stock kind.now (module_of made.held)) }
     {
-        match StockModule::of_kind(kind) {
+        match StockModule::of_kind(alloc, kind) {
             Some(held) => Some(Counted { held, calls }),
             None => None,
         }

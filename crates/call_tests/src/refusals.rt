@@ -78,7 +78,7 @@ struct Left {
 fn boxed(alloc: Global, left: &Rc<Cell<u64>>) -> Result<Box<dyn SimpleModule>, Fail>
     ensures { IfOk result (λ held. IsFresh stock (codes "Tick") (meaning held)) }
 {
-    let made = Refusing::of_kind(b"Tick".as_slice(), Rc::clone(left)?).ok_or("unknown")?;
+    let made = Refusing::of_kind(alloc, b"Tick".as_slice(), Rc::clone(left)?).ok_or("unknown")?;
     Ok(Box::new(alloc, made)?)
 }
 

@@ -28,10 +28,10 @@ pub struct Refusing {
 
 impl Refusing {
     /// A fresh module of that kind, or none where the stock catalogue does not know it.
-    pub fn of_kind(kind: &[u8], left: Rc<Cell<u64>>) -> Option<Refusing>
+    pub fn of_kind(alloc: Global, kind: &[u8], left: Rc<Cell<u64>>) -> Option<Refusing>
         ensures { IfSome result (λ made. IsFresh stock kind.now (module_of made.held)) }
     {
-        match StockModule::of_kind(kind) {
+        match StockModule::of_kind(alloc, kind) {
             Some(held) => Some(Refusing { held, left }),
             None => None,
         }

@@ -10,7 +10,7 @@ use Rattle.module_api.specs.declared.reply.Action.TheVariants.{Emit, RecordScala
 use Rattle.module_api.specs.Behaviour.{Naming, Behaviour}
 use Rattle.module_api.specs.Laws.{law_of_reads, KeepsStates, IsLawful}
 use Rattle.module_api.specs.Meaning.{Module}
-use Rattle.stock_modules.specs.Replies.{done, timer_set}
+use Rattle.module_parts.specs.Replies.{timer_set}
 
 abbrev pub clerk_actions : Prompt → List Action
 clerk_actions (prompt.Initialize stage) =
@@ -35,7 +35,7 @@ acting actions = record {
   stages = 1;
   is_state = λ state. bytes_eq state [];
   initial = [];
-  reply = λ state call. done (actions call.prompt) state;
+  reply = λ state call. record { reply = record { reads = []; actions = actions call.prompt }; state = state };
 }
 
 abbrev pub kind_of : Bool → List ℕ

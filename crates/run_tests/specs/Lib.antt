@@ -1,2 +1,1 @@
 pub mod Clerk
-pub mod Pulse

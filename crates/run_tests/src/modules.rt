@@ -1,11 +1,11 @@
 //! Calls of boxed modules, with their replies as texts.
 
 ghost use Rattle.std.specs.Prelude.{◌≡◌, IsTrue, IfOk};
+ghost use Rattle.std.specs.Option.{is_some};
 ghost use Rattle.module_api.specs.Meaning.{IsFresh};
-ghost use Rattle.run_tests.specs.Pulse.{is_pulse_state};
-ghost use Rattle.stock_modules.specs.Tick.{is_tick_state, state_of};
+ghost use Rattle.module_examples.specs.Pulse.{read_byte};
+ghost use Rattle.module_parts.specs.Numbers.{read_number, state_of};
 
-mod pulse;
 mod rows;
 
 use module_api::call::Prompt;
@@ -13,7 +13,8 @@ use module_api::catalogue::Catalogue;
 use module_api::message::Origin;
 use module_api::reply::Reply;
 use module_api::simple_module::SimpleModule;
-use pulse::{Pulse, Pulses};
+use module_examples::pulse::{Pulse, Pulses};
+use module_parts::player::{Player, Scripted};
 use rows::{Row, call_of, message_from, text_of};
 use sim_values::NoMemory;
 use sim_values::value::Dimension;
@@ -26,7 +27,7 @@ use stock_modules::tick::Tick;
 
 /// A box of a fresh Tick, as a program makes one.
 fn boxed_tick(alloc: Global) -> Result<Box<dyn SimpleModule>, Fail> {
-    let made = StockModule::of_kind(b"Tick".as_slice()).ok_or("unknown")?;
+    let made = StockModule::of_kind(alloc, b"Tick".as_slice()).ok_or("unknown")?;
     Ok(Box::new(alloc, made)?)
 }
 
@@ -39,7 +40,7 @@ fn take_fresh<C: Catalogue>(_held: Box<dyn SimpleModule>, kind: &[u8])
 
 /// Makes a box of that kind and hands it on, as a program does. What it answers is whether the kind is known.
 fn hand_over(alloc: Global, kind: &[u8]) -> Result<bool, NoMemory> {
-    match StockModule::of_kind(kind) {
+    match StockModule::of_kind(alloc, kind) {
         None => Ok(false),
         Some(made) => {
             let held: Box<dyn SimpleModule> = Box::new(alloc, made)?;
@@ -180,10 +181,10 @@ fn tick_refuses(rt: HostRuntime) -> Result<(), Fail> {
 }
 
 /// A Tick with these bytes as its state.
-#[tactic(auto, unfolding(stock_modules::specs::Tick::tick_naming))]
+#[tactic(auto, unfolding(stock_modules::specs::Tick::tick_script))]
 fn tick_in(alloc: Global, state: &[u8]) -> Result<Tick, NoMemory>
-    requires { IsTrue (is_tick_state state.now) }
-    ensures { IfOk result (λ tick. state_of tick ≡ state.now) }
+    requires { IsTrue (is_some (read_number state.now)) }
+    ensures { IfOk result (λ tick. state_of tick.n ≡ state.now) }
 {
     let mut tick = Tick::new();
     tick.load(alloc, state)?;
@@ -191,11 +192,11 @@ fn tick_in(alloc: Global, state: &[u8]) -> Result<Tick, NoMemory>
 }
 
 #[test]
-#[tactic(auto, unfolding(stock_modules::specs::Tick::number_of))]
+#[tactic(auto, unfolding(module_parts::specs::Numbers::number_of, module_parts::specs::Numbers::read_number))]
 fn tick_goes_on_from_a_state(rt: HostRuntime) -> Result<(), Fail> {
     let alloc = rt.alloc();
     let made = tick_in(alloc, [0, 0, 0, 0, 0, 0, 0, 2].as_slice())?;
-    let mut held: Box<dyn SimpleModule> = Box::new(alloc, made)?;
+    let mut held: Box<dyn SimpleModule> = Box::new(alloc, Player(made))?;
     let timer = message_from(alloc, Origin::Timer(0));
     let last = told(alloc, &mut held, COUNTING.as_slice(), timer)?;
     assert_eq!(rt; last.as_str(), COUNTED[3]);
@@ -207,7 +208,7 @@ fn tick_goes_on_from_a_state(rt: HostRuntime) -> Result<(), Fail> {
 #[test]
 fn pulse_keeps_its_state(rt: HostRuntime) -> Result<(), Fail> {
     let alloc = rt.alloc();
-    let mut pulse = Pulse(true);
+    let mut pulse = Pulse { has_pulsed: true };
     assert_eq!(rt; pulse.save(alloc)?.as_bytes(), [1].as_slice());
     load_pulse(&mut pulse, alloc, [0].as_slice())?;
     assert_eq!(rt; pulse.save(alloc)?.as_bytes(), [0].as_slice());
@@ -215,19 +216,23 @@ fn pulse_keeps_its_state(rt: HostRuntime) -> Result<(), Fail> {
 }
 
 /// Loads a state into a Pulse.
-#[tactic(auto, unfolding(crate::specs::Pulse::pulse_naming))]
+#[tactic(auto, unfolding(module_examples::specs::Pulse::pulse_script))]
 fn load_pulse(pulse: &mut Pulse, alloc: Global, state: &[u8]) -> Result<(), NoMemory>
-    requires { IsTrue (is_pulse_state state.now) }
+    requires { IsTrue (is_some (read_byte state.now)) }
 {
     pulse.load(alloc, state)
 }
 
+/// How long a Pulse waits: 5 ps.
+const WAITING: [Row; 1] = [Row("wait", Some(Dimension::Time), 5)];
+
 #[test]
 fn pulse_pulses_once(rt: HostRuntime) -> Result<(), Fail> {
     let alloc = rt.alloc();
-    let mut held: Box<dyn SimpleModule> = Box::new(alloc, Pulse(false))?;
-    let wanted = [": timer0+0/0", ": pulse=1", ":"];
-    replies(&rt, alloc, &mut held, [].as_slice(), wanted.as_slice())
+    let fresh = Player(Pulse { has_pulsed: false });
+    let mut held: Box<dyn SimpleModule> = Box::new(alloc, fresh)?;
+    let wanted = [" wait: timer0+5/0", ": pulse=1", ":"];
+    replies(&rt, alloc, &mut held, WAITING.as_slice(), wanted.as_slice())
 }
 
 #[test]

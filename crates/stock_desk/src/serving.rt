@@ -73,7 +73,7 @@ impl<O: Out + Drop, K: Client<O> + Drop> Server<O, K> {
     }
 
     /// What a run needs that waits for a box: a module of that kind, or to hear that there is none.
-    fn need_of(&mut self, request: &Request) -> Turn
+    fn need_of(&mut self, alloc: Global, request: &Request) -> Turn
         requires waits { wanted_of (editing_at SimpleModule-box self.old.desk) ≡ Some request.now }
         requires sound { IsServer stock SimpleModule-box self.old }
         ensures sound { IsServer stock SimpleModule-box self.new }
@@ -82,7 +82,7 @@ impl<O: Out + Drop, K: Client<O> + Drop> Server<O, K> {
         ensures met { let before = editing_at SimpleModule-box self.old.desk in
             IsMetIn stock before (editing_at SimpleModule-box self.new.desk) result }
     {
-        match StockModule::of_kind(request.kind.as_bytes()) {
+        match StockModule::of_kind(alloc, request.kind.as_bytes()) {
             Some(made) => Turn::Need(made),
             None => {
                 let _declined = self.desk.decline();
@@ -92,7 +92,7 @@ impl<O: Out + Drop, K: Client<O> + Drop> Server<O, K> {
     }
 
     /// Begins the run to that limit, or goes on with it.
-    fn run(&mut self, limit: u64) -> Turn
+    fn run(&mut self, alloc: Global, limit: u64) -> Turn
         requires sound { IsServer stock SimpleModule-box self.old }
         requires kept { K.keeps self.old.client }
         ensures { Serves stock SimpleModule-box K.asked K.heard K.left K.keeps K.label K.stops
@@ -105,7 +105,7 @@ impl<O: Out + Drop, K: Client<O> + Drop> Server<O, K> {
             }
             Ok(DeskTurn::Want(request)) => {
                 self.running = Some(limit);
-                self.need_of(&request)
+                self.need_of(alloc, &request)
             }
             Err(_) => Turn::Over(self.out_of_memory()),
         }
@@ -221,13 +221,13 @@ impl<O: Out + Drop, K: Client<O> + Drop> Server<O, K> {
     }
 
     /// Does what a command asks for.
-    fn command(&mut self, command: Command) -> Turn
+    fn command(&mut self, alloc: Global, command: Command) -> Turn
         requires { IsReady stock SimpleModule-box K.keeps self.old }
         ensures { Serves stock SimpleModule-box K.asked K.heard K.left K.keeps K.label K.stops
             MayStopIn (ComesTo stock command) self.old self.new result }
     {
         match command {
-            Command::Run(limit) => self.run(limit),
+            Command::Run(limit) => self.run(alloc, limit),
             Command::Edit(edit) => Turn::Over(self.edit(edit)),
             Command::Positions => Turn::Over(self.positions()),
             Command::Held => Turn::Over(self.held()),
@@ -245,10 +245,10 @@ impl<O: Out + Drop, K: Client<O> + Drop> Server<O, K> {
     {
         match asked {
             Asked::Line(text) => match command_of(alloc, text.as_bytes()) {
-                Ok(command) => self.command(command),
+                Ok(command) => self.command(alloc, command),
                 Err(_) => Turn::Over(self.out_of_memory()),
             },
-            Asked::TooLong => self.command(Command::TooLarge),
+            Asked::TooLong => self.command(alloc, Command::TooLarge),
         }
     }
 
@@ -260,7 +260,7 @@ impl<O: Out + Drop, K: Client<O> + Drop> Server<O, K> {
             MayStopIn (IsServingTurn stock) self.old self.new result }
     {
         if let Some(limit) = self.running {
-            return self.run(limit);
+            return self.run(alloc, limit);
         }
         match self.client.next() {
             Ok(Some(asked)) => self.answer(alloc, asked),

@@ -1,10 +1,4 @@
-pub mod Names
-pub mod Found
-pub mod Replies
-pub mod Told
-pub mod Timed
 pub mod Tick
-pub mod TickStates
 pub mod TickLaws
 pub mod Stock
 pub mod StockLaws

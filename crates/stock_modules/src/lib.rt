@@ -1,10 +1,6 @@
 //! The modules that come with the program: what each of them is, that they keep the laws of a catalogue, and their code.
 #![tactic(auto)]
 
-pub mod found;
 pub mod modules;
-pub mod names;
-pub mod replies;
 pub mod stock;
 pub mod tick;
-pub mod timed;

@@ -9,6 +9,7 @@ use crate::tick::Tick;
 use module_api::call::Call;
 use module_api::reply::Reply;
 use module_api::simple_module::SimpleModule;
+use module_parts::player::Player;
 use sim_values::NoMemory;
 use sim_values::text::Text;
 use std::alloc::Global;
@@ -16,18 +17,19 @@ use std::alloc::Global;
 /// A module that comes with the program.
 #[derive(Drop)]
 pub enum StockModule {
-    Tick(Tick),
+    Tick(Player<Tick>),
 }
 
 impl StockModule {
-    /// A fresh module of that kind, or none where the stock catalogue does not know it.
+    /// A fresh module of that kind, or none where the stock catalogue does not know it. The allocator is for what holds a
+    /// collection.
     #[tactic(auto, unfolding(crate::specs::Stock::stock))]
-    pub fn of_kind(kind: &[u8]) -> Option<StockModule>
+    pub fn of_kind(_alloc: Global, kind: &[u8]) -> Option<StockModule>
         ensures known { IsSome result ↔ IsTrue (stock.known kind.now) }
         ensures fresh { IfSome result (λ m. IsFresh stock kind.now (module_of m)) }
     {
         if kind == "Tick".as_bytes() {
-            Some(StockModule::Tick(Tick::new()))
+            Some(StockModule::Tick(Player(Tick::new())))
         } else {
             None
         }

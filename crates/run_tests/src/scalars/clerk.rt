@@ -9,12 +9,12 @@ use module_api::call::Call;
 use module_api::catalogue::Catalogue;
 use module_api::reply::{Action, Reply};
 use module_api::simple_module::SimpleModule;
+use module_parts::replies::{emit, nothing, set_timer};
 use sim_time::SimTime;
 use sim_values::NoMemory;
 use sim_values::text::Text;
 use sqlite_items::Items;
 use std::alloc::Global;
-use stock_modules::replies::{emit, nothing, set_timer};
 
 /// A Clerk records a scalar as it begins, emits the greatest value twice and sets a timer; it records a second scalar for a
 /// message, and a third at the end. A Scribe records a name that is none.

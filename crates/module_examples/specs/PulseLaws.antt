@@ -1,0 +1,26 @@
+-- The law of a Pulse, and of a catalogue that knows it alone.
+use Rattle.std.proofs.Common.{◌≡◌, Bool, true, false, Some, List, [], ◌∷◌, codes, refl}
+use Rattle.module_api.specs.Behaviour.{Behaviour}
+use Rattle.module_api.specs.Laws.{IsLawful}
+use Rattle.module_parts.specs.Catalogues.{Entry, entry, catalogue}
+use Rattle.module_parts.specs.CatalogueLaws.{entry_lawful, catalogue_lawful}
+use Rattle.module_parts.specs.ScriptLaws.{KeepsOwn, keeps_all}
+use Rattle.module_examples.specs.Pulse.{byte_of, read_byte, pulse_script}
+
+byte_reads_back : (has : Bool) → read_byte (byte_of has) ≡ Some (record { has_pulsed = has })
+byte_reads_back false = refl
+byte_reads_back true = refl
+
+pulse_keeps : KeepsOwn pulse_script (λ p. Unit {0})
+unfolding pulse_script
+pulse_keeps = keeps_all pulse_script (λ p. byte_reads_back p.has_pulsed)
+
+abbrev pub entries : List Entry
+entries = entry (codes "Pulse") pulse_script ∷ []
+
+unfoldable pub pulses : Behaviour
+pulses = catalogue entries
+
+pub pulses_lawful : IsLawful pulses
+unfolding pulses
+pulses_lawful = catalogue_lawful entries (entry_lawful (codes "Pulse") pulse_script (λ p. Unit {0}) pulse_keeps, tt)

@@ -1,0 +1,12 @@
+pub mod Asking
+pub mod AskingLaws
+pub mod Looking
+pub mod LookingLaws
+pub mod Cues
+pub mod Replies
+pub mod Scripts
+pub mod ScriptLaws
+pub mod Numbers
+pub mod NumberLaws
+pub mod Catalogues
+pub mod CatalogueLaws

@@ -1,0 +1,19 @@
+//! The laws of scripts and of catalogues. The functions do nothing: their contracts are the laws.
+
+ghost use Rattle.std.specs.Prelude.{List};
+ghost use Rattle.module_api.specs.Laws.{law_of_reads, IsLawful};
+ghost use Rattle.module_parts.specs.Catalogues.{Entry, catalogue};
+ghost use Rattle.module_parts.specs.CatalogueLaws.{AllLawful};
+ghost use Rattle.module_parts.specs.Scripts.{naming_of};
+
+use crate::player::Scripted;
+
+/// Of every module that goes by a script, what a reply lists as read decides the reply and the state after it.
+pub fn scripts_read_by_listing<S: Scripted>()
+    ensures { law_of_reads (naming_of S.script) }
+{}
+
+/// A catalogue of lawful kinds is lawful, at kinds that it doesn't know too.
+pub fn lawful_kinds_make_a_catalogue()
+    ensures { (entries : List Entry) → AllLawful entries → IsLawful (catalogue entries) }
+{}
