@@ -5,6 +5,7 @@ use crate::edit_rows::tell_edit;
 use crate::meaning_rows::{tell_entry_pattern, tell_meaning};
 use crate::pattern_rows::tell_pattern;
 use crate::telling::Telling;
+use crate::travel_rows::tell_travel;
 use crate::{connection_rows, ini_rows, ned_rows, rows, time_rows, tree_rows, value_rows};
 use std::alloc::{AllocError, Global};
 
@@ -17,6 +18,7 @@ fn tell_parts(alloc: Global, told: &mut Telling, file: &str, first: &str, rest: 
         "decimals" => time_rows::tell_decimal(told, first, rest),
         "time_texts" => time_rows::tell_texts(told, first, rest),
         "sums" => time_rows::tell_sums(told, first, rest),
+        "travels" => tell_travel(alloc, told, first, rest),
         _ => tell_edit(alloc, told, first, rest),
     }
 }
@@ -48,7 +50,8 @@ fn tell_row(alloc: Global, told: &mut Telling, file: &str, row: &str) {
         | "edits"
         | "decimals"
         | "time_texts"
-        | "sums" => tell_parted(alloc, told, file, row),
+        | "sums"
+        | "travels" => tell_parted(alloc, told, file, row),
         _ => rows::tell_line(alloc, told, row),
     }
 }

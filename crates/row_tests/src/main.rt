@@ -22,6 +22,7 @@ mod source;
 mod telling;
 mod text_rows;
 mod time_rows;
+mod travel_rows;
 mod tree_rows;
 mod value_rows;
 mod words;

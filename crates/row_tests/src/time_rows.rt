@@ -13,7 +13,7 @@ pub fn tell_decimal(told: &mut Telling, decimal: &str, unit: &str) {
 }
 
 /// The time that a word of a row is: its picoseconds, or its name.
-fn time_of(word: &str) -> Option<SimTime> {
+pub fn time_of(word: &str) -> Option<SimTime> {
     match word {
         "zero" => Some(SimTime::zero()),
         "greatest" => SimTime::from_ps(SimTime::MAX_PS),
