@@ -14,21 +14,30 @@ use module_api::message::Origin;
 use module_api::reply::Reply;
 use module_api::simple_module::SimpleModule;
 use module_examples::pulse::{Pulse, Pulses};
+use module_parts::laws::{lawful_kinds_make_a_catalogue, scripts_read_by_listing};
 use module_parts::player::{Player, Scripted};
 use rows::{Row, call_of, message_from, text_of};
 use sim_values::NoMemory;
+use sim_values::text::Text;
 use sim_values::value::Dimension;
 use std::alloc::Global;
 use std::process::Abort;
 use std::test::Fail;
 use stock_modules::modules::StockModule;
-use stock_modules::stock::{Stock, stock_reads_decide, stock_states_are_kept, tick_is_known};
+use stock_modules::stock::{
+    Stock, stock_kinds_are_known, stock_reads_decide, stock_states_are_kept,
+};
 use stock_modules::tick::Tick;
 
-/// A box of a fresh Tick, as a program makes one.
-fn boxed_tick(alloc: Global) -> Result<Box<dyn SimpleModule>, Fail> {
-    let made = StockModule::of_kind(alloc, b"Tick".as_slice()).ok_or("unknown")?;
+/// A box of a fresh module of that kind, as a program makes one.
+fn boxed(alloc: Global, kind: &[u8]) -> Result<Box<dyn SimpleModule>, Fail> {
+    let made = StockModule::of_kind(alloc, kind).ok_or("unknown")?;
     Ok(Box::new(alloc, made)?)
+}
+
+/// A box of a fresh Tick.
+fn boxed_tick(alloc: Global) -> Result<Box<dyn SimpleModule>, Fail> {
+    boxed(alloc, b"Tick".as_slice())
 }
 
 /// Takes a box that is fresh in a catalogue.
@@ -205,6 +214,27 @@ fn tick_goes_on_from_a_state(rt: HostRuntime) -> Result<(), Fail> {
     Ok(())
 }
 
+/// What a Sink replies to a message from there.
+fn told_by_sink(alloc: Global, origin: Origin) -> Result<String, Fail> {
+    let mut held = boxed(alloc, b"Sink".as_slice())?;
+    let prompt = message_from(alloc, origin);
+    Ok(told(alloc, &mut held, [].as_slice(), prompt)?)
+}
+
+#[test]
+fn sink_hears_its_gate_and_the_outside(rt: HostRuntime) -> Result<(), Fail> {
+    let alloc = rt.alloc();
+    let outside = told_by_sink(alloc, Origin::Outside)?;
+    assert_eq!(rt; outside.as_str(), ": rx=0");
+    let gate = told_by_sink(alloc, Origin::Gate(Text::from_str(alloc, "in")?, 0))?;
+    assert_eq!(rt; gate.as_str(), ": rx=0");
+    let other = told_by_sink(alloc, Origin::Gate(Text::from_str(alloc, "out")?, 0))?;
+    assert_eq!(rt; other.as_str(), ":");
+    let timer = told_by_sink(alloc, Origin::Timer(0))?;
+    assert_eq!(rt; timer.as_str(), ":");
+    Ok(())
+}
+
 #[test]
 fn pulse_keeps_its_state(rt: HostRuntime) -> Result<(), Fail> {
     let alloc = rt.alloc();
@@ -238,10 +268,13 @@ fn pulse_pulses_once(rt: HostRuntime) -> Result<(), Fail> {
 #[test]
 fn kinds(rt: HostRuntime) -> Result<(), Fail> {
     assert!(rt; hand_over(rt.alloc(), b"Tick".as_slice())?);
+    assert!(rt; hand_over(rt.alloc(), b"Sink".as_slice())?);
     assert!(rt; !hand_over(rt.alloc(), b"Tock".as_slice())?);
-    tick_is_known();
+    stock_kinds_are_known();
     stock_reads_decide();
     stock_states_are_kept();
+    scripts_read_by_listing::<Pulse>();
+    lawful_kinds_make_a_catalogue();
     module_api::law::reads_decide::<Pulses>();
     module_api::law::states_are_kept::<Pulses>();
     Ok(())

@@ -1,3 +1,5 @@
+pub mod Arrivals
+pub mod Sink
 pub mod Tick
 pub mod TickLaws
 pub mod Stock

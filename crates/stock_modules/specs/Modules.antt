@@ -3,8 +3,10 @@ use Rattle.std.specs.Prelude.{codes}
 use Rattle.module_api.specs.Meaning.{Module}
 use Rattle.module_parts.specs.Scripts.{module_by}
 use Rattle.stock_modules.specs.declared.modules.StockModule.{StockModule}
-use Rattle.stock_modules.specs.declared.modules.StockModule.TheVariants.{Tick}
+use Rattle.stock_modules.specs.declared.modules.StockModule.TheVariants as stock_module
+use Rattle.stock_modules.specs.Sink.{sink_script}
 use Rattle.stock_modules.specs.Tick.{tick_script}
 
 abbrev pub module_of : StockModule → Module
-module_of (Tick m) = module_by (codes "Tick") tick_script m.0
+module_of (stock_module.Tick m) = module_by (codes "Tick") tick_script m.0
+module_of (stock_module.Sink m) = module_by (codes "Sink") sink_script m.0

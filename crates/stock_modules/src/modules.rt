@@ -5,6 +5,7 @@ ghost use Rattle.module_api.specs.Meaning.{IsFresh};
 ghost use Rattle.stock_modules.specs.Stock.{stock};
 ghost use Rattle.stock_modules.specs.Modules.{module_of};
 
+use crate::sink::Sink;
 use crate::tick::Tick;
 use module_api::call::Call;
 use module_api::reply::Reply;
@@ -18,6 +19,7 @@ use std::alloc::Global;
 #[derive(Drop)]
 pub enum StockModule {
     Tick(Player<Tick>),
+    Sink(Player<Sink>),
 }
 
 impl StockModule {
@@ -30,6 +32,8 @@ impl StockModule {
     {
         if kind == "Tick".as_bytes() {
             Some(StockModule::Tick(Player(Tick::new())))
+        } else if kind == "Sink".as_bytes() {
+            Some(StockModule::Sink(Player(Sink {})))
         } else {
             None
         }
@@ -41,43 +45,50 @@ impl SimpleModule for StockModule {
 
     fn kind(&self) -> &str {
         match self {
-            StockModule::Tick(tick) => tick.kind(),
+            StockModule::Tick(m) => m.kind(),
+            StockModule::Sink(m) => m.kind(),
         }
     }
 
     fn stages(&self) -> u8 {
         match self {
-            StockModule::Tick(tick) => tick.stages(),
+            StockModule::Tick(m) => m.stages(),
+            StockModule::Sink(m) => m.stages(),
         }
     }
 
     fn initialize(&mut self, alloc: Global, call: &Call) -> Result<Reply, NoMemory> {
         match self {
-            StockModule::Tick(tick) => tick.initialize(alloc, call),
+            StockModule::Tick(m) => m.initialize(alloc, call),
+            StockModule::Sink(m) => m.initialize(alloc, call),
         }
     }
 
     fn handle_message(&mut self, alloc: Global, call: &Call) -> Result<Reply, NoMemory> {
         match self {
-            StockModule::Tick(tick) => tick.handle_message(alloc, call),
+            StockModule::Tick(m) => m.handle_message(alloc, call),
+            StockModule::Sink(m) => m.handle_message(alloc, call),
         }
     }
 
     fn finish(&mut self, alloc: Global, call: &Call) -> Result<Reply, NoMemory> {
         match self {
-            StockModule::Tick(tick) => tick.finish(alloc, call),
+            StockModule::Tick(m) => m.finish(alloc, call),
+            StockModule::Sink(m) => m.finish(alloc, call),
         }
     }
 
     fn save(&self, alloc: Global) -> Result<Text, NoMemory> {
         match self {
-            StockModule::Tick(tick) => tick.save(alloc),
+            StockModule::Tick(m) => m.save(alloc),
+            StockModule::Sink(m) => m.save(alloc),
         }
     }
 
     fn load(&mut self, alloc: Global, state: &[u8]) -> Result<(), NoMemory> {
         match self {
-            StockModule::Tick(tick) => tick.load(alloc, state),
+            StockModule::Tick(m) => m.load(alloc, state),
+            StockModule::Sink(m) => m.load(alloc, state),
         }
     }
 }

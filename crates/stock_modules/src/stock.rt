@@ -1,6 +1,6 @@
 //! The stock catalogue.
 
-ghost use Rattle.std.specs.Prelude.{◌≡◌, ◌↔◌, ℕ, List, IsTrue, codes};
+ghost use Rattle.std.specs.Prelude.{◌≡◌, ◌↔◌, ◌⊎◌, ℕ, List, IsTrue, codes};
 ghost use Rattle.module_api.specs.Laws.{law_of_reads, KeepsStates};
 ghost use Rattle.stock_modules.specs.Stock.{stock};
 
@@ -18,10 +18,9 @@ impl Catalogue for Stock {
     ghost lawful = { stock_lawful };
 }
 
-/// Exactly Tick is known. It does nothing: its contract is the law.
-#[tactic(auto, unfolding(crate::specs::Stock::stock))]
-pub fn tick_is_known()
-    ensures { (kind : List ℕ) → IsTrue (stock.known kind) ↔ (kind ≡ codes "Tick") }
+/// Exactly Tick and Sink are known. It does nothing: its contract is the law.
+pub fn stock_kinds_are_known()
+    ensures { (kind : List ℕ) → IsTrue (stock.known kind) ↔ ((kind ≡ codes "Tick") ⊎ (kind ≡ codes "Sink")) }
 {}
 
 /// What a reply of a stock module lists as read decides the reply and the state after it. It does nothing: its contract

@@ -1,8 +1,13 @@
 use Rattle.std.proofs.Common.{◌≡◌, codes, rules}
-use Rattle.stock_modules.specs.StockLaws.{tick_is_fresh}
+use Rattle.stock_modules.specs.StockLaws.{tick_is_fresh, sink_is_fresh}
 use Rattle.stock_modules.proofs.modules.StockModule.of_kind.Goals as goal
 
 pub returns-then-eq-clause-fresh : goal.returns-then-eq-clause-fresh
 returns-then-eq-clause-fresh c =
     let kind : c.args.kind.now ≡ codes "Tick" = search rules in
     rw (kind, c.new.ensures) tick_is_fresh
+
+pub returns-then-eq-2-clause-fresh : goal.returns-then-eq-2-clause-fresh
+returns-then-eq-2-clause-fresh c =
+    let kind : c.args.kind.now ≡ codes "Sink" = search rules in
+    rw kind sink_is_fresh
