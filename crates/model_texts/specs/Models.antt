@@ -97,20 +97,20 @@ RefusesIni bytes _ = ⊥
 
 -- the refusal of types with that fault
 abbrev pub refusal_of : TypeFault → BeginFault
-refusal_of types.NotBuilt = fault.NotBuilt
 refusal_of types.DuplicateType = fault.DuplicateType
 refusal_of types.UnknownType = fault.UnknownType
 refusal_of types.InheritanceCircle = fault.InheritanceCircle
 refusal_of types.KindClash = fault.KindClash
 refusal_of types.Interface = fault.Interface
+refusal_of types.NotBuilt = fault.NotBuilt
 
 abbrev pub RefusesTypes : List TypeDeclaration → BeginFault → Type 0
-RefusesTypes declared fault.NotBuilt = fault_of declared ≡ Some types.NotBuilt
 RefusesTypes declared fault.DuplicateType = fault_of declared ≡ Some types.DuplicateType
 RefusesTypes declared fault.UnknownType = fault_of declared ≡ Some types.UnknownType
 RefusesTypes declared fault.InheritanceCircle = fault_of declared ≡ Some types.InheritanceCircle
 RefusesTypes declared fault.KindClash = fault_of declared ≡ Some types.KindClash
 RefusesTypes declared fault.Interface = fault_of declared ≡ Some types.Interface
+RefusesTypes declared fault.NotBuilt = fault_of declared ≡ Some types.NotBuilt
 RefusesTypes declared (fault.NoMemory _) = Unit {0}
 RefusesTypes declared _ = ⊥
 
@@ -158,12 +158,12 @@ abbrev pub Refuses : List (List ℕ) → List ℕ → List ℕ → BeginFault �
 Refuses texts ini config fault.TooLarge = is_too_large texts ini ≡ true
 Refuses texts ini config (fault.NedSyntax at line) = (is_too_large texts ini ≡ false) × IsBlamed texts at line
 Refuses texts ini config (fault.IniSyntax line reason) = (is_too_large texts ini ≡ false) × IsIniBlamed texts ini line
-Refuses texts ini config fault.NotBuilt = (is_too_large texts ini ≡ false) × AreApart texts ini types.NotBuilt
 Refuses texts ini config fault.DuplicateType = (is_too_large texts ini ≡ false) × AreApart texts ini types.DuplicateType
 Refuses texts ini config fault.UnknownType = (is_too_large texts ini ≡ false) × AreApart texts ini types.UnknownType
 Refuses texts ini config fault.InheritanceCircle = (is_too_large texts ini ≡ false) × AreApart texts ini types.InheritanceCircle
 Refuses texts ini config fault.KindClash = (is_too_large texts ini ≡ false) × AreApart texts ini types.KindClash
 Refuses texts ini config fault.Interface = (is_too_large texts ini ≡ false) × AreApart texts ini types.Interface
+Refuses texts ini config fault.NotBuilt = (is_too_large texts ini ≡ false) × AreApart texts ini types.NotBuilt
 Refuses texts ini config fault.NoSuchConfig = IsNotSelected texts ini config
 Refuses texts ini config fault.ChainFault = HasNoChain texts ini config
 Refuses texts ini config fault.NoSuchNetwork = HasNoNetwork texts ini config

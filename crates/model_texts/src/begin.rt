@@ -41,20 +41,20 @@ pub enum BeginFault {
     NedSyntax(usize, usize),
     /// The first line of the ini text that means nothing, and why.
     IniSyntax(usize, Reason),
-    /// No model is built of a part of a type yet, which is right in NED: a compound module that is no network, a vector of
-    /// submodules, a parametric type, a condition, gates in the body of a submodule, or connections.
-    NotBuilt,
     /// Two types have one name, or one has that of a built-in channel.
     DuplicateType,
-    /// A submodule's type, what a type extends, or one of its interfaces isn't declared.
+    /// A submodule's type or interface, the channel of a connection, what a type extends, or one of its interfaces isn't declared.
     UnknownType,
     /// A type extends itself, perhaps by way of others.
     InheritanceCircle,
     /// What a type extends or one of its interfaces is of another kind, a member is declared twice, a value is given to an undeclared
-    /// parameter or after a fixed one, or a submodule's type is no simple type.
+    /// parameter or after a fixed one, a submodule's type is none of modules, or what a connection names as its channel is no channel.
     KindClash,
     /// A type lacks a parameter or a gate of one of its interfaces.
     Interface,
+    /// A network has a part of which none is built yet, which is right in NED: a submodule that is a compound module or a vector, or has a
+    /// parametric type, a condition or gates in its body, or connections.
+    NotBuilt,
     /// The configuration isn't in the ini text.
     NoSuchConfig,
     /// The configuration extends one that isn't in the ini text, one twice, several that can't be put in order, or in the end itself.
@@ -153,12 +153,12 @@ fn refusal_of(fault: TypeFault) -> BeginFault
     ensures { result ≡ refusal_of fault }
 {
     match fault {
-        TypeFault::NotBuilt => BeginFault::NotBuilt,
         TypeFault::DuplicateType => BeginFault::DuplicateType,
         TypeFault::UnknownType => BeginFault::UnknownType,
         TypeFault::InheritanceCircle => BeginFault::InheritanceCircle,
         TypeFault::KindClash => BeginFault::KindClash,
         TypeFault::Interface => BeginFault::Interface,
+        TypeFault::NotBuilt => BeginFault::NotBuilt,
     }
 }
 

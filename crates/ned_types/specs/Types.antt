@@ -1,5 +1,5 @@
 -- The types that files declare, and what may be wrong with those that extend nothing.
-use Rattle.std.specs.Prelude.{ℕ, Bool, true, false, not, ◌||◌, ◌&&◌, List, [], ◌∷◌, ◌++◌, Option, Some, None, is_some, if◌then◌else◌, codes, ◌==◌}
+use Rattle.std.specs.Prelude.{ℕ, Bool, true, false, not, ◌||◌, ◌&&◌, List, [], ◌∷◌, Option, Some, None, is_some, if◌then◌else◌, codes, ◌==◌}
 use Rattle.std.specs.List.{list_any}
 use Rattle.std.specs.Str.{bytes_eq}
 use Rattle.ned_trees.specs.declared.declarations.GateSize.{GateSize}
@@ -170,6 +170,18 @@ abbrev pub redeclares_gate : List GateLine → Bool
 redeclares_gate [] = false
 redeclares_gate (g ∷ gs) = is_declared_again gs g || redeclares_gate gs
 
+-- whether the line declares a gate
+abbrev pub is_gate_declaration : GateLine → Bool
+is_gate_declaration (gate.Declaration d) = true
+is_gate_declaration (gate.Refinement r) = false
+
+abbrev pub declares_gates : Submodule → Bool
+declares_gates s = list_any is_gate_declaration s.body.gates
+
+-- whether the body of a submodule declares a gate: its type does
+abbrev pub bodies_declare : List Submodule → Bool
+bodies_declare submodules = list_any declares_gates submodules
+
 -- ---- kinds
 
 -- whether it is the kind of simple types
@@ -241,16 +253,30 @@ has_inner_network types = list_any is_inner_network types
 
 -- ---- submodules
 
-abbrev pub is_simple : Option TypeDeclaration → Bool
-is_simple None = false
-is_simple (Some t) = is_simple_kind t.kind
+-- whether it is a kind of types of modules: that of simple types, of compound modules or of networks
+abbrev pub is_kind_of_modules : TypeKind → Bool
+is_kind_of_modules Simple = true
+is_kind_of_modules Module = true
+is_kind_of_modules Network = true
+is_kind_of_modules Channel = false
+is_kind_of_modules ModuleInterface = false
+is_kind_of_modules ChannelInterface = false
 
-abbrev pub is_submodule_simple : List TypeDeclaration → Submodule → Bool
-is_submodule_simple types s = is_simple (type_named (type_name s) types)
+-- whether a type of that kind may stand there: a type of modules where its name does, an interface of modules behind `like`
+abbrev pub suits_kind : SubmoduleType → TypeKind → Bool
+suits_kind (submodule_type.Named name) kind = is_kind_of_modules kind
+suits_kind (submodule_type.Like p) kind = is_module_interface kind
 
--- whether the type of a submodule isn't a simple type
+abbrev pub suits : SubmoduleType → Option TypeDeclaration → Bool
+suits of None = false
+suits of (Some t) = suits_kind of t.kind
+
+abbrev pub is_submodule_suited : List TypeDeclaration → Submodule → Bool
+is_submodule_suited types s = suits s.submodule_type (type_named (type_name s) types)
+
+-- whether the type of a submodule isn't one of modules, or that behind `like` isn't an interface of modules
 abbrev pub has_other_kind : List TypeDeclaration → List Submodule → Bool
-has_other_kind types submodules = list_any (λ s. not (is_submodule_simple types s)) submodules
+has_other_kind types submodules = list_any (λ s. not (is_submodule_suited types s)) submodules
 
 abbrev pub is_submodule_named : List ℕ → List Submodule → Bool
 is_submodule_named name submodules = list_any (λ s. bytes_eq s.name name) submodules
@@ -266,15 +292,7 @@ abbrev pub section_clashes : List SectionLine → Bool
 section_clashes lines = redeclares lines || (gives_undeclared lines || gives_again lines)
 
 abbrev pub submodules_clash : List TypeDeclaration → List Submodule → Bool
-submodules_clash types submodules = repeats_submodule submodules || (has_other_kind types submodules || bodies_clash types submodules)
-
--- whether a parameter, a gate or a submodule of the type is declared twice, a value is given to an undeclared parameter or
--- after a fixed one, a submodule is of another kind than simple, or the body of a submodule clashes with its type
-abbrev pub clashes : List TypeDeclaration → TypeDeclaration → Bool
-clashes types t = section_clashes t.lines || (redeclares_gate t.gates || submodules_clash types t.submodules)
-
-abbrev pub has_clash : List TypeDeclaration → Bool
-has_clash types = list_any (λ t. clashes types t) types
+submodules_clash types submodules = repeats_submodule submodules || (has_other_kind types submodules || (bodies_clash types submodules || bodies_declare submodules))
 
 -- ---- gates
 

@@ -1,6 +1,9 @@
 -- Types that make a model, by the rules of the language.
 -- OMNeT++ Simulation Manual, "Simple Modules", "Submodules", "Parameters", "Gates".
-use Rattle.std.specs.Prelude.{◌≡◌, ◌≢◌, ◌⊎◌, ℕ, true, false, List, [], ◌∷◌, ◌++◌, is_some}
+use Rattle.std.specs.Prelude.{◌≡◌, ◌≢◌, ◌⊎◌, ℕ, true, false, List, [], ◌∷◌, ◌++◌, Some, is_some}
+use Rattle.ned_trees.specs.declared.connections.Channel.{Channel}
+use Rattle.ned_trees.specs.declared.connections.ConnectionItem.{ConnectionItem}
+use Rattle.ned_trees.specs.declared.connections.ConnectionLine.{ConnectionLine}
 use Rattle.ned_trees.specs.declared.declarations.Declaration.{Declaration}
 use Rattle.ned_trees.specs.declared.declarations.GateDeclaration.{GateDeclaration}
 use Rattle.ned_trees.specs.declared.declarations.GateLine.{GateLine}
@@ -8,9 +11,13 @@ use Rattle.ned_trees.specs.declared.declarations.GateLine.TheVariants as gate
 use Rattle.ned_trees.specs.declared.declarations.SectionLine.{SectionLine}
 use Rattle.ned_trees.specs.declared.declarations.SectionLine.TheVariants as line
 use Rattle.ned_trees.specs.declared.declarations.Submodule.{Submodule}
+use Rattle.ned_trees.specs.declared.declarations.SubmoduleType.{SubmoduleType}
+use Rattle.ned_trees.specs.declared.declarations.SubmoduleType.TheVariants as submodule_type
 use Rattle.ned_trees.specs.declared.declarations.TypeDeclaration.{TypeDeclaration}
 use Rattle.ned_trees.specs.declared.declarations.TypeKind.{TypeKind}
-use Rattle.ned_trees.specs.declared.declarations.TypeKind.TheVariants.{Simple}
+use Rattle.ned_trees.specs.declared.declarations.TypeKind.TheVariants as kinds
+use Rattle.ned_types.specs.Channels.{built_in_lines}
+use Rattle.ned_types.specs.Clashes.{channel_name, connections_of}
 use Rattle.ned_types.specs.Types.{is_built_in, is_fixed, name_in, type_name, value_in, is_vector}
 
 -- it is one of these
@@ -55,9 +62,27 @@ HaveOwnGates gates = (d e : GateDeclaration) → StandsBefore (gate.Declaration 
 abbrev pub IsTypeOf : TypeKind → List ℕ → List TypeDeclaration → Type 0
 IsTypeOf kind name types = (u : TypeDeclaration) × IsAmong u types × (u.name ≡ name) × (u.kind ≡ kind)
 
--- one of the types is a simple type of that name
-abbrev pub IsSimpleType : List ℕ → List TypeDeclaration → Type 0
-IsSimpleType name types = IsTypeOf Simple name types
+-- it is a type of modules: a simple type, a compound module or a network
+abbrev pub IsOfModules : TypeKind → Type 0
+IsOfModules k = (k ≡ kinds.Simple) ⊎ ((k ≡ kinds.Module) ⊎ (k ≡ kinds.Network))
+
+-- a type of that kind may stand there: one of modules by its name, an interface of modules behind `like`
+abbrev pub Suits : SubmoduleType → TypeKind → Type 0
+Suits (submodule_type.Named name) k = IsOfModules k
+Suits (submodule_type.Like p) k = k ≡ kinds.ModuleInterface
+
+-- the type of the submodule, or the interface behind `like`, is among these, and may stand there
+abbrev pub HasType : Submodule → List TypeDeclaration → Type 0
+HasType s types = (u : TypeDeclaration) × IsAmong u types × (u.name ≡ type_name s) × Suits s.submodule_type u.kind
+
+-- these are the lines of the channel of that name: of a built-in one, or of a channel among these types
+abbrev pub IsChannelNamed : List TypeDeclaration → List ℕ → List SectionLine → Type 0
+IsChannelNamed types name lines =
+    ((is_built_in name ≡ true) × (lines ≡ built_in_lines name)) ⊎ ((u : TypeDeclaration) × IsAmong u types × (u.name ≡ name) × (u.kind ≡ kinds.Channel) × (lines ≡ u.lines))
+
+-- the channel of a connection is there, and its block is sound behind its lines
+abbrev pub HasChannel : List TypeDeclaration → Channel → Type 0
+HasChannel types c = (lines : List SectionLine) × IsChannelNamed types (channel_name c) lines × IsSoundBody lines c.lines
 
 -- a type has all parameters and gates of an interface: those of its names, with the same words and directions, and vectors where those are vectors
 pub record HasMembers (t i : TypeDeclaration) : Type 0 where
@@ -76,9 +101,13 @@ pub record IsWellFormed (types : List TypeDeclaration) : Type 0 where
   pub gates : (t : TypeDeclaration) → IsAmong t types → HaveOwnGates t.gates
   -- no two submodules of a type have one name;
   pub submodules : (t : TypeDeclaration) → IsAmong t types → HaveOwnNames t.submodules
-  -- the type of each is a simple type among these;
-  pub simple : (t : TypeDeclaration) → IsAmong t types → (s : Submodule) → IsAmong s t.submodules → IsSimpleType (type_name s) types
+  -- the type of each is one of modules among these, or that behind `like` an interface of modules;
+  pub suited : (t : TypeDeclaration) → IsAmong t types → (s : Submodule) → IsAmong s t.submodules → HasType s types
   -- each type has what its interfaces have;
   pub interfaces : (t : TypeDeclaration) → IsAmong t types → (i : TypeDeclaration) → IsAmong i types → IsAmong i.name t.interfaces → HasMembers t i
-  -- and the body of each submodule is sound behind the lines of its type.
+  -- the body of each submodule is sound behind the lines of its type,
   pub bodies : (t : TypeDeclaration) → IsAmong t types → (s : Submodule) → IsAmong s t.submodules → (u : TypeDeclaration) → IsAmong u types → u.name ≡ type_name s → IsSoundBody u.lines s.body.lines
+  -- and declares no gate;
+  pub sizes : (t : TypeDeclaration) → IsAmong t types → (s : Submodule) → IsAmong s t.submodules → (d : GateDeclaration) → IsAmong (gate.Declaration d) s.body.gates → ⊥
+  -- and what the channel of each connection names is a channel, behind whose lines its block is sound.
+  pub channels : (t : TypeDeclaration) → IsAmong t types → (i : ConnectionItem) → IsAmong i t.connections.items → (l : ConnectionLine) → IsAmong l (connections_of i) → (c : Channel) → l.connection.channel ≡ Some c → HasChannel types c

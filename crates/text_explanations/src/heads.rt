@@ -6,7 +6,7 @@ use crate::names::last_part;
 use crate::ned_files::{Files, place_of};
 use crate::origins::is_built_in;
 use crate::places::{Sign, Spot};
-use ned_trees::declarations::{Submodule, TypeDeclaration, TypeKind};
+use ned_trees::declarations::{Submodule, SubmoduleType, TypeDeclaration, TypeKind};
 use ned_types::flat::type_name;
 
 /// A name in the head of a type, or the type of a submodule.
@@ -58,9 +58,15 @@ pub fn submodule_of(it: &TypeDeclaration, number: usize) -> Option<Named<'_>> {
         it,
         submodule: Some(submodule),
         sign: Sign::Submodule,
-        does: " is of the type ",
+        does: match submodule.submodule_type {
+            SubmoduleType::Named(_) => " is of the type ",
+            SubmoduleType::Like(_) => " is like ",
+        },
         name: type_name(submodule),
-        kind: TypeKind::Simple,
+        kind: match submodule.submodule_type {
+            SubmoduleType::Named(_) => TypeKind::Simple,
+            SubmoduleType::Like(_) => TypeKind::ModuleInterface,
+        },
     })
 }
 
@@ -90,11 +96,19 @@ pub fn tell_unknown(told: &mut Explanation, files: &Files<'_>, named: Named<'_>)
     files.tell_near(told, named.name, named.kind);
 }
 
+/// What the name has to be.
+fn wanted(named: Named<'_>) -> &'static str {
+    match (named.submodule, named.kind) {
+        (Some(_), TypeKind::Simple) => "simple module, a compound module or a network",
+        (_, kind) => kind_name(kind),
+    }
+}
+
 /// Says that the name is that of a type of another kind.
 pub fn tell_other_kind(told: &mut Explanation, files: &Files<'_>, named: Named<'_>) {
     tell_named(told, files, named);
     told.say(", which is not a ");
-    told.say(kind_name(named.kind));
+    told.say(wanted(named));
 }
 
 /// Says that a type extends itself, perhaps by way of the one of that name.

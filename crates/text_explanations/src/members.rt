@@ -6,13 +6,13 @@ use crate::ned_files::{Files, type_named};
 use crate::origins::{Kind, Origin, declaring_channel, origin_of};
 use crate::places::{Sign, Spot};
 use crate::twice::{parameter, tell_shared};
-use ned_trees::declarations::{SectionLine, Submodule, TypeDeclaration};
+use ned_trees::declarations::{GateLine, SectionLine, Submodule, TypeDeclaration};
 use ned_types::flat::{declaration_named, type_name};
 use ned_types::given::{fixes, name_in};
 
 /// What is wrong with a line.
 #[derive(Clone, Copy)]
-enum Clash<'a> {
+pub enum Clash<'a> {
     /// The parameter is declared a second time.
     Again,
     /// The type of that name, which is extended, declares it already.
@@ -27,7 +27,7 @@ enum Clash<'a> {
     FixedIn(&'a [u8]),
 }
 
-fn is_declaration(line: &SectionLine) -> bool {
+pub fn is_declaration(line: &SectionLine) -> bool {
     matches!(line, SectionLine::Declaration(_))
 }
 
@@ -63,7 +63,7 @@ fn declared_in<'a>(types: &[&'a TypeDeclaration], name: &[u8]) -> Option<&'a Typ
 }
 
 /// That the parameter has a fixed value in the last of the types that gives it one, or else before in the section itself.
-fn fixed_in<'a>(types: &[&'a TypeDeclaration], name: &[u8]) -> Clash<'a> {
+pub fn fixed_in<'a>(types: &[&'a TypeDeclaration], name: &[u8]) -> Clash<'a> {
     for it in types.iter().rev() {
         if is_fixed(it.lines.as_slice(), name) {
             return Clash::FixedIn(it.name.as_bytes());
@@ -88,7 +88,7 @@ fn spot_of<'a>(clash: Clash<'_>, before: &[SectionLine], name: &'a [u8]) -> Spot
 }
 
 /// Says that the parameter has a fixed value, in the type of that name where one is named.
-fn tell_fixed(told: &mut Explanation, of: Option<&[u8]>) {
+pub fn tell_fixed(told: &mut Explanation, of: Option<&[u8]>) {
     told.say("has a fixed value ");
     if let Some(name) = of {
         told.say("in ");
@@ -127,7 +127,7 @@ fn tell_words(told: &mut Explanation, clash: Clash<'_>, it: &TypeDeclaration) {
 }
 
 /// The lines of a section before the one of that number, and that one.
-fn parted(lines: &[SectionLine], at: usize) -> Option<(&[SectionLine], &SectionLine)> {
+pub fn parted(lines: &[SectionLine], at: usize) -> Option<(&[SectionLine], &SectionLine)> {
     Some((lines.get(..at)?, lines.get(at)?))
 }
 
@@ -224,7 +224,7 @@ pub fn tell_given_again(
 }
 
 /// Says the first parameter of the types whose name is near, as a question.
-fn tell_near(told: &mut Explanation, order: &[&TypeDeclaration], name: &[u8]) {
+pub fn tell_near(told: &mut Explanation, order: &[&TypeDeclaration], name: &[u8]) {
     for it in order.iter().rev() {
         for line in it.lines.as_slice() {
             if is_declaration(line) && told.say_if_near(name, name_in(line)) {
@@ -264,7 +264,7 @@ fn tell_body_words(
 }
 
 /// What is wrong with a line of the body of a submodule, over the lines of its type, the last of these.
-fn clash_over<'a>(order: &[&'a TypeDeclaration], line: &SectionLine) -> Clash<'a> {
+pub fn clash_over<'a>(order: &[&'a TypeDeclaration], line: &SectionLine) -> Clash<'a> {
     let name = name_in(line);
     match declared_in(order, name) {
         Some(found) if is_declaration(line) => Clash::Declared(found.name.as_bytes()),
@@ -335,4 +335,34 @@ pub fn tell_body(
         ),
         Err(error) => told.refuse(error),
     }
+}
+
+/// Says that the line of the second number declares a gate in the body of the submodule of the first, of the flat type of the last of these types.
+pub fn tell_body_gate(
+    told: &mut Explanation,
+    files: &Files<'_>,
+    order: &[&TypeDeclaration],
+    number: usize,
+    at: usize,
+) {
+    let Some(origin) = origin_of(order, Kind::Submodule, number) else {
+        return;
+    };
+    let Some(submodule) = origin.it.submodules.as_slice().get(origin.at) else {
+        return;
+    };
+    let Some(GateLine::Declaration(gate)) = submodule.body.gates.as_slice().get(at) else {
+        return;
+    };
+    let (name, own) = (gate.name.as_bytes(), submodule.name.as_bytes());
+    let spot = Spot::first(Sign::Gate, name);
+    let body = Some(own);
+    files.tell_place(told, origin.it, Spot { body, ..spot });
+    told.say(": the gate ");
+    told.say_name(name);
+    told.say(" of the submodule ");
+    told.say_name(own);
+    told.say(
+        " can't be declared in its body: its type declares gates, and the body gives sizes to vectors of them alone",
+    );
 }

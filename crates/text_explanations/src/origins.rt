@@ -10,6 +10,8 @@ pub enum Kind {
     Gate,
     Submodule,
     Interface,
+    /// An item of connections.
+    Item,
 }
 
 /// Where a member of a flat type is declared.
@@ -46,6 +48,7 @@ fn counts(it: &TypeDeclaration, kind: Kind) -> (usize, usize) {
         Kind::Gate => (it.gates.len(), 0),
         Kind::Submodule => (it.submodules.len(), 0),
         Kind::Interface => (it.interfaces.len(), 0),
+        Kind::Item => (it.connections.items.len(), 0),
     }
 }
 
@@ -86,7 +89,7 @@ fn is_of_delay(name: &[u8]) -> bool {
 }
 
 /// Whether the built-in channel of that name has the parameter.
-fn has_parameter(channel: &[u8], name: &[u8]) -> bool {
+pub fn has_parameter(channel: &[u8], name: &[u8]) -> bool {
     if spells(channel, b"DatarateChannel") {
         return is_of_delay(name)
             || spells(name, b"datarate")

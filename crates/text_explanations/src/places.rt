@@ -15,6 +15,8 @@ pub enum Sign {
     Submodule,
     /// `connections`, of the type itself.
     Connections,
+    /// `-->`, `<--` or `<-->`, behind `connections` of the type itself.
+    Arrow,
     /// `int NAME`, or another word of a parameter.
     Parameter,
     /// `input NAME`, or another word of a gate.
@@ -62,6 +64,14 @@ fn is_mark(token: Option<&Token>, mark: Mark) -> bool {
         Some(Token::Mark(found)) => *found == mark,
         _ => false,
     }
+}
+
+/// Whether it is an arrow.
+fn is_arrow(token: Option<&Token>) -> bool {
+    matches!(
+        token,
+        Some(Token::Mark(Mark::ArrowRight | Mark::ArrowLeft | Mark::ArrowBoth))
+    )
 }
 
 /// Whether it is that word.
@@ -173,6 +183,7 @@ fn says(tokens: &[Token], at: usize, sign: Sign, name: &[u8]) -> bool {
             is_name(token, name) && is_before_colon(rest) && begins_submodule(tokens, at)
         }
         Sign::Connections => is_word(token, Keyword::Connections),
+        Sign::Arrow => is_arrow(token),
         Sign::Parameter => is_parameter_word(token) && is_name(behind, name),
         Sign::Gate => is_gate_word(token) && is_name(behind, name),
         Sign::Base => {
@@ -223,13 +234,20 @@ fn place_of(
     None
 }
 
-/// The token at a spot in the type that begins at that token; that or the submodule's where there is none.
-fn token_at(tokens: &[Token], head: usize, spot: Spot<'_>) -> usize {
-    let body = match spot.body {
+/// The token within which a spot is looked for, of the type that begins at that token: the section of connections, a submodule, or none.
+fn scope_of(tokens: &[Token], head: usize, spot: Spot<'_>) -> Option<usize> {
+    if matches!(spot.sign, Sign::Arrow) {
+        return place_of(tokens, head, Sign::Connections, b"".as_slice(), 0);
+    }
+    match spot.body {
         Some(submodule) => place_of(tokens, head, Sign::Submodule, submodule, 0),
         None => None,
-    };
-    let (start, from) = match body {
+    }
+}
+
+/// The token at a spot in the type that begins at that token; that, the submodule's or `connections` where there is none.
+fn token_at(tokens: &[Token], head: usize, spot: Spot<'_>) -> usize {
+    let (start, from) = match scope_of(tokens, head, spot) {
         Some(at) => (at, at.saturating_add(1)),
         None => (head, head),
     };

@@ -1,13 +1,16 @@
 //! Why the types of the files don't go together.
 
 use crate::bases::root_first;
+use crate::connections::{tell_block, tell_other_channel, tell_unknown_channel};
 use crate::explanation::Explanation;
 use crate::heads::{
     base_of, interface_of, submodule_of, tell_circle, tell_inner_network, tell_other_kind,
     tell_taken, tell_unknown,
 };
 use crate::interfaces::tell_lacked;
-use crate::members::{tell_body, tell_declared_again, tell_given_again, tell_undeclared};
+use crate::members::{
+    tell_body, tell_body_gate, tell_declared_again, tell_given_again, tell_undeclared,
+};
 use crate::ned_files::Files;
 use crate::origins::{Kind, origin_of};
 use crate::twice::tell_twice;
@@ -28,6 +31,9 @@ fn tell_name(
         Member::Base => base_of(it),
         Member::Interface(at) => interface_of(it, at),
         Member::Submodule(at) => submodule_of(it, at),
+        Member::Channel(item, line) => {
+            return tell_unknown_channel(told, files, it, item, line);
+        }
         _ => return tell_inner_network(told, files, it),
     };
     let Some(named) = named else {
@@ -68,19 +74,26 @@ fn tell_member(
         Member::SubmoduleAgain(at) => tell_twice(told, files, order, Kind::Submodule, at),
         Member::Unfit(number, at) => tell_body(told, files, order, number, at, false),
         Member::UnfitAgain(number, at) => tell_body(told, files, order, number, at, true),
+        Member::BodyGate(number, at) => tell_body_gate(told, files, order, number, at),
+        Member::OtherChannel(item, line) => tell_other_channel(told, files, order, item, line),
+        Member::UnfitBlock(item, line, at) => {
+            tell_block(told, files, order, item, line, at, false)
+        }
+        Member::UnfitBlockAgain(item, line, at) => {
+            tell_block(told, files, order, item, line, at, true)
+        }
         Member::LacksParameter(number, at) => {
             tell_lacked(told, files, order, number, Kind::Line, at)
         }
         Member::LacksGate(number, at) => tell_lacked(told, files, order, number, Kind::Gate, at),
         Member::Submodule(at) => tell_other_submodule(told, files, order, at),
-        Member::Whole
-        | Member::Base
-        | Member::Interface(_)
+        Member::Compound(_)
         | Member::Vector(_)
         | Member::Parametric(_)
         | Member::Condition(_)
         | Member::BodyGates(_)
-        | Member::Connections => {}
+        | Member::Connections => tell_unbuilt(told, files, order, member),
+        Member::Whole | Member::Base | Member::Interface(_) | Member::Channel(_, _) => {}
     }
 }
 
@@ -98,7 +111,6 @@ pub fn tell_types(told: &mut Explanation, files: &Files<'_>, fault: TypeFault, p
         return;
     };
     match (fault, place.member) {
-        (TypeFault::NotBuilt, member) => tell_unbuilt(told, files, it, member),
         (TypeFault::DuplicateType, _) => {
             tell_taken(told, files, place.number, it.name.as_bytes())
         }

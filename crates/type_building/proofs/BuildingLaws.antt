@@ -1,12 +1,16 @@
 -- Types have no fault exactly where they can be built.
 use Rattle.std.proofs.Common.{◌≡◌, ◌≢◌, inl, inr, ℕ, Bool, true, false, not, ◌||◌, ◌&&◌, ◌⊎◌, List, [], ◌∷◌, map, length, Option, Some, None, Result, Ok, Err, IfOk, refl, sym, ap, subst, ◌∙◌, if◌then◌else◌}
+use Rattle.std.specs.List.{list_any}
 use Rattle.std.specs.Str.{bytes_eq}
+use Rattle.ned_trees.specs.declared.connections.Channel as channel
+use Rattle.ned_trees.specs.declared.connections.ConnectionItem.{ConnectionItem}
+use Rattle.ned_trees.specs.declared.declarations.SectionLine.{SectionLine}
 use Rattle.ned_trees.specs.declared.declarations.Submodule.{Submodule}
 use Rattle.ned_trees.specs.declared.declarations.TypeDeclaration.{TypeDeclaration}
 use Rattle.ned_trees.specs.declared.declarations.TypeKind.{TypeKind}
 use Rattle.ned_trees.specs.declared.declarations.TypeKind.TheVariants.{Simple, Module, Network, Channel, ModuleInterface, ChannelInterface}
 use Rattle.type_building.specs.declared.table.TypeFault.{TypeFault}
-use Rattle.type_building.specs.declared.table.TypeFault.TheVariants.{NotBuilt, DuplicateType, UnknownType, InheritanceCircle, KindClash, Interface}
+use Rattle.type_building.specs.declared.table.TypeFault.TheVariants.{DuplicateType, UnknownType, InheritanceCircle, KindClash, Interface, NotBuilt}
 use Rattle.type_building.specs.declared.table.BuildError.{BuildError}
 use Rattle.type_building.specs.declared.table.BuildError.TheVariants.{Fault, NoMemory}
 use Rattle.type_building.specs.declared.places.Place.{Place}
@@ -15,9 +19,11 @@ use Rattle.ned_types.specs.Types as t
 use Rattle.type_building.specs.Interfaces as f
 use Rattle.type_building.specs.Circles.{ExtendsItself}
 use Rattle.type_building.specs.Inheritance as i
-use Rattle.type_building.specs.Building.{base_fault, flat_fault, rule_fault, AreFaultless, Flattens, CanBuild, IsFlatPlace, IsRulePlace, MayExtend}
-use Rattle.ned_types.specs.Flat.{or_else}
-use Rattle.ned_types.specs.WellFormed.{IsAmong, IsTypeOf, StandsBefore, IsWellFormed}
+use Rattle.type_building.specs.Building.{base_fault, fault_of, flat_fault, AreFaultless, Builds, KeepRules, IsFlatPlace, IsPlace, MayExtend}
+use Rattle.type_building.specs.Unbuilt.{has_unbuilt}
+use Rattle.ned_types.specs.Clashes as k
+use Rattle.ned_types.specs.Flat.{named_or, or_else}
+use Rattle.ned_types.specs.WellFormed.{HasChannel, IsAmong, IsChannelNamed, IsTypeOf, StandsBefore, IsWellFormed}
 use Rattle.type_building.proofs.WellFormedLaws.{types_apart, false_not, any_made, any_told, among_second, no_duplicate, no_unknown, no_clash, well_formed, named_is, named_found, or_second, any_is, names_same, type_is}
 use Rattle.type_building.proofs.Circles.{circle_is_one}
 use Rattle.type_building.proofs.InterfaceLaws.{kept_made, kept_told}
@@ -53,6 +59,18 @@ flat_has (u ∷ ts) a is s in-a = of_kind (t.is_interface_kind a.kind)
 
     of_kind : (b : Bool) → IsAmong s (i.flat_as b (u ∷ ts) a).submodules
     of_kind true = among_second s (i.gathered (i.bare a) (i.interfaces_behind (u ∷ ts) a.interfaces)).submodules a.submodules in-a
+    of_kind false = by a.base
+
+item_has : (types : List TypeDeclaration) (a : TypeDeclaration) → IsAmong a types → (x : ConnectionItem) → IsAmong x a.connections.items → IsAmong x (i.flat_type types a).connections.items
+item_has [] a is x in-a = absurd is
+item_has (u ∷ ts) a is x in-a = of_kind (t.is_interface_kind a.kind)
+  where
+    by : (base : Option (List ℕ)) → IsAmong x (i.flat_by (u ∷ ts) a base).connections.items
+    by None = in-a
+    by (Some name) = among_second x (i.joined_with (i.bare_heir (u ∷ ts) a) (i.line_within (length ts) (u ∷ ts) (i.base_of (u ∷ ts) a.base))).connections.items a.connections.items in-a
+
+    of_kind : (b : Bool) → IsAmong x (i.flat_as b (u ∷ ts) a).connections.items
+    of_kind true = among_second x (i.gathered (i.bare a) (i.interfaces_behind (u ∷ ts) a.interfaces)).connections.items a.connections.items in-a
     of_kind false = by a.base
 
 among_flat : (all : List TypeDeclaration) (a : TypeDeclaration) (ts : List TypeDeclaration) → IsAmong a ts → IsAmong (i.flat_type all a) (map (i.flat_type all) ts)
@@ -91,22 +109,35 @@ unknown_flat types none = any_made (λ a. t.names_unknown types a.submodules) ty
 
 -- ---- no fault
 
+-- the fault by the tests
+abbrev by_tests : Bool → Bool → Bool → Bool → Bool → Bool → Bool → Option TypeFault
+by_tests duplicate unknown circle other clash broken unbuilt =
+    or_else (if duplicate then Some DuplicateType else (if unknown then Some UnknownType else (if circle then Some InheritanceCircle else (if other then Some KindClash else None))))
+    (if clash then Some KindClash else (if broken then Some Interface else (if unbuilt then Some NotBuilt else None)))
+
 -- none of the tests is passed where nothing is told
-no_fault : (duplicate unknown circle other clash broken : Bool) → or_else (if duplicate then Some DuplicateType else (if unknown then Some UnknownType else (if circle then Some InheritanceCircle else (if other then Some KindClash else None)))) (if clash then Some KindClash else (if broken then Some Interface else None)) ≡ None → (duplicate ≡ false) × (clash ≡ false) × (broken ≡ false)
-no_fault false false false false false false h = (refl, refl, refl)
-no_fault false false false false false true h = absurd cc
-no_fault false false false false true broken h = absurd cc
-no_fault false false false true clash broken h = absurd cc
-no_fault false false true other clash broken h = absurd cc
-no_fault false true circle other clash broken h = absurd cc
-no_fault true unknown circle other clash broken h = absurd cc
+no_fault : (duplicate unknown circle other clash broken unbuilt : Bool) → by_tests duplicate unknown circle other clash broken unbuilt ≡ None → (duplicate ≡ false) × (clash ≡ false) × (broken ≡ false) × (unbuilt ≡ false)
+no_fault false false false false false false false h = (refl, refl, refl, refl)
+no_fault false false false false false false true h = absurd cc
+no_fault false false false false false true unbuilt h = absurd cc
+no_fault false false false false true broken unbuilt h = absurd cc
+no_fault false false false true clash broken unbuilt h = absurd cc
+no_fault false false true other clash broken unbuilt h = absurd cc
+no_fault false true circle other clash broken unbuilt h = absurd cc
+no_fault true unknown circle other clash broken unbuilt h = absurd cc
+
+none_parts : (types : List TypeDeclaration) → fault_of types ≡ None → (t.has_duplicate types ≡ false) × (k.has_clash (i.flat_types types) ≡ false) × (f.has_broken (i.flat_types types) ≡ false) × (has_unbuilt (i.flat_types types) ≡ false)
+none_parts types none = no_fault (t.has_duplicate types) (t.has_unknown types || (i.has_unknown_base types || (f.has_unknown_interface types || k.has_unknown_channels types))) (i.has_circle types) (t.has_inner_network types || (i.has_other_base types || f.has_other_interface types)) (k.has_clash (i.flat_types types)) (f.has_broken (i.flat_types types)) (has_unbuilt (i.flat_types types)) none
 
 -- types without a fault have flat types that keep the rules
-pub flat_rules : (types : List TypeDeclaration) → rule_fault types ≡ None → IsWellFormed (i.flat_types types)
+pub flat_rules : (types : List TypeDeclaration) → fault_of types ≡ None → IsWellFormed (i.flat_types types)
 flat_rules types none =
-    let parts = no_fault (t.has_duplicate types) (t.has_unknown types || (i.has_unknown_base types || f.has_unknown_interface types)) (i.has_circle types) (t.has_inner_network types || (i.has_other_base types || f.has_other_interface types)) (t.has_clash (i.flat_types types)) (f.has_broken (i.flat_types types)) none in
+    let parts = none_parts types none in
     let duplicate = duplicate_flat types types ∙ parts.0 in
     well_formed (i.flat_types types) duplicate parts.1 (kept_told (i.flat_types types) (types_apart (i.flat_types types) duplicate) parts.2)
+
+pub none_unbuilt : (types : List TypeDeclaration) → fault_of types ≡ None → has_unbuilt (i.flat_types types) ≡ false
+none_unbuilt types none = (none_parts types none).3
 
 -- ---- what is extended
 
@@ -186,20 +217,35 @@ inner_network a outer = of_kind a.kind refl
     of_kind ModuleInterface e = refl
     of_kind ChannelInterface e = refl
 
--- types that keep the rules break none
-pub faultless : (types : List TypeDeclaration) → CanBuild types → rule_fault types ≡ None
-faultless types w =
+-- ---- channels of connections
+
+name_known : (types : List TypeDeclaration) (n : Option (List ℕ)) (block : List ℕ) (lines : List SectionLine) → IsChannelNamed (i.flat_types types) (named_or n block) lines → k.has_unknown_name types n ≡ false
+name_known types None block lines m = refl
+name_known types (Some name) block lines (inl built_in) = false_not _ (or_first (t.is_built_in name) _ built_in.0)
+name_known types (Some name) block lines (inr m) = false_not _ (or_second (t.is_built_in name) _ (sym (named_flat types name types) ∙ any_is (λ u. bytes_eq u.name name) (i.flat_types types) m.0 m.1 (names_same m.0.name name m.2)))
+
+channel_known : (types : List TypeDeclaration) (o : Option channel.Channel) → ((c : channel.Channel) → o ≡ Some c → HasChannel (i.flat_types types) c) → k.names_no_channel types o ≡ false
+channel_known types None h = refl
+channel_known types (Some c) h = let found = h c refl in name_known types c.type_name (k.channel_of_block c.lines) found.0 found.1
+
+channels_known : (types : List TypeDeclaration) → IsWellFormed (i.flat_types types) → k.has_unknown_channels types ≡ false
+channels_known types w = any_made (λ a. k.has_unknown_channel types a.connections.items) types (λ a is. any_made (λ x. list_any (λ l. k.is_channel_unknown types l) (k.connections_of x)) a.connections.items (λ x in-a. any_made (λ l. k.is_channel_unknown types l) (k.connections_of x) (λ l in-x. channel_known types l.connection.channel (w.channels (i.flat_type types a) (among_flat types a types is) x (item_has types a is x in-a) l in-x))))
+
+-- types that keep the rules have no fault but that a network isn't built yet
+pub rules_kept : (types : List TypeDeclaration) → KeepRules types → fault_of types ≡ (if has_unbuilt (i.flat_types types) then Some NotBuilt else None)
+rules_kept types w =
     let duplicate : t.has_duplicate types ≡ false = sym (duplicate_flat types types) ∙ no_duplicate (i.flat_types types) w.flat in
     let unknown : t.has_unknown types ≡ false = unknown_flat types (no_unknown (i.flat_types types) w.flat) in
     let bases : i.has_unknown_base types ≡ false = any_made (λ a. i.extends_unknown types a.base) types (λ a is. known_base types a.kind a.base (w.bases a is)) in
     let interfaces : f.has_unknown_interface types ≡ false = any_made (λ a. f.names_no_type types a.interfaces) types (λ a is. known_interfaces types a.kind a.interfaces (w.interfaces a is)) in
+    let channels : k.has_unknown_channels types ≡ false = channels_known types w.flat in
     let outer : t.has_inner_network types ≡ false = any_made t.is_inner_network types (λ a is. inner_network a (w.networks a is)) in
     let circle : i.has_circle types ≡ false = no_circle types w.roots in
     let kept : f.has_other_interface types ≡ false = any_made (λ a. f.keeps_other types a.kind a.interfaces) types (λ a is. fitting_interfaces types a.kind a.interfaces (types_apart types duplicate) (w.interfaces a is)) in
     let whole : f.has_broken (i.flat_types types) ≡ false = kept_made (i.flat_types types) w.flat.interfaces in
     let others : i.has_other_base types ≡ false = any_made (λ a. i.extends_other types a.kind a.base) types (λ a is. fitting_base types a.kind a.base (types_apart types duplicate) (w.bases a is)) in
-    let clash : t.has_clash (i.flat_types types) ≡ false = no_clash (i.flat_types types) w.flat in
-    rw (duplicate, unknown, bases, interfaces, circle, outer, others, kept, clash, whole) refl
+    let clash : k.has_clash (i.flat_types types) ≡ false = no_clash (i.flat_types types) w.flat in
+    rw (duplicate, unknown, bases, interfaces, channels, circle, outer, others, kept, clash, whole) refl
 
 -- ---- types whose names and bases have no fault: what is left is that of their flat types
 
@@ -207,15 +253,15 @@ no_base_fault : (fault : Option TypeFault) (rest : Option TypeFault) → fault �
 no_base_fault None rest e = refl
 no_base_fault (Some fault) rest e = absurd cc
 
-flat_place : (types : List TypeDeclaration) (fault : TypeFault) (p : Place) → place_from (other_in types) 0 types ≡ None → IsFlatPlace (i.flat_types types) fault p → IsRulePlace types fault p
-flat_place types NotBuilt p none is = absurd is
+flat_place : (types : List TypeDeclaration) (fault : TypeFault) (p : Place) → place_from (other_in types) 0 types ≡ None → IsFlatPlace (i.flat_types types) fault p → IsPlace types fault p
 flat_place types DuplicateType p none is = absurd is
 flat_place types UnknownType p none is = absurd is
 flat_place types InheritanceCircle p none is = absurd is
 flat_place types KindClash p none is = subst (λ o. IsClashPlace types o p) (sym none) tt
 flat_place types Interface p none is = is
+flat_place types NotBuilt p none is = is
 
-pub built_flat : (types : List TypeDeclaration) (r : Result (List TypeDeclaration) BuildError) → base_fault types ≡ None → place_from (other_in types) 0 types ≡ None → AreFaultless (i.flat_types types) r → Flattens types r
+pub built_flat : (types : List TypeDeclaration) (r : Result (List TypeDeclaration) BuildError) → base_fault types ≡ None → place_from (other_in types) 0 types ≡ None → AreFaultless (i.flat_types types) r → Builds types r
 built_flat types (Ok table) e none h = (h.0, no_base_fault (base_fault types) (flat_fault (i.flat_types types)) e ∙ h.1)
 built_flat types (Err (NoMemory m)) e none h = tt
 built_flat types (Err (Fault fault p)) e none h = (no_base_fault (base_fault types) (flat_fault (i.flat_types types)) e ∙ h.0, flat_place types fault p none h.1)

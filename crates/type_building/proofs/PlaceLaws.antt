@@ -3,22 +3,25 @@ use Rattle.std.proofs.Common.{◌≡◌, ℕ, zero, suc, ◌+◌, Bool, true, fa
 use Rattle.std.specs.Prelude.{is_some, Err}
 use Rattle.std.specs.List.{list_any}
 use Rattle.std.specs.Option.{option_map}
+use Rattle.ned_trees.specs.declared.connections.ConnectionItem.{ConnectionItem}
 use Rattle.ned_trees.specs.declared.declarations.TypeDeclaration.{TypeDeclaration}
 use Rattle.ned_types.specs.Flat.{or_else}
 use Rattle.ned_types.specs.Types.{is_built_in, is_inner_network, is_submodule_known, is_type_named, names_unknown, type_named}
 use Rattle.type_building.specs.declared.places.Member.{Member}
-use Rattle.type_building.specs.declared.places.Member.TheVariants.{Whole, Base, Interface, Submodule, LacksParameter, LacksGate}
+use Rattle.type_building.specs.declared.places.Member.TheVariants.{Whole, Base, Interface, Submodule, Channel, LacksParameter, LacksGate}
 use Rattle.type_building.specs.declared.places.Place.{Place}
 use Rattle.type_building.specs.Inheritance.{extends_other, extends_unknown}
 use Rattle.type_building.specs.Interfaces.{breaks_interface, has_broken, is_interface_for, keeps_other, lacks_any, lacks_gate, lacks_members, lacks_parameter, names_no_type}
 use Rattle.type_building.specs.Named.{is_other_named, is_unknown_named}
-use Rattle.type_building.specs.Places.{first_from, is_known, lacked_from, lacked_in, lacked_of, lacked_of_any, other_in, place_from, placed, unknown_in}
+use Rattle.type_building.specs.Places.{first_from, is_known, lacked_from, lacked_in, lacked_of, lacked_of_any, other_in, place_from, placed, unknown_channel_from, unknown_in}
 use Rattle.type_building.specs.declared.table.TypeFault.{TypeFault}
 use Rattle.type_building.specs.declared.table.TypeFault.TheVariants as fault
 use Rattle.type_building.specs.declared.table.BuildError.{BuildError}
 use Rattle.type_building.specs.declared.table.BuildError.TheVariants.{Fault}
-use Rattle.ned_types.specs.Types.{has_clash, has_duplicate}
-use Rattle.type_building.specs.Building.{base_fault, Flattens, rule_fault, flat_fault, IsRulePlace, TellsFlat}
+use Rattle.ned_types.specs.Clashes.{connections_of, has_clash, has_unknown_channel, is_channel_unknown}
+use Rattle.ned_types.specs.Types.{has_duplicate}
+use Rattle.type_building.specs.Building.{base_fault, Builds, fault_of, flat_fault, TellsFlat}
+use Rattle.type_building.specs.Unbuilt.{has_unbuilt, unbuilt_in}
 use Rattle.type_building.specs.Inheritance.{flat_types, has_circle}
 use Rattle.type_building.specs.Places.{IsClashPlace}
 use Rattle.type_building.proofs.Repeats.{mixed}
@@ -61,13 +64,14 @@ any_or : {X : Type 0} (p q : X → Bool) (xs : List X) → list_any (λ x. p x |
 any_or p q [] = refl
 any_or p q (x ∷ xs) = ap (λ b. (p x || q x) || b) (any_or p q xs) ∙ mixed (p x) (q x) (list_any p xs) (list_any q xs)
 
-rotated : (a b c : Bool) → (a || (b || c)) ≡ (c || (a || b))
-rotated true b true = refl
-rotated true b false = refl
-rotated false true true = refl
-rotated false true false = refl
-rotated false false true = refl
-rotated false false false = refl
+-- as the definitions name them: what a submodule names first
+rotated : (a b c d : Bool) → (a || (b || (c || d))) ≡ (c || (a || (b || d)))
+rotated true b true d = refl
+rotated true b false d = refl
+rotated false true true d = refl
+rotated false true false d = refl
+rotated false false true d = refl
+rotated false false false d = refl
 
 map_told : {X Y : Type 0} (f : X → Y) (o : Option X) → is_some (option_map f o) ≡ is_some o
 map_told f None = refl
@@ -83,22 +87,34 @@ if_told false x o = refl
 
 -- ---- names that are unknown
 
-unknown_one : (types : List TypeDeclaration) (t : TypeDeclaration) → is_some (unknown_in types t) ≡ (extends_unknown types t.base || (names_no_type types t.interfaces || names_unknown types t.submodules))
+channel_told : (types : List TypeDeclaration) (n : ℕ) (items : List ConnectionItem) → is_some (unknown_channel_from types n items) ≡ has_unknown_channel types items
+channel_told types n [] = refl
+channel_told types n (i ∷ items) =
+    let line = first_from (λ l. is_channel_unknown types l) 0 (connections_of i) in
+    else_told (option_map (Channel n) line) (unknown_channel_from types (suc n) items)
+    ∙ ap (λ b. b || is_some (unknown_channel_from types (suc n) items)) (map_told (Channel n) line ∙ picked (λ l. is_channel_unknown types l) 0 (connections_of i))
+    ∙ ap (λ b. list_any (λ l. is_channel_unknown types l) (connections_of i) || b) (channel_told types (suc n) items)
+
+unknown_one : (types : List TypeDeclaration) (t : TypeDeclaration) → is_some (unknown_in types t) ≡ (extends_unknown types t.base || (names_no_type types t.interfaces || (names_unknown types t.submodules || has_unknown_channel types t.connections.items)))
 unknown_one types t =
     let names = first_from (λ n. not (is_known n types)) 0 t.interfaces in
     let submodules = first_from (λ s. not (is_submodule_known types s)) 0 t.submodules in
-    if_told (extends_unknown types t.base) Base (or_else (option_map Interface names) (option_map Submodule submodules))
-    ∙ ap (λ b. extends_unknown types t.base || b) (else_told (option_map Interface names) (option_map Submodule submodules)
-    ∙ ap (λ b. b || is_some (option_map Submodule submodules)) (map_told Interface names ∙ picked (λ n. not (is_known n types)) 0 t.interfaces)
-    ∙ ap (λ b. names_no_type types t.interfaces || b) (map_told Submodule submodules ∙ picked (λ s. not (is_submodule_known types s)) 0 t.submodules))
+    let channels = unknown_channel_from types 0 t.connections.items in
+    if_told (extends_unknown types t.base) Base (or_else (option_map Interface names) (or_else (option_map Submodule submodules) channels))
+    ∙ ap (λ b. extends_unknown types t.base || b) (else_told (option_map Interface names) (or_else (option_map Submodule submodules) channels)
+    ∙ ap (λ b. b || is_some (or_else (option_map Submodule submodules) channels)) (map_told Interface names ∙ picked (λ n. not (is_known n types)) 0 t.interfaces)
+    ∙ ap (λ b. names_no_type types t.interfaces || b) (else_told (option_map Submodule submodules) channels
+    ∙ ap (λ b. b || is_some channels) (map_told Submodule submodules ∙ picked (λ s. not (is_submodule_known types s)) 0 t.submodules)
+    ∙ ap (λ b. names_unknown types t.submodules || b) (channel_told types 0 t.connections.items)))
 
 pub unknown_told : (types ts : List TypeDeclaration) → is_some (place_from (unknown_in types) 0 ts) ≡ is_unknown_named types ts
 unknown_told types ts =
     place_told (unknown_in types) 0 ts
-    ∙ any_like (λ t. is_some (unknown_in types t)) (λ t. extends_unknown types t.base || (names_no_type types t.interfaces || names_unknown types t.submodules)) (unknown_one types) ts
-    ∙ any_or (λ t. extends_unknown types t.base) (λ t. names_no_type types t.interfaces || names_unknown types t.submodules) ts
-    ∙ ap (λ b. list_any (λ t. extends_unknown types t.base) ts || b) (any_or (λ t. names_no_type types t.interfaces) (λ t. names_unknown types t.submodules) ts)
-    ∙ rotated (list_any (λ t. extends_unknown types t.base) ts) (list_any (λ t. names_no_type types t.interfaces) ts) (list_any (λ t. names_unknown types t.submodules) ts)
+    ∙ any_like (λ t. is_some (unknown_in types t)) (λ t. extends_unknown types t.base || (names_no_type types t.interfaces || (names_unknown types t.submodules || has_unknown_channel types t.connections.items))) (unknown_one types) ts
+    ∙ any_or (λ t. extends_unknown types t.base) (λ t. names_no_type types t.interfaces || (names_unknown types t.submodules || has_unknown_channel types t.connections.items)) ts
+    ∙ ap (λ b. list_any (λ t. extends_unknown types t.base) ts || b) (any_or (λ t. names_no_type types t.interfaces) (λ t. names_unknown types t.submodules || has_unknown_channel types t.connections.items) ts
+    ∙ ap (λ b. list_any (λ t. names_no_type types t.interfaces) ts || b) (any_or (λ t. names_unknown types t.submodules) (λ t. has_unknown_channel types t.connections.items) ts))
+    ∙ rotated (list_any (λ t. extends_unknown types t.base) ts) (list_any (λ t. names_no_type types t.interfaces) ts) (list_any (λ t. names_unknown types t.submodules) ts) (list_any (λ t. has_unknown_channel types t.connections.items) ts)
 
 -- ---- other kinds
 
@@ -147,7 +163,7 @@ base_of duplicate unknown circle other = if duplicate then Some fault.DuplicateT
 base_is : (types : List TypeDeclaration) → base_fault types ≡ base_of (has_duplicate types) (is_unknown_named types types) (has_circle types) (is_other_named types types)
 base_is types = refl
 
-pub unknown_found : (types : List TypeDeclaration) (p : Place) → has_duplicate types ≡ false → place_from (unknown_in types) 0 types ≡ Some p → Flattens types (Err (Fault fault.UnknownType p))
+pub unknown_found : (types : List TypeDeclaration) (p : Place) → has_duplicate types ≡ false → place_from (unknown_in types) 0 types ≡ Some p → Builds types (Err (Fault fault.UnknownType p))
 unknown_found types p apart found =
     let unknown = sym (unknown_told types types) ∙ ap is_some found in (
       ap (λ b. or_else (base_of b (is_unknown_named types types) (has_circle types) (is_other_named types types)) (flat_fault (flat_types types))) apart
@@ -155,7 +171,7 @@ unknown_found types p apart found =
       found,
     )
 
-pub circle_found : (types : List TypeDeclaration) (p : Place) → has_duplicate types ≡ false → place_from (unknown_in types) 0 types ≡ None → has_circle types ≡ true → Flattens types (Err (Fault fault.InheritanceCircle p))
+pub circle_found : (types : List TypeDeclaration) (p : Place) → has_duplicate types ≡ false → place_from (unknown_in types) 0 types ≡ None → has_circle types ≡ true → Builds types (Err (Fault fault.InheritanceCircle p))
 circle_found types p apart none circle =
     let known = sym (unknown_told types types) ∙ ap is_some none in (
       ap (λ b. or_else (base_of b (is_unknown_named types types) (has_circle types) (is_other_named types types)) (flat_fault (flat_types types))) apart
@@ -165,14 +181,14 @@ circle_found types p apart none circle =
     )
 
 -- without its place
-pub circle_told : (types : List TypeDeclaration) → has_duplicate types ≡ false → place_from (unknown_in types) 0 types ≡ None → has_circle types ≡ true → rule_fault types ≡ Some fault.InheritanceCircle
+pub circle_told : (types : List TypeDeclaration) → has_duplicate types ≡ false → place_from (unknown_in types) 0 types ≡ None → has_circle types ≡ true → fault_of types ≡ Some fault.InheritanceCircle
 circle_told types apart none circle =
     let known = sym (unknown_told types types) ∙ ap is_some none in
     ap (λ b. or_else (base_of b (is_unknown_named types types) (has_circle types) (is_other_named types types)) (flat_fault (flat_types types))) apart
     ∙ ap (λ b. or_else (base_of false b (has_circle types) (is_other_named types types)) (flat_fault (flat_types types))) known
     ∙ ap (λ b. or_else (base_of false false b (is_other_named types types)) (flat_fault (flat_types types))) circle
 
-pub other_found : (types : List TypeDeclaration) (p : Place) → has_duplicate types ≡ false → place_from (unknown_in types) 0 types ≡ None → has_circle types ≡ false → place_from (other_in types) 0 types ≡ Some p → Flattens types (Err (Fault fault.KindClash p))
+pub other_found : (types : List TypeDeclaration) (p : Place) → has_duplicate types ≡ false → place_from (unknown_in types) 0 types ≡ None → has_circle types ≡ false → place_from (other_in types) 0 types ≡ Some p → Builds types (Err (Fault fault.KindClash p))
 other_found types p apart none roots found =
     let known = sym (unknown_told types types) ∙ ap is_some none in
     let other = sym (other_told types types) ∙ ap is_some found in (
@@ -192,19 +208,31 @@ none_found types apart none roots alike =
     ∙ ap (λ b. base_of false false b (is_other_named types types)) roots
     ∙ ap (λ b. base_of false false false b) same
 
--- ---- the faults of flat types
+-- ---- the faults of flat types, by what was found
+
+abbrev flat_of : Bool → Bool → Bool → Option TypeFault
+flat_of clash broken unbuilt = if clash then Some fault.KindClash else (if broken then Some fault.Interface else (if unbuilt then Some fault.NotBuilt else None))
 
 pub clash_tells : (types : List TypeDeclaration) (p : Place) → has_clash types ≡ true → TellsFlat types (Some (fault.KindClash, p))
-clash_tells types p clash = (ap (λ b. if b then Some fault.KindClash else (if has_broken types then Some fault.Interface else None)) clash, tt)
+clash_tells types p clash = (ap (λ b. flat_of b (has_broken types) (has_unbuilt types)) clash, tt)
 
 pub lacked_tells : (types : List TypeDeclaration) (p : Place) → has_clash types ≡ false → place_from (lacked_in types) 0 types ≡ Some p → TellsFlat types (Some (fault.Interface, p))
 lacked_tells types p none found =
     let broken : has_broken types ≡ true = sym (lacked_told types types) ∙ ap is_some found in (
-      ap (λ b. if b then Some fault.KindClash else (if has_broken types then Some fault.Interface else None)) none ∙ ap (λ b. if b then Some fault.Interface else None) broken,
+      ap (λ b. flat_of b (has_broken types) (has_unbuilt types)) none ∙ ap (λ b. flat_of false b (has_unbuilt types)) broken,
       found,
     )
 
-pub none_tells : (types : List TypeDeclaration) → has_clash types ≡ false → place_from (lacked_in types) 0 types ≡ None → TellsFlat types None
-none_tells types none whole =
+pub unbuilt_tells : (types : List TypeDeclaration) (p : Place) → has_clash types ≡ false → place_from (lacked_in types) 0 types ≡ None → place_from (unbuilt_in types) 0 types ≡ Some p → TellsFlat types (Some (fault.NotBuilt, p))
+unbuilt_tells types p none whole found =
     let kept : has_broken types ≡ false = sym (lacked_told types types) ∙ ap is_some whole in
-    ap (λ b. if b then Some fault.KindClash else (if has_broken types then Some fault.Interface else None)) none ∙ ap (λ b. if b then Some fault.Interface else None) kept
+    let unbuilt : has_unbuilt types ≡ true = sym (place_told (unbuilt_in types) 0 types) ∙ ap is_some found in (
+      ap (λ b. flat_of b (has_broken types) (has_unbuilt types)) none ∙ ap (λ b. flat_of false b (has_unbuilt types)) kept ∙ ap (λ b. flat_of false false b) unbuilt,
+      found,
+    )
+
+pub none_tells : (types : List TypeDeclaration) → has_clash types ≡ false → place_from (lacked_in types) 0 types ≡ None → place_from (unbuilt_in types) 0 types ≡ None → TellsFlat types None
+none_tells types none whole built =
+    let kept : has_broken types ≡ false = sym (lacked_told types types) ∙ ap is_some whole in
+    let done : has_unbuilt types ≡ false = sym (place_told (unbuilt_in types) 0 types) ∙ ap is_some built in
+    ap (λ b. flat_of b (has_broken types) (has_unbuilt types)) none ∙ ap (λ b. flat_of false b (has_unbuilt types)) kept ∙ ap (λ b. flat_of false false b) done

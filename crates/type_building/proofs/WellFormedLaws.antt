@@ -1,6 +1,6 @@
 -- Types have no clash exactly where they are well formed.
-use Rattle.std.proofs.Common.{◌≡◌, ◌≢◌, inl, inr, ℕ, Bool, true, false, not, ◌||◌, ◌&&◌, ◌⊎◌, List, [], ◌∷◌, ◌++◌, Some, refl, sym, ap, subst, ◌∙◌, if◌then◌else◌}
-use Rattle.std.specs.Prelude.{is_some}
+use Rattle.std.proofs.Common.{◌≡◌, ◌≢◌, inl, inr, ℕ, Bool, true, false, not, ◌||◌, ◌&&◌, ◌⊎◌, List, [], ◌∷◌, ◌++◌, Option, Some, None, refl, sym, ap, subst, ◌∙◌, if◌then◌else◌}
+use Rattle.std.specs.Prelude.{is_some, codes}
 use Rattle.std.specs.List.{list_any}
 use Rattle.std.specs.Str.{bytes_eq}
 use Rattle.std.proofs.lemmas.Bool.{cases_Bool, false≢true, or_parts}
@@ -15,8 +15,15 @@ use Rattle.ned_trees.specs.declared.declarations.Submodule.{Submodule}
 use Rattle.ned_trees.specs.declared.declarations.TypeDeclaration.{TypeDeclaration}
 use Rattle.ned_trees.specs.declared.declarations.TypeKind.{TypeKind}
 use Rattle.ned_trees.specs.declared.declarations.TypeKind.TheVariants.{Simple, Module, Network, Channel, ModuleInterface, ChannelInterface}
+use Rattle.ned_trees.specs.declared.connections.Channel as channel
+use Rattle.ned_trees.specs.declared.connections.ConnectionItem.{ConnectionItem}
+use Rattle.ned_trees.specs.declared.connections.ConnectionLine.{ConnectionLine}
+use Rattle.ned_trees.specs.declared.declarations.SubmoduleType.{SubmoduleType}
+use Rattle.ned_trees.specs.declared.declarations.SubmoduleType.TheVariants as submodule_type
+use Rattle.ned_types.specs.Channels.{built_in_lines, delay_lines, rate_lines}
+use Rattle.ned_types.specs.Clashes as k
 use Rattle.ned_types.specs.Types as t
-use Rattle.ned_types.specs.WellFormed.{IsAmong, StandsBefore, IsParameter, IsSoundSection, IsSoundBody, IsTypeOf, IsSimpleType, HaveOwnGates, HasMembers, IsWellFormed}
+use Rattle.ned_types.specs.WellFormed.{IsAmong, StandsBefore, IsParameter, IsSoundSection, IsSoundBody, IsTypeOf, IsOfModules, Suits, HasType, HasChannel, IsChannelNamed, HaveOwnGates, HasMembers, IsWellFormed}
 
 -- ---- tests
 
@@ -126,21 +133,50 @@ submodules_apart ss h = pairs_told {X = Submodule} (λ s r. s.name ≢ r.name) (
 no_repeat : (ss : List Submodule) → ((s r : Submodule) → StandsBefore s r ss → s.name ≢ r.name) → t.repeats_submodule ss ≡ false
 no_repeat ss apart = pairs_made {X = Submodule} (λ s. Unit {0}) (λ s r. s.name ≢ r.name) (λ s rs. t.is_submodule_named s.name rs) t.repeats_submodule refl (λ s rs. refl) (λ s rs q other. any_made (λ u. bytes_eq u.name s.name) rs (λ r is. apart_names r.name s.name (other r is))) ss (λ s is. tt) apart
 
-simple_kind : (k : TypeKind) → t.is_simple_kind k ≡ true → k ≡ Simple
-simple_kind Simple h = refl
-simple_kind Module h = absurd (false≢true h)
-simple_kind Network h = absurd (false≢true h)
-simple_kind Channel h = absurd (false≢true h)
-simple_kind ModuleInterface h = absurd (false≢true h)
-simple_kind ChannelInterface h = absurd (false≢true h)
+kind_told : (of : TypeKind) → t.is_kind_of_modules of ≡ true → IsOfModules of
+kind_told Simple h = inl refl
+kind_told Module h = inr (inl refl)
+kind_told Network h = inr (inr refl)
+kind_told Channel h = absurd (false≢true h)
+kind_told ModuleInterface h = absurd (false≢true h)
+kind_told ChannelInterface h = absurd (false≢true h)
 
--- a simple type of that name is found
-pub simple_found : (types : List TypeDeclaration) (name : List ℕ) → t.is_simple (t.type_named name types) ≡ true → IsSimpleType name types
-simple_found [] name h = absurd (false≢true h)
-simple_found (a ∷ behind) name h = go (bytes_eq a.name name) refl h (simple_found behind name)
+kind_made : (of : TypeKind) → IsOfModules of → t.is_kind_of_modules of ≡ true
+kind_made of (inl e) = ap t.is_kind_of_modules e
+kind_made of (inr (inl e)) = ap t.is_kind_of_modules e
+kind_made of (inr (inr e)) = ap t.is_kind_of_modules e
+
+interface_kind : (of : TypeKind) → t.is_module_interface of ≡ true → of ≡ ModuleInterface
+interface_kind ModuleInterface h = refl
+interface_kind Simple h = absurd (false≢true h)
+interface_kind Module h = absurd (false≢true h)
+interface_kind Network h = absurd (false≢true h)
+interface_kind Channel h = absurd (false≢true h)
+interface_kind ChannelInterface h = absurd (false≢true h)
+
+channel_kind : (of : TypeKind) → t.is_channel_kind of ≡ true → of ≡ Channel
+channel_kind Channel h = refl
+channel_kind Simple h = absurd (false≢true h)
+channel_kind Module h = absurd (false≢true h)
+channel_kind Network h = absurd (false≢true h)
+channel_kind ModuleInterface h = absurd (false≢true h)
+channel_kind ChannelInterface h = absurd (false≢true h)
+
+suits_told : (of : SubmoduleType) (kind : TypeKind) → t.suits_kind of kind ≡ true → Suits of kind
+suits_told (submodule_type.Named name) kind h = kind_told kind h
+suits_told (submodule_type.Like p) kind h = interface_kind kind h
+
+suits_made : (of : SubmoduleType) (kind : TypeKind) → Suits of kind → t.suits_kind of kind ≡ true
+suits_made (submodule_type.Named name) kind h = kind_made kind h
+suits_made (submodule_type.Like p) kind h = ap t.is_module_interface h
+
+-- a type of that name is found which may stand there
+pub suited_found : (types : List TypeDeclaration) (of : SubmoduleType) (name : List ℕ) → t.suits of (t.type_named name types) ≡ true → (u : TypeDeclaration) × IsAmong u types × (u.name ≡ name) × Suits of u.kind
+suited_found [] of name h = absurd (false≢true h)
+suited_found (a ∷ behind) of name h = go (bytes_eq a.name name) refl h (suited_found behind of name)
   where
-    go : (b : Bool) → bytes_eq a.name name ≡ b → t.is_simple (if b then Some a else t.type_named name behind) ≡ true → (t.is_simple (t.type_named name behind) ≡ true → IsSimpleType name behind) → IsSimpleType name (a ∷ behind)
-    go true e h more = (a, inl refl, same_names a.name name e, simple_kind a.kind h)
+    go : (b : Bool) → bytes_eq a.name name ≡ b → t.suits of (if b then Some a else t.type_named name behind) ≡ true → (t.suits of (t.type_named name behind) ≡ true → (u : TypeDeclaration) × IsAmong u behind × (u.name ≡ name) × Suits of u.kind) → (u : TypeDeclaration) × IsAmong u (a ∷ behind) × (u.name ≡ name) × Suits of u.kind
+    go true e h more = (a, inl refl, same_names a.name name e, suits_told of a.kind h)
     go false e h more = let found = more h in (found.0, inr found.1, found.2, found.3)
 
 -- the type of its name is the type itself
@@ -155,10 +191,11 @@ type_is (a ∷ behind) u apart (inr is) =
 pub named_is : (types : List TypeDeclaration) (kind : TypeKind) (name : List ℕ) → ((a b : TypeDeclaration) → StandsBefore a b types → a.name ≢ b.name) → (s : IsTypeOf kind name types) → t.type_named name types ≡ Some s.0
 named_is types kind name apart s = ap (λ (n : List ℕ). t.type_named n types) (sym s.2) ∙ type_is types s.0 apart s.1
 
-simple_is : (types : List TypeDeclaration) (name : List ℕ) → ((a b : TypeDeclaration) → StandsBefore a b types → a.name ≢ b.name) → IsSimpleType name types → t.is_simple (t.type_named name types) ≡ true
-simple_is types name apart s =
-    ap t.is_simple (named_is types Simple name apart s)
-    ∙ ap t.is_simple_kind s.3
+suited_is : (types : List TypeDeclaration) (s : Submodule) → ((a b : TypeDeclaration) → StandsBefore a b types → a.name ≢ b.name) → HasType s types → t.is_submodule_suited types s ≡ true
+suited_is types s apart u =
+    ap (λ (n : List ℕ). t.suits s.submodule_type (t.type_named n types)) (sym u.2)
+    ∙ ap (t.suits s.submodule_type) (type_is types u.0 apart u.1)
+    ∙ suits_made s.submodule_type u.0.kind u.3
 
 -- a type that is found has its name
 pub named_found : (types : List TypeDeclaration) (kind : TypeKind) (name : List ℕ) → IsTypeOf kind name types → t.is_type_named name types ≡ true
@@ -169,13 +206,13 @@ or_second true y h = refl
 or_second false y h = h
 
 pub no_unknown : (types : List TypeDeclaration) → IsWellFormed types → t.has_unknown types ≡ false
-no_unknown types w = any_made (λ a. t.names_unknown types a.submodules) types (λ a is. any_made (λ s. not (t.is_submodule_known types s)) a.submodules (λ s in-a. false_not _ (or_second (t.is_built_in (t.type_name s)) _ (named_found types Simple (t.type_name s) (w.simple a is s in-a)))))
+no_unknown types w = any_made (λ a. t.names_unknown types a.submodules) types (λ a is. any_made (λ s. not (t.is_submodule_known types s)) a.submodules (λ s in-a. let u = w.suited a is s in-a in false_not _ (or_second (t.is_built_in (t.type_name s)) _ (any_is (λ x. bytes_eq x.name (t.type_name s)) types u.0 u.1 (names_same u.0.name (t.type_name s) u.2)))))
 
 no_other_kind : (types : List TypeDeclaration) → IsWellFormed types → (a : TypeDeclaration) → IsAmong a types → t.has_other_kind types a.submodules ≡ false
-no_other_kind types w a is = any_made (λ s. not (t.is_submodule_simple types s)) a.submodules (λ s in-a. false_not _ (simple_is types (t.type_name s) w.names (w.simple a is s in-a)))
+no_other_kind types w a is = any_made (λ s. not (t.is_submodule_suited types s)) a.submodules (λ s in-a. false_not _ (suited_is types s w.names (w.suited a is s in-a)))
 
-all_simple : (types : List TypeDeclaration) (ss : List Submodule) → t.has_other_kind types ss ≡ false → (s : Submodule) → IsAmong s ss → IsSimpleType (t.type_name s) types
-all_simple types ss h s is = simple_found types (t.type_name s) (not_false _ (any_told (λ r. not (t.is_submodule_simple types r)) ss h s is))
+all_suited : (types : List TypeDeclaration) (ss : List Submodule) → t.has_other_kind types ss ≡ false → (s : Submodule) → IsAmong s ss → HasType s types
+all_suited types ss h s is = suited_found types s.submodule_type (t.type_name s) (not_false _ (any_told (λ r. not (t.is_submodule_suited types r)) ss h s is))
 
 -- ---- parameter sections
 
@@ -401,42 +438,128 @@ body_made lines body b =
 unfit_by : (types : List TypeDeclaration) (s : Submodule) (u : TypeDeclaration) → ((a b : TypeDeclaration) → StandsBefore a b types → a.name ≢ b.name) → IsAmong u types → u.name ≡ (t.type_name s) → t.has_unfit_body types s ≡ t.body_clashes u.lines s.body.lines
 unfit_by types s u apart is e = ap (t.clashes_with s.body.lines) (ap (λ (n : List ℕ). t.type_named n types) (sym e) ∙ type_is types u apart is)
 
+-- ---- gates in bodies
+
+no_gate_told : (ss : List Submodule) → t.bodies_declare ss ≡ false → (s : Submodule) → IsAmong s ss → (d : GateDeclaration) → IsAmong (gate.Declaration d) s.body.gates → ⊥
+no_gate_told ss h s is d in-body = false≢true (sym (any_told t.is_gate_declaration s.body.gates (any_told t.declares_gates ss h s is) (gate.Declaration d) in-body))
+
+no_declaring : (g : GateLine) → ((d : GateDeclaration) → g ≡ gate.Declaration d → ⊥) → t.is_gate_declaration g ≡ false
+no_declaring (gate.Declaration d) h = absurd (h d refl)
+no_declaring (gate.Refinement r) h = refl
+
+no_gate_made : (ss : List Submodule) → ((s : Submodule) → IsAmong s ss → (d : GateDeclaration) → IsAmong (gate.Declaration d) s.body.gates → ⊥) → t.bodies_declare ss ≡ false
+no_gate_made ss h = any_made t.declares_gates ss (λ s is. any_made t.is_gate_declaration s.body.gates (λ g in-body. no_declaring g (λ d e. h s is d (subst (λ (x : GateLine). IsAmong x s.body.gates) e in-body))))
+
+-- ---- channels of connections
+
+-- the lines of a built-in channel are sound
+built_in_sound : (name : List ℕ) → t.section_clashes (built_in_lines name) ≡ false
+built_in_sound name = by (bytes_eq name (codes "DelayChannel")) (bytes_eq name (codes "DatarateChannel"))
+  where
+    by : (delay rate : Bool) → t.section_clashes (if delay then delay_lines else (if rate then delay_lines ++ rate_lines else [])) ≡ false
+    by true rate = refl
+    by false true = refl
+    by false false = refl
+
+-- a channel of that name is found among these types
+channel_found : (types : List TypeDeclaration) (name : List ℕ) (lines : List SectionLine) → k.lines_of_channel (t.type_named name types) ≡ Some lines → (u : TypeDeclaration) × IsAmong u types × (u.name ≡ name) × (u.kind ≡ Channel) × (lines ≡ u.lines)
+channel_found [] name lines h = absurd cc
+channel_found (a ∷ behind) name lines h = go (bytes_eq a.name name) refl h (channel_found behind name lines)
+  where
+    is_kind : (b : Bool) → t.is_channel_kind a.kind ≡ b → (if b then Some a.lines else None) ≡ Some lines → (a.kind ≡ Channel) × (lines ≡ a.lines)
+    is_kind true e h = (channel_kind a.kind e, sym cc)
+    is_kind false e h = absurd cc
+
+    go : (b : Bool) → bytes_eq a.name name ≡ b → k.lines_of_channel (if b then Some a else t.type_named name behind) ≡ Some lines → (k.lines_of_channel (t.type_named name behind) ≡ Some lines → (u : TypeDeclaration) × IsAmong u behind × (u.name ≡ name) × (u.kind ≡ Channel) × (lines ≡ u.lines)) → (u : TypeDeclaration) × IsAmong u (a ∷ behind) × (u.name ≡ name) × (u.kind ≡ Channel) × (lines ≡ u.lines)
+    go true e h more = let found = is_kind (t.is_channel_kind a.kind) refl h in (a, inl refl, same_names a.name name e, found.0, found.1)
+    go false e h more = let found = more h in (found.0, inr found.1, found.2, found.3, found.4)
+
+lines_found : (types : List TypeDeclaration) (name : List ℕ) (lines : List SectionLine) → k.channel_lines types name ≡ Some lines → IsChannelNamed types name lines
+lines_found types name lines h = by (t.is_built_in name) refl h
+  where
+    by : (b : Bool) → t.is_built_in name ≡ b → (if b then Some (built_in_lines name) else k.lines_of_channel (t.type_named name types)) ≡ Some lines → IsChannelNamed types name lines
+    by true e h = inl (e, sym cc)
+    by false e h = inr (channel_found types name lines h)
+
+-- none of the types has the name of a built-in channel, so a channel among them is found by its name
+lines_are : (types : List TypeDeclaration) (name : List ℕ) (lines : List SectionLine) → IsWellFormed types → IsChannelNamed types name lines → k.channel_lines types name ≡ Some lines
+lines_are types name lines w (inl built_in) = ap (λ b. if b then Some (built_in_lines name) else k.lines_of_channel (t.type_named name types)) built_in.0 ∙ ap Some (sym built_in.1)
+lines_are types name lines w (inr u) =
+    ap (λ b. if b then Some (built_in_lines name) else k.lines_of_channel (t.type_named name types)) (ap t.is_built_in (sym u.2) ∙ w.own u.0 u.1)
+    ∙ ap (λ (n : List ℕ). k.lines_of_channel (t.type_named n types)) (sym u.2)
+    ∙ ap k.lines_of_channel (type_is types u.0 w.names u.1)
+    ∙ ap (λ b. if b then Some u.0.lines else None) (ap t.is_channel_kind u.3)
+    ∙ ap Some (sym u.4)
+
+-- the lines of a channel are sound
+lines_sound : (types : List TypeDeclaration) (name : List ℕ) (lines : List SectionLine) → ((a : TypeDeclaration) → IsAmong a types → IsSoundSection a.lines) → IsChannelNamed types name lines → IsSoundSection lines
+lines_sound types name lines sound (inl built_in) = subst IsSoundSection (sym built_in.1) (sound_told (built_in_lines name) (built_in_sound name))
+lines_sound types name lines sound (inr u) = subst IsSoundSection (sym u.4) (sound u.0 u.1)
+
+block_told : (types : List TypeDeclaration) (c : channel.Channel) (lines : Option (List SectionLine)) → ((a : TypeDeclaration) → IsAmong a types → IsSoundSection a.lines) → k.channel_lines types (k.channel_name c) ≡ lines → k.block_clashes c.lines lines ≡ false → HasChannel types c
+block_told types c None sound e h = absurd (false≢true (sym h))
+block_told types c (Some lines) sound e h =
+    let found = lines_found types (k.channel_name c) lines e in
+    (lines, found, body_told lines c.lines (lines_sound types (k.channel_name c) lines sound found) h)
+
+channel_told : (types : List TypeDeclaration) (o : Option channel.Channel) → ((a : TypeDeclaration) → IsAmong a types → IsSoundSection a.lines) → k.channel_clashes types o ≡ false → (c : channel.Channel) → o ≡ Some c → HasChannel types c
+channel_told types o sound h c e = block_told types c (k.channel_lines types (k.channel_name c)) sound refl (sym (ap (k.channel_clashes types) e) ∙ h)
+
+channel_made : (types : List TypeDeclaration) (o : Option channel.Channel) → IsWellFormed types → ((c : channel.Channel) → o ≡ Some c → HasChannel types c) → k.channel_clashes types o ≡ false
+channel_made types None w h = refl
+channel_made types (Some c) w h =
+    let found = h c refl in
+    ap (k.block_clashes c.lines) (lines_are types (k.channel_name c) found.0 w found.1) ∙ body_made found.0 c.lines found.2
+
+channels_told : (types : List TypeDeclaration) (items : List ConnectionItem) → ((a : TypeDeclaration) → IsAmong a types → IsSoundSection a.lines) → k.connections_clash types items ≡ false → (x : ConnectionItem) → IsAmong x items → (l : ConnectionLine) → IsAmong l (k.connections_of x) → (c : channel.Channel) → l.connection.channel ≡ Some c → HasChannel types c
+channels_told types items sound h x is l in-x c e = channel_told types l.connection.channel sound (any_told (λ y. k.line_clashes types y) (k.connections_of x) (any_told (λ y. list_any (λ z. k.line_clashes types z) (k.connections_of y)) items h x is) l in-x) c e
+
+channels_made : (types : List TypeDeclaration) (items : List ConnectionItem) → IsWellFormed types → ((x : ConnectionItem) → IsAmong x items → (l : ConnectionLine) → IsAmong l (k.connections_of x) → (c : channel.Channel) → l.connection.channel ≡ Some c → HasChannel types c) → k.connections_clash types items ≡ false
+channels_made types items w h = any_made (λ y. list_any (λ z. k.line_clashes types z) (k.connections_of y)) items (λ x is. any_made (λ z. k.line_clashes types z) (k.connections_of x) (λ l in-x. channel_made types l.connection.channel w (h x is l in-x)))
+
 -- ---- all rules
 
-pub well_formed : (types : List TypeDeclaration) → t.has_duplicate types ≡ false → t.has_clash types ≡ false → ((a : TypeDeclaration) → IsAmong a types → (b : TypeDeclaration) → IsAmong b types → IsAmong b.name a.interfaces → HasMembers a b) → IsWellFormed types
+pub well_formed : (types : List TypeDeclaration) → t.has_duplicate types ≡ false → k.has_clash types ≡ false → ((a : TypeDeclaration) → IsAmong a types → (b : TypeDeclaration) → IsAmong b types → IsAmong b.name a.interfaces → HasMembers a b) → IsWellFormed types
 well_formed types duplicate clash kept = record {
   names = apart;
   own = types_own types duplicate;
-  parameters = λ a is. sound_told a.lines (section a is);
+  parameters = sound;
   gates = λ a is. gates_told a.gates (or_parts (t.redeclares_gate a.gates) _ (parts a is).1).0;
   submodules = λ a is. submodules_apart a.submodules (members a is).0;
-  simple = λ a is. all_simple types a.submodules (members a is).1;
+  suited = λ a is. all_suited types a.submodules (members a is).1;
   interfaces = kept;
-  bodies = λ a is s in-a u in-types e. body_told u.lines s.body.lines (sound_told u.lines (section u in-types)) (sym (unfit_by types s u apart in-types e) ∙ any_told (λ r. t.has_unfit_body types r) a.submodules (members a is).2 s in-a);
+  bodies = λ a is s in-a u in-types e. body_told u.lines s.body.lines (sound u in-types) (sym (unfit_by types s u apart in-types e) ∙ any_told (λ r. t.has_unfit_body types r) a.submodules (members a is).2 s in-a);
+  sizes = λ a is. no_gate_told a.submodules (members a is).3;
+  channels = λ a is. channels_told types a.connections.items sound (or_parts (t.submodules_clash types a.submodules) _ (inside a is)).1;
 }
   where
     apart : (a b : TypeDeclaration) → StandsBefore a b types → a.name ≢ b.name
     apart = types_apart types duplicate
 
-    parts : (a : TypeDeclaration) → IsAmong a types → (t.section_clashes a.lines ≡ false) × ((t.redeclares_gate a.gates || t.submodules_clash types a.submodules) ≡ false)
-    parts a is = or_parts (t.section_clashes a.lines) (t.redeclares_gate a.gates || t.submodules_clash types a.submodules) (any_told (λ x. t.clashes types x) types clash a is)
+    parts : (a : TypeDeclaration) → IsAmong a types → (t.section_clashes a.lines ≡ false) × ((t.redeclares_gate a.gates || (t.submodules_clash types a.submodules || k.connections_clash types a.connections.items)) ≡ false)
+    parts a is = or_parts (t.section_clashes a.lines) (t.redeclares_gate a.gates || (t.submodules_clash types a.submodules || k.connections_clash types a.connections.items)) (any_told (λ x. k.clashes types x) types clash a is)
 
-    inside : (a : TypeDeclaration) → IsAmong a types → t.submodules_clash types a.submodules ≡ false
-    inside a is = (or_parts (t.redeclares_gate a.gates) (t.submodules_clash types a.submodules) (parts a is).1).1
+    inside : (a : TypeDeclaration) → IsAmong a types → (t.submodules_clash types a.submodules || k.connections_clash types a.connections.items) ≡ false
+    inside a is = (or_parts (t.redeclares_gate a.gates) (t.submodules_clash types a.submodules || k.connections_clash types a.connections.items) (parts a is).1).1
 
-    section : (a : TypeDeclaration) → IsAmong a types → t.section_clashes a.lines ≡ false
-    section a is = (parts a is).0
+    sound : (a : TypeDeclaration) → IsAmong a types → IsSoundSection a.lines
+    sound a is = sound_told a.lines (parts a is).0
 
-    members : (a : TypeDeclaration) → IsAmong a types → (t.repeats_submodule a.submodules ≡ false) × (t.has_other_kind types a.submodules ≡ false) × (t.bodies_clash types a.submodules ≡ false)
+    members : (a : TypeDeclaration) → IsAmong a types → (t.repeats_submodule a.submodules ≡ false) × (t.has_other_kind types a.submodules ≡ false) × (t.bodies_clash types a.submodules ≡ false) × (t.bodies_declare a.submodules ≡ false)
     members a is =
-        let first = or_parts (t.repeats_submodule a.submodules) (t.has_other_kind types a.submodules || t.bodies_clash types a.submodules) (inside a is) in
-        let rest = or_parts (t.has_other_kind types a.submodules) (t.bodies_clash types a.submodules) first.1 in
-        (first.0, rest.0, rest.1)
+        let all = or_parts (t.submodules_clash types a.submodules) (k.connections_clash types a.connections.items) (inside a is) in
+        let first = or_parts (t.repeats_submodule a.submodules) (t.has_other_kind types a.submodules || (t.bodies_clash types a.submodules || t.bodies_declare a.submodules)) all.0 in
+        let rest = or_parts (t.has_other_kind types a.submodules) (t.bodies_clash types a.submodules || t.bodies_declare a.submodules) first.1 in
+        let last = or_parts (t.bodies_clash types a.submodules) (t.bodies_declare a.submodules) rest.1 in
+        (first.0, rest.0, last.0, last.1)
 
-pub no_clash : (types : List TypeDeclaration) → IsWellFormed types → t.has_clash types ≡ false
-no_clash types w = any_made (λ x. t.clashes types x) types (λ a is. or_false (t.section_clashes a.lines) _ (sound_made a.lines (w.parameters a is)) (or_false (t.redeclares_gate a.gates) _ (gates_made a.gates (w.gates a is)) (or_false (t.repeats_submodule a.submodules) _ (no_repeat a.submodules (w.submodules a is)) (or_false (t.has_other_kind types a.submodules) _ (no_other_kind types w a is) (any_made (λ s. t.has_unfit_body types s) a.submodules (fit a is))))))
+pub no_clash : (types : List TypeDeclaration) → IsWellFormed types → k.has_clash types ≡ false
+no_clash types w = any_made (λ x. k.clashes types x) types (λ a is. or_false (t.section_clashes a.lines) _ (sound_made a.lines (w.parameters a is)) (or_false (t.redeclares_gate a.gates) _ (gates_made a.gates (w.gates a is)) (or_false (t.submodules_clash types a.submodules) _ (inside a is) (channels_made types a.connections.items w (w.channels a is)))))
   where
     fit : (a : TypeDeclaration) → IsAmong a types → (s : Submodule) → IsAmong s a.submodules → t.has_unfit_body types s ≡ false
     fit a is s in-a =
-        let found = w.simple a is s in-a in
+        let found = w.suited a is s in-a in
         unfit_by types s found.0 w.names found.1 found.2 ∙ body_made found.0.lines s.body.lines (w.bodies a is s in-a found.0 found.1 found.2)
+
+    inside : (a : TypeDeclaration) → IsAmong a types → t.submodules_clash types a.submodules ≡ false
+    inside a is = or_false (t.repeats_submodule a.submodules) _ (no_repeat a.submodules (w.submodules a is)) (or_false (t.has_other_kind types a.submodules) _ (no_other_kind types w a is) (or_false (t.bodies_clash types a.submodules) _ (any_made (λ s. t.has_unfit_body types s) a.submodules (fit a is)) (no_gate_made a.submodules (w.sizes a is))))

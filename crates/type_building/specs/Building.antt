@@ -4,13 +4,14 @@ use Rattle.ned_trees.specs.declared.declarations.TypeDeclaration.{TypeDeclaratio
 use Rattle.ned_trees.specs.declared.declarations.TypeKind.{TypeKind}
 use Rattle.ned_trees.specs.declared.declarations.TypeKind.TheVariants.{Simple, Module, Network, Channel, ModuleInterface, ChannelInterface}
 use Rattle.type_building.specs.declared.table.TypeFault.{TypeFault}
-use Rattle.type_building.specs.declared.table.TypeFault.TheVariants.{NotBuilt, DuplicateType, UnknownType, InheritanceCircle, KindClash, Interface}
+use Rattle.type_building.specs.declared.table.TypeFault.TheVariants.{DuplicateType, UnknownType, InheritanceCircle, KindClash, Interface, NotBuilt}
 use Rattle.type_building.specs.declared.table.BuildError.{BuildError}
 use Rattle.type_building.specs.declared.table.BuildError.TheVariants.{Fault, NoMemory}
 use Rattle.type_building.specs.declared.places.Place.{Place}
-use Rattle.type_building.specs.Unbuilt.{AreBuildable, IsBuildable, has_unbuilt, unbuilt_in}
+use Rattle.type_building.specs.Unbuilt.{AreBuildable, has_unbuilt, unbuilt_in}
 use Rattle.type_building.specs.Places.{duplicate_from, IsClashPlace, lacked_in, other_in, place_from, unknown_in}
-use Rattle.ned_types.specs.Types.{has_duplicate, has_inner_network, has_unknown, has_clash, is_built_in, is_inner_name}
+use Rattle.ned_types.specs.Clashes.{has_clash, has_unknown_channels}
+use Rattle.ned_types.specs.Types.{has_duplicate, has_inner_network, has_unknown, is_built_in, is_inner_name}
 use Rattle.ned_types.specs.Flat.{or_else}
 use Rattle.type_building.specs.Interfaces.{has_broken, has_other_interface, has_unknown_interface, can_keep}
 use Rattle.type_building.specs.Circles.{ExtendsItself}
@@ -21,65 +22,45 @@ use Rattle.ned_types.specs.WellFormed.{IsAmong, IsTypeOf, IsWellFormed}
 abbrev pub base_fault : List TypeDeclaration → Option TypeFault
 base_fault types =
     if has_duplicate types then Some DuplicateType
-    else (if has_unknown types || (has_unknown_base types || has_unknown_interface types) then Some UnknownType
+    else (if has_unknown types || (has_unknown_base types || (has_unknown_interface types || has_unknown_channels types)) then Some UnknownType
     else (if has_circle types then Some InheritanceCircle
     else (if has_inner_network types || (has_other_base types || has_other_interface types) then Some KindClash else None)))
 
--- the faults of flat types: a clash in one of them, and then a member of an interface that one lacks
+-- the faults of flat types: a clash in one of them, then a member of an interface that one lacks, and then that a network isn't built yet
 abbrev pub flat_fault : List TypeDeclaration → Option TypeFault
-flat_fault types = if has_clash types then Some KindClash else (if has_broken types then Some Interface else None)
+flat_fault types =
+    if has_clash types then Some KindClash
+    else (if has_broken types then Some Interface
+    else (if has_unbuilt types then Some NotBuilt else None))
 
--- the rule that the types break, where they break one
-abbrev pub rule_fault : List TypeDeclaration → Option TypeFault
-rule_fault types = or_else (base_fault types) (flat_fault (flat_types types))
-
--- why the types make no model, where they don't: no model is built of some of them yet, or they break a rule
+-- why the types make no model, where they don't: a rule that they break, or else that a network isn't built yet
 abbrev pub fault_of : List TypeDeclaration → Option TypeFault
-fault_of types = if has_unbuilt types then Some NotBuilt else rule_fault types
+fault_of types = or_else (base_fault types) (flat_fault (flat_types types))
 
--- THE PLACE of a broken rule: the first, type by type, that breaks it. A clash is one of names and kinds, or else one of flat types; of flat types
+-- THE PLACE of a fault: the first, type by type, that has it. A clash is one of names and kinds, or else one of flat types; of flat types
 -- the place is told where the rules say it (Places)
-abbrev pub IsRulePlace : List TypeDeclaration → TypeFault → Place → Type 0
-IsRulePlace types NotBuilt p = ⊥
-IsRulePlace types DuplicateType p = duplicate_from [] 0 types ≡ Some p.number
-IsRulePlace types UnknownType p = place_from (unknown_in types) 0 types ≡ Some p
-IsRulePlace types InheritanceCircle p = Unit {0}
-IsRulePlace types KindClash p = IsClashPlace types (place_from (other_in types) 0 types) p
-IsRulePlace types Interface p = place_from (lacked_in (flat_types types)) 0 (flat_types types) ≡ Some p
-
--- THE PLACE of a fault: the first part of a type of which no model is built, or that of the broken rule
 abbrev pub IsPlace : List TypeDeclaration → TypeFault → Place → Type 0
-IsPlace types NotBuilt p = place_from unbuilt_in 0 types ≡ Some p
-IsPlace types DuplicateType p = IsRulePlace types DuplicateType p
-IsPlace types UnknownType p = IsRulePlace types UnknownType p
-IsPlace types InheritanceCircle p = IsRulePlace types InheritanceCircle p
-IsPlace types KindClash p = IsRulePlace types KindClash p
-IsPlace types Interface p = IsRulePlace types Interface p
+IsPlace types DuplicateType p = duplicate_from [] 0 types ≡ Some p.number
+IsPlace types UnknownType p = place_from (unknown_in types) 0 types ≡ Some p
+IsPlace types InheritanceCircle p = Unit {0}
+IsPlace types KindClash p = IsClashPlace types (place_from (other_in types) 0 types) p
+IsPlace types Interface p = place_from (lacked_in (flat_types types)) 0 (flat_types types) ≡ Some p
+IsPlace types NotBuilt p = place_from (unbuilt_in (flat_types types)) 0 (flat_types types) ≡ Some p
 
 -- the same of a fault of flat types
 abbrev pub IsFlatPlace : List TypeDeclaration → TypeFault → Place → Type 0
-IsFlatPlace types NotBuilt p = ⊥
 IsFlatPlace types DuplicateType p = ⊥
 IsFlatPlace types UnknownType p = ⊥
 IsFlatPlace types InheritanceCircle p = ⊥
 IsFlatPlace types KindClash p = Unit {0}
 IsFlatPlace types Interface p = place_from (lacked_in types) 0 types ≡ Some p
-
--- the answer to types of which models are built: the flat type of each, or the first rule that they break and its place; or memory ran out
-abbrev pub Flattens : List TypeDeclaration → Result (List TypeDeclaration) BuildError → Type 0
-Flattens types (Ok table) = (table ≡ flat_types types) × (rule_fault types ≡ None)
-Flattens types (Err (NoMemory _)) = Unit {0}
-Flattens types (Err (Fault fault place)) = (rule_fault types ≡ Some fault) × IsRulePlace types fault place
+IsFlatPlace types NotBuilt p = place_from (unbuilt_in types) 0 types ≡ Some p
 
 -- the answer to these types: the flat type of each, or their first fault and its place; or memory ran out
 abbrev pub Builds : List TypeDeclaration → Result (List TypeDeclaration) BuildError → Type 0
 Builds types (Ok table) = (table ≡ flat_types types) × (fault_of types ≡ None)
 Builds types (Err (NoMemory _)) = Unit {0}
 Builds types (Err (Fault fault place)) = (fault_of types ≡ Some fault) × IsPlace types fault place
-
--- it is told exactly of types of which some are no types of which models are built
-abbrev pub NotBuiltIsTold : Type 0
-NotBuiltIsTold = (types : List TypeDeclaration) → (fault_of types ≡ Some NotBuilt) ↔ (AreBuildable types → ⊥)
 
 -- these flat types where they have no fault, or their first one and its place; or memory ran out
 abbrev pub AreFaultless : List TypeDeclaration → Result (List TypeDeclaration) BuildError → Type 0
@@ -108,9 +89,7 @@ MayExtend ModuleInterface name types = ⊥
 MayExtend ChannelInterface name types = ⊥
 
 -- THE RULES of types that extend others:
-pub record CanBuild (types : List TypeDeclaration) : Type 0 where
-  -- a model is built of each;
-  pub parts : (t : TypeDeclaration) → IsAmong t types → IsBuildable t
+pub record KeepRules (types : List TypeDeclaration) : Type 0 where
   -- what is extended is among these and of the kind of what extends it, or a built-in channel that a channel extends;
   pub bases : (t : TypeDeclaration) → IsAmong t types → (name : List ℕ) → t.base ≡ Some name → MayExtend t.kind name types
   -- each interface is among these too, and one for types of that kind;
@@ -121,3 +100,11 @@ pub record CanBuild (types : List TypeDeclaration) : Type 0 where
   pub roots : ExtendsItself types → ⊥
   -- and the flat types keep the rules of types.
   pub flat : IsWellFormed (flat_types types)
+
+-- they keep the rules, and their networks are built
+abbrev pub CanBuild : List TypeDeclaration → Type 0
+CanBuild types = KeepRules types × AreBuildable (flat_types types)
+
+-- of types that keep the rules it is told exactly where a network isn't built yet
+abbrev pub NotBuiltIsTold : Type 0
+NotBuiltIsTold = (types : List TypeDeclaration) → KeepRules types → (fault_of types ≡ Some NotBuilt) ↔ (AreBuildable (flat_types types) → ⊥)

@@ -13,6 +13,7 @@ use Rattle.ned_trees.specs.declared.declarations.ParameterValue.TheVariants as p
 use Rattle.ned_trees.specs.declared.declarations.ParameterWord.TheVariants as word
 use Rattle.ned_trees.specs.declared.connections.Arrow.TheVariants as arrow
 use Rattle.ned_trees.specs.declared.connections.ConnectionItem.TheVariants as item
+use Rattle.ned_trees.specs.declared.connections.ConnectionLine.{ConnectionLine}
 use Rattle.ned_trees.specs.declared.connections.ConnectionSection.{ConnectionSection}
 use Rattle.ned_trees.specs.declared.connections.End.{End}
 use Rattle.ned_trees.specs.declared.declarations.SectionLine.{SectionLine}
@@ -23,7 +24,7 @@ use Rattle.ned_trees.specs.declared.declarations.SubmoduleType.TheVariants as su
 use Rattle.ned_trees.specs.declared.declarations.TypeDeclaration.{TypeDeclaration}
 use Rattle.ned_trees.specs.declared.declarations.TypeKind.TheVariants.{Simple, Module, Network, Channel, ModuleInterface, ChannelInterface}
 use Rattle.type_building.specs.declared.table.TypeFault.{TypeFault}
-use Rattle.type_building.specs.declared.table.TypeFault.TheVariants.{NotBuilt, DuplicateType, UnknownType, InheritanceCircle, KindClash, Interface}
+use Rattle.type_building.specs.declared.table.TypeFault.TheVariants.{DuplicateType, UnknownType, InheritanceCircle, KindClash, Interface, NotBuilt}
 use Rattle.ned_types.specs.Flat.{class_of, last_value, statistics_of}
 use Rattle.type_building.specs.Inheritance.{flat_type, no_connections}
 use Rattle.type_building.specs.Building.{fault_of}
@@ -182,9 +183,32 @@ one_connection = record {
   items = item.Line (record { connection = record { left = own_gate (codes "g"); arrow = arrow.Right; channel = None; right = own_gate (codes "h") }; clauses = [] }) ∷ [];
 }
 
--- why `network N { submodules: SUBMODULE connections: .. }` makes no model, with Tick
+-- why `network N { submodules: SUBMODULE connections: .. }` makes no model, with Tick, the interface I and the channel Slow
 abbrev pub fault_inside : Submodule → ConnectionSection → Option TypeFault
-fault_inside s connections = fault_of (record { kind = Network; name = codes "N"; base = None; interfaces = []; lines = []; gates = []; submodules = s ∷ []; connections = connections } ∷ tick ∷ [])
+fault_inside s connections = fault_of (record { kind = Network; name = codes "N"; base = None; interfaces = []; lines = []; gates = []; submodules = s ∷ []; connections = connections } ∷ tick ∷ gap_and_in ∷ slow_channel ∷ [])
+
+-- `t: <> like INTERFACE { LINES }`
+abbrev pub like_with : List ℕ → List SectionLine → Submodule
+like_with interface body = record { name = codes "t"; size = None; submodule_type = submodule_type.Like (record { given = None; interface = interface }); condition = None; body = record { lines = body; gates = [] } }
+
+-- `t: Tick { gates: GATES }`
+abbrev pub gates_with : List GateLine → Submodule
+gates_with gates = record { name = codes "t"; size = None; submodule_type = submodule_type.Named (codes "Tick"); condition = None; body = record { lines = []; gates = gates } }
+
+-- `g --> CHANNEL { LINES } --> h;`, or with the block alone
+abbrev pub connected_by : Option (List ℕ) → List SectionLine → ConnectionLine
+connected_by name block = record { connection = record { left = own_gate (codes "g"); arrow = arrow.Right; channel = Some (record { type_name = name; lines = block }); right = own_gate (codes "h") }; clauses = [] }
+
+-- why a network makes no model that has this connection, alone or as the second one of a group
+abbrev pub fault_connected : Option (List ℕ) → List SectionLine → Option TypeFault
+fault_connected name block = fault_inside (tick_named (codes "t")) (record { allow_unconnected = false; items = item.Line (connected_by name block) ∷ [] })
+
+abbrev pub fault_grouped : Option (List ℕ) → List SectionLine → Option TypeFault
+fault_grouped name block = fault_inside (tick_named (codes "t")) (record { allow_unconnected = false; items = item.Group (record { clauses = []; lines = connected_by None [] ∷ connected_by name block ∷ [] }) ∷ [] })
+
+-- `module M {}`
+abbrev pub module_m : TypeDeclaration
+module_m = record { kind = Module; name = codes "M"; base = None; interfaces = []; lines = []; gates = []; submodules = []; connections = no_connections }
 
 -- the members of the base and then its own, the class of the base, its own value, and its own statistic in the place of
 -- the base's; and so also where the base stands behind it
@@ -313,16 +337,41 @@ pub record ExampleExtending : Type 0 where
   pub mixed_circle : fault_of (interface_of (codes "J") (codes "A" ∷ []) [] [] ∷ heir (codes "A") (codes "J") ∷ []) ≡ Some InheritanceCircle
   pub kept_circle : fault_of (keeping (codes "A") None (codes "J" ∷ []) [] [] ∷ interface_of (codes "J") (codes "A" ∷ []) [] [] ∷ []) ≡ Some KindClash
 
--- of a compound module that is no network, a vector of submodules, a condition, a parametric type, gates in the body of a submodule and
--- connections no model is built yet, and this goes before every other fault; a section of connections without items says nothing that
--- has to be built
+-- the type of a submodule is one of modules, and what stands behind `like` an interface of modules, over whose lines the body stands; a body
+-- declares no gate; what a connection names as its channel is a channel, and its block gives values to that channel's parameters alone, and none
+-- behind a fixed one; a block alone means the built-in channel that has what it sets
+pub record ExampleInsides : Type 0 where
+  pub like_interface : fault_inside (like_with (codes "I") (second_for (codes "gap") ∷ [])) no_connections ≡ Some NotBuilt
+  pub like_other : fault_inside (like_with (codes "I") (second_for (codes "own") ∷ [])) no_connections ≡ Some KindClash
+  pub like_simple : fault_inside (like_with (codes "Tick") []) no_connections ≡ Some KindClash
+  pub like_unknown : fault_inside (like_with (codes "Zed") []) no_connections ≡ Some UnknownType
+  pub gate_declared : fault_inside (gates_with (input_gate (codes "in") ∷ [])) no_connections ≡ Some KindClash
+  pub unknown : fault_connected (Some (codes "Zed")) [] ≡ Some UnknownType
+  pub simple : fault_connected (Some (codes "Tick")) [] ≡ Some KindClash
+  pub built_in : fault_connected (Some (codes "DelayChannel")) (second_for (codes "delay") ∷ []) ≡ Some NotBuilt
+  pub no_rate : fault_connected (Some (codes "DelayChannel")) (second_for (codes "datarate") ∷ []) ≡ Some KindClash
+  pub own : fault_connected (Some (codes "Slow")) [] ≡ Some NotBuilt
+  pub fixed : fault_connected (Some (codes "Slow")) (second_for (codes "delay") ∷ []) ≡ Some KindClash
+  pub block : fault_connected None (second_for (codes "delay") ∷ second_for (codes "datarate") ∷ []) ≡ Some NotBuilt
+  pub other_block : fault_connected None (second_for (codes "gab") ∷ []) ≡ Some KindClash
+  pub twice : fault_connected None (second_for (codes "delay") ∷ second_for (codes "delay") ∷ []) ≡ Some KindClash
+  pub declared : fault_connected None (double_named (codes "own") ∷ []) ≡ Some KindClash
+  pub in_group : fault_grouped (Some (codes "Zed")) [] ≡ Some UnknownType
+  pub clash_in_group : fault_grouped (Some (codes "Tick")) [] ≡ Some KindClash
+  pub inherited : fault_of (heir_network (codes "O") [] [] ∷ record { kind = Network; name = codes "N"; base = None; interfaces = []; lines = []; gates = []; submodules = []; connections = one_connection } ∷ []) ≡ Some NotBuilt
+
+-- no network is built yet of a compound module, a vector of submodules, a condition, a parametric type, gates in the body of a submodule or
+-- connections, and every other fault goes before this; a compound module in which no network is nothing that has to be built, and so is
+-- a section of connections without items
 pub record ExampleUnbuilt : Type 0 where
   pub none : fault_inside (tick_named (codes "t")) no_connections ≡ None
   pub unconnected : fault_inside (tick_named (codes "t")) (record { allow_unconnected = true; items = [] }) ≡ None
   pub connections : fault_inside (tick_named (codes "t")) one_connection ≡ Some NotBuilt
   pub vector : fault_inside (record { name = codes "t"; size = Some (expression.Literal (values.Whole (pos 3))); submodule_type = submodule_type.Named (codes "Tick"); condition = None; body = record { lines = []; gates = [] } }) no_connections ≡ Some NotBuilt
   pub condition : fault_inside (record { name = codes "t"; size = None; submodule_type = submodule_type.Named (codes "Tick"); condition = Some (expression.Literal (values.Truth false)); body = record { lines = []; gates = [] } }) no_connections ≡ Some NotBuilt
-  pub parametric : fault_inside (record { name = codes "t"; size = None; submodule_type = submodule_type.Like (record { given = None; interface = codes "I" }); condition = None; body = record { lines = []; gates = [] } }) no_connections ≡ Some NotBuilt
-  pub gates : fault_inside (record { name = codes "t"; size = None; submodule_type = submodule_type.Named (codes "Tick"); condition = None; body = record { lines = []; gates = three_of (codes "g") ∷ [] } }) no_connections ≡ Some NotBuilt
-  pub compound : fault_of (record { kind = Module; name = codes "M"; base = None; interfaces = []; lines = []; gates = []; submodules = []; connections = no_connections } ∷ []) ≡ Some NotBuilt
-  pub first : fault_of (tick ∷ tick ∷ heir (codes "B") (codes "Zed") ∷ record { kind = Module; name = codes "M"; base = None; interfaces = []; lines = []; gates = []; submodules = []; connections = no_connections } ∷ []) ≡ Some NotBuilt
+  pub parametric : fault_inside (like_with (codes "I") []) no_connections ≡ Some NotBuilt
+  pub gates : fault_inside (gates_with (three_of (codes "g") ∷ [])) no_connections ≡ Some NotBuilt
+  pub module_alone : fault_of (module_m ∷ []) ≡ None
+  pub compound : fault_of (network_of [] (t_with (codes "M") [] ∷ []) ∷ module_m ∷ []) ≡ Some NotBuilt
+  pub network : fault_of (network_of [] (t_with (codes "O") [] ∷ []) ∷ record { kind = Network; name = codes "O"; base = None; interfaces = []; lines = []; gates = []; submodules = []; connections = no_connections } ∷ []) ≡ Some NotBuilt
+  pub last : fault_of (network_of [] (t_with (codes "M") [] ∷ []) ∷ module_m ∷ slow_channel ∷ channel_with (codes "Slower") (codes "Slow") (second_for (codes "delay") ∷ []) ∷ []) ≡ Some KindClash

@@ -12,7 +12,7 @@ use Rattle.ned_trees.specs.declared.declarations.TypeDeclaration.{TypeDeclaratio
 use Rattle.ned_trees.specs.declared.declarations.TypeKind.{TypeKind}
 use Rattle.ned_trees.specs.declared.declarations.TypeKind.TheVariants.{Simple, Module, Network, Channel, ModuleInterface, ChannelInterface}
 use Rattle.ned_types.specs.Types.{type_named, is_built_in, is_type_named, is_simple_kind, is_network_kind, is_channel_kind, is_interface_kind}
-use Rattle.type_building.specs.Channels.{root_lines}
+use Rattle.ned_types.specs.Channels.{root_lines}
 use Rattle.ned_types.specs.Flat.{class_in, class_of, named_or}
 
 -- ---- bases

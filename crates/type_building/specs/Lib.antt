@@ -1,4 +1,3 @@
-pub mod Channels
 pub mod Interfaces
 pub mod Inheritance
 pub mod Places

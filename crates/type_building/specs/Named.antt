@@ -5,6 +5,7 @@ use Rattle.std.specs.Map.{lookup}
 use Rattle.std.specs.Str.{bytes_eq}
 use Rattle.std.specs.List.{list_any}
 use Rattle.ned_trees.specs.declared.declarations.TypeDeclaration.{TypeDeclaration}
+use Rattle.ned_types.specs.Clashes.{has_unknown_channel}
 use Rattle.ned_types.specs.WellFormed.{IsAmong}
 use Rattle.ned_types.specs.Types.{has_duplicate, has_inner_network, is_type_named, is_interface_kind, names_unknown}
 use Rattle.type_building.specs.Interfaces.{keeps_other, names_no_type}
@@ -33,7 +34,8 @@ AreNamed types (Ok named) = (has_duplicate types ≡ false) × (named ≡ types)
 abbrev pub is_unknown_named : List TypeDeclaration → List TypeDeclaration → Bool
 is_unknown_named types some =
     list_any (λ t. names_unknown types t.submodules) some
-    || (list_any (λ t. extends_unknown types t.base) some || list_any (λ t. names_no_type types t.interfaces) some)
+    || (list_any (λ t. extends_unknown types t.base) some
+    || (list_any (λ t. names_no_type types t.interfaces) some || list_any (λ t. has_unknown_channel types t.connections.items) some))
 
 -- whether some of the types are networks within networks, or name what is of another kind than it should be
 abbrev pub is_other_named : List TypeDeclaration → List TypeDeclaration → Bool

@@ -1,11 +1,13 @@
 -- Where types break a rule: the first place, type by type, and what of it.
 use Rattle.std.specs.Prelude.{◌≡◌, ◌++◌, ℕ, zero, suc, Bool, not, ◌||◌, List, [], ◌∷◌, Option, Some, None, if◌then◌else◌}
 use Rattle.std.specs.Option.{option_map}
+use Rattle.ned_trees.specs.declared.connections.ConnectionItem.{ConnectionItem}
 use Rattle.ned_trees.specs.declared.declarations.TypeDeclaration.{TypeDeclaration}
+use Rattle.ned_types.specs.Clashes.{connections_of, is_channel_unknown}
 use Rattle.ned_types.specs.Flat.{or_else}
 use Rattle.ned_types.specs.Types.{is_built_in, is_inner_network, is_submodule_known, is_type_named, type_named}
 use Rattle.type_building.specs.declared.places.Member.{Member}
-use Rattle.type_building.specs.declared.places.Member.TheVariants.{Whole, Base, Interface, Submodule, LacksParameter, LacksGate}
+use Rattle.type_building.specs.declared.places.Member.TheVariants.{Whole, Base, Interface, Submodule, Channel, LacksParameter, LacksGate}
 use Rattle.type_building.specs.declared.places.Place.{Place}
 use Rattle.type_building.specs.Inheritance.{extends_other, extends_unknown}
 use Rattle.type_building.specs.Interfaces.{is_interface_for, lacks_gate, lacks_parameter}
@@ -29,12 +31,22 @@ place_from broken n (t ∷ ts) = or_else (placed n (broken t)) (place_from broke
 abbrev pub is_known : List ℕ → List TypeDeclaration → Bool
 is_known name types = is_built_in name || is_type_named name types
 
+-- the first connection whose channel's name is unknown, of the item of that number
+abbrev pub unknown_channel_of : List TypeDeclaration → ℕ → ConnectionItem → Option Member
+unknown_channel_of types n i = option_map (Channel n) (first_from (λ l. is_channel_unknown types l) 0 (connections_of i))
+
+-- the same of items that are counted on from a number
+abbrev pub unknown_channel_from : List TypeDeclaration → ℕ → List ConnectionItem → Option Member
+unknown_channel_from types n [] = None
+unknown_channel_from types n (i ∷ is) = or_else (unknown_channel_of types n i) (unknown_channel_from types (suc n) is)
+
 -- A NAME THAT IS UNKNOWN: what of a type names what is neither a type nor a built-in channel
 abbrev pub unknown_in : List TypeDeclaration → TypeDeclaration → Option Member
 unknown_in types t =
     if extends_unknown types t.base then Some Base
     else or_else (option_map Interface (first_from (λ n. not (is_known n types)) 0 t.interfaces))
-    (option_map Submodule (first_from (λ s. not (is_submodule_known types s)) 0 t.submodules))
+    (or_else (option_map Submodule (first_from (λ s. not (is_submodule_known types s)) 0 t.submodules))
+    (unknown_channel_from types 0 t.connections.items))
 
 -- ANOTHER KIND: what of a type is of another kind than it should be, or that it is a network within another
 abbrev pub other_in : List TypeDeclaration → TypeDeclaration → Option Member

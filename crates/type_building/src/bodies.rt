@@ -1,7 +1,7 @@
 //! What the bodies of submodules may say.
 
 ghost use Rattle.std.specs.Prelude.{◌≡◌, [], is_some, IfOk};
-ghost use Rattle.ned_types.specs.Types.{bodies_clash, has_unfit_body, body_clashes, has_unfit};
+ghost use Rattle.ned_types.specs.Types.{bodies_clash, bodies_declare, declares_gates, has_unfit_body, body_clashes, has_unfit, is_gate_declaration};
 ghost use Rattle.std.specs.List.{list_any};
 ghost use Rattle.type_building.specs.Seen.{names_in, is_unfit_over};
 
@@ -11,7 +11,7 @@ use crate::sections::{
     given_again, gives_seen, gives_unseen, is_declaration, see_declared, see_fixed,
 };
 use indexmap::IndexSet;
-use ned_trees::declarations::{SectionLine, Submodule};
+use ned_trees::declarations::{GateLine, SectionLine, Submodule};
 use ned_types::flat::type_name;
 use std::alloc::{AllocError, Global};
 
@@ -47,29 +47,49 @@ fn unfit_body(
     match named.find(type_name(submodule)) {
         Some(declared) => {
             let lines = declared.lines.as_slice();
-            unfit_over(alloc, number, lines, submodule.body.lines.as_slice())
+            let misfit = first_misfit(alloc, lines, submodule.body.lines.as_slice())?;
+            Ok(in_body(number, misfit))
         }
         None => Ok(None),
     }
 }
 
-/// The first line of the body of the submodule of that number that can't stand over these lines of a type. Over an empty body nothing is made of them.
-fn unfit_over(
+/// Why a line can't stand in a body or a block, and its number there.
+#[derive(Clone, Copy)]
+pub(crate) enum Misfit {
+    /// It declares a parameter, or gives a value to one that the type doesn't declare, or has a fixed value for.
+    Unfit(usize),
+    /// It gives a value to a parameter that has a fixed one in a line before it.
+    Again(usize),
+}
+
+/// That misfit in the body of the submodule of that number.
+fn in_body(number: usize, misfit: Option<Misfit>) -> Option<Member>
+    ensures { is_some result ≡ is_some misfit }
+{
+    match misfit {
+        Some(Misfit::Unfit(at)) => Some(Member::Unfit(number, at)),
+        Some(Misfit::Again(at)) => Some(Member::UnfitAgain(number, at)),
+        None => None,
+    }
+}
+
+/// The first line of a body, or of a channel's block, that can't stand over these lines of a type. Over an empty body nothing is made of them.
+pub(crate) fn first_misfit(
     alloc: Global,
-    number: usize,
     lines: &[SectionLine],
     body: &[SectionLine],
-) -> Result<Option<Member>, AllocError>
-    ensures { IfOk result (λ member. is_some member ≡ body_clashes lines.now body.now) }
+) -> Result<Option<Misfit>, AllocError>
+    ensures { IfOk result (λ misfit. is_some misfit ≡ body_clashes lines.now body.now) }
 {
     if body.is_empty() {
         return Ok(None);
     }
     if let Some(at) = first_unfit(alloc, lines, body)? {
-        return Ok(Some(Member::Unfit(number, at)));
+        return Ok(Some(Misfit::Unfit(at)));
     }
     match given_again(alloc, body)? {
-        Some(at) => Ok(Some(Member::UnfitAgain(number, at))),
+        Some(at) => Ok(Some(Misfit::Again(at))),
         None => Ok(None),
     }
 }
@@ -125,4 +145,35 @@ fn is_unfit(declared: &IndexSet<&[u8]>, fixed: &IndexSet<&[u8]>, line: &SectionL
     ensures { result ≡ is_unfit_over (names_in declared.now.keys) (names_in fixed.now.keys) line.now }
 {
     is_declaration(line) || gives_unseen(declared, line) || gives_seen(fixed, line)
+}
+
+fn is_gate_declaration(line: &GateLine) -> bool
+    ensures { result ≡ is_gate_declaration line.now }
+{
+    matches!(line, GateLine::Declaration(_))
+}
+
+/// The first line of gates in the body of a submodule that declares one.
+fn first_declared(submodule: &Submodule) -> Option<usize>
+    ensures { is_some result ≡ declares_gates submodule.now }
+{
+    let gates = submodule.body.gates.as_slice();
+    for (at, line) in gates.iter().enumerate() {
+        if is_gate_declaration(line) {
+            return Some(at);
+        }
+    }
+    None
+}
+
+/// The first line of gates in a body of these submodules that declares one: only their types may.
+pub(crate) fn declared_in_body(submodules: &[Submodule]) -> Option<Member>
+    ensures { is_some result ≡ bodies_declare submodules.now }
+{
+    for (number, submodule) in submodules.iter().enumerate() {
+        if let Some(at) = first_declared(submodule) {
+            return Some(Member::BodyGate(number, at));
+        }
+    }
+    None
 }

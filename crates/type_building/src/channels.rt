@@ -2,7 +2,7 @@
 //! See OMNeT++ Simulation Manual, "Channels".
 
 ghost use Rattle.std.specs.Prelude.{◌≡◌, ◌++◌, ◌∷◌, [], IfOk, OnOk};
-ghost use Rattle.type_building.specs.Channels.{built_in_line, built_in_lines, delay_lines, error_lines, rate_lines, root_lines};
+ghost use Rattle.ned_types.specs.Channels.{built_in_line, built_in_lines, delay_lines, error_lines, rate_lines, root_lines};
 
 use ned_trees::declarations::{Declaration, ParameterValue, ParameterWord, SectionLine};
 use ned_trees::expressions::Expression;
@@ -77,7 +77,7 @@ fn add_rate(alloc: Global, lines: &mut Items<SectionLine>) -> Result<(), AllocEr
 }
 
 /// Adds what the built-in channel of that name has.
-fn add_built_in(
+pub(crate) fn add_built_in(
     alloc: Global,
     lines: &mut Items<SectionLine>,
     name: &[u8],

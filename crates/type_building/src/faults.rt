@@ -1,9 +1,10 @@
 //! Why declared types make no model.
 
 ghost use Rattle.std.specs.Prelude.{◌≡◌, ◌||◌, false, not, is_some, IfOk, map};
-ghost use Rattle.ned_types.specs.Types.{has_duplicate, is_built_in, is_type_named, names_unknown, has_inner_network, is_inner_name, is_inner_network, is_submodule_known, has_clash, clashes, submodules_clash, is_submodule_simple, is_simple, repeats_submodule, has_other_kind};
+ghost use Rattle.ned_types.specs.Clashes.{clashes, has_clash};
+ghost use Rattle.ned_types.specs.Types.{has_duplicate, is_built_in, is_type_named, names_unknown, has_inner_network, is_inner_name, is_inner_network, is_submodule_known, submodules_clash, is_submodule_suited, suits_kind, repeats_submodule, has_other_kind};
 ghost use Rattle.type_building.specs.Inheritance.{flat_type, flat_types};
-ghost use Rattle.type_building.specs.Building.{Builds, AnswersTable, AreFaultless, CanBuild, Flattens, TellsFlat};
+ghost use Rattle.type_building.specs.Building.{Builds, AnswersTable, AreFaultless, CanBuild, TellsFlat};
 ghost use Rattle.type_building.specs.Unbuilt.{AreBuildable};
 ghost use Rattle.ned_types.specs.WellFormed.{IsWellFormed};
 ghost use Rattle.std.specs.List.{list_any};
@@ -11,7 +12,8 @@ ghost use Rattle.type_building.specs.Named.{HaveLines, is_other_named, is_unknow
 ghost use Rattle.type_building.specs.Places.{first_from, other_in, place_from, placed, unknown_in};
 ghost use Rattle.type_building.specs.Seen.{is_one_named, names_in};
 
-use crate::bodies::body_clash;
+use crate::bodies::{body_clash, declared_in_body};
+use crate::connections::{connection_clash, unknown_channel};
 use crate::gates::redeclared_gate;
 use crate::inheritance::{extends_other, extends_unknown, flat_types};
 use crate::interfaces::{broken_place, first_other_interface, first_unknown_interface};
@@ -22,7 +24,7 @@ use crate::sections::section_clash;
 use crate::table::{BuildError, TypeFault};
 use crate::unbuilt::unbuilt_place;
 use indexmap::IndexSet;
-use ned_trees::declarations::{Submodule, TypeDeclaration, TypeKind};
+use ned_trees::declarations::{Submodule, SubmoduleType, TypeDeclaration, TypeKind};
 use ned_trees::refusals::refused;
 use ned_types::flat::type_name;
 use sim_values::text::spells;
@@ -35,29 +37,19 @@ pub(crate) fn flattened(
     types: &[TypeDeclaration],
 ) -> Result<Items<TypeDeclaration>, BuildError>
     ensures built { Builds types.now result }
-    // It is built of types of which models are built alone.
-    ensures parts { IfOk result (λ _. AreBuildable types.now) }
+    // Its networks are built.
+    ensures parts { IfOk result AreBuildable }
     // What is built keeps the rules of types.
     ensures rules { IfOk result IsWellFormed }
-    // Types that keep the rules have no fault.
+    // Types that keep the rules, with networks that are built, have no fault.
     ensures complete { CanBuild types.now → AnswersTable (flat_types types.now) result }
 {
-    built(alloc, types)
+    by_rules(alloc, types)
 }
 
-#[tactic(auto, using(crate::proofs::UnbuiltLaws::not_built, crate::proofs::UnbuiltLaws::all_built))]
-fn built(alloc: Global, types: &[TypeDeclaration]) -> Result<Items<TypeDeclaration>, BuildError>
-    ensures { Builds types.now result }
-{
-    match unbuilt_place(types) {
-        Some(place) => Err(BuildError::Fault(TypeFault::NotBuilt, place)),
-        None => by_rules(alloc, types),
-    }
-}
-
-/// The flat type of each of these types, of which models are built, or the first rule that they break.
+/// The flat type of each of these types, or their first fault.
 fn by_rules(alloc: Global, types: &[TypeDeclaration]) -> Result<Items<TypeDeclaration>, BuildError>
-    ensures { Flattens types.now result }
+    ensures { Builds types.now result }
 {
     match by_name(alloc, types)? {
         Ok(named) => built_by(alloc, &named, types),
@@ -77,7 +69,7 @@ fn built_by<'a>(
 ) -> Result<Items<TypeDeclaration>, BuildError>
     requires names { named.now ≡ types.now }
     requires apart { has_duplicate types.now ≡ false }
-    ensures { Flattens types.now result }
+    ensures { Builds types.now result }
 {
     if let Some(place) = unknown_place(named, types) {
         return Err(BuildError::Fault(TypeFault::UnknownType, place));
@@ -147,10 +139,10 @@ fn unknown_in(named: &NamedTypes<'_>, declared: &TypeDeclaration) -> Option<Memb
     if let Some(at) = first_unknown_interface(named, declared.interfaces.as_slice()) {
         return Some(Member::Interface(at));
     }
-    match first_unknown(named, declared.submodules.as_slice()) {
-        Some(at) => Some(Member::Submodule(at)),
-        None => None,
+    if let Some(at) = first_unknown(named, declared.submodules.as_slice()) {
+        return Some(Member::Submodule(at));
     }
+    unknown_channel(named, declared.connections.items.as_slice())
 }
 
 /// The first place where one of the types is a network within another, or names what is of another kind than it should be.
@@ -245,7 +237,7 @@ fn flat_fault(
 }
 
 /// The first fault of flat types, which these are by their names, and its place.
-#[tactic(auto, using(crate::proofs::PlaceLaws::clash_tells, crate::proofs::PlaceLaws::lacked_tells, crate::proofs::PlaceLaws::none_tells))]
+#[tactic(auto, using(crate::proofs::PlaceLaws::clash_tells))]
 fn flat_fault_by(
     alloc: Global,
     named: &NamedTypes<'_>,
@@ -254,12 +246,25 @@ fn flat_fault_by(
     requires { named.now ≡ types.now }
     ensures { IfOk result (TellsFlat types.now) }
 {
-    if let Some(place) = clash_place(alloc, named, types)? {
-        return Ok(Some((TypeFault::KindClash, place)));
+    match clash_place(alloc, named, types)? {
+        Some(place) => Ok(Some((TypeFault::KindClash, place))),
+        None => Ok(later_fault(named, types)),
     }
-    match broken_place(named, types) {
-        Some(place) => Ok(Some((TypeFault::Interface, place))),
-        None => Ok(None),
+}
+
+/// The same of types without a clash.
+#[tactic(auto, using(crate::proofs::PlaceLaws::lacked_tells, crate::proofs::PlaceLaws::unbuilt_tells, crate::proofs::PlaceLaws::none_tells))]
+fn later_fault(named: &NamedTypes<'_>, types: &[TypeDeclaration]) -> Option<(TypeFault, Place)>
+    requires names { named.now ≡ types.now }
+    requires fit { has_clash types.now ≡ false }
+    ensures { TellsFlat types.now result }
+{
+    if let Some(place) = broken_place(named, types) {
+        return Some((TypeFault::Interface, place));
+    }
+    match unbuilt_place(named, types) {
+        Some(place) => Some((TypeFault::NotBuilt, place)),
+        None => None,
     }
 }
 
@@ -299,7 +304,11 @@ fn clash_in(
     if let Some(at) = redeclared_gate(alloc, declared.gates.as_slice())? {
         return Ok(Some(Member::GateAgain(at)));
     }
-    submodule_clash(alloc, named, declared.submodules.as_slice())
+    let member = submodule_clash(alloc, named, declared.submodules.as_slice())?;
+    if member.is_some() {
+        return Ok(member);
+    }
+    connection_clash(alloc, named, declared.connections.items.as_slice())
 }
 
 fn submodule_clash(
@@ -315,7 +324,11 @@ fn submodule_clash(
     if let Some(at) = first_of_other_kind(named, submodules) {
         return Ok(Some(Member::Submodule(at)));
     }
-    body_clash(alloc, named, submodules)
+    let member = body_clash(alloc, named, submodules)?;
+    if member.is_some() {
+        return Ok(member);
+    }
+    Ok(declared_in_body(submodules))
 }
 
 /// The first submodule that has the name of one before it. The names that were seen stand in a set, so each is compared with few.
@@ -346,23 +359,38 @@ fn repeats_seen<'a>(
     Ok(None)
 }
 
-/// The first submodule whose type isn't a simple type.
+/// The first submodule whose type isn't one of modules, or that behind `like` isn't an interface of modules.
 fn first_of_other_kind(named: &NamedTypes<'_>, submodules: &[Submodule]) -> Option<usize>
     ensures { is_some result ≡ has_other_kind named.now submodules.now }
 {
     for (at, submodule) in submodules.iter().enumerate() {
-        if !is_submodule_simple(named, submodule) {
+        if !is_submodule_suited(named, submodule) {
             return Some(at);
         }
     }
     None
 }
 
-fn is_submodule_simple(named: &NamedTypes<'_>, submodule: &Submodule) -> bool
-    ensures { result ≡ is_submodule_simple named.now submodule.now }
+/// Whether a type of that kind may stand there: one of modules by its name, an interface of modules behind `like`.
+fn suits_kind(of: &SubmoduleType, kind: TypeKind) -> bool
+    ensures { result ≡ suits_kind of.now kind }
+{
+    match of {
+        SubmoduleType::Named(_) => {
+            matches!(
+                kind,
+                TypeKind::Simple | TypeKind::Module | TypeKind::Network
+            )
+        }
+        SubmoduleType::Like(_) => matches!(kind, TypeKind::ModuleInterface),
+    }
+}
+
+fn is_submodule_suited(named: &NamedTypes<'_>, submodule: &Submodule) -> bool
+    ensures { result ≡ is_submodule_suited named.now submodule.now }
 {
     match named.find(type_name(submodule)) {
-        Some(declared) => matches!(declared.kind, TypeKind::Simple),
+        Some(declared) => suits_kind(&submodule.submodule_type, declared.kind),
         None => false,
     }
 }

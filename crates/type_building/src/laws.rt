@@ -2,7 +2,7 @@
 
 ghost use Rattle.type_building.specs.Building.{NotBuiltIsTold};
 ghost use Rattle.type_building.specs.Circles.{CirclesAreFound};
-ghost use Rattle.type_building.specs.Example.{ExampleBodies, ExampleChannels, ExampleExtending, ExampleFaults, ExampleGates, ExampleInterfaces, ExampleIsFlat, ExampleNetworks, ExampleUnbuilt};
+ghost use Rattle.type_building.specs.Example.{ExampleBodies, ExampleChannels, ExampleExtending, ExampleFaults, ExampleGates, ExampleInsides, ExampleInterfaces, ExampleIsFlat, ExampleNetworks, ExampleUnbuilt};
 
 /// The flat types of small examples, their faults, and those of bodies of submodules.
 pub fn examples()
@@ -14,6 +14,7 @@ pub fn examples()
     ensures gates { ExampleGates }
     ensures interfaces { ExampleInterfaces }
     ensures extending { ExampleExtending }
+    ensures insides { ExampleInsides }
     ensures unbuilt { ExampleUnbuilt }
 {}
 
@@ -23,7 +24,7 @@ pub fn circles()
     ensures { CirclesAreFound }
 {}
 
-/// That no model is built of types yet is told exactly where some of them have such a part.
+/// That a network isn't built yet is told, of types that keep the rules, exactly where one of their networks has such a part.
 pub fn unbuilt()
     ensures { NotBuiltIsTold }
 {}

@@ -3,6 +3,7 @@
 
 mod bodies;
 mod channels;
+mod connections;
 mod faults;
 mod gates;
 mod inheritance;

@@ -7,14 +7,16 @@ ghost use Rattle.type_building.specs.Places.{placed};
 /// rule speaks of flat types: it has those of its bases before its own.
 #[derive(Clone, Copy)]
 pub enum Member {
-    /// The type itself: its name, that it stands within a network, or that it is a compound module.
+    /// The type itself: its name, or that it stands within a network.
     Whole,
     /// What it extends.
     Base,
     /// The interface of that number.
     Interface(usize),
-    /// The type of the submodule of that number.
+    /// The type of the submodule of that number, or its interface behind `like`.
     Submodule(usize),
+    /// The name of a channel: of the item of connections of the first number, its connection of the second.
+    Channel(usize, usize),
     /// The line of that number declares a parameter that one before it declares.
     DeclaredAgain(usize),
     /// It gives a value to a parameter that no line declares.
@@ -29,10 +31,20 @@ pub enum Member {
     Unfit(usize, usize),
     /// The body of the first number has a line of the second that gives a value to a parameter with a fixed one in the body.
     UnfitAgain(usize, usize),
+    /// The body of the first number has a line of gates of the second that declares one.
+    BodyGate(usize, usize),
+    /// Of the item of connections of the first number the connection of the second names no channel as its channel.
+    OtherChannel(usize, usize),
+    /// The block of its channel has a line of the third number that can't stand over the lines of the channel.
+    UnfitBlock(usize, usize, usize),
+    /// The block of its channel has a line of the third number that gives a value to a parameter with a fixed one in the block.
+    UnfitBlockAgain(usize, usize, usize),
     /// The type lacks the parameter that the interface of the first number declares in its line of the second.
     LacksParameter(usize, usize),
     /// It lacks the gate that the interface of the first number declares in its line of gates of the second.
     LacksGate(usize, usize),
+    /// The type of the submodule of that number is a compound module.
+    Compound(usize),
     /// The submodule of that number is a vector.
     Vector(usize),
     /// Its type is parametric, `<..> like NAME`.

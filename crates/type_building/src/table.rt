@@ -19,21 +19,22 @@ use std::alloc::{AllocError, Global};
 /// Why declared types make no model. Of several reasons the first in this order is told.
 #[derive(Clone, Copy)]
 pub enum TypeFault {
-    /// No model is built of a part of a type yet, which is right in NED: a compound module that is no network, a vector of
-    /// submodules, a parametric type, a condition, gates in the body of a submodule, or connections.
-    NotBuilt,
     /// Two types have one name, or one has that of a built-in channel.
     DuplicateType,
-    /// A submodule's type, what a type extends, or one of its interfaces isn't declared.
+    /// A submodule's type or interface, the channel of a connection, what a type extends, or one of its interfaces isn't declared.
     UnknownType,
     /// A type extends itself, perhaps by way of others.
     InheritanceCircle,
     /// What a type extends or one of its interfaces is of another kind, a parameter, a gate or a submodule is declared twice, a value is given to an undeclared
-    /// parameter or after a fixed one, by a section or by the body of a submodule, a body declares a parameter, or a submodule's type is
-    /// no simple type, or a network is declared within another.
+    /// parameter or after a fixed one, by a section, by the body of a submodule or by the block of a channel, a body declares a parameter or a gate, a
+    /// submodule's type is none of modules, what stands behind `like` is no interface of modules, what a connection names as its channel is no
+    /// channel, or a network is declared within another.
     KindClash,
     /// A type lacks a parameter or a gate of one of its interfaces.
     Interface,
+    /// A network has a part of which none is built yet, which is right in NED: a submodule that is a compound module or a vector, or has a
+    /// parametric type, a condition or gates in its body, or connections.
+    NotBuilt,
 }
 
 /// Why there is no table.
@@ -64,11 +65,11 @@ pub fn flat_types(
 ) -> Result<Items<TypeDeclaration>, BuildError>
     // Each flat type, or the first fault with its place.
     ensures built { Builds types.now result }
-    // It is built of types of which models are built alone.
-    ensures parts { IfOk result (λ _. AreBuildable types.now) }
+    // Its networks are built.
+    ensures parts { IfOk result AreBuildable }
     // What is built keeps the rules of types.
     ensures rules { IfOk result IsWellFormed }
-    // Types that keep the rules have no fault.
+    // Types that keep the rules, with networks that are built, have no fault.
     ensures complete { CanBuild types.now → AnswersTable (flat_types types.now) result }
 {
     faults::flattened(alloc, types)
@@ -78,11 +79,11 @@ pub fn flat_types(
 pub fn build(alloc: Global, files: Vec<NedFile>) -> Result<TypeTable, BuildError>
     // The table has the flat types of all files, or the first fault is told with its place.
     ensures built { Builds (types_of files.items) result }
-    // It is built of types of which models are built alone.
-    ensures parts { IfOk result (λ _. AreBuildable (types_of files.items)) }
+    // Its networks are built.
+    ensures parts { IfOk result AreBuildable }
     // What is built keeps the rules of types.
     ensures rules { IfOk result IsWellFormed }
-    // Types that keep the rules are built, unless memory runs out.
+    // Types that keep the rules, with networks that are built, are built, unless memory runs out.
     ensures complete { CanBuild (types_of files.items)
         → AnswersTable (flat_types (types_of files.items)) result }
 {

@@ -4,7 +4,7 @@ use Rattle.ned_trees.specs.declared.declarations.SectionLine.{SectionLine}
 use Rattle.sim_values.specs.declared.value.Dimension.TheVariants.{Rate}
 use Rattle.sim_values.specs.declared.value.Value.TheVariants as values
 use Rattle.std.specs.Prelude.{pos}
-use Rattle.type_building.specs.Channels.{built_in_line, error_lines}
+use Rattle.ned_types.specs.Channels.{built_in_line, error_lines}
 use Rattle.type_building.proofs.channels.add_rate.Goals as goal
 
 pub returns : goal.returns

@@ -1,6 +1,6 @@
 use Rattle.std.proofs.Common.{◌≡◌, length}
 use Rattle.std.specs.List.{list_any}
-use Rattle.ned_types.specs.Types.{clashes}
+use Rattle.ned_types.specs.Clashes.{clashes}
 use Rattle.type_building.proofs.faults.clash_place.Given as goal
 
 abbrev pub invariant-types : goal.invariant-types

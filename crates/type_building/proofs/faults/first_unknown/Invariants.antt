@@ -1,6 +1,6 @@
-use Rattle.std.proofs.Common.{◌≡◌, not, ◌||◌, drop}
+use Rattle.std.proofs.Common.{◌≡◌, not, drop}
 use Rattle.type_building.specs.Places.{first_from}
-use Rattle.ned_types.specs.Types.{is_built_in, is_type_named, is_submodule_known, is_submodule_simple, type_named}
+use Rattle.ned_types.specs.Types.{is_submodule_known}
 use Rattle.type_building.proofs.faults.first_unknown.Given as goal
 
 abbrev pub invariant-loop-at : goal.invariant-loop-at

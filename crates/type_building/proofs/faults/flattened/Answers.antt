@@ -2,10 +2,10 @@ use Rattle.type_building.proofs.UnbuiltLaws.{rules_by, complete_by, parts_by}
 use Rattle.type_building.proofs.faults.flattened.Goals as goal
 
 pub returns-clause-parts : goal.returns-clause-parts
-returns-clause-parts c = parts_by c.args.types.now c.built.result c.built.ensures
+returns-clause-parts c = parts_by c.args.types.now c.by_rules.result c.by_rules.ensures
 
 pub returns-clause-rules : goal.returns-clause-rules
-returns-clause-rules c = rules_by c.args.types.now c.built.result c.built.ensures
+returns-clause-rules c = rules_by c.args.types.now c.by_rules.result c.by_rules.ensures
 
 pub returns-clause-complete : goal.returns-clause-complete
-returns-clause-complete c = complete_by c.args.types.now c.built.result c.built.ensures
+returns-clause-complete c = complete_by c.args.types.now c.by_rules.result c.by_rules.ensures

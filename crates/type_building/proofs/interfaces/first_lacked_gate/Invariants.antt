@@ -1,6 +1,6 @@
-use Rattle.std.proofs.Common.{◌≡◌, not, ◌||◌, drop}
+use Rattle.std.proofs.Common.{◌≡◌, drop}
 use Rattle.type_building.specs.Places.{first_from}
-use Rattle.type_building.specs.Interfaces.{is_interface_for, lacks_parameter, lacks_gate}
+use Rattle.type_building.specs.Interfaces.{lacks_gate}
 use Rattle.type_building.proofs.interfaces.first_lacked_gate.Given as goal
 
 abbrev pub invariant-loop-at : goal.invariant-loop-at

@@ -1,7 +1,7 @@
-use Rattle.std.proofs.Common.{◌≡◌, not, ◌||◌, drop}
+use Rattle.std.proofs.Common.{◌≡◌, not, drop}
 use Rattle.type_building.specs.Places.{first_from}
-use Rattle.ned_types.specs.Types.{is_built_in, is_type_named, is_submodule_known, is_submodule_simple, type_named}
-use Rattle.type_building.specs.Interfaces.{is_interface_for, lacks_parameter, lacks_gate}
+use Rattle.ned_types.specs.Types.{type_named}
+use Rattle.type_building.specs.Interfaces.{is_interface_for}
 use Rattle.type_building.proofs.interfaces.first_other_interface.Given as goal
 
 abbrev pub invariant-loop-at : goal.invariant-loop-at

@@ -1,4 +1,4 @@
-use Rattle.std.proofs.Common.{◌≡◌, not, ◌||◌, drop}
+use Rattle.std.proofs.Common.{◌≡◌, not, drop}
 use Rattle.type_building.specs.Places.{first_from, is_known}
 use Rattle.type_building.proofs.interfaces.first_unknown_interface.Given as goal
 

@@ -25,5 +25,8 @@ returns-clause-interfaces c = record { none = refl; no_parameter = refl; no_gate
 pub returns-clause-extending : goal.returns-clause-extending
 returns-clause-extending c = record { flat = refl; two_ways = refl; two_ways_fine = refl; named_twice = refl; twice = refl; gate_twice = refl; unknown = refl; unknown_base = refl; simple = refl; built_in = refl; for_channels = refl; base_for_channels = refl; extended_by_simple = refl; submodule = refl; itself = refl; circle = refl; mixed_circle = refl; kept_circle = refl }
 
+pub returns-clause-insides : goal.returns-clause-insides
+returns-clause-insides c = record { like_interface = refl; like_other = refl; like_simple = refl; like_unknown = refl; gate_declared = refl; unknown = refl; simple = refl; built_in = refl; no_rate = refl; own = refl; fixed = refl; block = refl; other_block = refl; twice = refl; declared = refl; in_group = refl; clash_in_group = refl; inherited = refl }
+
 pub returns-clause-unbuilt : goal.returns-clause-unbuilt
-returns-clause-unbuilt c = record { none = refl; unconnected = refl; connections = refl; vector = refl; condition = refl; parametric = refl; gates = refl; compound = refl; first = refl }
+returns-clause-unbuilt c = record { none = refl; unconnected = refl; connections = refl; vector = refl; condition = refl; parametric = refl; gates = refl; module_alone = refl; compound = refl; network = refl; last = refl }

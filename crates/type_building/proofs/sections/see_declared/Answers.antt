@@ -1,4 +1,4 @@
-use Rattle.std.proofs.Common.{◌||◌, sym, ap, ◌∙◌}
+use Rattle.std.proofs.Common.{ap, ◌∙◌}
 use Rattle.std.specs.Prelude.{is_some}
 use Rattle.type_building.specs.Seen.{names_in, is_in}
 use Rattle.ned_types.specs.Types.{declares}
