@@ -49,16 +49,17 @@ lines_same texts ini r s = text_same ini r.lines s.lines r.said s.said
 
 -- ---- they make one model
 
-model_same : (t u : List TypeDeclaration) (a b : List IniLine) (c d : List ℕ) (k l : List (List ℕ)) (is js : List Injection) (x y : ℕ) → t ≡ u → a ≡ b → c ≡ d → k ≡ l → is ≡ js → x ≡ y
-    → ◌≡◌ {A = Model} (record { types = t; ini = a; config = c; chain = k; injections = is; last_injection = x }) (record { types = u; ini = b; config = d; chain = l; injections = js; last_injection = y })
-model_same t u a b c d k l is js x y p q r s i n = cc
+model_same : (f g : List NedFile) (t u : List TypeDeclaration) (a b : List IniLine) (c d : List ℕ) (k l : List (List ℕ)) (is js : List Injection) (x y : ℕ) → f ≡ g → t ≡ u → a ≡ b → c ≡ d → k ≡ l → is ≡ js → x ≡ y
+    → ◌≡◌ {A = Model} (record { files = f; types = t; ini = a; config = c; chain = k; injections = is; last_injection = x }) (record { files = g; types = u; ini = b; config = d; chain = l; injections = js; last_injection = y })
+model_same f g t u a b c d k l is js x y o p q r s i n = cc
 
 pub one_model : (texts : List (List ℕ)) (ini config : List ℕ) (m n : Model) → IsReadAs texts ini config m → IsReadAs texts ini config n → m ≡ n
 one_model texts ini config m n p q =
-    let files = files_same texts p.read.files q.read.files p.read.declared q.read.declared in
+    let files : m.files ≡ n.files = p.files ∙ files_same texts p.read.files q.read.files p.read.declared q.read.declared ∙ sym q.files in
     let lines = lines_same texts ini p.read q.read in
     let chained : IsChain q.read.lines config m.chain = subst (λ (l : List IniLine). IsChain l config m.chain) lines p.chained in
-    model_same m.types n.types m.ini n.ini m.config n.config m.chain n.chain m.injections n.injections m.last_injection n.last_injection
+    model_same m.files n.files m.types n.types m.ini n.ini m.config n.config m.chain n.chain m.injections n.injections m.last_injection n.last_injection
+    files
     (p.types ∙ ap (λ (fs : List NedFile). flat_types (types_of fs)) files ∙ sym q.types)
     (p.lines ∙ lines ∙ sym q.lines)
     (p.selected ∙ sym q.selected)

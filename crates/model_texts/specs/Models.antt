@@ -48,10 +48,11 @@ pub record AreRead (texts : List (List ℕ)) (ini : List ℕ) : Type 0 where
   pub said : IsIniText ini lines
   pub together : fault_of (types_of files) ≡ None
 
--- The model has the flat types of what the texts say, and the chain of the configuration, whose section is there; and no injection.
+-- The model has what the texts say as its files, the flat types of these, and the chain of the configuration, whose section is there; and no injection.
 pub record IsReadAs (texts : List (List ℕ)) (ini config : List ℕ) (m : Model) : Type 0 where
   pub read : AreRead texts ini
-  pub types : m.types ≡ flat_types (types_of read.files)
+  pub files : m.files ≡ read.files
+  pub types : m.types ≡ flat_types (types_of m.files)
   pub lines : m.ini ≡ read.lines
   pub selected : m.config ≡ config
   pub exists : is_section config read.lines ≡ true

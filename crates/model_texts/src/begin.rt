@@ -17,6 +17,9 @@ use ini_entries::reason::Reason;
 use ini_texts::error::ChainError;
 use ini_texts::lines::IniText;
 use models::model::Model;
+use file_edits::tables;
+use ned_files::shared;
+use ned_files::shared::SharedFile;
 use ned_syntax::parse::parse_ned;
 use ned_trees::declarations::NedFile;
 use ned_trees::texts::NedTexts;
@@ -26,7 +29,7 @@ use sim_values::NoMemory;
 use sim_values::text::{MAX_LENGTH, Text};
 use sqlite_items::Items;
 use std::alloc::{AllocError, Global};
-use type_building::table::{BuildError, TypeFault, build};
+use type_building::table::{BuildError, TypeFault};
 
 /// How many NED files a model has at most.
 pub const MAX_FILES: usize = 256;
@@ -112,25 +115,29 @@ fn file_of(alloc: Global, number: usize, bytes: &[u8]) -> Result<NedFile, BeginF
 }
 
 /// Adds a file at the end.
-fn push_file(files: &mut Vec<NedFile>, file: NedFile) -> Result<(), BeginFault>
-    ensures ok { OnOk result (files.new.items ≡ files.old.items ++ file ∷ []) }
+fn push_file(
+    alloc: Global,
+    files: &mut Items<SharedFile>,
+    file: NedFile,
+) -> Result<(), BeginFault>
+    ensures ok { OnOk result (files.new ≡ files.old ++ file ∷ []) }
     ensures err { IfErr result (λ fault. fault ≡ BeginFault.NoMemory no_memory) }
 {
-    match files.push(file) {
+    match shared::push_file(alloc, files, file) {
         Ok(()) => Ok(()),
         Err(error) => Err(BeginFault::NoMemory(error.into())),
     }
 }
 
 /// What the NED texts declare.
-fn files_of(alloc: Global, texts: &NedTexts) -> Result<Vec<NedFile>, BeginFault>
-    ensures accepted { IfOk result (λ files. AreNedFiles texts.now files.items) }
+fn files_of(alloc: Global, texts: &NedTexts) -> Result<Items<SharedFile>, BeginFault>
+    ensures accepted { IfOk result (λ files. AreNedFiles texts.now files) }
     ensures refused { IfErr result (λ fault. RefusesFiles texts.now fault) }
 {
-    let mut files = Vec::new(alloc);
+    let mut files = Items::new(alloc);
     for (number, text) in texts.as_slice().iter().enumerate() {
         let file = file_of(alloc, number, text.as_bytes())?;
-        push_file(&mut files, file)?;
+        push_file(alloc, &mut files, file)?;
     }
     Ok(files)
 }
@@ -164,12 +171,12 @@ fn refusal_of(fault: TypeFault) -> BeginFault
 
 #[tactic(auto, using(crate::proofs::Reading::refused_by))]
 /// The flat types that the files declare.
-fn table_of(alloc: Global, files: Vec<NedFile>) -> Result<TypeTable, BeginFault>
-    ensures accepted { let types = types_of files.items in
+fn table_of(alloc: Global, files: &Items<SharedFile>) -> Result<TypeTable, BeginFault>
+    ensures accepted { let types = types_of files.now in
         IfOk result (λ table. (table ≡ flat_types types) × (fault_of types ≡ None)) }
-    ensures refused { IfErr result (λ fault. RefusesTypes (types_of files.items) fault) }
+    ensures refused { IfErr result (λ fault. RefusesTypes (types_of files.now) fault) }
 {
-    match build(alloc, files) {
+    match tables::table_of(alloc, files.as_slice()) {
         Ok(table) => Ok(table),
         Err(BuildError::Fault(fault, _)) => Err(refusal_of(fault)),
         Err(BuildError::NoMemory(error)) => Err(BeginFault::NoMemory(error)),
@@ -205,10 +212,11 @@ fn read_model(
     }
     let files = files_of(alloc, texts)?;
     let lines = lines_of(alloc, ini)?;
-    let types = table_of(alloc, files)?;
+    let types = table_of(alloc, &files)?;
     let chain = chain_of(alloc, &lines, config)?;
     let config = Text::from_bytes(alloc, config)?;
     let model = Model {
+        files,
         types,
         ini: lines,
         config,

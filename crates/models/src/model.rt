@@ -11,6 +11,7 @@ use ini_texts::entries::{network_entry, time_limit_entry};
 use ini_texts::lines::IniText;
 use ini_texts::speaks::last_name;
 use injection_order::injection::Injection;
+use ned_files::shared::{SharedFile, copy_files};
 use ned_trees::declarations::{Submodule, TypeDeclaration, TypeKind};
 use ned_types::flat::type_name;
 use ned_types::table::TypeTable;
@@ -23,8 +24,10 @@ use std::alloc::Global;
 /// The id of the network's first submodule: the others follow it in the order of their declaration.
 const FIRST_SUBMODULE: usize = 2;
 
-/// What a run is made of: the declared types, the ini text, the selected configuration, and the injections.
+/// What a run is made of: the NED files and the types that they declare, the ini text, the selected configuration, and the injections.
 pub struct Model {
+    /// What each NED file declares, in order.
+    pub files: Items<SharedFile>,
     pub types: TypeTable,
     pub ini: IniText,
     pub config: Text,
@@ -40,6 +43,7 @@ pub struct Model {
 impl Drop for Model {
     fn drop(self) {
         let Model {
+            files: _,
             types: _,
             ini: _,
             config: _,
@@ -51,11 +55,12 @@ impl Drop for Model {
 }
 
 impl Model {
-    /// An equal model.
+    /// An equal model, which shares the files and the types.
     pub fn copy(&self, alloc: Global) -> Result<Model, NoMemory>
         ensures { IfOk result (λ copy. copy ≡ self.now) }
     {
         Ok(Model {
+            files: copy_files(alloc, self.files.as_slice())?,
             types: self.types.copy()?,
             ini: self.ini.copy(alloc)?,
             config: self.config.copy(alloc)?,

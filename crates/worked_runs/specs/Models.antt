@@ -21,6 +21,7 @@ use Rattle.ini_texts.specs.declared.entry.EntryMeaning.TheVariants as meaning
 use Rattle.ini_texts.specs.declared.lines.IniLine.{IniLine}
 use Rattle.ini_texts.specs.declared.lines.LineMeaning.TheVariants as ini
 use Rattle.models.specs.declared.model.Model.{Model}
+use Rattle.ned_syntax.specs.Grammar.{lone}
 
 -- `int NAME;`
 abbrev pub number : List ℕ → SectionLine
@@ -106,7 +107,7 @@ ini_of more =
 
 -- the network of Ticks of these names, with these lines of the ini text
 abbrev pub ticks : List (List ℕ) → List IniLine → Model
-ticks names more = record { types = tick ∷ network names ∷ []; ini = ini_of more; config = codes "General"; chain = codes "General" ∷ []; injections = []; last_injection = 0 }
+ticks names more = record { files = record { types = lone tick ∷ lone (network names) ∷ [] } ∷ []; types = tick ∷ network names ∷ []; ini = ini_of more; config = codes "General"; chain = codes "General" ∷ []; injections = []; last_injection = 0 }
 
 -- one Tick that fires three times
 abbrev pub three_ticks : Model

@@ -118,6 +118,7 @@ model = record {
       said = ini;
       together = ap (λ (ts : List TypeDeclaration). fault_of ts) types_are;
     };
+    files = refl;
     types = sym (ap (λ (ts : List TypeDeclaration). flat_types ts) types_are);
     lines = refl;
     selected = refl;

@@ -3,4 +3,4 @@ use Rattle.model_texts.specs.Models.{AreNedFiles}
 use Rattle.model_texts.proofs.begin.files_of.Given as goal
 
 abbrev pub invariant-loop-number : goal.invariant-loop-number
-invariant-loop-number l = AreNedFiles (take l.number l.text-items) l.files.items
+invariant-loop-number l = AreNedFiles (take l.number l.text-items) l.files

@@ -6,16 +6,17 @@ use Rattle.model_texts.proofs.begin.read_model.Goals as goal
 
 pub returns-then-is_none-clause-refused : goal.returns-then-is_none-clause-refused
 returns-then-is_none-clause-refused c = record {
-  model = record { types = c.in_ok-types.types; ini = c.in_ok-lines.lines; config = c.in_ok-config.config; chain = c.in_ok-chain.chain; injections = c.new.result; last_injection = 0 };
+  model = record { files = c.in_ok-files.files; types = c.in_ok-types.types; ini = c.in_ok-lines.lines; config = c.in_ok-config.config; chain = c.in_ok-chain.chain; injections = c.new.result; last_injection = 0 };
   read = record {
     read = record {
       small = sym c.is_too_large.ensures ∙ c.if-is_too_large.false;
-      files = c.in_ok-files.files.items;
+      files = c.in_ok-files.files;
       declared = c.in_ok-files.ensures.accepted;
       lines = c.in_ok-lines.lines;
       said = c.in_ok-lines.ensures.accepted;
       together = c.in_ok-types.ensures.accepted.1;
     };
+    files = refl;
     types = c.in_ok-types.ensures.accepted.0;
     lines = refl;
     selected = c.in_ok-config.ensures;
@@ -32,12 +33,13 @@ returns-clause-accepted c = record {
   read = record {
     read = record {
       small = sym c.is_too_large.ensures ∙ c.if-is_too_large.false;
-      files = c.in_ok-files.files.items;
+      files = c.in_ok-files.files;
       declared = c.in_ok-files.ensures.accepted;
       lines = c.in_ok-lines.lines;
       said = c.in_ok-lines.ensures.accepted;
       together = c.in_ok-types.ensures.accepted.1;
     };
+    files = refl;
     types = c.in_ok-types.ensures.accepted.0;
     lines = refl;
     selected = c.in_ok-config.ensures;
@@ -54,7 +56,7 @@ returns-in_err-chain-clause-refused c =
     let p = err_from_is_err_and c.from_residual-in_err-chain.result c.from_residual-in_err-chain.ensures.1 in
     let read : AreRead c.args.texts.now c.args.ini.now = record {
       small = sym c.is_too_large.ensures ∙ c.if-is_too_large.false;
-      files = c.in_ok-files.files.items;
+      files = c.in_ok-files.files;
       declared = c.in_ok-files.ensures.accepted;
       lines = c.in_ok-lines.lines;
       said = c.in_ok-lines.ensures.accepted;

@@ -1,0 +1,79 @@
+-- Changes of the NED files of a model, and why there are none.
+use Rattle.std.specs.Prelude.{◌≡◌, ℕ, ◌≤◌, ◌<◌, Bool, true, false, List, length, nat_lt, slice_set, Some, None, Result, Ok, Err}
+use Rattle.sim_values.specs.Limits.{max_length}
+use Rattle.ned_tokens.specs.Viable.{IsFirstBadLine}
+use Rattle.ned_trees.specs.declared.declarations.NedFile.{NedFile}
+use Rattle.ned_trees.specs.declared.declarations.TypeDeclaration.{TypeDeclaration}
+use Rattle.ned_syntax.specs.Grammar.{file}
+use Rattle.ned_syntax.specs.NedText.{IsNedFile}
+use Rattle.ned_scopes.specs.Scopes.{types_of}
+use Rattle.type_building.specs.declared.table.TypeFault.{TypeFault}
+use Rattle.type_building.specs.Building.{fault_of}
+use Rattle.type_building.specs.Inheritance.{flat_types}
+use Rattle.file_edits.specs.declared.changes.TypedFiles.{TypedFiles}
+use Rattle.file_edits.specs.declared.error.FileError.{FileError}
+use Rattle.file_edits.specs.declared.error.FileError.TheVariants as error
+
+-- THE TYPES of files: the flat type of each type that they declare, and all of them go together
+abbrev pub AreTypesOf : List NedFile → List TypeDeclaration → Type 0
+AreTypesOf files types = (types ≡ flat_types (types_of files)) × (fault_of (types_of files) ≡ None)
+
+-- a text is longer than what is read
+abbrev pub is_large : List ℕ → Bool
+is_large text = nat_lt max_length (length text)
+
+-- ---- what is changed
+
+-- a change of files
+pub data Change : Type 0 where
+  -- the file of this number, counted from 0, is what this text declares
+  Replaced : (number : ℕ) (text : List ℕ) → Change
+
+-- What the text declares stands instead of what the file of that number declared, and all other files are as they were.
+pub record IsReplaced (number : ℕ) (text : List ℕ) (old new : List NedFile) : Type 0 where
+  pub there : number < length old
+  pub declared : NedFile
+  pub means : IsNedFile text declared
+  pub rest : new ≡ slice_set old number declared
+
+-- THE FILES BEHIND A CHANGE of the old ones
+abbrev pub IsChanged : Change → List NedFile → List NedFile → Type 0
+IsChanged (Replaced number text) old new = IsReplaced number text old new
+
+-- ---- refusals
+
+-- why a text declares nothing
+abbrev pub RefusesText : List ℕ → FileError → Type 0
+RefusesText text (error.NedSyntax line) = IsFirstBadLine file text line × ((declared : NedFile) → IsNedFile text declared → ⊥)
+RefusesText text error.TooLarge = is_large text ≡ true
+RefusesText text (error.NoMemory _) = Unit {0}
+RefusesText text _ = ⊥
+
+-- why files have no table of types
+abbrev pub RefusesTypes : List NedFile → FileError → Type 0
+RefusesTypes files (error.Types why) = fault_of (types_of files) ≡ Some why
+RefusesTypes files (error.NoMemory _) = Unit {0}
+RefusesTypes files _ = ⊥
+
+-- The files are changed, and their types don't go together.
+pub record AreApart (c : Change) (old : List NedFile) (why : TypeFault) : Type 0 where
+  pub files : List NedFile
+  pub changed : IsChanged c old files
+  pub apart : fault_of (types_of files) ≡ Some why
+
+abbrev pub RefusesReplacement : ℕ → List ℕ → List NedFile → FileError → Type 0
+RefusesReplacement number text old error.TooLarge = is_large text ≡ true
+RefusesReplacement number text old error.NoSuchFile = (is_large text ≡ false) × (length old ≤ number)
+RefusesReplacement number text old (error.NedSyntax line) =
+    (is_large text ≡ false) × (number < length old) × IsFirstBadLine file text line × ((declared : NedFile) → IsNedFile text declared → ⊥)
+RefusesReplacement number text old (error.Types why) = AreApart (Replaced number text) old why
+RefusesReplacement number text old (error.NoMemory _) = Unit {0}
+
+-- EACH REFUSAL but want of memory has its reason, and no reason that comes before it.
+abbrev pub Refuses : Change → List NedFile → FileError → Type 0
+Refuses (Replaced number text) old e = RefusesReplacement number text old e
+
+-- WHAT COMES OF A CHANGE: the changed files and their types, or why there are none
+abbrev pub AnswersChange : Change → List NedFile → Result TypedFiles FileError → Type 0
+AnswersChange c old (Ok made) = IsChanged c old made.files × AreTypesOf made.files made.types
+AnswersChange c old (Err e) = Refuses c old e

@@ -1,0 +1,32 @@
+//! Why files are not changed.
+
+ghost use Rattle.std.specs.Prelude.{◌≡◌};
+ghost use Rattle.sim_values.specs.Memory.{no_memory};
+ghost use Rattle.file_edits.specs.declared.error.FileError.TheVariants as errors;
+
+use sim_values::NoMemory;
+use std::alloc::AllocError;
+use type_building::table::TypeFault;
+
+/// Why files are not changed. Of several reasons the first in this order is told, and want of memory in any place.
+#[derive(Clone, Copy)]
+pub enum FileError {
+    /// The text is longer than 1 MiB.
+    TooLarge,
+    /// There is no file of that number.
+    NoSuchFile,
+    /// The line of the text's first byte that can't go on; at its end that of its last byte, 1 in an empty text.
+    NedSyntax(usize),
+    /// The types of the changed files make no model.
+    Types(TypeFault),
+    /// Memory ran out.
+    NoMemory(NoMemory),
+}
+
+impl From<AllocError> for FileError {
+    ghost from_gives = { λ _ e. e ≡ errors.NoMemory no_memory };
+
+    fn from(error: AllocError) -> FileError {
+        FileError::NoMemory(error.into())
+    }
+}

@@ -1,0 +1,7 @@
+//! Changes of the NED files of a model, and the types that come of them.
+#![tactic(auto)]
+
+pub mod changes;
+pub mod copies;
+pub mod error;
+pub mod tables;

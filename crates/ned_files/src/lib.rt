@@ -1,0 +1,4 @@
+//! NED files that models share.
+#![tactic(auto)]
+
+pub mod shared;
