@@ -8,7 +8,7 @@ use Rattle.command_lines.specs.declared.commands.Command.{Command}
 use Rattle.command_lines.specs.declared.commands.Command.TheVariants as command
 use Rattle.command_lines.specs.Injections.{injection_of, withdrawal_of}
 use Rattle.command_lines.specs.Numbers.{number_of}
-use Rattle.command_lines.specs.Words.{behind, numbered, word_of}
+use Rattle.command_lines.specs.Words.{behind, numbered, short_numbered, word_of}
 
 -- ---- edits
 
@@ -48,6 +48,10 @@ edit_of line =
 abbrev pub limit_of : List ℕ → Option ℕ
 limit_of line = option_and_then number_of (behind (codes "run ") line)
 
+-- the file of `ned FILE PATH`: its number, and the path of the file that holds its text
+abbrev pub file_of : List ℕ → Option (ℕ × List ℕ)
+file_of line = option_and_then (λ p. option_map (λ path. (p.0, path)) (word_of p.1)) (option_and_then short_numbered (behind (codes "ned ") line))
+
 -- what is neither a run nor an edit: `write`, `held`, `positions`, or nothing
 abbrev pub plain_command : List ℕ → Command
 plain_command line =
@@ -56,21 +60,26 @@ plain_command line =
     else if bytes_eq line (codes "positions") then command.Positions
     else command.Unknown
 
-abbrev pub edit_or_plain : List ℕ → Option Edit → Command
-edit_or_plain line (Some e) = command.Edit e
-edit_or_plain line None = plain_command line
+abbrev pub file_or_plain : List ℕ → Option (ℕ × List ℕ) → Command
+file_or_plain line (Some p) = command.Ned p.0 p.1
+file_or_plain line None = plain_command line
+
+abbrev pub edit_or_other : List ℕ → Option Edit → Command
+edit_or_other line (Some e) = command.Edit e
+edit_or_other line None = file_or_plain line (file_of line)
 
 abbrev pub run_or_other : List ℕ → Option ℕ → Command
 run_or_other line (Some limit) = command.Run limit
-run_or_other line None = edit_or_plain line (edit_of line)
+run_or_other line None = edit_or_other line (edit_of line)
 
 -- THE COMMAND that a line asks for
 abbrev pub command_of : List ℕ → Command
 command_of line = if nat_lt 65536 (length line) then command.TooLarge else run_or_other line (limit_of line)
 
--- it is an edit
+-- it is an edit, or one whose text a file holds
 abbrev pub IsEdit : Command → Type 0
 IsEdit (command.Edit e) = Unit {0}
+IsEdit (command.Ned number path) = Unit {0}
 IsEdit (command.Run limit) = ⊥
 IsEdit command.Positions = ⊥
 IsEdit command.Held = ⊥

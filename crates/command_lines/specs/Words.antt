@@ -3,7 +3,7 @@ use Rattle.std.specs.Prelude.{ℕ, ◌+◌, ◌==◌, Bool, ◌&&◌, not, List,
 use Rattle.std.specs.List.{list_any, slice_split, starts_with}
 use Rattle.std.specs.Option.{option_and_then}
 use Rattle.std.specs.Str.{is_utf8}
-use Rattle.command_lines.specs.Numbers.{number_of}
+use Rattle.command_lines.specs.Numbers.{number_of, short_of}
 
 abbrev pub is_space : ℕ → Bool
 is_space b = b == 32
@@ -27,6 +27,10 @@ parted bytes = parted_at bytes (position is_space bytes)
 -- the number of the first word, with all that stands behind the space that ends it
 abbrev pub numbered : List ℕ → Option (ℕ × List ℕ)
 numbered bytes = option_and_then (λ p. option_map (λ n. (n, p.1)) (number_of p.0)) (parted bytes)
+
+-- the number of 32 bits of the first word, with all that stands behind the space that ends it
+abbrev pub short_numbered : List ℕ → Option (ℕ × List ℕ)
+short_numbered bytes = option_and_then (λ p. option_map (λ n. (n, p.1)) (short_of p.0)) (parted bytes)
 
 -- one word, which is UTF-8
 abbrev pub is_word : List ℕ → Bool

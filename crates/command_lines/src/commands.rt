@@ -1,12 +1,12 @@
 //! What command lines ask for.
 
-ghost use Rattle.std.specs.Prelude.{◌≡◌, IfOk, IsSome, OnErr};
-ghost use Rattle.command_lines.specs.Commands.{command_of, edit_of, ini_edit_of, insertion_of};
+ghost use Rattle.std.specs.Prelude.{◌≡◌, IfOk, IsSome, OnErr, option_map};
+ghost use Rattle.command_lines.specs.Commands.{command_of, edit_of, file_of, file_or_plain, ini_edit_of, insertion_of};
 ghost use Rattle.command_lines.specs.Commands.{limit_of, plain_command, removal_of, replacement_of, selection_of, IsEdit};
 
 use crate::injections::{injection_of, withdrawal_of};
 use crate::numbers::number_of;
-use crate::words::{behind, numbered, word_of};
+use crate::words::{behind, numbered, short_numbered, word_of};
 use model_edits::edit::Edit;
 use sim_values::NoMemory;
 use sim_values::text::{Text, spells};
@@ -23,6 +23,8 @@ pub enum Command {
     /// `ini insert L TEXT`, `ini replace L TEXT`, `ini remove L`, `config NAME`,
     /// `inject PATH TIME PRIORITY KIND BITS HEX`, `withdraw K`: an edit of the model.
     Edit(Edit),
+    /// `ned FILE PATH`: an edit of the model, by which the NED file of number FILE, counted from 0, is what the file of that path holds.
+    Ned(u64, Text),
     /// `positions`: say after which events positions are stored.
     Positions,
     /// `held`: say how many boxes there are.
@@ -131,6 +133,14 @@ fn limit_of(line: &[u8]) -> Option<u64>
     number_of(behind(b"run ", line)?)
 }
 
+/// The file of `ned FILE PATH`: its number, and the path of the file that holds its text.
+fn file_of(line: &[u8]) -> Option<(u64, &[u8])>
+    ensures { option_map (λ p. (p.0, p.1.now)) result ≡ file_of line.now }
+{
+    let (number, rest) = short_numbered(behind(b"ned ", line)?)?;
+    Some((number, word_of(rest)?))
+}
+
 /// The command of a line that asks for neither a run nor an edit.
 fn plain_command(line: &[u8]) -> Command
     ensures { result ≡ plain_command line.now }
@@ -143,6 +153,17 @@ fn plain_command(line: &[u8]) -> Command
         Command::Positions
     } else {
         Command::Unknown
+    }
+}
+
+/// The command of a line that asks for no run, and for no edit that is in it.
+fn other_command(alloc: Global, line: &[u8]) -> Result<Command, AllocError>
+    ensures found { IfOk result (λ command. command ≡ file_or_plain line.now (file_of line.now)) }
+    ensures memory { OnErr result (IsSome (file_of line.now)) }
+{
+    match file_of(line) {
+        Some((number, path)) => Ok(Command::Ned(number, Text::from_bytes(alloc, path)?)),
+        None => Ok(plain_command(line)),
     }
 }
 
@@ -160,6 +181,6 @@ pub fn command_of(alloc: Global, line: &[u8]) -> Result<Command, NoMemory>
     }
     match edit_of(alloc, line)? {
         Some(edit) => Ok(Command::Edit(edit)),
-        None => Ok(plain_command(line)),
+        None => Ok(other_command(alloc, line)?),
     }
 }

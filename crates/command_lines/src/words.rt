@@ -4,9 +4,9 @@ ghost use Rattle.std.specs.Prelude.{◌≡◌, ◌<◌, [], ◌∷◌, length, p
 ghost use Rattle.std.specs.List.{list_any};
 ghost use Rattle.std.specs.Str.{is_utf8};
 ghost use Rattle.std.specs.Option.{option_copied};
-ghost use Rattle.command_lines.specs.Words.{behind, is_space, is_word, numbered, parted, word_of, words_of};
+ghost use Rattle.command_lines.specs.Words.{behind, is_space, is_word, numbered, parted, short_numbered, word_of, words_of};
 
-use crate::numbers::number_of;
+use crate::numbers::{number_of, short_of};
 use std::str::from_utf8;
 
 /// What stands behind these bytes, where the line begins with them.
@@ -44,6 +44,14 @@ pub(crate) fn numbered(bytes: &[u8]) -> Option<(u64, &[u8])>
 {
     let (word, rest) = parted(bytes)?;
     Some((number_of(word)?, rest))
+}
+
+/// The number of 32 bits of the first word, with all that stands behind the space that ends it.
+pub(crate) fn short_numbered(bytes: &[u8]) -> Option<(u64, &[u8])>
+    ensures { option_map (λ p. (p.0, p.1.now)) result ≡ short_numbered bytes.now }
+{
+    let (word, rest) = parted(bytes)?;
+    Some((short_of(word)?, rest))
 }
 
 /// Whether the bytes are UTF-8.

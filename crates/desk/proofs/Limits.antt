@@ -12,6 +12,7 @@ use Rattle.desk.specs.Turns.{limit_after, Forgoes}
 pub limit_kept : (c : Command) (l : ℕ) → IsEdit c → limit_after c l ≡ l
 limit_kept (command.Run limit) l is = absurd is
 limit_kept (command.Edit e) l is = refl
+limit_kept (command.Ned number path) l is = refl
 limit_kept command.Positions l is = absurd is
 limit_kept command.Held l is = absurd is
 limit_kept command.Write l is = absurd is
@@ -22,6 +23,7 @@ limit_kept command.TooLarge l is = absurd is
 all_kept : (b : Behaviour) (c : Command) (e : Editing) → IsEdit c → Forgoes b c e e
 all_kept b (command.Run limit) e is = absurd is
 all_kept b (command.Edit edit) e is = refl
+all_kept b (command.Ned number path) e is = refl
 all_kept b command.Positions e is = absurd is
 all_kept b command.Held e is = absurd is
 all_kept b command.Write e is = absurd is

@@ -5,6 +5,8 @@ use Rattle.model_edits.specs.declared.edit.Refusal.{Refusal}
 use Rattle.model_edits.specs.declared.edit.Refusal.TheVariants as edit
 use Rattle.model_texts.specs.declared.begin.BeginFault.{BeginFault}
 use Rattle.model_texts.specs.declared.begin.BeginFault.TheVariants as refusal
+use Rattle.type_building.specs.declared.table.TypeFault.{TypeFault}
+use Rattle.type_building.specs.declared.table.TypeFault.TheVariants as types
 use Rattle.run_semantics.specs.declared.outcome.Fault.{Fault}
 use Rattle.run_semantics.specs.declared.outcome.Fault.TheVariants as fault
 use Rattle.run_semantics.specs.declared.outcome.Outcome.{Outcome}
@@ -109,11 +111,23 @@ counts_text (n ∷ ns) = numbers_text (n ∷ ns)
 abbrev pub positions_text : List ℕ → List ℕ
 positions_text counts = codes "positions" ++ counts_text counts
 
+-- the name of what is wrong with types
+abbrev pub type_fault_name : TypeFault → List ℕ
+type_fault_name types.NotBuilt = codes "NotBuilt"
+type_fault_name types.DuplicateType = codes "DuplicateType"
+type_fault_name types.UnknownType = codes "UnknownType"
+type_fault_name types.InheritanceCircle = codes "InheritanceCircle"
+type_fault_name types.KindClash = codes "KindClash"
+type_fault_name types.Interface = codes "Interface"
+
 -- THE ANSWER of an edit that is refused: its name, and the line where it is known. Want of memory has no text: it is handed on.
 abbrev pub edit_refusal_text : Refusal → Option (List ℕ)
 edit_refusal_text edit.TooLarge = Some (codes "refused TooLarge")
 edit_refusal_text edit.NoSuchLine = Some (codes "refused NoSuchLine")
 edit_refusal_text edit.NoSuchInjection = Some (codes "refused NoSuchInjection")
+edit_refusal_text edit.NoSuchFile = Some (codes "refused NoSuchFile")
+edit_refusal_text (edit.NedSyntax line) = Some (codes "refused NedSyntax line " ++ decimal line)
+edit_refusal_text (edit.Types fault) = Some (codes "refused " ++ type_fault_name fault)
 edit_refusal_text (edit.IniSyntax line reason) = Some (codes "refused IniSyntax line " ++ decimal line)
 edit_refusal_text edit.NoSuchConfig = Some (codes "refused NoSuchConfig")
 edit_refusal_text edit.ChainFault = Some (codes "refused ChainFault")

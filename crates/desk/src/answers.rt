@@ -3,7 +3,7 @@
 ghost use Rattle.std.specs.Prelude.{◌≡◌, ◌++◌, Some, IfOk, OnOk, codes};
 ghost use Rattle.std.specs.Fmt.{decimal};
 ghost use Rattle.desk.specs.Answers.{counts_text, done_text, edit_refusal_text, edited_text, held_text, injection_text, numbers_text, positions_text, valid_text};
-ghost use Rattle.desk.specs.Answers.{fault_detail, fault_name, outcome_text, refusal_name, refusal_place, refusal_text, start_text};
+ghost use Rattle.desk.specs.Answers.{fault_detail, fault_name, outcome_text, refusal_name, refusal_place, refusal_text, start_text, type_fault_name};
 
 use edit_session::session::Report;
 use itoa::Buffer as Digits;
@@ -13,6 +13,7 @@ use run_semantics::outcome::{Fault, Outcome};
 use sim_values::NoMemory;
 use sim_values::text::Text;
 use std::alloc::{AllocError, Global};
+use type_building::table::TypeFault;
 
 /// The name of a fault.
 fn fault_name(fault: &Fault) -> &'static [u8]
@@ -257,6 +258,30 @@ fn bad_line(alloc: Global, line: usize) -> Result<Text, AllocError>
     Ok(Text::from_vec(text))
 }
 
+/// The answer where a line of a given NED text can't go on.
+fn bad_ned_line(alloc: Global, line: usize) -> Result<Text, AllocError>
+    ensures { IfOk result (λ text. text ≡ codes "refused NedSyntax line " ++ decimal line) }
+{
+    let mut text = Vec::new(alloc);
+    push(&mut text, b"refused NedSyntax line ")?;
+    push_number(&mut text, line as u64)?;
+    Ok(Text::from_vec(text))
+}
+
+/// The name of what is wrong with types.
+fn type_fault_name(fault: TypeFault) -> &'static [u8]
+    ensures { result.now ≡ type_fault_name fault }
+{
+    match fault {
+        TypeFault::NotBuilt => b"NotBuilt",
+        TypeFault::DuplicateType => b"DuplicateType",
+        TypeFault::UnknownType => b"UnknownType",
+        TypeFault::InheritanceCircle => b"InheritanceCircle",
+        TypeFault::KindClash => b"KindClash",
+        TypeFault::Interface => b"Interface",
+    }
+}
+
 /// The answer of an edit that is refused. Want of memory is handed on.
 pub fn edit_refusal_text(alloc: Global, refusal: Refusal) -> Result<Text, NoMemory>
     ensures { IfOk result (λ text. Some text ≡ edit_refusal_text refusal) }
@@ -265,6 +290,9 @@ pub fn edit_refusal_text(alloc: Global, refusal: Refusal) -> Result<Text, NoMemo
         Refusal::TooLarge => Ok(refused_as(alloc, b"TooLarge")?),
         Refusal::NoSuchLine => Ok(refused_as(alloc, b"NoSuchLine")?),
         Refusal::NoSuchInjection => Ok(refused_as(alloc, b"NoSuchInjection")?),
+        Refusal::NoSuchFile => Ok(refused_as(alloc, b"NoSuchFile")?),
+        Refusal::NedSyntax(line) => Ok(bad_ned_line(alloc, line)?),
+        Refusal::Types(fault) => Ok(refused_as(alloc, type_fault_name(fault))?),
         Refusal::IniSyntax(line, _) => Ok(bad_line(alloc, line)?),
         Refusal::NoSuchConfig => Ok(refused_as(alloc, b"NoSuchConfig")?),
         Refusal::ChainFault => Ok(refused_as(alloc, b"ChainFault")?),

@@ -8,6 +8,7 @@ ghost use Rattle.checkpointed_runs.specs.declared.running.Phase.{Phase};
 ghost use Rattle.edit_session.specs.declared.session.SupplyReason.{SupplyReason};
 ghost use Rattle.command_lines.specs.Commands.{command_of};
 ghost use Rattle.desk.specs.Answers.{held_text, positions_text};
+ghost use Rattle.model_edits.specs.declared.edit.Edit.TheVariants as edits;
 ghost use Rattle.desk.specs.Turns.{editing_at, limit_at, limit_after, AnswersEdit, AnswersLine, Forgoes, IsRunTurn, IsSettled, MayBeDone, StaysSettled};
 
 use crate::answers::{
@@ -72,7 +73,8 @@ impl<C: Catalogue> Desk<C> {
         }
     }
 
-    /// Answers a command line. Where memory runs out the line has no answer: the model is what it was, and a line that asks for no
+    /// Answers a command line. One that asks to write files, or names a file that is to be read, is no command here: who asks does
+    /// these. Where memory runs out the line has no answer: the model is what it was, and a line that asks for no
     /// run changed nothing; one that asks for a run left what that left.
     pub fn line(&mut self, line: &[u8]) -> Result<DeskTurn, NoMemory>
         requires sound { IsSettled C.behaviour SimpleModule-box self.old }
@@ -90,7 +92,7 @@ impl<C: Catalogue> Desk<C> {
             Command::Edit(edit) => Ok(DeskTurn::Text(self.edit(edit)?)),
             Command::Positions => Ok(DeskTurn::Text(self.positions()?)),
             Command::Held => Ok(DeskTurn::Text(self.held()?)),
-            Command::Write | Command::Unknown => Ok(DeskTurn::Text(refused_as(
+            Command::Write | Command::Unknown | Command::Ned(_, _) => Ok(DeskTurn::Text(refused_as(
                 self.alloc, b"Command",
             )?)),
             Command::TooLarge => Ok(DeskTurn::Text(refused_as(self.alloc, b"TooLarge")?)),
@@ -117,6 +119,19 @@ impl<C: Catalogue> Desk<C> {
             }
             Err(refusal) => edit_refusal_text(self.alloc, refusal),
         }
+    }
+
+    /// Changes the NED file of that number, counted from 0, to be this text, or answers why not. Where memory runs out the edit isn't made.
+    pub fn ned(&mut self, file: u64, text: Text) -> Result<Text, NoMemory>
+        requires sound { IsSettled C.behaviour SimpleModule-box self.old }
+        ensures sound { IsSettled C.behaviour SimpleModule-box self.new }
+        ensures answer { let before = editing_at SimpleModule-box self.old in
+            let after = editing_at SimpleModule-box self.new in
+            IfOk result (λ told. AnswersEdit C.behaviour before (edits.ReplaceNed file text) told after) }
+        ensures limit { limit_at self.new ≡ limit_at self.old }
+        ensures memory { OnErr result (self.new ≡ self.old) }
+    {
+        self.edit(Edit::ReplaceNed(file as usize, text))
     }
 
     /// Runs the model for at most so many events, from the greatest stored position up to there or from setup, or goes on with the

@@ -6,9 +6,10 @@ ghost use Rattle.desk_clients.specs.Devices.{HasFailed};
 ghost use Rattle.desk_clients.specs.declared.clients.Stop.{Stop as StopValue};
 ghost use Rattle.desk_clients.specs.declared.clients.Stop.TheVariants as why;
 ghost use Rattle.transcripts.specs.declared.asked.Asked.{Asked as AskedValue};
-ghost use Rattle.transcripts.specs.Heard.{Heard, Answer, Files};
+ghost use Rattle.transcripts.specs.Heard.{Heard, Answer, Files, Read};
 
 use result_lines::writer::Out;
+use sim_values::text::Text;
 use text_files::noted::Noted;
 use transcripts::asked::Asked;
 
@@ -72,6 +73,17 @@ pub trait Client<O: Out + Drop> {
         ensures label { label self.new ≡ label self.old }
         ensures stuck { OnErr result (stops self.new why.Gone) }
         ensures heard { OnOk result (heard self.new ≡ heard self.old ++ Answer answer.now ∷ []) }
+        ensures gone { OnErr result (heard self.new ≡ heard self.old) }
+        ensures asked { asked self.new ≡ asked self.old }
+        ensures left { left self.new ≡ left self.old };
+
+    /// What the file of that path holds, for a command that names it.
+    fn read(&mut self, path: &[u8]) -> Result<Text, Gone>
+        requires kept { keeps self.old }
+        ensures kept { keeps self.new }
+        ensures label { label self.new ≡ label self.old }
+        ensures stuck { OnErr result (stops self.new why.Gone) }
+        ensures heard { IfOk result (λ text. heard self.new ≡ heard self.old ++ Read path.now text ∷ []) }
         ensures gone { OnErr result (heard self.new ≡ heard self.old) }
         ensures asked { asked self.new ≡ asked self.old }
         ensures left { left self.new ≡ left self.old };

@@ -11,6 +11,7 @@ last_given : (m : Model) (e : Edit) (new : Model) → IsEditOf m e new → last_
 last_given m (edit.InsertIni line text) new is = refl
 last_given m (edit.ReplaceIni line text) new is = refl
 last_given m (edit.RemoveIni line) new is = refl
+last_given m (edit.ReplaceNed number text) new is = refl
 last_given m (edit.SelectConfig name) new is = refl
 last_given m (edit.Inject path due kind bits payload) new is = rw is.1 refl
 last_given m (edit.Withdraw number) new is = refl

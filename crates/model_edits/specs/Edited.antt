@@ -6,6 +6,11 @@ use Rattle.ini_config.specs.declared.error.EditError.TheVariants as errors
 use Rattle.ini_texts.specs.declared.lines.IniLine.{IniLine}
 use Rattle.ini_config.specs.Edits.{insertion, replacement, removal, IsEdited, Refused}
 use Rattle.ini_config.specs.Edits as change
+use Rattle.ned_trees.specs.declared.declarations.NedFile.{NedFile}
+use Rattle.ned_trees.specs.declared.declarations.TypeDeclaration.{TypeDeclaration}
+use Rattle.file_edits.specs.declared.error.FileError.TheVariants as file_errors
+use Rattle.file_edits.specs.Changes.{AreTypesOf, IsChanged}
+use Rattle.file_edits.specs.Changes as ned
 use Rattle.ini_texts.specs.Sections.{IsChain, is_section}
 use Rattle.injection_order.specs.declared.injection.Due.{Due}
 use Rattle.injection_order.specs.declared.injection.Injection.{Injection}
@@ -18,11 +23,22 @@ use Rattle.model_edits.specs.declared.edit.Refusal.TheVariants as refusal
 
 -- ---- the model
 
+-- what an edit changes of the NED files, where it does
+abbrev pub file_change_of : Edit → Option ned.Change
+file_change_of (edit.ReplaceNed number text) = Some (ned.Replaced number text)
+file_change_of (edit.InsertIni line text) = None
+file_change_of (edit.ReplaceIni line text) = None
+file_change_of (edit.RemoveIni line) = None
+file_change_of (edit.SelectConfig name) = None
+file_change_of (edit.Inject path due kind bits payload) = None
+file_change_of (edit.Withdraw number) = None
+
 -- what an edit changes of these lines, where it does
 abbrev pub change_of : Edit → List IniLine → Option change.Edit
 change_of (edit.InsertIni line text) lines = Some (insertion line text lines)
 change_of (edit.ReplaceIni line text) lines = Some (replacement line text lines)
 change_of (edit.RemoveIni line) lines = Some (removal line lines)
+change_of (edit.ReplaceNed number text) lines = None
 change_of (edit.SelectConfig name) lines = None
 change_of (edit.Inject path due kind bits payload) lines = None
 change_of (edit.Withdraw number) lines = None
@@ -32,26 +48,46 @@ abbrev pub selected : Edit → List ℕ → List ℕ
 selected (edit.InsertIni line text) config = config
 selected (edit.ReplaceIni line text) config = config
 selected (edit.RemoveIni line) config = config
+selected (edit.ReplaceNed number text) config = config
 selected (edit.SelectConfig name) config = name
 selected (edit.Inject path due kind bits payload) config = config
 selected (edit.Withdraw number) config = config
 
--- the lines are those that the change leaves, or as they were where nothing changes them
-abbrev pub AreBehind : Option change.Edit → List IniLine → List IniLine → Type 0
-AreBehind None old lines = lines ≡ old
-AreBehind (Some changed) old lines = IsEdited changed lines
-
--- The model is the old one, but for these lines, this configuration, whose section is there, and its chain.
-pub record IsWith (m : Model) (lines : List IniLine) (config : List ℕ) (new : Model) : Type 0 where
-  pub rest : new ≡ record m { ini = lines; config = config; chain = new.chain }
-  pub exists : is_section config lines ≡ true
-  pub chained : IsChain lines config new.chain
-
--- What an edit of the text or of the configuration makes of a model: all that it doesn't change is as it was, and there is a network to run.
-pub record IsTextEditOf (m : Model) (e : Edit) (new : Model) : Type 0 where
+-- What an edit of texts makes anew: the files with their types, and the lines of the ini text.
+pub record Parts : Type 0 where
+  pub files : List NedFile
+  pub types : List TypeDeclaration
   pub lines : List IniLine
-  pub behind : AreBehind (change_of e m.ini) m.ini lines
-  pub made : IsWith m lines (selected e m.config) new
+
+-- those of a model
+abbrev pub parts_of : Model → Parts
+parts_of m = record { files = m.files; types = m.types; lines = m.ini }
+
+-- the files are those that the change leaves, and the types are theirs; or both are as they were where nothing changes them
+abbrev pub AreFilesBehind : Option ned.Change → Parts → Parts → Type 0
+AreFilesBehind None old new = (new.files ≡ old.files) × (new.types ≡ old.types)
+AreFilesBehind (Some changed) old new = IsChanged changed old.files new.files × AreTypesOf new.files new.types
+
+-- the lines are those that the change leaves, or as they were where nothing changes them
+abbrev pub AreLinesBehind : Option change.Edit → List IniLine → List IniLine → Type 0
+AreLinesBehind None old lines = lines ≡ old
+AreLinesBehind (Some changed) old lines = IsEdited changed lines
+
+-- the parts behind an edit of those that the model has
+abbrev pub AreBehind : Model → Edit → Parts → Type 0
+AreBehind m e parts = AreFilesBehind (file_change_of e) (parts_of m) parts × AreLinesBehind (change_of e m.ini) m.ini parts.lines
+
+-- The model is the old one, but for these files, types and lines, this configuration, whose section is there, and its chain.
+pub record IsWith (m : Model) (parts : Parts) (config : List ℕ) (new : Model) : Type 0 where
+  pub rest : new ≡ record m { files = parts.files; types = parts.types; ini = parts.lines; config = config; chain = new.chain }
+  pub exists : is_section config parts.lines ≡ true
+  pub chained : IsChain parts.lines config new.chain
+
+-- What an edit of a text or of the configuration makes of a model: all that it doesn't change is as it was, and there is a network to run.
+pub record IsTextEditOf (m : Model) (e : Edit) (new : Model) : Type 0 where
+  pub parts : Parts
+  pub behind : AreBehind m e parts
+  pub made : IsWith m parts (selected e m.config) new
   pub network : IsSome (network_of new)
 
 -- ---- injections
@@ -85,6 +121,7 @@ abbrev pub number_given : Edit → Model → Option ℕ
 number_given (edit.InsertIni line text) m = None
 number_given (edit.ReplaceIni line text) m = None
 number_given (edit.RemoveIni line) m = None
+number_given (edit.ReplaceNed number text) m = None
 number_given (edit.SelectConfig name) m = None
 number_given (edit.Inject path due kind bits payload) m = Some (m.last_injection + 1)
 number_given (edit.Withdraw number) m = None
@@ -101,6 +138,7 @@ abbrev pub IsEditOf : Model → Edit → Model → Type 0
 IsEditOf m (edit.InsertIni line text) new = IsTextEditOf m (edit.InsertIni line text) new
 IsEditOf m (edit.ReplaceIni line text) new = IsTextEditOf m (edit.ReplaceIni line text) new
 IsEditOf m (edit.RemoveIni line) new = IsTextEditOf m (edit.RemoveIni line) new
+IsEditOf m (edit.ReplaceNed number text) new = IsTextEditOf m (edit.ReplaceNed number text) new
 IsEditOf m (edit.SelectConfig name) new = IsTextEditOf m (edit.SelectConfig name) new
 IsEditOf m (edit.Inject path due kind bits payload) new =
     (has_no_room m payload ≡ false) × (new ≡ with_injection m (next_injection m path due kind bits payload))
@@ -118,31 +156,43 @@ RefusesChange (Some changed) (refusal.IniSyntax line reason) = Refused changed (
 RefusesChange (Some changed) (refusal.NoMemory _) = Unit {0}
 RefusesChange (Some changed) _ = ⊥
 
--- why there is no model with these lines and this configuration: it has no section; it has no chain; there is no network to run
-abbrev pub RefusesLines : Model → List IniLine → List ℕ → Refusal → Type 0
-RefusesLines m lines config refusal.NoSuchConfig = is_section config lines ≡ false
-RefusesLines m lines config refusal.ChainFault =
-    (is_section config lines ≡ true) × ((chain : List (List ℕ)) → IsChain lines config chain → ⊥)
-RefusesLines m lines config refusal.NoSuchNetwork = (new : Model) × IsWith m lines config new × (network_of new ≡ None)
-RefusesLines m lines config (refusal.NoMemory _) = Unit {0}
-RefusesLines m lines config _ = ⊥
+-- why there is no model with these parts and this configuration: it has no section; it has no chain; there is no network to run
+abbrev pub RefusesParts : Model → Parts → List ℕ → Refusal → Type 0
+RefusesParts m parts config refusal.NoSuchConfig = is_section config parts.lines ≡ false
+RefusesParts m parts config refusal.ChainFault =
+    (is_section config parts.lines ≡ true) × ((chain : List (List ℕ)) → IsChain parts.lines config chain → ⊥)
+RefusesParts m parts config refusal.NoSuchNetwork = (new : Model) × IsWith m parts config new × (network_of new ≡ None)
+RefusesParts m parts config (refusal.NoMemory _) = Unit {0}
+RefusesParts m parts config _ = ⊥
 
--- The lines are changed, and there is no model with them.
+-- The parts are made, and there is no model with them.
 pub record HasNoModel (m : Model) (e : Edit) (r : Refusal) : Type 0 where
-  pub lines : List IniLine
-  pub behind : AreBehind (change_of e m.ini) m.ini lines
-  pub refused : RefusesLines m lines (selected e m.config) r
+  pub parts : Parts
+  pub behind : AreBehind m e parts
+  pub refused : RefusesParts m parts (selected e m.config) r
 
--- Why an edit of the text or of the configuration is refused.
+-- Why an edit of the ini text or of the configuration is refused.
 abbrev pub RefusesText : Model → Edit → Refusal → Type 0
 RefusesText m e refusal.TooLarge = RefusesChange (change_of e m.ini) refusal.TooLarge
 RefusesText m e refusal.NoSuchLine = RefusesChange (change_of e m.ini) refusal.NoSuchLine
 RefusesText m e (refusal.IniSyntax line reason) = RefusesChange (change_of e m.ini) (refusal.IniSyntax line reason)
-RefusesText m e refusal.NoSuchInjection = ⊥
 RefusesText m e refusal.NoSuchConfig = HasNoModel m e refusal.NoSuchConfig
 RefusesText m e refusal.ChainFault = HasNoModel m e refusal.ChainFault
 RefusesText m e refusal.NoSuchNetwork = HasNoModel m e refusal.NoSuchNetwork
 RefusesText m e (refusal.NoMemory _) = Unit {0}
+RefusesText m e _ = ⊥
+
+-- Why an edit of the NED files is refused that changes this of them.
+abbrev pub RefusesFiles : Model → Edit → ned.Change → Refusal → Type 0
+RefusesFiles m e c refusal.TooLarge = ned.Refuses c m.files file_errors.TooLarge
+RefusesFiles m e c refusal.NoSuchFile = ned.Refuses c m.files file_errors.NoSuchFile
+RefusesFiles m e c (refusal.NedSyntax line) = ned.Refuses c m.files (file_errors.NedSyntax line)
+RefusesFiles m e c (refusal.Types why) = ned.Refuses c m.files (file_errors.Types why)
+RefusesFiles m e c refusal.NoSuchConfig = HasNoModel m e refusal.NoSuchConfig
+RefusesFiles m e c refusal.ChainFault = HasNoModel m e refusal.ChainFault
+RefusesFiles m e c refusal.NoSuchNetwork = HasNoModel m e refusal.NoSuchNetwork
+RefusesFiles m e c (refusal.NoMemory _) = Unit {0}
+RefusesFiles m e c _ = ⊥
 
 abbrev pub RefusesInjection : Model → List ℕ → Refusal → Type 0
 RefusesInjection m payload refusal.TooLarge = has_no_room m payload ≡ true
@@ -159,6 +209,7 @@ abbrev pub Refuses : Model → Edit → Refusal → Type 0
 Refuses m (edit.InsertIni line text) r = RefusesText m (edit.InsertIni line text) r
 Refuses m (edit.ReplaceIni line text) r = RefusesText m (edit.ReplaceIni line text) r
 Refuses m (edit.RemoveIni line) r = RefusesText m (edit.RemoveIni line) r
+Refuses m (edit.ReplaceNed number text) r = RefusesFiles m (edit.ReplaceNed number text) (ned.Replaced number text) r
 Refuses m (edit.SelectConfig name) r = RefusesText m (edit.SelectConfig name) r
 Refuses m (edit.Inject path due kind bits payload) r = RefusesInjection m payload r
 Refuses m (edit.Withdraw number) r = RefusesWithdrawal m number r

@@ -1,13 +1,16 @@
 //! Edits of a model.
 
-ghost use Rattle.std.specs.Prelude.{◌≡◌, ◌<◌, true, length, position, IfOk, IfErr, IfSome, OnOk, OnErr, is_some};
+ghost use Rattle.std.specs.Prelude.{◌≡◌, ◌<◌, List, true, length, position, IfOk, IfErr, IfSome, OnOk, OnErr, is_some};
 ghost use Rattle.std.specs.Option.{option_and_then, option_copied};
 ghost use Rattle.ini_texts.specs.Sections.{IsChain, is_section};
 ghost use Rattle.models.specs.Models.{as_network};
-ghost use Rattle.model_edits.specs.Edited.{has_no_room, is_numbered, number_given, IsEditOf, IsOnlyEditOf, IsRuledOut, Refuses, RefusesLines};
+ghost use Rattle.ned_trees.specs.declared.declarations.NedFile.{NedFile};
+ghost use Rattle.model_edits.specs.Edited.{has_no_room, is_numbered, number_given, parts_of, IsEditOf, IsOnlyEditOf, IsRuledOut, Refuses, RefusesParts};
 ghost use Rattle.model_edits.specs.declared.edit.Edit.TheVariants as edits;
-ghost use Rattle.model_edits.specs.Steps.{has_network, told_as, Comes, RefusesChain, Takes, TakesMade};
+ghost use Rattle.model_edits.specs.Steps.{has_network, parts, told_as, told_of, with_files, with_lines, Comes, RefusesChain, Takes, TakesChanged, TakesMade};
 
+use file_edits::changes::{TypedFiles, with_file};
+use file_edits::error::FileError;
 use ini_config::edits::{with_inserted, with_removed, with_replaced};
 use ini_config::error::EditError;
 use ini_entries::reason::Reason;
@@ -18,10 +21,12 @@ use ini_texts::speaks::last_name;
 use injection_order::injection::{Due, Injection};
 use models::model::Model;
 use ned_trees::declarations::{TypeDeclaration, TypeKind};
+use ned_types::table::TypeTable;
 use sim_values::NoMemory;
 use sim_values::text::Text;
 use sqlite_items::Items;
 use std::alloc::Global;
+use type_building::table::TypeFault;
 
 /// The longest payload of an injection, in bytes.
 pub const MAX_PAYLOAD: usize = 4096;
@@ -39,6 +44,8 @@ pub enum Edit {
     ReplaceIni(usize, Text),
     /// The line of this number is taken out.
     RemoveIni(usize),
+    /// The NED file of this number, counted from 0, is this text.
+    ReplaceNed(usize, Text),
     /// The configuration of this name is selected.
     SelectConfig(Text),
     /// A message from outside arrives at the simple module of this path when it is due: of this kind, so many bits long, and with
@@ -49,17 +56,23 @@ pub enum Edit {
 }
 
 /// Why an edit is refused. Of several reasons the first in this order is told, and want of memory in any place.
-#[derive(Clone, Copy, PartialEq, Eq)]
+#[derive(Clone, Copy)]
 pub enum Refusal {
-    /// The changed ini text is longer than 1 MiB; or a payload is longer than 4,096 bytes, 10,000 injections are held, or all
+    /// The changed ini text is longer than 1 MiB, or a given NED text is; or a payload is longer than 4,096 bytes, 10,000 injections are held, or all
     /// their numbers are used.
     TooLarge,
     /// There is no line of that number.
     NoSuchLine,
     /// No injection of that number is held.
     NoSuchInjection,
+    /// There is no NED file of that number.
+    NoSuchFile,
+    /// The line, from 1, of the given NED text's first byte that can't go on; at its end that of its last byte.
+    NedSyntax(usize),
     /// The number, from 1, of the first line of the changed ini text that means nothing, and why.
     IniSyntax(usize, Reason),
+    /// The types of the changed NED files make no model.
+    Types(TypeFault),
     /// The selected configuration isn't in the ini text.
     NoSuchConfig,
     /// The selected configuration extends one that isn't in the ini text, one twice, several that can't be put in order, or in the end itself.
@@ -79,6 +92,19 @@ fn told_as(error: EditError) -> Refusal
         EditError::NoSuchLine => Refusal::NoSuchLine,
         EditError::IniSyntax(line, why) => Refusal::IniSyntax(line, why),
         EditError::NoMemory(error) => Refusal::NoMemory(error),
+    }
+}
+
+/// The refusal of changed files.
+fn told_of(error: FileError) -> Refusal
+    ensures { result ≡ told_of error }
+{
+    match error {
+        FileError::TooLarge => Refusal::TooLarge,
+        FileError::NoSuchFile => Refusal::NoSuchFile,
+        FileError::NedSyntax(line) => Refusal::NedSyntax(line),
+        FileError::Types(fault) => Refusal::Types(fault),
+        FileError::NoMemory(error) => Refusal::NoMemory(error),
     }
 }
 
@@ -109,30 +135,34 @@ fn is_network(declared: Option<&TypeDeclaration>) -> bool
     }
 }
 
-/// Whether the option `network` names a network of the model, in these lines along this chain.
-fn has_network(model: &Model, lines: &IniText, chain: &[Text]) -> bool
-    ensures { result ≡ has_network model.now lines.now chain.now }
+/// Whether the option `network` names a network among these types, in these lines along this chain.
+fn has_network(types: &TypeTable, lines: &IniText, chain: &[Text]) -> bool
+    ensures { result ≡ has_network types.now lines.now chain.now }
 {
     match network_entry(lines.lines(), chain) {
-        Some(name) => is_network(model.types.find(last_name(name))),
+        Some(name) => is_network(types.find(last_name(name))),
         None => false,
     }
 }
 
-/// The chain of a configuration in these lines, where there is a network to run.
+/// The chain of a configuration in these lines, where there is a network to run among these types. The model is that of which
+/// they are parts, whatever its files may be.
 fn chain_with(
     alloc: Global,
     model: &Model,
+    types: &TypeTable,
     lines: &IniText,
     config: &[u8],
 ) -> Result<Items<Text>, Refusal>
     ensures accepted { IfOk result (λ chain. IsChain lines.now config.now chain
         × (is_section config.now lines.now ≡ true)
-        × (has_network model.now lines.now chain ≡ true)) }
-    ensures refused { IfErr result (λ r. RefusesLines model.now lines.now config.now r) }
+        × (has_network types.now lines.now chain ≡ true)) }
+    ensures refused { IfErr result (λ r. (files : List NedFile)
+        → RefusesParts model.now (parts files types.now lines.now) config.now r) }
 {
+    let _model = model;
     let chain = chain_of(alloc, lines, config)?;
-    if has_network(model, lines, chain.as_slice()) {
+    if has_network(types, lines, chain.as_slice()) {
         Ok(chain)
     } else {
         Err(Refusal::NoSuchNetwork)
@@ -141,9 +171,9 @@ fn chain_with(
 
 /// Gives the model these lines, with the chain that its configuration has in them.
 fn take_lines(alloc: Global, model: &mut Model, lines: IniText) -> Result<(), Refusal>
-    ensures { Takes model.old lines model.old.config model.new result }
+    ensures { Takes model.old (with_lines model.old lines) model.old.config model.new result }
 {
-    let chain = chain_with(alloc, model, &lines, model.config.as_bytes())?;
+    let chain = chain_with(alloc, model, &model.types, &lines, model.config.as_bytes())?;
     model.ini = lines;
     model.chain = chain;
     Ok(())
@@ -163,11 +193,37 @@ fn take_made(
     }
 }
 
+/// Gives the model these files and types, with the chain that its configuration has.
+fn take_files(alloc: Global, model: &mut Model, made: TypedFiles) -> Result<(), Refusal>
+    ensures { Takes model.old (with_files model.old made) model.old.config model.new result }
+{
+    let chain = chain_with(alloc, model, &made.types, &model.ini, model.config.as_bytes())?;
+    let TypedFiles { files, types } = made;
+    model.files = files;
+    model.types = types;
+    model.chain = chain;
+    Ok(())
+}
+
+/// Gives the model the files that were made, or tells why there are none.
+fn take_changed(
+    alloc: Global,
+    model: &mut Model,
+    made: Result<TypedFiles, FileError>,
+) -> Result<(), Refusal>
+    ensures { TakesChanged model.old made model.new result }
+{
+    match made {
+        Ok(made) => take_files(alloc, model, made),
+        Err(error) => Err(told_of(error)),
+    }
+}
+
 /// Selects the configuration of that name.
 fn select(alloc: Global, model: &mut Model, name: Text) -> Result<(), Refusal>
-    ensures { Takes model.old model.old.ini name model.new result }
+    ensures { Takes model.old (parts_of model.old) name model.new result }
 {
-    let chain = chain_with(alloc, model, &model.ini, name.as_bytes())?;
+    let chain = chain_with(alloc, model, &model.types, &model.ini, name.as_bytes())?;
     model.config = name;
     model.chain = chain;
     Ok(())
@@ -263,6 +319,10 @@ fn change(alloc: Global, model: &mut Model, edit: Edit) -> Result<(), Refusal>
         Edit::RemoveIni(line) => {
             let made = with_removed(alloc, &model.ini, line);
             take_made(alloc, model, made)
+        }
+        Edit::ReplaceNed(number, text) => {
+            let made = with_file(alloc, model.files.as_slice(), number, text.as_bytes());
+            take_changed(alloc, model, made)
         }
         Edit::SelectConfig(name) => select(alloc, model, name),
         Edit::Inject(path, due, kind, bits, payload) => {

@@ -58,6 +58,7 @@ pub edit_stays : (m new : Model) (e : Edit) → IsEditOf m e new → AreBounded 
 edit_stays m new (edit.InsertIni line text) h k = text_stays m new (edit.InsertIni line text) h k
 edit_stays m new (edit.ReplaceIni line text) h k = text_stays m new (edit.ReplaceIni line text) h k
 edit_stays m new (edit.RemoveIni line) h k = text_stays m new (edit.RemoveIni line) h k
+edit_stays m new (edit.ReplaceNed number text) h k = text_stays m new (edit.ReplaceNed number text) h k
 edit_stays m new (edit.SelectConfig name) h k = text_stays m new (edit.SelectConfig name) h k
 edit_stays m new (edit.Inject path due kind bits payload) h k =
     let one = either_not (nat_lt most_payload (length payload)) _ h.0 in

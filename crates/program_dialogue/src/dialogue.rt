@@ -108,6 +108,18 @@ impl<I: Read> Dialogue<I> {
         self.transcript.hears_files(config, scalars, vectors);
     }
 
+    /// Hears what the file of that path holds, which was read for a command.
+    pub fn hears_read(&mut self, path: &[u8], text: &[u8])
+        ensures heard { self.new.transcript.heard ≡ self.old.transcript.heard
+            ++ heards.Read path.now text.now ∷ [] }
+        ensures asked { self.new.transcript.asked ≡ self.old.transcript.asked }
+        ensures limit { self.new.limit ≡ self.old.limit }
+        ensures ask { self.new.ask ≡ self.old.ask }
+        ensures lines { self.new.lines ≡ self.old.lines }
+    {
+        self.transcript.hears_read(path, text);
+    }
+
     /// Asks for the run of the words.
     fn ask_run(&mut self, alloc: Global) -> Result<Option<Asked>, Stop>
         requires first { self.old.ask ≡ ask.Run }

@@ -7,7 +7,7 @@ use Rattle.program_dialogue.specs.declared.dialogue.Ask.TheVariants as ask
 use Rattle.program_stops.specs.Stops.{IsOutOfMemory}
 use Rattle.program_stops.specs.declared.stops.Stop.{Stop}
 use Rattle.program_stops.specs.declared.stops.Stop.TheVariants as stop
-use Rattle.program_streams.specs.Stops.{IsShortOf, IsShortOfRun, IsUnadvised, IsUnsaid, IsUnwritable}
+use Rattle.program_streams.specs.Stops.{IsShortOf, IsShortOfRun, IsUnadvised, IsUnreadable, IsUnsaid, IsUnwritable}
 use Rattle.program_user.specs.Stops.{IsAskless, IsLost, IsOneUnwritable, IsReason, IsUnmade, IsUntold}
 
 -- ---- reasons
@@ -36,6 +36,13 @@ reason_unwritable path waiting (stop.Failed line error) h = inr (inr (inr (inl (
 reason_unwritable path waiting (stop.NoMemory _) h = tt
 reason_unwritable path waiting (stop.Words _) h = h
 reason_unwritable path waiting (stop.Refused _ _) h = h
+
+pub reason_unreadable : (path : List ℕ) (waiting : Waiting) (s : Stop) → IsUnreadable path s → IsReason waiting s
+reason_unreadable path waiting stop.Spent h = absurd h
+reason_unreadable path waiting (stop.Failed line error) h = inr (inr (inr (inr (inr (path, h)))))
+reason_unreadable path waiting (stop.NoMemory _) h = tt
+reason_unreadable path waiting (stop.Words _) h = h
+reason_unreadable path waiting (stop.Refused _ _) h = h
 
 -- one of both files of a run
 pub reason_of_files : (scalars vectors : List ℕ) (W : Type 0) (waiting : Waiting) (s : Stop)
@@ -80,7 +87,7 @@ reason_unasked ask.Line failures failures' waiting s h = reason_unread failures 
 
 reason_unmade : (directory : List ℕ) (waiting : Waiting) (s : Stop) → IsUnmade directory s → IsReason waiting s
 reason_unmade directory waiting stop.Spent h = absurd h
-reason_unmade directory waiting (stop.Failed line error) h = inr (inr (inr (inr (directory, h))))
+reason_unmade directory waiting (stop.Failed line error) h = inr (inr (inr (inr (inl (directory, h)))))
 reason_unmade directory waiting (stop.NoMemory _) h = tt
 reason_unmade directory waiting (stop.Words _) h = h
 reason_unmade directory waiting (stop.Refused _ _) h = h

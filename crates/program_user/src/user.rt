@@ -3,12 +3,13 @@
 ghost use Rattle.std.specs.Prelude.{◌≡◌, ◌⊎◌, ◌<◌, [], ◌∷◌, ◌++◌, Some, None, IsSomeAnd, IfSome, IfOk, IfErr, OnOk, OnErr, codes, string_bytes};
 ghost use Rattle.program_user.specs.Devices.{path_of};
 ghost use Rattle.program_user.specs.Stops.{IsAskless, IsLost, IsOneUnwritable, IsReason, IsUntold};
+ghost use Rattle.text_explanations.specs.Names.{shown};
 ghost use Rattle.program_dialogue.specs.Asking.{left_in, HasAskedAll, IsInOrder};
 ghost use Rattle.program_dialogue.specs.Typing.{AsksNext};
 ghost use Rattle.program_stops.specs.declared.stops.Stop.{Stop as StopValue};
 ghost use Rattle.program_streams.specs.Devices.{taken_by, unwritten};
 ghost use Rattle.program_streams.specs.Paths.{file_path};
-ghost use Rattle.program_streams.specs.Stops.{IsShortOf, IsShortOfRun, IsUnsaid, IsUnwritable};
+ghost use Rattle.program_streams.specs.Stops.{IsShortOf, IsShortOfRun, IsUnreadable, IsUnsaid, IsUnwritable};
 ghost use Rattle.result_lines.specs.Taken.{untouched};
 ghost use Rattle.desk_clients.specs.Devices.{HasFailed};
 ghost use Rattle.desk_clients.specs.Stops.{at_stop};
@@ -19,9 +20,12 @@ use desk_clients::clients::{Client, Gone, Page, Pages};
 use program_dialogue::dialogue::Dialogue;
 use program_stops::stops::Stop;
 use program_streams::devices::FileOut;
+use program_streams::files::read_text;
 use program_streams::output;
 use program_words::words::Words;
+use sim_values::text::Text;
 use std::rt::Files;
+use text_explanations::names::shown;
 use text_explanations::sources::Sources;
 use text_files::noted::Noted;
 use transcripts::asked::Asked;
@@ -157,6 +161,16 @@ impl<'a, R: Files + Input + Print + Eprint + AllocGlobal> User<'a, R> {
         Ok(())
     }
 
+    /// What the file of that path holds.
+    fn text_of(&self, path: &[u8]) -> Result<Text, Stop>
+        ensures failed { IfErr result (IsUnreadable (shown path.now)) }
+    {
+        match read_text(self.rt, shown(path)) {
+            Ok(bytes) => Ok(Text::from_vec(bytes)),
+            Err(stop) => Err(stop),
+        }
+    }
+
     /// The device of a file of a configuration's run, by the last part of its name.
     fn device(&self, config: &[u8], ending: &str) -> Result<FileOut<'a, R>, Stop>
         ensures taken { IfOk result (λ out. taken_by out ≡ untouched) }
@@ -275,6 +289,28 @@ impl<'a, R: Files + Input + Print + Eprint + AllocGlobal> Client<FileOut<'a, R>>
             Ok(()) => {
                 self.dialogue.hears(answer);
                 Ok(())
+            }
+            Err(stop) => Err(self.gone(stop)),
+        }
+    }
+
+    #[tactic(auto, using(crate::proofs::Reasons::reason_unreadable))]
+    fn read(&mut self, path: &[u8]) -> Result<Text, Gone>
+        requires kept { IsInOrder self.old.dialogue }
+        ensures kept { IsInOrder self.new.dialogue }
+        ensures heard { IfOk result (λ text. self.new.dialogue.transcript.heard ≡ self.old.dialogue.transcript.heard
+            ++ heards.Read path.now text ∷ []) }
+        ensures gone { OnErr result (self.new.dialogue.transcript.heard ≡ self.old.dialogue.transcript.heard) }
+        ensures stuck { OnErr result (IsSomeAnd self.new.stop (IsReason self.new.dialogue.lines.buffer)) }
+        ensures reason { OnErr result (IsSomeAnd self.new.stop (IsUnreadable (shown path.now))) }
+        ensures label { self.new.dialogue.limit ≡ self.old.dialogue.limit }
+        ensures asked { self.new.dialogue.transcript.asked ≡ self.old.dialogue.transcript.asked }
+        ensures left { left_in self.new.dialogue ≡ left_in self.old.dialogue }
+    {
+        match self.text_of(path) {
+            Ok(text) => {
+                self.dialogue.hears_read(path, text.as_bytes());
+                Ok(text)
             }
             Err(stop) => Err(self.gone(stop)),
         }

@@ -6,7 +6,7 @@ ghost use Rattle.desk_clients.specs.Devices.{HasFailed};
 ghost use Rattle.desk_clients.specs.Stops.{at_stop};
 ghost use Rattle.transcripts.specs.Heard as heards;
 
-use crate::scenario::Scenario;
+use crate::scenario::{Scenario, file_in};
 use desk::answers::refusal_text;
 use desk_clients::clients::{Client, Gone, Page, Pages, Stop};
 use model_texts::begin::BeginFault;
@@ -51,6 +51,8 @@ fn file_asked(line: &[u8]) -> Option<Page> {
 struct Player<'a> {
     alloc: Global,
     lines: &'a [Text],
+    /// All that the scenario's file has.
+    all: &'a str,
     /// The file that the line asked for that was asked last. Its bytes are told, in place of the answer.
     file: Option<Page>,
     told: Vec<u8>,
@@ -63,13 +65,14 @@ struct Player<'a> {
 
 impl<'a> Player<'a> {
     /// Who has asked nothing yet.
-    fn new(alloc: Global, lines: &'a [Text]) -> Player<'a>
+    fn new(alloc: Global, lines: &'a [Text], all: &'a str) -> Player<'a>
         ensures unasked { result.transcript.asked ≡ [] }
         ensures unheard { result.transcript.heard ≡ [] }
     {
         Player {
             alloc,
             lines,
+            all,
             file: None,
             told: Vec::new(alloc),
             transcript: Transcript::new(),
@@ -178,6 +181,16 @@ impl Client<Buffer> for Player<'_> {
         }
     }
 
+    fn read(&mut self, path: &[u8]) -> Result<Text, Gone> {
+        match Text::from_str(self.alloc, file_in(self.all, path)) {
+            Ok(text) => {
+                self.transcript.hears_read(path, text.as_bytes());
+                Ok(text)
+            }
+            Err(error) => Err(self.gone(error.into())),
+        }
+    }
+
     fn open(&mut self, config: &[u8]) -> Result<Pages<Buffer>, Gone>
         requires kept { Unit {0} }
         ensures kept { Unit {0} }
@@ -263,7 +276,7 @@ pub fn play(alloc: Global, scenario: &Scenario<'_>) -> Result<Vec<u8>, NoMemory>
     requires interval { 1 ≤ scenario.now.interval }
 {
     let lines = lines_of(alloc, scenario.asked)?;
-    let player = Player::new(alloc, lines.as_slice());
+    let player = Player::new(alloc, lines.as_slice(), scenario.all);
     match serve(
         alloc,
         &scenario.texts,

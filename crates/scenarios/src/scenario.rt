@@ -12,8 +12,8 @@ const MARK: &str = "--- ";
 /// The interval where a scenario gives none.
 const INTERVAL: u64 = 10;
 
-/// One scenario. Its file has parts, each after a line `--- ini`, `--- ned`, `--- config`, `--- interval` or `--- do`. What comes
-/// before them says what it shows.
+/// One scenario. Its file has parts, each after a line `--- ini`, `--- ned`, `--- config`, `--- interval`, `--- do` or
+/// `--- file PATH`. What comes before them says what it shows.
 #[derive(Drop)]
 pub struct Scenario<'a> {
     /// The NED files, in order.
@@ -26,6 +26,25 @@ pub struct Scenario<'a> {
     pub interval: u64,
     /// What the desk is asked, a line for each. `scalars` and `vectors` ask for the files of the last run.
     pub asked: &'a str,
+    /// All that the file has.
+    pub all: &'a str,
+}
+
+/// What stands in the part `--- file PATH` of a scenario; nothing where it has none of that path.
+pub fn file_in<'a>(all: &'a str, path: &[u8]) -> &'a str {
+    for part in all.split(MARK) {
+        if let Some((head, body)) = part.split_once('\n') {
+            if is_file(head.as_bytes(), path) {
+                return body;
+            }
+        }
+    }
+    ""
+}
+
+/// Whether the head of a part is that of the file of that path.
+fn is_file(head: &[u8], path: &[u8]) -> bool {
+    head.starts_with(b"file ") && head.ends_with(path) && head.len() == path.len().saturating_add(5)
 }
 
 /// The interval of that text.
@@ -64,6 +83,7 @@ impl<'a> Scenario<'a> {
             config,
             interval,
             asked,
+            all: text,
         })
     }
 }

@@ -12,11 +12,12 @@ use Rattle.edit_session.specs.Files.{scalars_of_run, vectors_of_run}
 use Rattle.desk.specs.Answers.{held_text, positions_text}
 use Rattle.desk.specs.Turns.{AnswersEdit, HasRun, IsDone, IsMade, IsRefused, MayBeDone}
 use Rattle.model_edits.specs.declared.edit.Edit.{Edit}
+use Rattle.model_edits.specs.declared.edit.Edit.TheVariants as edit
 use Rattle.command_lines.specs.Commands.{IsEdit}
 use Rattle.command_lines.specs.declared.commands.Command.{Command}
 use Rattle.command_lines.specs.declared.commands.Command.TheVariants as command
 use Rattle.stock_desk.specs.Served.{Machine, AreHeard, Hears, HearsFiles, behind_run, command_asked, events_of}
-use Rattle.transcripts.specs.Heard.{Answer, Files, Heard}
+use Rattle.transcripts.specs.Heard.{Answer, Files, Heard, Read}
 use Rattle.transcripts.specs.declared.asked.Asked.{Asked}
 use Rattle.stock_desk.specs.Serving.{Seen, AreFilled, ComesTo, HearsAnswer, HearsNext, IsAt, IsCutOff, IsRunIn, RunsAlike}
 use Rattle.stock_desk.specs.declared.serving.Next.{Next}
@@ -182,11 +183,57 @@ pub tells_no_line : (b : Behaviour) (c : Command) (before after : Seen) (n : Nex
     → after.editing ≡ before.editing → HearsAnswer (codes "refused NoMemory") before.heard after.heard n → ComesTo b c before after (turn.Over n)
 tells_no_line b (command.Edit e) before after n is asked may running same heard = tells_no_edit b e before after n asked may running same heard
 tells_no_line b (command.Run limit) before after n is asked may running same heard = absurd is
+tells_no_line b (command.Ned number path) before after n is asked may running same heard =
+    tells b (command.Ned number path) before after (codes "refused NoMemory") n asked may running heard (λ s at. (s, inr (refl, refl), subst (λ x. IsAt b x s) (sym same) at))
 tells_no_line b command.Positions before after n is asked may running same heard = absurd is
 tells_no_line b command.Held before after n is asked may running same heard = absurd is
 tells_no_line b command.Write before after n is asked may running same heard = absurd is
 tells_no_line b command.Unknown before after n is asked may running same heard = absurd is
 tells_no_line b command.TooLarge before after n is asked may running same heard = absurd is
+
+-- ---- a NED file that is read
+
+-- the client can't read it: nothing is heard
+pub misses_read : (b : Behaviour) (number : ℕ) (path : List ℕ) (before after : Seen) → after.asked ≡ before.asked → after.heard ≡ before.heard
+    → IsCutOff b (command.Ned number path) (IsAt b before.editing) before after
+misses_read b number path before after asked same = record {
+  asked = asked;
+  more = [];
+  heard = same ∙ nothing_more before.heard;
+  begins = λ s at. record { missed = Answer (codes "refused NoMemory"); rest = []; behind = s; whole = inr (refl, refl) };
+}
+
+-- it was read, and the answer to the edit is missed
+misses_answer : (b : Behaviour) (number : ℕ) (path text : List ℕ) (before middle after : Seen) → middle.asked ≡ before.asked → middle.editing ≡ before.editing
+    → middle.heard ≡ before.heard ++ Read path text ∷ [] → IsCutOff b (command.Edit (edit.ReplaceNed number text)) (IsAt b middle.editing) middle after
+    → IsCutOff b (command.Ned number path) (IsAt b before.editing) before after
+misses_answer b number path text before middle after asked same read cut = record {
+  asked = cut.asked ∙ asked;
+  more = Read path text ∷ cut.more;
+  heard = cut.heard ∙ ap (λ (hs : List Heard). hs ++ cut.more) read ∙ joined_on before.heard (Read path text ∷ []) cut.more;
+  begins = λ s at. let t = cut.begins s (subst (λ x. IsAt b x s) (sym same) at) in
+      record { missed = t.missed; rest = t.rest; behind = t.behind; whole = inl (text, cut.more ++ t.missed ∷ t.rest, refl, t.whole) };
+}
+
+-- it was read, and what is told of the edit follows
+pub tells_replaced : (b : Behaviour) (number : ℕ) (path text : List ℕ) (before middle after : Seen) (n : Next) → middle.asked ≡ before.asked → middle.may ≡ before.may
+    → middle.editing ≡ before.editing → middle.heard ≡ before.heard ++ Read path text ∷ [] → HearsNext b (command.Edit (edit.ReplaceNed number text)) middle after n
+    → HearsNext b (command.Ned number path) before after n
+tells_replaced b number path text before middle after next.GoOn asked may same read told = (
+  told.0 ∙ asked,
+  told.1 ∙ may,
+  told.2,
+  λ s at. let t = told.3 s (subst (λ x. IsAt b x s) (sym same) at) in (
+    Read path text ∷ t.0,
+    t.1,
+    t.2 ∙ ap (λ (hs : List Heard). hs ++ t.0) read ∙ joined_on before.heard (Read path text ∷ []) t.0,
+    inl (text, t.0, refl, t.3),
+    t.4,
+  ),
+)
+tells_replaced b number path text before middle after (next.Stop stop.Gone) asked may same read told = misses_answer b number path text before middle after asked same read told
+tells_replaced b number path text before middle after (next.Stop stop.End) asked may same read told = absurd told
+tells_replaced b number path text before middle after (next.Stop (stop.Device page written)) asked may same read told = misses_answer b number path text before middle after asked same read told
 
 -- ---- what changes nothing
 

@@ -151,12 +151,14 @@ by_command b s a (command.Run limit) before mid after t is asks run =
     run_goes b limit before mid after t (λ m stands. now_going b m a limit before mid is asks (served b m before asks.idle stands))
     (fewer_going before.may mid.may (left_in_run mid.editing) _ asks.less (few_left mid.editing)) run
 by_command b s a (command.Edit e) before mid after (turn.Over n) is asks hears = now_heard b s a (command.Edit e) before mid after n is asks hears
+by_command b s a (command.Ned number path) before mid after (turn.Over n) is asks hears = now_heard b s a (command.Ned number path) before mid after n is asks hears
 by_command b s a command.Positions before mid after (turn.Over n) is asks hears = now_heard b s a command.Positions before mid after n is asks hears
 by_command b s a command.Held before mid after (turn.Over n) is asks hears = now_heard b s a command.Held before mid after n is asks hears
 by_command b s a command.Write before mid after (turn.Over n) is asks hears = now_heard b s a command.Write before mid after n is asks hears
 by_command b s a command.Unknown before mid after (turn.Over n) is asks hears = now_heard b s a command.Unknown before mid after n is asks hears
 by_command b s a command.TooLarge before mid after (turn.Over n) is asks hears = now_heard b s a command.TooLarge before mid after n is asks hears
 by_command b s a (command.Edit e) before mid after (turn.Need made) is asks hears = absurd hears
+by_command b s a (command.Ned number path) before mid after (turn.Need made) is asks hears = absurd hears
 by_command b s a command.Positions before mid after (turn.Need made) is asks hears = absurd hears
 by_command b s a command.Held before mid after (turn.Need made) is asks hears = absurd hears
 by_command b s a command.Write before mid after (turn.Need made) is asks hears = absurd hears

@@ -4,6 +4,7 @@ use Rattle.module_api.specs.Behaviour.{Behaviour}
 use Rattle.models.specs.declared.model.Model.{Model}
 use Rattle.model_answers.specs.Answering.{answers_of}
 use Rattle.model_edits.specs.declared.edit.Edit.{Edit}
+use Rattle.model_edits.specs.declared.edit.Edit.TheVariants as edit
 use Rattle.command_lines.specs.Commands.{command_of}
 use Rattle.command_lines.specs.declared.commands.Command.{Command}
 use Rattle.command_lines.specs.declared.commands.Command.TheVariants as command
@@ -15,7 +16,7 @@ use Rattle.checkpoints.specs.Stored.{begun, Timeline}
 use Rattle.checkpointed_runs.specs.Positions.{cut, last_count, positions_after, HasStored}
 use Rattle.desk.specs.Answers.{held_text, positions_text}
 use Rattle.desk.specs.Turns.{run_answer, IsMade, IsRefused}
-use Rattle.transcripts.specs.Heard.{Answer, Files, Heard}
+use Rattle.transcripts.specs.Heard.{Answer, Files, Heard, Read}
 use Rattle.transcripts.specs.declared.asked.Asked.{Asked}
 use Rattle.transcripts.specs.declared.asked.Asked.TheVariants as asked
 
@@ -74,6 +75,12 @@ HearsEdit b s e heard s' =
     × (s'.positions ≡ cut s'.known s.positions)) ⊎ (IsRefused s.model e text × (s' ≡ s))))
     ⊎ ((heard ≡ out_of_memory ∷ []) × (s' ≡ s))
 
+-- A NED FILE is read that a command names, and then an edit is answered by which the file of that number is what was read; or memory ran out before.
+abbrev pub HearsNed : Behaviour → Machine → ℕ → List ℕ → List Heard → Machine → Type 0
+HearsNed b s number path heard s' =
+    ((text : List ℕ) × (rest : List Heard) × (heard ≡ Read path text ∷ rest) × HearsEdit b s (edit.ReplaceNed number text) rest s')
+    ⊎ ((heard ≡ out_of_memory ∷ []) × (s' ≡ s))
+
 -- AFTER WHICH EVENTS a position is stored is told, or memory ran out.
 abbrev pub HearsPositions : List ℕ → List Heard → Type 0
 HearsPositions positions heard = (heard ≡ Answer (positions_text positions) ∷ []) ⊎ (heard ≡ out_of_memory ∷ [])
@@ -92,6 +99,7 @@ HearsFiles b m (Some limit) heard = heard ≡ Files m.config (scalars_of_run b m
 abbrev pub Hears : Behaviour → Machine → Command → List Heard → Machine → Type 0
 Hears b s (command.Run limit) heard s' = HearsRun b s limit heard s'
 Hears b s (command.Edit e) heard s' = HearsEdit b s e heard s'
+Hears b s (command.Ned number path) heard s' = HearsNed b s number path heard s'
 Hears b s command.Positions heard s' = HearsPositions s.positions.stored heard × (s' ≡ s)
 Hears b s command.Held heard s' = HearsHeld s.held heard × (s' ≡ s)
 Hears b s command.Write heard s' = HearsFiles b s.model s.last heard × (s' ≡ s)

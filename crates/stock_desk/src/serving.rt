@@ -24,6 +24,7 @@ use model_texts::begin::BeginFault;
 use module_api::simple_module::SimpleModule;
 use ned_trees::texts::NedTexts;
 use result_lines::writer::Out;
+use sim_values::text::Text;
 use std::alloc::Global;
 use std::marker::PhantomData;
 use stock_modules::modules::StockModule;
@@ -133,6 +134,18 @@ impl<O: Out + Drop, K: Client<O> + Drop> Server<O, K> {
         }
     }
 
+    /// Changes the NED file of that number to what the file of that path holds, which the client reads; or tells why not.
+    fn ned(&mut self, number: u64, path: Text) -> Next
+        requires { IsReady stock SimpleModule-box K.keeps self.old }
+        ensures { Serves stock SimpleModule-box K.asked K.heard K.left K.keeps K.label K.stops
+            MayStopAt (HearsNext stock (commands.Ned number path)) self.old self.new result }
+    {
+        match self.client.read(path.as_bytes()) {
+            Ok(text) => self.edit(Edit::ReplaceNed(number as usize, text)),
+            Err(Gone) => Next::Stop(Stop::Gone),
+        }
+    }
+
     /// Tells after which events a position is stored.
     fn positions(&mut self) -> Next
         requires { IsReady stock SimpleModule-box K.keeps self.old }
@@ -229,6 +242,7 @@ impl<O: Out + Drop, K: Client<O> + Drop> Server<O, K> {
         match command {
             Command::Run(limit) => self.run(alloc, limit),
             Command::Edit(edit) => Turn::Over(self.edit(edit)),
+            Command::Ned(number, path) => Turn::Over(self.ned(number, path)),
             Command::Positions => Turn::Over(self.positions()),
             Command::Held => Turn::Over(self.held()),
             Command::Write => Turn::Over(self.write()),

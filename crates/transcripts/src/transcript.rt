@@ -4,7 +4,7 @@ ghost use Rattle.std.specs.Prelude.{◌≡◌, List, [], ◌∷◌, ◌++◌};
 ghost use Rattle.std.specs.Borrow.{ftrue};
 ghost use Rattle.std.specs.Coded.{coded_list};
 ghost use Rattle.transcripts.specs.Asks.{asked_code};
-ghost use Rattle.transcripts.specs.Heard.{Heard, Answer, Files, heard_code};
+ghost use Rattle.transcripts.specs.Heard.{Heard, Answer, Files, Read, heard_code};
 ghost use Rattle.transcripts.specs.declared.asked.Asked.{Asked as AskedValue};
 ghost use Rattle.transcripts.specs.declared.asked.Asked.TheVariants as asks;
 
@@ -58,6 +58,12 @@ impl Transcript {
     pub fn hears_files(&mut self, _config: &Noted, _scalars: &Noted, _vectors: &Noted)
         ensures heard { self.new.heard ≡ self.old.heard
             ++ Files _config.now.bytes _scalars.now.bytes _vectors.now.bytes ∷ [] }
+        ensures asked { self.new.asked ≡ self.old.asked }
+    {}
+
+    /// The file of that path was read, and holds these bytes.
+    pub fn hears_read(&mut self, _path: &[u8], _text: &[u8])
+        ensures heard { self.new.heard ≡ self.old.heard ++ Read _path.now _text.now ∷ [] }
         ensures asked { self.new.asked ≡ self.old.asked }
     {}
 }

@@ -1,5 +1,5 @@
 use Rattle.std.proofs.Common.{refl}
-use Rattle.model_edits.proofs.Ruling.{comes_inserted, comes_removed, comes_replaced, comes_selected}
+use Rattle.model_edits.proofs.Ruling.{comes_inserted, comes_removed, comes_replaced, comes_replaced_file, comes_selected}
 use Rattle.model_edits.proofs.edit.change.Goals as goal
 
 pub returns-in-InsertIni : goal.returns-in-InsertIni
@@ -19,3 +19,9 @@ returns-in-RemoveIni c =
 
 pub returns-in-SelectConfig : goal.returns-in-SelectConfig
 returns-in-SelectConfig c = rw c.in-SelectConfig.is (comes_selected c.args.model.now c.in-SelectConfig.name _ _ c.select.ensures)
+
+pub returns-in-ReplaceNed : goal.returns-in-ReplaceNed
+returns-in-ReplaceNed c =
+    rw (c.in-ReplaceNed.is, ← c.as_bytes-in-ReplaceNed.ensures)
+    (comes_replaced_file c.args.model.now c.in-ReplaceNed.number c.as_bytes-in-ReplaceNed.result.now c.with_file-made.result
+    (rw c.as_slice.ensures at c.with_file-made.ensures) _ _ c.take_changed.ensures)
