@@ -8,7 +8,7 @@ use Rattle.command_lines.specs.declared.commands.Command.{Command}
 use Rattle.command_lines.specs.declared.commands.Command.TheVariants as command
 use Rattle.command_lines.specs.Injections.{injection_of, withdrawal_of}
 use Rattle.command_lines.specs.Numbers.{number_of}
-use Rattle.command_lines.specs.Words.{behind, numbered, short_numbered, word_of}
+use Rattle.command_lines.specs.Words.{behind, named, numbered, short_numbered, word_of}
 
 -- ---- edits
 
@@ -36,11 +36,31 @@ ini_edit_of rest = or_else (insertion_of rest) (or_else (replacement_of rest) (r
 abbrev pub selection_of : List ℕ → Option Edit
 selection_of line = option_map edit.SelectConfig (option_and_then word_of (behind (codes "config ") line))
 
+-- the connection of `TYPE PLACE TEXT`, behind `connect `: TEXT is all the rest, its bytes as they are
+abbrev pub connection_at : List ℕ × List ℕ → Option Edit
+connection_at p = option_map (λ q. edit.AddConnection p.0 q.0 q.1) (numbered p.1)
+
+-- `connect TYPE PLACE TEXT`
+abbrev pub addition_of : List ℕ → Option Edit
+addition_of line = option_and_then connection_at (option_and_then named (behind (codes "connect ") line))
+
+-- the place of `TYPE PLACE`, behind `disconnect `
+abbrev pub place_at : List ℕ × List ℕ → Option Edit
+place_at p = option_map (λ place. edit.RemoveConnection p.0 place) (number_of p.1)
+
+-- `disconnect TYPE PLACE`
+abbrev pub disconnection_of : List ℕ → Option Edit
+disconnection_of line = option_and_then place_at (option_and_then named (behind (codes "disconnect ") line))
+
+-- an edit of connections
+abbrev pub connection_edit_of : List ℕ → Option Edit
+connection_edit_of line = or_else (addition_of line) (disconnection_of line)
+
 -- the edit that a line asks for
 unfoldable pub edit_of : List ℕ → Option Edit
 edit_of line =
     or_else (option_and_then ini_edit_of (behind (codes "ini ") line))
-    (or_else (selection_of line) (or_else (injection_of line) (withdrawal_of line)))
+    (or_else (selection_of line) (or_else (injection_of line) (or_else (connection_edit_of line) (withdrawal_of line))))
 
 -- ---- commands
 

@@ -38,3 +38,7 @@ is_word bytes = is_utf8 bytes && not (list_any is_space bytes)
 
 abbrev pub word_of : List ℕ → Option (List ℕ)
 word_of bytes = if is_word bytes then Some bytes else None
+
+-- the first word, where it is UTF-8, and all that stands behind the space that ends it
+abbrev pub named : List ℕ → Option (List ℕ × List ℕ)
+named bytes = option_and_then (λ p. option_map (λ name. (name, p.1)) (word_of p.0)) (parted bytes)

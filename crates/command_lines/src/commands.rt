@@ -1,12 +1,12 @@
 //! What command lines ask for.
 
 ghost use Rattle.std.specs.Prelude.{◌≡◌, IfOk, IsSome, OnErr, option_map};
-ghost use Rattle.command_lines.specs.Commands.{command_of, edit_of, file_of, file_or_plain, ini_edit_of, insertion_of};
+ghost use Rattle.command_lines.specs.Commands.{addition_of, command_of, connection_at, connection_edit_of, disconnection_of, edit_of, file_of, file_or_plain, ini_edit_of, insertion_of, place_at};
 ghost use Rattle.command_lines.specs.Commands.{limit_of, plain_command, removal_of, replacement_of, selection_of, IsEdit};
 
 use crate::injections::{injection_of, withdrawal_of};
 use crate::numbers::number_of;
-use crate::words::{behind, numbered, short_numbered, word_of};
+use crate::words::{behind, named, numbered, short_numbered, word_of};
 use model_edits::edit::Edit;
 use sim_values::NoMemory;
 use sim_values::text::{Text, spells};
@@ -21,7 +21,7 @@ pub enum Command {
     /// `run N`: run for at most N events.
     Run(u64),
     /// `ini insert L TEXT`, `ini replace L TEXT`, `ini remove L`, `config NAME`,
-    /// `inject PATH TIME PRIORITY KIND BITS HEX`, `withdraw K`: an edit of the model.
+    /// `connect TYPE PLACE TEXT`, `disconnect TYPE PLACE`, `inject PATH TIME PRIORITY KIND BITS HEX`, `withdraw K`: an edit of the model.
     Edit(Edit),
     /// `ned FILE PATH`: an edit of the model, by which the NED file of number FILE, counted from 0, is what the file of that path holds.
     Ned(u64, Text),
@@ -104,6 +104,69 @@ fn selection_of(alloc: Global, line: &[u8]) -> Result<Option<Edit>, AllocError>
     Ok(Some(Edit::SelectConfig(Text::from_bytes(alloc, name)?)))
 }
 
+/// The connection of `PLACE TEXT`, behind `connect TYPE `.
+fn connection_at(alloc: Global, name: &[u8], rest: &[u8]) -> Result<Option<Edit>, AllocError>
+    ensures found { IfOk result (λ found. found ≡ connection_at (name.now, rest.now)) }
+    ensures memory { OnErr result (IsSome (connection_at (name.now, rest.now))) }
+{
+    let Some((place, text)) = numbered(rest) else {
+        return Ok(None);
+    };
+    let name = Text::from_bytes(alloc, name)?;
+    let text = Text::from_bytes(alloc, text)?;
+    Ok(Some(Edit::AddConnection(name, place as usize, text)))
+}
+
+/// The edit of `connect TYPE PLACE TEXT`.
+fn addition_of(alloc: Global, line: &[u8]) -> Result<Option<Edit>, AllocError>
+    ensures found { IfOk result (λ found. found ≡ addition_of line.now) }
+    ensures memory { OnErr result (IsSome (addition_of line.now)) }
+{
+    let Some(words) = behind(b"connect ", line) else {
+        return Ok(None);
+    };
+    let Some((name, rest)) = named(words) else {
+        return Ok(None);
+    };
+    connection_at(alloc, name, rest)
+}
+
+/// The place of `PLACE`, behind `disconnect TYPE `.
+fn place_at(alloc: Global, name: &[u8], rest: &[u8]) -> Result<Option<Edit>, AllocError>
+    ensures found { IfOk result (λ found. found ≡ place_at (name.now, rest.now)) }
+    ensures memory { OnErr result (IsSome (place_at (name.now, rest.now))) }
+{
+    let Some(place) = number_of(rest) else {
+        return Ok(None);
+    };
+    Ok(Some(Edit::RemoveConnection(Text::from_bytes(alloc, name)?, place as usize)))
+}
+
+/// The edit of `disconnect TYPE PLACE`.
+fn disconnection_of(alloc: Global, line: &[u8]) -> Result<Option<Edit>, AllocError>
+    ensures found { IfOk result (λ found. found ≡ disconnection_of line.now) }
+    ensures memory { OnErr result (IsSome (disconnection_of line.now)) }
+{
+    let Some(words) = behind(b"disconnect ", line) else {
+        return Ok(None);
+    };
+    let Some((name, rest)) = named(words) else {
+        return Ok(None);
+    };
+    place_at(alloc, name, rest)
+}
+
+/// The edit of connections that a line asks for.
+fn connection_edit_of(alloc: Global, line: &[u8]) -> Result<Option<Edit>, AllocError>
+    ensures found { IfOk result (λ found. found ≡ connection_edit_of line.now) }
+    ensures memory { OnErr result (IsSome (connection_edit_of line.now)) }
+{
+    if let Some(addition) = addition_of(alloc, line)? {
+        return Ok(Some(addition));
+    }
+    disconnection_of(alloc, line)
+}
+
 /// The edit that a line asks for.
 #[tactic(auto, unfolding(crate::specs::Commands::edit_of))]
 fn edit_of(alloc: Global, line: &[u8]) -> Result<Option<Edit>, AllocError>
@@ -120,6 +183,9 @@ fn edit_of(alloc: Global, line: &[u8]) -> Result<Option<Edit>, AllocError>
     }
     if let Some(injection) = injection_of(alloc, line)? {
         return Ok(Some(injection));
+    }
+    if let Some(connection) = connection_edit_of(alloc, line)? {
+        return Ok(Some(connection));
     }
     Ok(withdrawal_of(line))
 }

@@ -4,7 +4,7 @@ ghost use Rattle.std.specs.Prelude.{◌≡◌, ◌<◌, [], ◌∷◌, length, p
 ghost use Rattle.std.specs.List.{list_any};
 ghost use Rattle.std.specs.Str.{is_utf8};
 ghost use Rattle.std.specs.Option.{option_copied};
-ghost use Rattle.command_lines.specs.Words.{behind, is_space, is_word, numbered, parted, short_numbered, word_of, words_of};
+ghost use Rattle.command_lines.specs.Words.{behind, is_space, is_word, named, numbered, parted, short_numbered, word_of, words_of};
 
 use crate::numbers::{number_of, short_of};
 use std::str::from_utf8;
@@ -80,4 +80,12 @@ pub(crate) fn word_of(bytes: &[u8]) -> Option<&[u8]>
     ensures { option_copied result ≡ word_of bytes.now }
 {
     if is_word(bytes) { Some(bytes) } else { None }
+}
+
+/// The first word, where it is UTF-8, and all that stands behind the space that ends it.
+pub(crate) fn named(bytes: &[u8]) -> Option<(&[u8], &[u8])>
+    ensures { option_map (λ p. (p.0.now, p.1.now)) result ≡ named bytes.now }
+{
+    let (word, rest) = parted(bytes)?;
+    Some((word_of(word)?, rest))
 }

@@ -291,6 +291,8 @@ pub fn edit_refusal_text(alloc: Global, refusal: Refusal) -> Result<Text, NoMemo
         Refusal::NoSuchLine => Ok(refused_as(alloc, b"NoSuchLine")?),
         Refusal::NoSuchInjection => Ok(refused_as(alloc, b"NoSuchInjection")?),
         Refusal::NoSuchFile => Ok(refused_as(alloc, b"NoSuchFile")?),
+        Refusal::NoSuchType => Ok(refused_as(alloc, b"NoSuchType")?),
+        Refusal::NoSuchConnection => Ok(refused_as(alloc, b"NoSuchConnection")?),
         Refusal::NedSyntax(line) => Ok(bad_ned_line(alloc, line)?),
         Refusal::Types(fault) => Ok(refused_as(alloc, type_fault_name(fault))?),
         Refusal::IniSyntax(line, _) => Ok(bad_line(alloc, line)?),

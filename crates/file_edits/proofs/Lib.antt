@@ -1,1 +1,2 @@
 pub mod ChangeLaws
+pub mod NestedLaws

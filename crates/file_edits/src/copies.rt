@@ -11,7 +11,7 @@ use std::alloc::{AllocError, Global};
 
 /// An equal type, with those within it.
 #[cycle(copying)]
-fn copy_nested(alloc: Global, nested: &NestedType) -> Result<NestedType, AllocError>
+pub(crate) fn copy_nested(alloc: Global, nested: &NestedType) -> Result<NestedType, AllocError>
     ensures { IfOk result (λ copy. copy ≡ nested.now) }
 {
     let declared = copy_type(alloc, &nested.declared)?;
@@ -45,11 +45,7 @@ fn copy_file(alloc: Global, file: &NedFile) -> Result<NedFile, AllocError>
 }
 
 /// Adds a copy of a shared file at the end.
-fn push_copy(
-    alloc: Global,
-    files: &mut Vec<NedFile>,
-    file: &SharedFile,
-) -> Result<(), AllocError>
+fn push_copy(alloc: Global, files: &mut Vec<NedFile>, file: &SharedFile) -> Result<(), AllocError>
     ensures { OnOk result (files.new.items ≡ files.old.items ++ file.now ∷ []) }
 {
     let copy = copy_file(alloc, file.file())?;

@@ -15,6 +15,10 @@ pub enum FileError {
     TooLarge,
     /// There is no file of that number.
     NoSuchFile,
+    /// There is no module or network of that name, or it stands within another type.
+    NoSuchType,
+    /// It has no connection at that place, or no such place for one more.
+    NoSuchConnection,
     /// The line of the text's first byte that can't go on; at its end that of its last byte, 1 in an empty text.
     NedSyntax(usize),
     /// The types of the changed files make no model.

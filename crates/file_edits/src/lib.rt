@@ -4,4 +4,5 @@
 pub mod changes;
 pub mod copies;
 pub mod error;
+mod items;
 pub mod tables;

@@ -55,6 +55,8 @@ parts_ruled_out m p config refusal.TooLarge why new is net = absurd why
 parts_ruled_out m p config refusal.NoSuchLine why new is net = absurd why
 parts_ruled_out m p config refusal.NoSuchInjection why new is net = absurd why
 parts_ruled_out m p config refusal.NoSuchFile why new is net = absurd why
+parts_ruled_out m p config refusal.NoSuchType why new is net = absurd why
+parts_ruled_out m p config refusal.NoSuchConnection why new is net = absurd why
 parts_ruled_out m p config (refusal.NedSyntax line) why new is net = absurd why
 parts_ruled_out m p config (refusal.IniSyntax line reason) why new is net = absurd why
 parts_ruled_out m p config (refusal.Types fault) why new is net = absurd why
@@ -70,6 +72,8 @@ chain_refused m p config refusal.TooLarge why = absurd why
 chain_refused m p config refusal.NoSuchLine why = absurd why
 chain_refused m p config refusal.NoSuchInjection why = absurd why
 chain_refused m p config refusal.NoSuchFile why = absurd why
+chain_refused m p config refusal.NoSuchType why = absurd why
+chain_refused m p config refusal.NoSuchConnection why = absurd why
 chain_refused m p config (refusal.NedSyntax line) why = absurd why
 chain_refused m p config (refusal.IniSyntax line reason) why = absurd why
 chain_refused m p config (refusal.Types fault) why = absurd why
@@ -95,6 +99,8 @@ no_model m e p refusal.TooLarge behind why = absurd why
 no_model m e p refusal.NoSuchLine behind why = absurd why
 no_model m e p refusal.NoSuchInjection behind why = absurd why
 no_model m e p refusal.NoSuchFile behind why = absurd why
+no_model m e p refusal.NoSuchType behind why = absurd why
+no_model m e p refusal.NoSuchConnection behind why = absurd why
 no_model m e p (refusal.NedSyntax line) behind why = absurd why
 no_model m e p (refusal.IniSyntax line reason) behind why = absurd why
 no_model m e p (refusal.Types fault) behind why = absurd why
@@ -108,6 +114,8 @@ no_model_of_files m e c p refusal.TooLarge behind why = absurd why
 no_model_of_files m e c p refusal.NoSuchLine behind why = absurd why
 no_model_of_files m e c p refusal.NoSuchInjection behind why = absurd why
 no_model_of_files m e c p refusal.NoSuchFile behind why = absurd why
+no_model_of_files m e c p refusal.NoSuchType behind why = absurd why
+no_model_of_files m e c p refusal.NoSuchConnection behind why = absurd why
 no_model_of_files m e c p (refusal.NedSyntax line) behind why = absurd why
 no_model_of_files m e c p (refusal.IniSyntax line reason) behind why = absurd why
 no_model_of_files m e c p (refusal.Types fault) behind why = absurd why
@@ -249,6 +257,8 @@ files_changed m e c is_change no_line same (Err why) answers new (Err r) took = 
     due : (w : FileError) → ned.Refuses c m.files w → RefusesFiles m e c (told_of w)
     due file_errors.TooLarge is = is
     due file_errors.NoSuchFile is = is
+    due file_errors.NoSuchType is = is
+    due file_errors.NoSuchConnection is = is
     due (file_errors.NedSyntax line) is = is
     due (file_errors.Types fault) is = is
     due (file_errors.NoMemory error) is = tt
@@ -262,6 +272,16 @@ pub comes_replaced_file : (m : Model) (number : ℕ) (text : List ℕ) (made : R
     → (new : Model) (result : Result Unit Refusal) → TakesChanged m made new result → Comes m (edit.ReplaceNed number text) new result
 comes_replaced_file m number text made answers new (Ok u) took = files_changed m (edit.ReplaceNed number text) (ned.Replaced number text) refl refl refl made answers new (Ok u) took
 comes_replaced_file m number text made answers new (Err r) took = files_changed m (edit.ReplaceNed number text) (ned.Replaced number text) refl refl refl made answers new (Err r) took
+
+pub comes_inserted_item : (m : Model) (name : List ℕ) (place : ℕ) (text : List ℕ) (made : Result TypedFiles FileError) → AnswersChange (ned.Inserted name place text) m.files made
+    → (new : Model) (result : Result Unit Refusal) → TakesChanged m made new result → Comes m (edit.AddConnection name place text) new result
+comes_inserted_item m name place text made answers new (Ok u) took = files_changed m (edit.AddConnection name place text) (ned.Inserted name place text) refl refl refl made answers new (Ok u) took
+comes_inserted_item m name place text made answers new (Err r) took = files_changed m (edit.AddConnection name place text) (ned.Inserted name place text) refl refl refl made answers new (Err r) took
+
+pub comes_removed_item : (m : Model) (name : List ℕ) (place : ℕ) (made : Result TypedFiles FileError) → AnswersChange (ned.Removed name place) m.files made
+    → (new : Model) (result : Result Unit Refusal) → TakesChanged m made new result → Comes m (edit.RemoveConnection name place) new result
+comes_removed_item m name place made answers new (Ok u) took = files_changed m (edit.RemoveConnection name place) (ned.Removed name place) refl refl refl made answers new (Ok u) took
+comes_removed_item m name place made answers new (Err r) took = files_changed m (edit.RemoveConnection name place) (ned.Removed name place) refl refl refl made answers new (Err r) took
 
 -- ---- what comes of an edit, clause by clause
 

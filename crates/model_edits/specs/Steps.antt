@@ -49,6 +49,8 @@ told_as (errors.NoMemory error) = refusal.NoMemory error
 abbrev pub told_of : FileError → Refusal
 told_of file_errors.TooLarge = refusal.TooLarge
 told_of file_errors.NoSuchFile = refusal.NoSuchFile
+told_of file_errors.NoSuchType = refusal.NoSuchType
+told_of file_errors.NoSuchConnection = refusal.NoSuchConnection
 told_of (file_errors.NedSyntax line) = refusal.NedSyntax line
 told_of (file_errors.Types why) = refusal.Types why
 told_of (file_errors.NoMemory error) = refusal.NoMemory error

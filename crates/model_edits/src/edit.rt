@@ -9,7 +9,7 @@ ghost use Rattle.model_edits.specs.Edited.{has_no_room, is_numbered, number_give
 ghost use Rattle.model_edits.specs.declared.edit.Edit.TheVariants as edits;
 ghost use Rattle.model_edits.specs.Steps.{has_network, parts, told_as, told_of, with_files, with_lines, Comes, RefusesChain, Takes, TakesChanged, TakesMade};
 
-use file_edits::changes::{TypedFiles, with_file};
+use file_edits::changes::{TypedFiles, with_connection, with_file, without_connection};
 use file_edits::error::FileError;
 use ini_config::edits::{with_inserted, with_removed, with_replaced};
 use ini_config::error::EditError;
@@ -46,6 +46,11 @@ pub enum Edit {
     RemoveIni(usize),
     /// The NED file of this number, counted from 0, is this text.
     ReplaceNed(usize, Text),
+    /// The connection, or the group of connections, that this text is stands at this place, counted from 0, among those of the module or
+    /// network of this name. The place behind the last one adds one at the end.
+    AddConnection(Text, usize, Text),
+    /// The connection, or the group of connections, at this place is taken out.
+    RemoveConnection(Text, usize),
     /// The configuration of this name is selected.
     SelectConfig(Text),
     /// A message from outside arrives at the simple module of this path when it is due: of this kind, so many bits long, and with
@@ -58,7 +63,7 @@ pub enum Edit {
 /// Why an edit is refused. Of several reasons the first in this order is told, and want of memory in any place.
 #[derive(Clone, Copy)]
 pub enum Refusal {
-    /// The changed ini text is longer than 1 MiB, or a given NED text is; or a payload is longer than 4,096 bytes, 10,000 injections are held, or all
+    /// The changed ini text is longer than 1 MiB, or a given text of NED is; or a payload is longer than 4,096 bytes, 10,000 injections are held, or all
     /// their numbers are used.
     TooLarge,
     /// There is no line of that number.
@@ -67,6 +72,10 @@ pub enum Refusal {
     NoSuchInjection,
     /// There is no NED file of that number.
     NoSuchFile,
+    /// There is no module or network of that name, or it stands within another type.
+    NoSuchType,
+    /// It has no connection at that place, or no such place for one more.
+    NoSuchConnection,
     /// The line, from 1, of the given NED text's first byte that can't go on; at its end that of its last byte.
     NedSyntax(usize),
     /// The number, from 1, of the first line of the changed ini text that means nothing, and why.
@@ -102,6 +111,8 @@ fn told_of(error: FileError) -> Refusal
     match error {
         FileError::TooLarge => Refusal::TooLarge,
         FileError::NoSuchFile => Refusal::NoSuchFile,
+        FileError::NoSuchType => Refusal::NoSuchType,
+        FileError::NoSuchConnection => Refusal::NoSuchConnection,
         FileError::NedSyntax(line) => Refusal::NedSyntax(line),
         FileError::Types(fault) => Refusal::Types(fault),
         FileError::NoMemory(error) => Refusal::NoMemory(error),
@@ -197,7 +208,13 @@ fn take_made(
 fn take_files(alloc: Global, model: &mut Model, made: TypedFiles) -> Result<(), Refusal>
     ensures { Takes model.old (with_files model.old made) model.old.config model.new result }
 {
-    let chain = chain_with(alloc, model, &made.types, &model.ini, model.config.as_bytes())?;
+    let chain = chain_with(
+        alloc,
+        model,
+        &made.types,
+        &model.ini,
+        model.config.as_bytes(),
+    )?;
     let TypedFiles { files, types } = made;
     model.files = files;
     model.types = types;
@@ -322,6 +339,15 @@ fn change(alloc: Global, model: &mut Model, edit: Edit) -> Result<(), Refusal>
         }
         Edit::ReplaceNed(number, text) => {
             let made = with_file(alloc, model.files.as_slice(), number, text.as_bytes());
+            take_changed(alloc, model, made)
+        }
+        Edit::AddConnection(name, place, text) => {
+            let files = model.files.as_slice();
+            let made = with_connection(alloc, files, name.as_bytes(), place, text.as_bytes());
+            take_changed(alloc, model, made)
+        }
+        Edit::RemoveConnection(name, place) => {
+            let made = without_connection(alloc, model.files.as_slice(), name.as_bytes(), place);
             take_changed(alloc, model, made)
         }
         Edit::SelectConfig(name) => select(alloc, model, name),

@@ -11,13 +11,13 @@ ghost use Rattle.type_building.specs.Inheritance.{flat_types};
 ghost use Rattle.type_building.specs.Building.{fault_of};
 ghost use Rattle.model_texts.specs.Models.{refusal_of, AreNedFiles, IsModelOf, IsOnlyModelOf, IsRuledOut, RefusesFile, RefusesFiles, RefusesIni, RefusesTypes, RefusesConfig, Refuses, is_large, is_too_large};
 
+use file_edits::tables;
 use ini_config::error::IniError;
 use ini_config::parse::parse_ini;
 use ini_entries::reason::Reason;
 use ini_texts::error::ChainError;
 use ini_texts::lines::IniText;
 use models::model::Model;
-use file_edits::tables;
 use ned_files::shared;
 use ned_files::shared::SharedFile;
 use ned_syntax::parse::parse_ned;
@@ -115,11 +115,7 @@ fn file_of(alloc: Global, number: usize, bytes: &[u8]) -> Result<NedFile, BeginF
 }
 
 /// Adds a file at the end.
-fn push_file(
-    alloc: Global,
-    files: &mut Items<SharedFile>,
-    file: NedFile,
-) -> Result<(), BeginFault>
+fn push_file(alloc: Global, files: &mut Items<SharedFile>, file: NedFile) -> Result<(), BeginFault>
     ensures ok { OnOk result (files.new ≡ files.old ++ file ∷ []) }
     ensures err { IfErr result (λ fault. fault ≡ BeginFault.NoMemory no_memory) }
 {
