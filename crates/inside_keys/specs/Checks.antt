@@ -1,0 +1,28 @@
+-- What values have to be.
+use Rattle.std.specs.Prelude.{ℕ, nat_lt, ℤ, pos, negsuc, Result, Ok, Err, if◌then◌else◌}
+use Rattle.sim_values.specs.declared.value.Value.{Value}
+use Rattle.sim_values.specs.declared.value.Value.TheVariants as value
+use Rattle.inside_parts.specs.declared.fault.Fault.{Fault}
+use Rattle.inside_parts.specs.declared.fault.Fault.TheVariants.{Mismatch, TooManyModules, GateSize}
+use Rattle.inside_parts.specs.Faults.{of_value}
+use Rattle.param_eval.specs.Operators.{Evaluated}
+use Rattle.parameter_values.specs.Kinds.{of_kind}
+use Rattle.inside_keys.specs.declared.check.Check.{Check}
+use Rattle.inside_keys.specs.declared.check.Check.TheVariants as check
+
+abbrev pub told : Evaluated → Result Value Fault
+told (Ok v) = Ok v
+told (Err f) = Err (of_value f)
+
+-- 0 to 65,536
+abbrev pub sized : Fault → Fault → ℤ → Result Value Fault
+sized below above (pos n) = if nat_lt 65536 n then Err above else Ok (value.Whole (pos n))
+sized below above (negsuc n) = Err below
+
+-- the value, where it is what it has to be
+abbrev pub checked : Check → Value → Result Value Fault
+checked (check.Parameter k) v = told (of_kind k v)
+checked check.Condition (value.Truth b) = Ok (value.Truth b)
+checked check.VectorSize (value.Whole z) = sized Mismatch TooManyModules z
+checked check.GateSize (value.Whole z) = sized GateSize GateSize z
+checked _ v = Err Mismatch

@@ -1,0 +1,225 @@
+-- The inside of a compound module: what it asks, and what is made of the answers. Each definition says one thing that is done, and then `rest`.
+-- OMNeT++ Simulation Manual, "Submodules", "Connections", "Parametric Connections".
+use Rattle.std.specs.Prelude.{ℕ, zero, suc, ◌+◌, ◌-◌, ◌==◌, ℤ, pos, negsuc, ◌+ℤ◌, ◌-ℤ◌, Bool, true, false, List, [], ◌∷◌, Option, Some, None, Result, Ok, Err, if◌then◌else◌, is_some, length, map, slice_get}
+use Rattle.asking.specs.Asking.{Done}
+use Rattle.ned_trees.specs.declared.connections.Clause.{Clause}
+use Rattle.ned_trees.specs.declared.connections.Clause.TheVariants.{For, If}
+use Rattle.ned_trees.specs.declared.connections.Connection.{Connection}
+use Rattle.ned_trees.specs.declared.connections.ConnectionItem.{ConnectionItem}
+use Rattle.ned_trees.specs.declared.connections.ConnectionItem.TheVariants.{Line, Group}
+use Rattle.ned_trees.specs.declared.connections.ConnectionLine.{ConnectionLine}
+use Rattle.ned_trees.specs.declared.connections.End.{End}
+use Rattle.ned_trees.specs.declared.connections.GateIndex.{GateIndex}
+use Rattle.ned_trees.specs.declared.connections.GateIndex.TheVariants.{At, Next}
+use Rattle.ned_trees.specs.declared.connections.Owner.{Owner}
+use Rattle.ned_trees.specs.declared.declarations.SectionLine.{SectionLine}
+use Rattle.ned_trees.specs.declared.declarations.SectionLine.TheVariants as line
+use Rattle.ned_trees.specs.declared.declarations.Submodule.{Submodule}
+use Rattle.ned_trees.specs.declared.declarations.TypeDeclaration.{TypeDeclaration}
+use Rattle.ned_trees.specs.declared.expressions.Expression.{Expression}
+use Rattle.sim_values.specs.declared.value.Value.{Value}
+use Rattle.inside_parts.specs.declared.fault.Fault.TheVariants.{NoGate, TooManyTurns}
+use Rattle.inside_parts.specs.declared.gates.TypeGate.{TypeGate}
+use Rattle.inside_parts.specs.declared.gates.TypeGates.{TypeGates}
+use Rattle.inside_parts.specs.declared.parts.Made.TheVariants.{Absent, Single, Vector}
+use Rattle.inside_parts.specs.declared.parts.NamedGate.{NamedGate}
+use Rattle.inside_wiring.specs.declared.ends.Taken.{Taken}
+use Rattle.inside_wiring.specs.declared.wiring.GateId.{GateId}
+use Rattle.inside_wiring.specs.declared.wiring.Role.{Role}
+use Rattle.inside_wiring.specs.Ends.{part_named, gate_named, fits, at_index, at_next, at_single, left_role, right_role, beside, linked}
+use Rattle.param_eval.specs.Values.{valued}
+use Rattle.inside_keys.specs.declared.found.Found.TheVariants as found
+use Rattle.inside_keys.specs.declared.found.State.{State}
+use Rattle.inside_keys.specs.declared.key.Module.{Module}
+use Rattle.inside_keys.specs.declared.key.What.{What}
+use Rattle.inside_keys.specs.declared.key.What.TheVariants as what
+use Rattle.inside_keys.specs.declared.place.Place.{Place}
+use Rattle.inside_keys.specs.Asked.{Asked, ask_then, known_then, number_then, result_then, size_then, truth_then, valued_then, whole_then}
+use Rattle.inside_keys.specs.Keys.{child, key}
+use Rattle.inside_keys.specs.Places.{Scope, bind, meant_under}
+use Rattle.inside_keys.specs.States.{with_wiring, grown, part_added, noted}
+
+-- what is done next, with the inside as it has become
+abbrev pub Rest : Type 0
+Rest = State → Asked
+
+-- ---- loops and conditions
+
+-- a turn is counted, where one is left
+abbrev pub counted : State → Rest → Asked
+counted s rest = if s.turns == 0 then Done (Err TooManyTurns) else rest (record { parts = s.parts; wiring = s.wiring; turns = s.turns - 1 })
+
+-- n turns, the first with this number
+abbrev pub turns : ℕ → ℤ → (ℤ → State → Rest → Asked) → State → Rest → Asked
+turns zero z each s rest = rest s
+turns (suc n) z each s rest = counted s (λ t. each z t (λ u. turns n (z +ℤ pos 1) each u rest))
+
+abbrev pub or_zero : ℤ → ℕ
+or_zero (pos n) = n
+or_zero (negsuc n) = 0
+
+-- how many whole numbers there are from a to b, both among them
+unfoldable pub count : ℤ → ℤ → ℕ
+count a b = or_zero ((b -ℤ a) +ℤ pos 1)
+
+module _ (place : Place) where
+  -- the value of an expression of the type's, under loop variables
+  abbrev pub evaluated : Expression → Scope → (Value → Asked) → Asked
+  evaluated e scope rest = valued_then (meant_under scope place) (valued e) rest
+
+  -- a whole number
+  abbrev pub whole : Expression → Scope → (ℤ → Asked) → Asked
+  whole e scope rest = evaluated e scope (λ v. whole_then v rest)
+
+  -- WHAT CLAUSES DO around a body, from the left: `if` asks whether the rest is done, `for` does it in turns
+  abbrev pub looped : List Clause → (Scope → State → Rest → Asked) → Scope → State → Rest → Asked
+  looped [] body scope s rest = body scope s rest
+  looped (If e ∷ cs) body scope s rest = evaluated e scope (λ v. truth_then v (looped cs body scope s rest) (rest s))
+  looped (For f ∷ cs) body scope s rest =
+      whole f.first scope (λ first. whole f.last scope (λ last. turns (count first last) first (λ z t next. looped cs body (bind f.variable z scope) t next) s rest))
+
+  -- ---- connections
+
+  abbrev pub index_then : Option Expression → Scope → (Option ℤ → Asked) → Asked
+  index_then None scope rest = rest None
+  index_then (Some e) scope rest = whole e scope (λ z. rest (Some z))
+
+  -- where the submodules that are declared have these names, and the types these gates
+  module _ (names : List (List ℕ)) (gates : List TypeGates) where
+    -- the number of the part that an end names
+    abbrev pub part_then : Option Owner → Scope → State → (ℕ → Asked) → Asked
+    part_then None scope s rest = rest 0
+    part_then (Some m) scope s rest = index_then m.index scope (λ z. result_then (part_named names s.parts m.name z) rest)
+
+    -- the gate at a place of a gate vector, or a single gate
+    abbrev pub gate_then : Option GateIndex → NamedGate → Role → Option GateId → Scope → State → (Taken → Asked) → Asked
+    gate_then None g role other scope s rest = if g.kind.is_vector then Done (Err NoGate) else result_then (at_single s.wiring other role g) rest
+    gate_then (Some (At e)) g role other scope s rest = if g.kind.is_vector then whole e scope (λ z. result_then (at_index s.wiring other role g z) rest) else Done (Err NoGate)
+    gate_then (Some Next) g role other scope s rest = if g.kind.is_vector then result_then (at_next s.wiring other role g) rest else Done (Err NoGate)
+
+    -- the gate of a part that an end names, where it has that role
+    abbrev pub named_then : End → Role → Option GateId → Scope → State → ℕ → (Taken → Asked) → Asked
+    named_then e role other scope s part rest =
+        result_then (gate_named gates s.parts (length s.wiring.sizes) part e.gate.name) (λ g.
+        if fits g.is_own g.kind.direction e.gate.half role then gate_then e.gate.index g role other scope s rest else Done (Err NoGate))
+
+    -- AN END OF A CONNECTION: submodule index, submodule, gate, direction, vector or not, gate index
+    abbrev pub end_then : End → Role → Option GateId → Scope → State → (Taken → Asked) → Asked
+    end_then e role other scope s rest = part_then e.owner scope s (λ part. named_then e role other scope s part rest)
+
+    -- the right end of a connection, and the connection
+    abbrev pub right_end : Connection → GateId → Scope → State → Rest → Asked
+    right_end c l scope s rest =
+        end_then c.right (right_role c.arrow) (beside c.arrow l) scope s (λ r. rest (with_wiring s (linked c.arrow l r.id r.wiring)))
+
+    -- A CONNECTION: its left end, and its right end
+    abbrev pub connected : Connection → Scope → State → Rest → Asked
+    connected c scope s rest = end_then c.left (left_role c.arrow) None scope s (λ l. right_end c l.id scope (with_wiring s l.wiring) rest)
+
+    -- connections, each with its clauses
+    abbrev pub connection_lines : List ConnectionLine → Scope → State → Rest → Asked
+    connection_lines [] scope s rest = rest s
+    connection_lines (c ∷ cs) scope s rest = looped c.clauses (connected c.connection) scope s (λ t. connection_lines cs scope t rest)
+
+    abbrev pub item : ConnectionItem → Scope → State → Rest → Asked
+    item (Line c) scope s rest = looped c.clauses (connected c.connection) scope s rest
+    item (Group g) scope s rest = looped g.clauses (connection_lines g.lines) scope s rest
+
+    -- THE CONNECTIONS SECTION: its items, one after another
+    abbrev pub items : List ConnectionItem → Scope → State → Rest → Asked
+    items [] scope s rest = rest s
+    items (i ∷ is) scope s rest = item i scope s (λ t. items is scope t rest)
+
+-- ---- submodules
+
+-- the sizes of gates, each by a key: of a module's own gates the finished sizes, of a submodule's the declared ones
+abbrev pub gates : Module → (List ℕ → What) → List TypeGate → State → Rest → Asked
+gates m size [] s rest = rest s
+gates m size (g ∷ gs) s rest =
+    if g.kind.is_vector then ask_then (key m (size g.name)) (λ v. size_then v (λ n. gates m size gs (grown s n) rest)) else gates m size gs (grown s 1) rest
+
+-- all parameters that these lines declare have values
+abbrev pub parameters : Module → List SectionLine → State → Rest → Asked
+parameters m [] s rest = rest s
+parameters m (line.Declaration d ∷ ls) s rest = ask_then (key m (what.Param d.name)) (λ v. parameters m ls s rest)
+parameters m (_ ∷ ls) s rest = parameters m ls s rest
+
+abbrev pub gates_in : Option TypeGates → List TypeGate
+gates_in None = []
+gates_in (Some g) = g.gates
+
+abbrev pub is_vector : Submodule → Bool
+is_vector l = is_some l.size
+
+-- one way where a submodule is there, the other where its condition doesn't hold
+abbrev pub conditioned : Module → Submodule → Asked → Asked → Asked
+conditioned m l if_so if_not = if is_some l.condition then ask_then (key m (what.Condition l.name)) (λ v. truth_then v if_so if_not) else if_so
+
+-- how many elements a vector has
+abbrev pub sized : Module → Submodule → (ℕ → Asked) → Asked
+sized m l next = ask_then (key m (what.VectorSize l.name)) (λ v. size_then v next)
+
+-- the inside of a module, where the types have these declarations and these gates; with the values of its submodules' parameters, or only as far
+-- as gate sizes need it
+module _ (m : Module) (types : List TypeDeclaration) (type_gates : List TypeGates) (is_whole : Bool) where
+  -- the gates of the type of that number
+  abbrev pub gates_of : ℕ → List TypeGate
+  gates_of n = gates_in (slice_get type_gates n)
+
+  -- the lines whose parameters have to have values
+  abbrev pub asked_lines : TypeDeclaration → List SectionLine
+  asked_lines t = if is_whole then t.lines else []
+
+  -- a submodule of the type of that number: its parameters, its declared gate sizes
+  abbrev pub element_of : Module → ℕ → State → Rest → TypeDeclaration → Asked
+  element_of at n s rest t = parameters at (asked_lines t) (part_added s n) (λ u. gates at what.Declared (gates_of n) u rest)
+
+  abbrev pub element_typed : Module → ℕ → State → Rest → Asked
+  element_typed at n s rest = known_then (slice_get types n) (element_of at n s rest)
+
+  -- A SUBMODULE: its nesting and its type, its parameters, its declared gate sizes
+  abbrev pub element : Submodule → Option ℕ → State → Rest → Asked
+  element l index s rest = ask_then (key (child m l.name index) what.Type) (λ v. number_then v (λ n. element_typed (child m l.name index) n s rest))
+
+  -- the last n of so many elements of a vector
+  abbrev pub elements : ℕ → ℕ → Submodule → State → Rest → Asked
+  elements zero all l s rest = rest s
+  elements (suc n) all l s rest = element l (Some (all - suc n)) s (λ t. elements n all l t rest)
+
+  -- what is made of a declaration: one submodule, or as many as the vector size says
+  abbrev pub submodule_there : Submodule → State → Rest → Asked
+  submodule_there l s rest =
+      if is_vector l then sized m l (λ n. elements n n l (noted s (Vector (length s.parts.parts) n)) rest)
+      else element l None (noted s (Single (length s.parts.parts))) rest
+
+  -- A DECLARATION: its condition, and then what it makes
+  abbrev pub submodule : Submodule → State → Rest → Asked
+  submodule l s rest = conditioned m l (submodule_there l s rest) (rest (noted s Absent))
+
+  -- the submodules in the order of their declaration
+  abbrev pub submodules : List Submodule → State → Rest → Asked
+  submodules [] s rest = rest s
+  submodules (l ∷ ls) s rest = submodule l s (λ t. submodules ls t rest)
+
+-- the inside before anything is made, of a module of the type of that number
+abbrev pub own_part : ℕ → State
+own_part n = record {
+  parts = record { made = []; parts = record { first = 0; of_type = n; is_own = true } ∷ [] };
+  wiring = record { sizes = []; links = [] };
+  turns = 1000000;
+}
+
+-- the inside, as it is found at the end
+abbrev pub made_of : State → Asked
+made_of s = Done (Ok (found.Inside (record { parts = s.parts; wiring = s.wiring })))
+
+-- the names of the submodules that a type declares
+abbrev pub submodule_names : TypeDeclaration → List (List ℕ)
+submodule_names t = map (λ (l : Submodule). l.name) t.submodules
+
+-- THE INSIDE OF A COMPOUND MODULE of a type, which has that number among these: the sizes of its own gates, its submodules, its connections
+abbrev pub inside : Module → List TypeDeclaration → List TypeGates → Bool → Place → ℕ → TypeDeclaration → Asked
+inside m types type_gates is_whole place n t =
+    gates m what.GateSize (gates_of m types type_gates is_whole n) (own_part n) (λ s.
+    submodules m types type_gates is_whole t.submodules s (λ u.
+    items place (submodule_names t) type_gates t.connections.items [] u made_of))

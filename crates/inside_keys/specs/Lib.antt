@@ -1,0 +1,11 @@
+pub mod Keys
+pub mod Places
+pub mod Checks
+pub mod Asked
+pub mod States
+pub mod Inside
+pub mod Settings
+pub mod Given
+pub mod Values
+pub mod Blamed
+pub mod Examples

@@ -1,0 +1,61 @@
+-- What values rest on.
+use Rattle.std.specs.Prelude.{ℕ, ℤ, Bool, List, [], ◌∷◌, ◌++◌, Option, Some, None, if◌then◌else◌, map}
+use Rattle.ini_texts.specs.declared.entry.EntryValue.{EntryValue}
+use Rattle.ned_trees.specs.declared.declarations.TypeDeclaration.{TypeDeclaration}
+use Rattle.ned_trees.specs.declared.expressions.Expression.{Expression}
+use Rattle.inside_parts.specs.declared.gates.TypeGates.{TypeGates}
+use Rattle.inside_parts.specs.Gates as gates
+use Rattle.inside_keys.specs.declared.check.Check.{Check}
+use Rattle.inside_keys.specs.declared.key.Module.{Module}
+use Rattle.inside_keys.specs.declared.place.Place.{Place}
+use Rattle.inside_keys.specs.declared.place.Section.{Section}
+use Rattle.inside_keys.specs.Places.{Scope}
+
+-- where a module stands: the module around it, none around the network; its name, and its index where it is an element of a vector; and whether it
+-- is what the type of that module declares under that name, or was created while the model ran
+pub record Standing : Type 0 where
+  pub around : Option Module
+  pub name : List ℕ
+  pub index : Option ℤ
+  pub is_declared : Bool
+
+-- ALL THAT VALUES REST ON: where each module stands; the number of the type of the network, and of what was created; whether a module is nested
+-- too deep; what the first entry of the ini text says that matches the full path of a parameter; and the flat types
+pub record Setting : Type 0 where
+  pub stands : Module → Standing
+  pub root : Module → Option ℕ
+  pub is_too_deep : Module → Bool
+  pub entry : List ℕ → Option EntryValue
+  pub types : List TypeDeclaration
+
+-- the gates of each type
+abbrev pub type_gates : Setting → List TypeGates
+type_gates s = map (λ (t : TypeDeclaration). gates.gates_of t.gates) s.types
+
+-- the module whose type declares that one
+abbrev pub declarer_of : Standing → Option Module
+declarer_of t = if t.is_declared then t.around else None
+
+abbrev pub declarer : Setting → Module → Option Module
+declarer s m = declarer_of (s.stands m)
+
+abbrev pub index_at : Setting → Option Module → Option ℤ
+index_at s None = None
+index_at s (Some m) = (s.stands m).index
+
+-- where an expression stands that says something of a module in that section
+abbrev pub place_in : Setting → Module → Section → Place
+place_in s m section = record {
+  own = m;
+  around = (s.stands m).around;
+  section = section;
+  index = (s.stands m).index;
+  around_index = index_at s (s.stands m).around;
+}
+
+-- an expression that gives a value: where it stands, under which loop variables, and what its value has to be
+pub record Posed : Type 0 where
+  pub expression : Expression
+  pub place : Place
+  pub variables : Scope
+  pub check : Check

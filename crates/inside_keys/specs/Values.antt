@@ -1,0 +1,208 @@
+-- What each key asks.
+use Rattle.std.specs.Prelude.{ℕ, nat_lt, ℤ, pos, Bool, true, false, List, [], Option, Some, None, Result, Ok, Err, if◌then◌else◌, length, map, slice_get, slice_index}
+use Rattle.asking.specs.Asking.{Done, Ask}
+use Rattle.asking.specs.Following.{Rules, value_of}
+use Rattle.ned_trees.specs.declared.declarations.Submodule.{Submodule}
+use Rattle.ned_trees.specs.declared.declarations.SubmoduleBody.{SubmoduleBody}
+use Rattle.ned_trees.specs.declared.declarations.SubmoduleType.{SubmoduleType}
+use Rattle.ned_trees.specs.declared.declarations.SubmoduleType.TheVariants.{Named, Like}
+use Rattle.ned_trees.specs.declared.declarations.TypeDeclaration.{TypeDeclaration}
+use Rattle.ned_types.specs.Flat.{submodule_named}
+use Rattle.sim_values.specs.declared.value.Value.{Value}
+use Rattle.sim_values.specs.declared.value.Value.TheVariants as value
+use Rattle.param_eval.specs.Values.{valued}
+use Rattle.inside_parts.specs.declared.fault.Fault.{Fault}
+use Rattle.inside_parts.specs.declared.fault.Fault.TheVariants.{UnknownType, Unassigned, Circle, NoGate, TooDeep}
+use Rattle.inside_parts.specs.Gates as type_gates
+use Rattle.inside_parts.specs.Names.{position_of}
+use Rattle.inside_wiring.specs.Ends.{part_named, gate_named, natural}
+use Rattle.inside_keys.specs.declared.found.Found.{Found}
+use Rattle.inside_keys.specs.declared.found.Found.TheVariants as found
+use Rattle.inside_keys.specs.declared.found.Inside.{Inside}
+use Rattle.inside_keys.specs.declared.key.Key.{Key}
+use Rattle.inside_keys.specs.declared.key.Module.{Module}
+use Rattle.inside_keys.specs.declared.key.What.{What}
+use Rattle.inside_keys.specs.declared.key.What.TheVariants as what
+use Rattle.inside_keys.specs.declared.place.Section.TheVariants as section
+use Rattle.inside_keys.specs.Asked.{Asked, ask_then, known_then, number_then, result_then, valued_then}
+use Rattle.inside_keys.specs.Checks.{checked}
+use Rattle.inside_keys.specs.Given.{parameter_posed, condition_posed, vector_size_posed, gate_size_posed, has_vector}
+use Rattle.inside_keys.specs.Inside.{conditioned, inside, is_vector, sized, submodule_names}
+use Rattle.inside_keys.specs.Keys.{child, key, same_key}
+use Rattle.inside_keys.specs.Places.{meant_under}
+use Rattle.inside_keys.specs.Settings.{Setting, Standing, Posed, declarer, place_in, type_gates}
+
+-- done with this value
+abbrev pub is : Value → Asked
+is v = Done (Ok (found.Value v))
+
+abbrev pub kept : Result Value Fault → Asked
+kept (Ok v) = is v
+kept (Err f) = Done (Err f)
+
+-- an expression that gives a value: what it asks, and what its value has to be
+abbrev pub posed_asking : Option Posed → Asked
+posed_asking None = Done (Err Unassigned)
+posed_asking (Some p) = valued_then (meant_under p.variables p.place) (valued p.expression) (λ v. kept (checked p.check v))
+
+-- ---- submodules
+
+module _ (m : Module) where
+  -- a parameter of a submodule, which is there
+  abbrev pub of_child : List ℕ → Option ℕ → List ℕ → Asked
+  of_child name index x = ask_then (key (child m name index) (what.Param x)) is
+
+  -- `sub.x`: of no vector
+  abbrev pub member : List ℕ → Option Submodule → Asked
+  member x None = Done (Err Unassigned)
+  member x (Some l) = if is_vector l then Done (Err Unassigned) else conditioned m l (of_child l.name None x) (Done (Err Unassigned))
+
+  -- the index, where it is one of so many
+  abbrev pub among : ℕ → Option ℕ → Option ℕ
+  among n None = None
+  among n (Some k) = if nat_lt k n then Some k else None
+
+  abbrev pub at_index : List ℕ → List ℕ → Option ℕ → Asked
+  at_index name x None = Done (Err Unassigned)
+  at_index name x (Some k) = of_child name (Some k) x
+
+  -- `sub[k].x`: of a vector
+  abbrev pub element_of : ℤ → List ℕ → Option Submodule → Asked
+  element_of k x None = Done (Err Unassigned)
+  element_of k x (Some l) =
+      if is_vector l then conditioned m l (sized m l (λ n. at_index l.name x (among n (natural k)))) (Done (Err Unassigned)) else Done (Err Unassigned)
+
+  -- `exists(sub)`
+  abbrev pub exists : Option Submodule → Asked
+  exists None = is (value.Truth false)
+  exists (Some l) = if is_vector l then is (value.Truth false) else conditioned m l (is (value.Truth true)) (is (value.Truth false))
+
+  abbrev pub is_there : Option ℕ → Bool
+  is_there None = false
+  is_there (Some k) = true
+
+  -- `exists(sub[k])`
+  abbrev pub exists_at : ℤ → Option Submodule → Asked
+  exists_at k None = is (value.Truth false)
+  exists_at k (Some l) =
+      if is_vector l then conditioned m l (sized m l (λ n. is (value.Truth (is_there (among n (natural k)))))) (is (value.Truth false)) else is (value.Truth false)
+
+  -- `sizeof(sub)`: a vector whose condition doesn't hold has no elements
+  abbrev pub vector_size : Option Submodule → Asked
+  vector_size None = Done (Err Unassigned)
+  vector_size (Some l) = if is_vector l then conditioned m l (sized m l (λ n. is (value.Whole (pos n)))) (is (value.Whole (pos 0))) else Done (Err Unassigned)
+
+-- a body that says nothing
+abbrev pub no_body : SubmoduleBody
+no_body = record { lines = []; gates = [] }
+
+abbrev pub body_by : Option Submodule → SubmoduleBody
+body_by None = no_body
+body_by (Some l) = l.body
+
+-- the size of an own gate vector of a part, as the inside of the module around has it
+abbrev pub size_of_gate : Setting → Standing → List ℕ → Inside → ℕ → Asked
+size_of_gate s t g i part =
+    result_then (gate_named (type_gates s) i.parts (length i.wiring.sizes) part g) (λ gate. is (value.Whole (pos (slice_index i.wiring.sizes gate.vector))))
+
+-- the same of the submodule of that name and index, where the module around is of that type
+abbrev pub size_in : Setting → TypeDeclaration → Standing → List ℕ → Inside → Asked
+size_in s around t g i = result_then (part_named (submodule_names around) i.parts t.name t.index) (size_of_gate s t g i)
+
+abbrev pub size_read : Setting → TypeDeclaration → Standing → List ℕ → Found → Asked
+size_read s around t g (found.Inside i) = size_in s around t g i
+size_read s around t g (found.Value v) = Done (Err NoGate)
+
+module _ (s : Setting) where
+  -- ---- types
+
+  -- the number of a type
+  abbrev pub numbered : Option ℕ → Asked
+  numbered None = Done (Err UnknownType)
+  numbered (Some n) = is (value.Whole (pos n))
+
+  abbrev pub type_names : List (List ℕ)
+  type_names = map (λ (t : TypeDeclaration). t.name) s.types
+
+  -- the type of a declared submodule. One that a value chooses isn't known yet
+  abbrev pub type_by : SubmoduleType → Asked
+  type_by (Named name) = numbered (position_of name type_names)
+  type_by (Like p) = Done (Err UnknownType)
+
+  abbrev pub type_in : Option Submodule → Asked
+  type_in None = Done (Err UnknownType)
+  type_in (Some l) = type_by l.submodule_type
+
+  -- with the type of a module, and its number
+  abbrev pub typed_then : Module → (ℕ → TypeDeclaration → Asked) → Asked
+  typed_then m next = ask_then (key m what.Type) (λ v. number_then v (λ n. known_then (slice_get s.types n) (next n)))
+
+  -- with the body of what declares a module
+  abbrev pub body_of_declarer : Module → Option Module → (SubmoduleBody → Asked) → Asked
+  body_of_declarer m None next = next no_body
+  body_of_declarer m (Some around) next = typed_then around (λ n t. next (body_by (submodule_named (s.stands m).name t.submodules)))
+
+  abbrev pub body_then : Module → (SubmoduleBody → Asked) → Asked
+  body_then m next = body_of_declarer m (declarer s m) next
+
+  abbrev pub type_declared : Module → Option Module → Asked
+  type_declared m None = numbered (s.root m)
+  type_declared m (Some around) = if s.is_too_deep m then Done (Err TooDeep) else typed_then around (λ n t. type_in (submodule_named (s.stands m).name t.submodules))
+
+  -- THE TYPE OF A MODULE: its nesting comes first
+  abbrev pub type_asking : Module → Asked
+  type_asking m = type_declared m (declarer s m)
+
+  -- ---- gates
+
+  abbrev pub sized_or_open : Option Posed → Asked
+  sized_or_open None = is (value.Whole (pos 0))
+  sized_or_open (Some p) = posed_asking (Some p)
+
+  -- A DECLARED SIZE: a vector whose size is given nowhere has none
+  abbrev pub declared_asking : Module → TypeDeclaration → List ℕ → SubmoduleBody → Asked
+  declared_asking m t g body = if has_vector (type_gates.gates_of t.gates) g then sized_or_open (gate_size_posed s m t body g) else Done (Err NoGate)
+
+  -- A FINISHED SIZE is read off the inside of the module around; nothing is connected around the network and around what was created
+  abbrev pub gate_size : Module → List ℕ → Option Module → Asked
+  gate_size m g None = ask_then (key m (what.Declared g)) is
+  gate_size m g (Some around) = typed_then around (λ n t. Ask (key around what.Joined) (size_read s t (s.stands m) g))
+
+  -- `sizeof(g)`: a gate vector of the module goes before a submodule vector
+  abbrev pub size_of : Module → List ℕ → TypeDeclaration → Asked
+  size_of m g t =
+      if has_vector (type_gates.gates_of t.gates) g then ask_then (key m (what.GateSize g)) is else vector_size m (submodule_named g t.submodules)
+
+  abbrev pub inside_of : Module → Bool → ℕ → TypeDeclaration → Asked
+  inside_of m is_whole n t = inside m s.types (type_gates s) is_whole (place_in s m section.OfInside) n t
+
+  -- what a key asks of a module of that type
+  abbrev pub asking_in : Module → What → ℕ → TypeDeclaration → Asked
+  asking_in m (what.Param x) n t = body_then m (λ body. posed_asking (parameter_posed s m t body x))
+  asking_in m (what.Condition sub) n t = posed_asking (condition_posed s m t sub)
+  asking_in m (what.VectorSize sub) n t = posed_asking (vector_size_posed s m t sub)
+  asking_in m (what.Declared g) n t = body_then m (declared_asking m t g)
+  asking_in m (what.GateSize g) n t = gate_size m g (declarer s m)
+  asking_in m (what.Sizeof g) n t = size_of m g t
+  asking_in m (what.Exists sub) n t = exists m (submodule_named sub t.submodules)
+  asking_in m (what.ExistsAt sub k) n t = exists_at m k (submodule_named sub t.submodules)
+  asking_in m (what.Member sub x) n t = member m x (submodule_named sub t.submodules)
+  asking_in m (what.Element sub k x) n t = element_of m k x (submodule_named sub t.submodules)
+  asking_in m what.Joined n t = inside_of m false n t
+  asking_in m what.Inside n t = inside_of m true n t
+  asking_in m what.Type n t = numbered (Some n)
+
+  -- WHAT A KEY ASKS: the type of its module first
+  abbrev pub asking_by : Module → What → Asked
+  asking_by m what.Type = type_asking m
+  asking_by m w = typed_then m (asking_in m w)
+
+  abbrev pub asking_of : Key → Asked
+  asking_of k = asking_by k.site k.what
+
+  abbrev pub rules_of : Rules Key Found Fault
+  rules_of = record { same = same_key; asking = asking_of; circle = Circle }
+
+  -- THE VALUE OF A KEY, or why it has none: Circle where it rests on itself
+  abbrev pub value_at : Key → Result Found Fault
+  value_at k = value_of rules_of k

@@ -1,0 +1,30 @@
+//! Values.
+
+use inside_parts::parts::Parts;
+use inside_wiring::wiring::Wiring;
+use sim_values::value::Value;
+
+/// The inside of a compound module: its submodules, the sizes of their gate vectors and of its own, and the connections.
+#[derive(Drop)]
+pub struct Inside {
+    pub parts: Parts,
+    pub wiring: Wiring,
+}
+
+/// What a key has as its value.
+#[derive(Drop)]
+pub enum Found {
+    /// Of a parameter, a condition or a size; of a type its number.
+    Value(Value),
+    /// Of a module's inside. It stands once, in the table of values, and is read where it stands.
+    Inside(Inside),
+}
+
+/// The inside of a compound module while it is built.
+#[derive(Drop)]
+pub struct State {
+    pub parts: Parts,
+    pub wiring: Wiring,
+    /// How many turns of loops may still be made.
+    pub turns: u32,
+}
