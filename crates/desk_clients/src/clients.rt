@@ -6,9 +6,10 @@ ghost use Rattle.desk_clients.specs.Devices.{HasFailed};
 ghost use Rattle.desk_clients.specs.declared.clients.Stop.{Stop as StopValue};
 ghost use Rattle.desk_clients.specs.declared.clients.Stop.TheVariants as why;
 ghost use Rattle.transcripts.specs.declared.asked.Asked.{Asked as AskedValue};
-ghost use Rattle.transcripts.specs.Heard.{Heard, Answer, Files, Read};
+ghost use Rattle.transcripts.specs.Heard.{Heard, Answer, Files, OutOfMemory, Read};
 
 use result_lines::writer::Out;
+use sim_values::NoMemory;
 use sim_values::text::Text;
 use text_files::noted::Noted;
 use transcripts::asked::Asked;
@@ -73,6 +74,17 @@ pub trait Client<O: Out + Drop> {
         ensures label { label self.new ≡ label self.old }
         ensures stuck { OnErr result (stops self.new why.Gone) }
         ensures heard { OnOk result (heard self.new ≡ heard self.old ++ Answer answer.now ∷ []) }
+        ensures gone { OnErr result (heard self.new ≡ heard self.old) }
+        ensures asked { asked self.new ≡ asked self.old }
+        ensures left { left self.new ≡ left self.old };
+
+    /// Hears that memory ran out, in place of an answer. Who says so hands on the error that it met.
+    fn hear_no_memory(&mut self, error: NoMemory) -> Result<(), Gone>
+        requires kept { keeps self.old }
+        ensures kept { keeps self.new }
+        ensures label { label self.new ≡ label self.old }
+        ensures stuck { OnErr result (stops self.new why.Gone) }
+        ensures heard { OnOk result (heard self.new ≡ heard self.old ++ OutOfMemory ∷ []) }
         ensures gone { OnErr result (heard self.new ≡ heard self.old) }
         ensures asked { asked self.new ≡ asked self.old }
         ensures left { left self.new ≡ left self.old };

@@ -120,6 +120,18 @@ impl<I: Read> Dialogue<I> {
         self.transcript.hears_read(path, text);
     }
 
+    /// Hears that memory ran out, with that error.
+    pub fn hears_no_memory(&mut self, error: &NoMemory)
+        ensures heard { self.new.transcript.heard ≡ self.old.transcript.heard
+            ++ heards.OutOfMemory ∷ [] }
+        ensures asked { self.new.transcript.asked ≡ self.old.transcript.asked }
+        ensures limit { self.new.limit ≡ self.old.limit }
+        ensures ask { self.new.ask ≡ self.old.ask }
+        ensures lines { self.new.lines ≡ self.old.lines }
+    {
+        self.transcript.hears_no_memory(error);
+    }
+
     /// Asks for the run of the words.
     fn ask_run(&mut self, alloc: Global) -> Result<Option<Asked>, Stop>
         requires first { self.old.ask ≡ ask.Run }

@@ -23,6 +23,7 @@ use program_streams::devices::FileOut;
 use program_streams::files::read_text;
 use program_streams::output;
 use program_words::words::Words;
+use sim_values::NoMemory;
 use sim_values::text::Text;
 use std::rt::Files;
 use text_explanations::names::shown;
@@ -288,6 +289,28 @@ impl<'a, R: Files + Input + Print + Eprint + AllocGlobal> Client<FileOut<'a, R>>
         match self.tell(answer) {
             Ok(()) => {
                 self.dialogue.hears(answer);
+                Ok(())
+            }
+            Err(stop) => Err(self.gone(stop)),
+        }
+    }
+
+    #[tactic(auto, using(crate::proofs::Reasons::reason_untold))]
+    fn hear_no_memory(&mut self, error: NoMemory) -> Result<(), Gone>
+        requires kept { IsInOrder self.old.dialogue }
+        ensures kept { IsInOrder self.new.dialogue }
+        ensures heard { OnOk result (self.new.dialogue.transcript.heard ≡ self.old.dialogue.transcript.heard
+            ++ heards.OutOfMemory ∷ []) }
+        ensures gone { OnErr result (self.new.dialogue.transcript.heard ≡ self.old.dialogue.transcript.heard) }
+        ensures stuck { OnErr result (IsSomeAnd self.new.stop (IsReason self.new.dialogue.lines.buffer)) }
+        ensures reason { OnErr result (IsSomeAnd self.new.stop IsUntold) }
+        ensures label { self.new.dialogue.limit ≡ self.old.dialogue.limit }
+        ensures asked { self.new.dialogue.transcript.asked ≡ self.old.dialogue.transcript.asked }
+        ensures left { left_in self.new.dialogue ≡ left_in self.old.dialogue }
+    {
+        match self.tell(b"refused NoMemory".as_slice()) {
+            Ok(()) => {
+                self.dialogue.hears_no_memory(&error);
                 Ok(())
             }
             Err(stop) => Err(self.gone(stop)),

@@ -181,6 +181,16 @@ impl Client<Buffer> for Player<'_> {
         }
     }
 
+    fn hear_no_memory(&mut self, error: NoMemory) -> Result<(), Gone> {
+        match self.tell(b"refused NoMemory".as_slice()) {
+            Ok(()) => {
+                self.transcript.hears_no_memory(&error);
+                Ok(())
+            }
+            Err(failed) => Err(self.gone(failed)),
+        }
+    }
+
     fn read(&mut self, path: &[u8]) -> Result<Text, Gone> {
         match Text::from_str(self.alloc, file_in(self.all, path)) {
             Ok(text) => {

@@ -17,9 +17,9 @@ use Rattle.command_lines.specs.Commands.{IsEdit}
 use Rattle.command_lines.specs.declared.commands.Command.{Command}
 use Rattle.command_lines.specs.declared.commands.Command.TheVariants as command
 use Rattle.stock_desk.specs.Served.{Machine, AreHeard, Hears, HearsFiles, behind_run, command_asked, events_of}
-use Rattle.transcripts.specs.Heard.{Answer, Files, Heard, Read}
+use Rattle.transcripts.specs.Heard.{Answer, Files, Heard, OutOfMemory, Read}
 use Rattle.transcripts.specs.declared.asked.Asked.{Asked}
-use Rattle.stock_desk.specs.Serving.{Seen, AreFilled, ComesTo, HearsAnswer, HearsNext, IsAt, IsCutOff, IsRunIn, RunsAlike}
+use Rattle.stock_desk.specs.Serving.{Seen, AreFilled, ComesTo, HearsNext, HearsOne, IsAt, IsCutOff, IsRunIn, RunsAlike}
 use Rattle.stock_desk.specs.declared.serving.Next.{Next}
 use Rattle.stock_desk.specs.declared.serving.Next.TheVariants as next
 use Rattle.desk_clients.specs.declared.clients.Stop.TheVariants as stop
@@ -34,41 +34,41 @@ joined_on : (xs ys zs : List Heard) → (xs ++ ys) ++ zs ≡ xs ++ (ys ++ zs)
 joined_on [] ys zs = refl
 joined_on (x ∷ xs) ys zs = ap (λ (more : List Heard). x ∷ more) (joined_on xs ys zs)
 
--- ---- one answer
+-- ---- one thing
 
--- what is told of a command by one answer, wherever the machine may be
-abbrev Told : Behaviour → Command → List ℕ → Machine → Editing → Type 0
-Told b c text s e = (s' : Machine) × Hears b s c (Answer text ∷ []) s' × IsAt b e s'
+-- what is told of a command by one thing that is heard, wherever the machine may be
+abbrev Told : Behaviour → Command → Heard → Machine → Editing → Type 0
+Told b c what s e = (s' : Machine) × Hears b s c (what ∷ []) s' × IsAt b e s'
 
--- that answer is missed
-cut_off : (b : Behaviour) (c : Command) (may_be : Machine → Type 0) (before after : Seen) (text : List ℕ) → after.asked ≡ before.asked → after.heard ≡ before.heard
-    → ((s : Machine) → may_be s → Told b c text s after.editing) → IsCutOff b c may_be before after
-cut_off b c may_be before after text asked same told = record {
+-- that is missed
+cut_off : (b : Behaviour) (c : Command) (may_be : Machine → Type 0) (before after : Seen) (what : Heard) → after.asked ≡ before.asked → after.heard ≡ before.heard
+    → ((s : Machine) → may_be s → Told b c what s after.editing) → IsCutOff b c may_be before after
+cut_off b c may_be before after what asked same told = record {
   asked = asked;
   more = [];
   heard = same ∙ nothing_more before.heard;
-  begins = λ s is. let t = told s is in record { missed = Answer text; rest = []; behind = t.0; whole = t.1 };
+  begins = λ s is. let t = told s is in record { missed = what; rest = []; behind = t.0; whole = t.1 };
 }
 
 -- it is heard, or missed
-tells : (b : Behaviour) (c : Command) (before after : Seen) (text : List ℕ) (n : Next) → after.asked ≡ before.asked → after.may ≡ before.may → after.running ≡ None
-    → HearsAnswer text before.heard after.heard n → ((s : Machine) → IsAt b before.editing s → Told b c text s after.editing) → HearsNext b c before after n
-tells b c before after text next.GoOn asked may running heard told =
-    (asked, may, running, λ s at. let t = told s at in (Answer text ∷ [], t.0, heard, t.1, t.2))
-tells b c before after text (next.Stop stop.Gone) asked may running heard told = cut_off b c (IsAt b before.editing) before after text asked heard told
-tells b c before after text (next.Stop stop.End) asked may running heard told = absurd heard
-tells b c before after text (next.Stop (stop.Device page written)) asked may running heard told = absurd heard
+tells : (b : Behaviour) (c : Command) (before after : Seen) (what : Heard) (n : Next) → after.asked ≡ before.asked → after.may ≡ before.may → after.running ≡ None
+    → HearsOne what before.heard after.heard n → ((s : Machine) → IsAt b before.editing s → Told b c what s after.editing) → HearsNext b c before after n
+tells b c before after what next.GoOn asked may running heard told =
+    (asked, may, running, λ s at. let t = told s at in (what ∷ [], t.0, heard, t.1, t.2))
+tells b c before after what (next.Stop stop.Gone) asked may running heard told = cut_off b c (IsAt b before.editing) before after what asked heard told
+tells b c before after what (next.Stop stop.End) asked may running heard told = absurd heard
+tells b c before after what (next.Stop (stop.Device page written)) asked may running heard told = absurd heard
 
 -- the same of a run
-tells_going : (b : Behaviour) (limit : ℕ) (before after : Seen) (text : List ℕ) (n : Next) → after.asked ≡ before.asked → after.may ≡ before.may → after.running ≡ None
-    → HearsAnswer text before.heard after.heard n → ((s : Machine) → RunsAlike limit before.editing s → Told b (command.Run limit) text s after.editing)
+tells_going : (b : Behaviour) (limit : ℕ) (before after : Seen) (what : Heard) (n : Next) → after.asked ≡ before.asked → after.may ≡ before.may → after.running ≡ None
+    → HearsOne what before.heard after.heard n → ((s : Machine) → RunsAlike limit before.editing s → Told b (command.Run limit) what s after.editing)
     → IsRunIn b limit before after (turn.Over n)
-tells_going b limit before after text next.GoOn asked may running heard told =
-    inr (asked, may, running, λ s same. let t = told s same in (Answer text ∷ [], t.0, heard, t.1, t.2))
-tells_going b limit before after text (next.Stop stop.Gone) asked may running heard told =
-    cut_off b (command.Run limit) (RunsAlike limit before.editing) before after text asked heard told
-tells_going b limit before after text (next.Stop stop.End) asked may running heard told = absurd heard
-tells_going b limit before after text (next.Stop (stop.Device page written)) asked may running heard told = absurd heard
+tells_going b limit before after what next.GoOn asked may running heard told =
+    inr (asked, may, running, λ s same. let t = told s same in (what ∷ [], t.0, heard, t.1, t.2))
+tells_going b limit before after what (next.Stop stop.Gone) asked may running heard told =
+    cut_off b (command.Run limit) (RunsAlike limit before.editing) before after what asked heard told
+tells_going b limit before after what (next.Stop stop.End) asked may running heard told = absurd heard
+tells_going b limit before after what (next.Stop (stop.Device page written)) asked may running heard told = absurd heard
 
 -- ---- runs
 
@@ -90,8 +90,8 @@ at_done b limit before after s stays done same = record {
 -- and its answer is told
 pub tells_run : (b : Behaviour) (limit : ℕ) (before after : Seen) (text : List ℕ) (n : Next) → after.asked ≡ before.asked → after.may ≡ before.may
     → after.running ≡ None → StaysOf before.editing after.editing → HasRun b before.editing limit text after.editing
-    → HearsAnswer text before.heard after.heard n → IsRunIn b limit before after (turn.Over n)
-tells_run b limit before after text n asked may running stays ran heard = tells_going b limit before after text n asked may running heard (λ s same. (
+    → HearsOne (Answer text) before.heard after.heard n → IsRunIn b limit before after (turn.Over n)
+tells_run b limit before after text n asked may running stays ran heard = tells_going b limit before after (Answer text) n asked may running heard (λ s same. (
   behind_run b s limit,
   inl (ap (λ (t : List ℕ). Answer t ∷ []) (ran.answer ∙ same_answer b limit before.editing s same), refl),
   at_done b limit before.editing after.editing s stays ran.done same,
@@ -105,7 +105,7 @@ pub record LeavesNone (b : Behaviour) (before : Editing) (limit : ℕ) (after : 
   pub positions : HasStored b (answers_of before.model) limit before.positions stood after.positions
 
 none_left : (b : Behaviour) (limit : ℕ) (before after : Editing) (s : Machine) → StaysOf before after → LeavesNone b before limit after → RunsAlike limit before s
-    → Told b (command.Run limit) (codes "refused NoMemory") s after
+    → Told b (command.Run limit) OutOfMemory s after
 none_left b limit before after s stays none same = (
   record { model = s.model; last = None; held = after.held; known = last_count after.positions.stored; positions = after.positions },
   inr (
@@ -123,14 +123,14 @@ none_left b limit before after s stays none same = (
 
 -- and that is told
 pub tells_none : (b : Behaviour) (limit : ℕ) (before after : Seen) (n : Next) → after.asked ≡ before.asked → after.may ≡ before.may → after.running ≡ None
-    → StaysOf before.editing after.editing → LeavesNone b before.editing limit after.editing → HearsAnswer (codes "refused NoMemory") before.heard after.heard n
+    → StaysOf before.editing after.editing → LeavesNone b before.editing limit after.editing → HearsOne OutOfMemory before.heard after.heard n
     → IsRunIn b limit before after (turn.Over n)
 tells_none b limit before after n asked may running stays none heard =
-    tells_going b limit before after (codes "refused NoMemory") n asked may running heard (λ s same. none_left b limit before.editing after.editing s stays none same)
+    tells_going b limit before after OutOfMemory n asked may running heard (λ s same. none_left b limit before.editing after.editing s stays none same)
 
 -- memory ran out for a run: none is done, or this one is
 after_memory : (b : Behaviour) (limit : ℕ) (before after : Editing) (s : Machine) → StaysOf before after → MayBeDone b before limit after → RunsAlike limit before s
-    → Told b (command.Run limit) (codes "refused NoMemory") s after
+    → Told b (command.Run limit) OutOfMemory s after
 after_memory b limit before after s stays (inl none) same =
     none_left b limit before after s stays (record { done = none.done; known = none.known; stood = none.stood; positions = none.positions }) same
 after_memory b limit before after s stays (inr done) same =
@@ -139,15 +139,15 @@ after_memory b limit before after s stays (inr done) same =
 -- and that is told
 pub tells_memory : (b : Behaviour) (limit : ℕ) (before after : Seen) (n : Next) → after.asked ≡ before.asked → after.may ≡ before.may
     → after.running ≡ None → StaysOf before.editing after.editing → MayBeDone b before.editing limit after.editing
-    → HearsAnswer (codes "refused NoMemory") before.heard after.heard n
+    → HearsOne OutOfMemory before.heard after.heard n
     → IsRunIn b limit before after (turn.Over n)
 tells_memory b limit before after n asked may running stays is heard =
-    tells_going b limit before after (codes "refused NoMemory") n asked may running heard (λ s same. after_memory b limit before.editing after.editing s stays is same)
+    tells_going b limit before after OutOfMemory n asked may running heard (λ s same. after_memory b limit before.editing after.editing s stays is same)
 
 -- ---- edits
 
 edited : (b : Behaviour) (e : Edit) (before after : Editing) (text : List ℕ) → AnswersEdit b before e text after → (s : Machine) → IsAt b before s
-    → Told b (command.Edit e) text s after
+    → Told b (command.Edit e) (Answer text) s after
 edited b e before after text (inl made) s at = (
   record { model = after.model; last = None; held = s.held; known = made.0; positions = cut made.0 s.positions },
   inl (text, refl, inl (subst (λ k. IsMade b s.model k e text after.model made.0) at.known (subst (λ m. IsMade b m before.known e text after.model made.0) at.model made.1), refl, refl, refl)),
@@ -167,24 +167,24 @@ edited b e before after text (inr refused) s at = (
 
 -- what is told of an edit
 pub tells_edit : (b : Behaviour) (e : Edit) (before after : Seen) (text : List ℕ) (n : Next) → after.asked ≡ before.asked → after.may ≡ before.may
-    → after.running ≡ None → AnswersEdit b before.editing e text after.editing → HearsAnswer text before.heard after.heard n
+    → after.running ≡ None → AnswersEdit b before.editing e text after.editing → HearsOne (Answer text) before.heard after.heard n
     → HearsNext b (command.Edit e) before after n
 tells_edit b e before after text n asked may running is heard =
-    tells b (command.Edit e) before after text n asked may running heard (edited b e before.editing after.editing text is)
+    tells b (command.Edit e) before after (Answer text) n asked may running heard (edited b e before.editing after.editing text is)
 
 -- memory ran out for it
 pub tells_no_edit : (b : Behaviour) (e : Edit) (before after : Seen) (n : Next) → after.asked ≡ before.asked → after.may ≡ before.may → after.running ≡ None
-    → after.editing ≡ before.editing → HearsAnswer (codes "refused NoMemory") before.heard after.heard n → HearsNext b (command.Edit e) before after n
+    → after.editing ≡ before.editing → HearsOne OutOfMemory before.heard after.heard n → HearsNext b (command.Edit e) before after n
 tells_no_edit b e before after n asked may running same heard =
-    tells b (command.Edit e) before after (codes "refused NoMemory") n asked may running heard (λ s at. (s, inr (refl, refl), subst (λ x. IsAt b x s) (sym same) at))
+    tells b (command.Edit e) before after OutOfMemory n asked may running heard (λ s at. (s, inr (refl, refl), subst (λ x. IsAt b x s) (sym same) at))
 
 -- or for the line that asks for it
 pub tells_no_line : (b : Behaviour) (c : Command) (before after : Seen) (n : Next) → IsEdit c → after.asked ≡ before.asked → after.may ≡ before.may → after.running ≡ None
-    → after.editing ≡ before.editing → HearsAnswer (codes "refused NoMemory") before.heard after.heard n → ComesTo b c before after (turn.Over n)
+    → after.editing ≡ before.editing → HearsOne OutOfMemory before.heard after.heard n → ComesTo b c before after (turn.Over n)
 tells_no_line b (command.Edit e) before after n is asked may running same heard = tells_no_edit b e before after n asked may running same heard
 tells_no_line b (command.Run limit) before after n is asked may running same heard = absurd is
 tells_no_line b (command.Ned number path) before after n is asked may running same heard =
-    tells b (command.Ned number path) before after (codes "refused NoMemory") n asked may running heard (λ s at. (s, inr (refl, refl), subst (λ x. IsAt b x s) (sym same) at))
+    tells b (command.Ned number path) before after OutOfMemory n asked may running heard (λ s at. (s, inr (refl, refl), subst (λ x. IsAt b x s) (sym same) at))
 tells_no_line b command.Positions before after n is asked may running same heard = absurd is
 tells_no_line b command.Held before after n is asked may running same heard = absurd is
 tells_no_line b command.Write before after n is asked may running same heard = absurd is
@@ -200,7 +200,7 @@ misses_read b number path before after asked same = record {
   asked = asked;
   more = [];
   heard = same ∙ nothing_more before.heard;
-  begins = λ s at. record { missed = Answer (codes "refused NoMemory"); rest = []; behind = s; whole = inr (refl, refl) };
+  begins = λ s at. record { missed = OutOfMemory; rest = []; behind = s; whole = inr (refl, refl) };
 }
 
 -- it was read, and the answer to the edit is missed
@@ -239,9 +239,9 @@ tells_replaced b number path text before middle after (next.Stop (stop.Device pa
 
 -- what is told of the positions
 pub tells_positions : (b : Behaviour) (before after : Seen) (text : List ℕ) (n : Next) → after.asked ≡ before.asked → after.may ≡ before.may → after.running ≡ None
-    → after.editing ≡ before.editing → text ≡ positions_text before.editing.positions.stored → HearsAnswer text before.heard after.heard n
+    → after.editing ≡ before.editing → text ≡ positions_text before.editing.positions.stored → HearsOne (Answer text) before.heard after.heard n
     → HearsNext b command.Positions before after n
-tells_positions b before after text n asked may running same is heard = tells b command.Positions before after text n asked may running heard (λ s at. (
+tells_positions b before after text n asked may running same is heard = tells b command.Positions before after (Answer text) n asked may running heard (λ s at. (
   s,
   (inl (ap (λ (t : List ℕ). Answer t ∷ []) (is ∙ ap (λ (p : Timeline ℕ). positions_text p.stored) at.positions)), refl),
   subst (λ x. IsAt b x s) (sym same) at,
@@ -249,14 +249,14 @@ tells_positions b before after text n asked may running same is heard = tells b 
 
 -- memory ran out for that
 pub tells_no_positions : (b : Behaviour) (before after : Seen) (n : Next) → after.asked ≡ before.asked → after.may ≡ before.may → after.running ≡ None
-    → after.editing ≡ before.editing → HearsAnswer (codes "refused NoMemory") before.heard after.heard n → HearsNext b command.Positions before after n
+    → after.editing ≡ before.editing → HearsOne OutOfMemory before.heard after.heard n → HearsNext b command.Positions before after n
 tells_no_positions b before after n asked may running same heard =
-    tells b command.Positions before after (codes "refused NoMemory") n asked may running heard (λ s at. (s, (inr refl, refl), subst (λ x. IsAt b x s) (sym same) at))
+    tells b command.Positions before after OutOfMemory n asked may running heard (λ s at. (s, (inr refl, refl), subst (λ x. IsAt b x s) (sym same) at))
 
 -- what is told of the boxes
 pub tells_held : (b : Behaviour) (before after : Seen) (text : List ℕ) (n : Next) → after.asked ≡ before.asked → after.may ≡ before.may → after.running ≡ None
-    → after.editing ≡ before.editing → text ≡ held_text before.editing.held → HearsAnswer text before.heard after.heard n → HearsNext b command.Held before after n
-tells_held b before after text n asked may running same is heard = tells b command.Held before after text n asked may running heard (λ s at. (
+    → after.editing ≡ before.editing → text ≡ held_text before.editing.held → HearsOne (Answer text) before.heard after.heard n → HearsNext b command.Held before after n
+tells_held b before after text n asked may running same is heard = tells b command.Held before after (Answer text) n asked may running heard (λ s at. (
   s,
   (inl (ap (λ (t : List ℕ). Answer t ∷ []) (is ∙ ap held_text at.held)), refl),
   subst (λ x. IsAt b x s) (sym same) at,
@@ -264,20 +264,20 @@ tells_held b before after text n asked may running same is heard = tells b comma
 
 -- memory ran out for that
 pub tells_no_number : (b : Behaviour) (before after : Seen) (n : Next) → after.asked ≡ before.asked → after.may ≡ before.may → after.running ≡ None
-    → after.editing ≡ before.editing → HearsAnswer (codes "refused NoMemory") before.heard after.heard n → HearsNext b command.Held before after n
+    → after.editing ≡ before.editing → HearsOne OutOfMemory before.heard after.heard n → HearsNext b command.Held before after n
 tells_no_number b before after n asked may running same heard =
-    tells b command.Held before after (codes "refused NoMemory") n asked may running heard (λ s at. (s, (inr refl, refl), subst (λ x. IsAt b x s) (sym same) at))
+    tells b command.Held before after OutOfMemory n asked may running heard (λ s at. (s, (inr refl, refl), subst (λ x. IsAt b x s) (sym same) at))
 
 -- what is told of a line that is no command, or too long
 pub tells_unknown : (b : Behaviour) (before after : Seen) (n : Next) → after.asked ≡ before.asked → after.may ≡ before.may → after.running ≡ None
-    → after.editing ≡ before.editing → HearsAnswer (codes "refused Command") before.heard after.heard n → HearsNext b command.Unknown before after n
+    → after.editing ≡ before.editing → HearsOne (Answer (codes "refused Command")) before.heard after.heard n → HearsNext b command.Unknown before after n
 tells_unknown b before after n asked may running same heard =
-    tells b command.Unknown before after (codes "refused Command") n asked may running heard (λ s at. (s, (refl, refl), subst (λ x. IsAt b x s) (sym same) at))
+    tells b command.Unknown before after (Answer (codes "refused Command")) n asked may running heard (λ s at. (s, (refl, refl), subst (λ x. IsAt b x s) (sym same) at))
 
 pub tells_too_large : (b : Behaviour) (before after : Seen) (n : Next) → after.asked ≡ before.asked → after.may ≡ before.may → after.running ≡ None
-    → after.editing ≡ before.editing → HearsAnswer (codes "refused TooLarge") before.heard after.heard n → HearsNext b command.TooLarge before after n
+    → after.editing ≡ before.editing → HearsOne (Answer (codes "refused TooLarge")) before.heard after.heard n → HearsNext b command.TooLarge before after n
 tells_too_large b before after n asked may running same heard =
-    tells b command.TooLarge before after (codes "refused TooLarge") n asked may running heard (λ s at. (s, (refl, refl), subst (λ x. IsAt b x s) (sym same) at))
+    tells b command.TooLarge before after (Answer (codes "refused TooLarge")) n asked may running heard (λ s at. (s, (refl, refl), subst (λ x. IsAt b x s) (sym same) at))
 
 -- ---- files
 
@@ -302,8 +302,8 @@ no_files b m of (Some limit) at none = cc
 
 -- no run is done, and that is told
 pub tells_not_done : (b : Behaviour) (before after : Seen) (n : Next) → after.asked ≡ before.asked → after.may ≡ before.may → after.running ≡ None
-    → after.editing ≡ before.editing → before.editing.done ≡ None → HearsAnswer (codes "refused NotDone") before.heard after.heard n → HearsNext b command.Write before after n
-tells_not_done b before after n asked may running same none heard = tells b command.Write before after (codes "refused NotDone") n asked may running heard (λ s at. (
+    → after.editing ≡ before.editing → before.editing.done ≡ None → HearsOne (Answer (codes "refused NotDone")) before.heard after.heard n → HearsNext b command.Write before after n
+tells_not_done b before after n asked may running same none heard = tells b command.Write before after (Answer (codes "refused NotDone")) n asked may running heard (λ s at. (
   s,
   (no_files b s.model before.editing.done s.last at.done none, refl),
   subst (λ x. IsAt b x s) (sym same) at,
@@ -349,7 +349,7 @@ files_of_machine b e config scalars vectors named filled s at =
 pub tells_written : (b : Behaviour) (before after : Seen) (kept : List Heard) (config scalars vectors : List ℕ) (n : Next) → after.asked ≡ before.asked
     → after.may ≡ before.may → after.running ≡ None → after.editing ≡ before.editing → config ≡ before.editing.model.config
     → AreFilled b before.editing.model before.editing.done scalars vectors → kept ≡ before.heard ++ Files config scalars vectors ∷ []
-    → HearsAnswer (codes "written") kept after.heard n → HearsNext b command.Write before after n
+    → HearsOne (Answer (codes "written")) kept after.heard n → HearsNext b command.Write before after n
 tells_written b before after kept config scalars vectors next.GoOn asked may running same named filled keeps heard = (
   asked,
   may,

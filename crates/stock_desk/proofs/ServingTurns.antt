@@ -1,5 +1,5 @@
 -- One turn of a desk with a client after the other.
-use Rattle.std.proofs.Common.{◌≡◌, ℕ, ◌+◌, ◌*◌, ◌<◌, ◌≤◌, List, [], ◌∷◌, ◌++◌, Option, Some, None, IsSome, codes, arith, inl, inr, refl, sym, ap, ◌∙◌, subst}
+use Rattle.std.proofs.Common.{◌≡◌, ℕ, ◌+◌, ◌*◌, ◌<◌, ◌≤◌, List, [], ◌∷◌, ◌++◌, Option, Some, None, IsSome, arith, inl, inr, refl, sym, ap, ◌∙◌, subst}
 use Rattle.module_api.specs.Behaviour.{Behaviour}
 use Rattle.checkpoints.specs.Stored.{begun, counts_in, IsBegun, Timeline}
 use Rattle.command_lines.specs.declared.commands.Command.{Command}
@@ -15,8 +15,8 @@ use Rattle.stock_modules.specs.declared.modules.StockModule.{StockModule}
 use Rattle.checkpointed_runs.specs.declared.running.Phase.TheVariants.{Idle, Waiting, Declined}
 use Rattle.stock_desk.specs.Boxes.{most_boxes}
 use Rattle.stock_desk.specs.Served.{Machine, AreHeard, BeginsToHear, Hears, command_asked, fresh_machine}
-use Rattle.stock_desk.specs.Serving.{Seen, ComesTo, Ends, EndsServing, HearsAnswer, HearsNext, IsAt, IsCutOff, IsGoing, IsNextServing, IsRunIn, IsServed, IsServingTurn, NeedsBox, RunsAlike, Stands, StandsBy, WaitsIn, left_in_run, left_seen}
-use Rattle.transcripts.specs.Heard.{Heard}
+use Rattle.stock_desk.specs.Serving.{Seen, ComesTo, Ends, EndsServing, HearsNext, HearsOne, IsAt, IsCutOff, IsGoing, IsNextServing, IsRunIn, IsServed, IsServingTurn, NeedsBox, RunsAlike, Stands, StandsBy, WaitsIn, left_in_run, left_seen}
+use Rattle.transcripts.specs.Heard.{Heard, OutOfMemory}
 use Rattle.transcripts.specs.declared.asked.Asked.{Asked}
 use Rattle.stock_desk.specs.declared.serving.Next.{Next}
 use Rattle.stock_desk.specs.declared.serving.Next.TheVariants as next
@@ -196,7 +196,7 @@ waits_for_none b limit e ps waits none counts =
 pub memory_turn : (b : Behaviour) (before after : Seen) (n : Next) (ps : Timeline Position) → IsSome before.running → IsSome (wanted_of before.editing)
     → IsUndone before.editing.phase before.editing.done before.editing.known ps → before.editing.positions ≡ counts_in ps
     → after.editing ≡ before.editing → after.asked ≡ before.asked → after.may ≡ before.may → after.running ≡ None
-    → HearsAnswer (codes "refused NoMemory") before.heard after.heard n → IsNextServing b before after n
+    → HearsOne OutOfMemory before.heard after.heard n → IsNextServing b before after n
 memory_turn b before after n ps going waits none counts same asked may running heard =
     let at = some_limit before.running going in
     run_turn b at.0 before after (turn.Over n) at.1

@@ -16,7 +16,7 @@ use Rattle.checkpoints.specs.Stored.{begun, Timeline}
 use Rattle.checkpointed_runs.specs.Positions.{cut, last_count, positions_after, HasStored}
 use Rattle.desk.specs.Answers.{held_text, positions_text}
 use Rattle.desk.specs.Turns.{run_answer, IsMade, IsRefused}
-use Rattle.transcripts.specs.Heard.{Answer, Files, Heard, Read}
+use Rattle.transcripts.specs.Heard.{Answer, Files, Heard, OutOfMemory, Read}
 use Rattle.transcripts.specs.declared.asked.Asked.{Asked}
 use Rattle.transcripts.specs.declared.asked.Asked.TheVariants as asked
 
@@ -37,9 +37,6 @@ events_of b m limit = (fresh_run b (answers_of m) limit).world.count
 abbrev pub command_asked : Asked → Command
 command_asked (asked.Line text) = command_of text
 command_asked asked.TooLong = command.TooLarge
-
-abbrev pub out_of_memory : Heard
-out_of_memory = Answer (codes "refused NoMemory")
 
 -- the machine behind a run to that limit: all events of it are known, and there are as many boxes as it leaves, and its positions
 abbrev pub behind_run : Behaviour → Machine → ℕ → Machine
@@ -64,7 +61,7 @@ pub record GivesUpRun (b : Behaviour) (s : Machine) (limit : ℕ) (s' : Machine)
 abbrev pub HearsRun : Behaviour → Machine → ℕ → List Heard → Machine → Type 0
 HearsRun b s limit heard s' =
     ((heard ≡ Answer (run_answer b s.model limit s.positions.stored) ∷ []) × (s' ≡ behind_run b s limit))
-    ⊎ ((heard ≡ out_of_memory ∷ []) × (GivesUpRun b s limit s' ⊎ (s' ≡ behind_run b s limit)))
+    ⊎ ((heard ≡ OutOfMemory ∷ []) × (GivesUpRun b s limit s' ⊎ (s' ≡ behind_run b s limit)))
 
 -- AN EDIT is made, and then no run is done, the boxes stay, and so do the positions up to which the last run stays valid; or it is refused, or memory ran
 -- out, and then nothing changed.
@@ -73,21 +70,21 @@ HearsEdit b s e heard s' =
     ((text : List ℕ) × (heard ≡ Answer text ∷ [])
     × ((IsMade b s.model s.known e text s'.model s'.known × (s'.last ≡ None) × (s'.held ≡ s.held)
     × (s'.positions ≡ cut s'.known s.positions)) ⊎ (IsRefused s.model e text × (s' ≡ s))))
-    ⊎ ((heard ≡ out_of_memory ∷ []) × (s' ≡ s))
+    ⊎ ((heard ≡ OutOfMemory ∷ []) × (s' ≡ s))
 
 -- A NED FILE is read that a command names, and then an edit is answered by which the file of that number is what was read; or memory ran out before.
 abbrev pub HearsNed : Behaviour → Machine → ℕ → List ℕ → List Heard → Machine → Type 0
 HearsNed b s number path heard s' =
     ((text : List ℕ) × (rest : List Heard) × (heard ≡ Read path text ∷ rest) × HearsEdit b s (edit.ReplaceNed number text) rest s')
-    ⊎ ((heard ≡ out_of_memory ∷ []) × (s' ≡ s))
+    ⊎ ((heard ≡ OutOfMemory ∷ []) × (s' ≡ s))
 
 -- AFTER WHICH EVENTS a position is stored is told, or memory ran out.
 abbrev pub HearsPositions : List ℕ → List Heard → Type 0
-HearsPositions positions heard = (heard ≡ Answer (positions_text positions) ∷ []) ⊎ (heard ≡ out_of_memory ∷ [])
+HearsPositions positions heard = (heard ≡ Answer (positions_text positions) ∷ []) ⊎ (heard ≡ OutOfMemory ∷ [])
 
 -- HOW MANY BOXES there are is told, or memory ran out.
 abbrev pub HearsHeld : ℕ → List Heard → Type 0
-HearsHeld held heard = (heard ≡ Answer (held_text held) ∷ []) ⊎ (heard ≡ out_of_memory ∷ [])
+HearsHeld held heard = (heard ≡ Answer (held_text held) ∷ []) ⊎ (heard ≡ OutOfMemory ∷ [])
 
 -- THE FILES of the last run are those of a fresh run of the model to its limit, and of the configuration that the model selects. Where no run is done there
 -- are none.

@@ -14,7 +14,7 @@ use Rattle.desk.specs.Turns.{editing_at, IsSettled}
 use Rattle.checkpointed_runs.specs.declared.running.Phase.TheVariants.{Declined}
 use Rattle.stock_desk.specs.Boxes.{boxes_of, left_of, most_boxes}
 use Rattle.stock_desk.specs.Served.{Machine, AreHeard, BeginsToHear, Hears, HearsRun, IsBroken, command_asked}
-use Rattle.transcripts.specs.Heard.{Answer, Heard}
+use Rattle.transcripts.specs.Heard.{Heard}
 use Rattle.transcripts.specs.declared.asked.Asked.{Asked}
 use Rattle.stock_desk.specs.declared.serving.Next.{Next}
 use Rattle.stock_desk.specs.declared.serving.Next.TheVariants as next
@@ -117,11 +117,11 @@ abbrev pub MayStopIn : (Stop → Type 0) → Turn → Type 0
 MayStopIn stops (turn.Need made) = Unit {0}
 MayStopIn stops (turn.Over n) = MayStopAt stops n
 
--- an answer is heard, or the client is gone
-abbrev pub HearsAnswer : List ℕ → List Heard → List Heard → Next → Type 0
-HearsAnswer text before after next.GoOn = after ≡ before ++ Answer text ∷ []
-HearsAnswer text before after (next.Stop stop.Gone) = after ≡ before
-HearsAnswer text before after (next.Stop _) = ⊥
+-- one thing is heard, or the client is gone
+abbrev pub HearsOne : Heard → List Heard → List Heard → Next → Type 0
+HearsOne h before after next.GoOn = after ≡ before ++ h ∷ []
+HearsOne h before after (next.Stop stop.Gone) = after ≡ before
+HearsOne h before after (next.Stop _) = ⊥
 
 -- ---- turns
 
@@ -208,9 +208,9 @@ module _ {O K X : Type 0} {Y : X → Type 0} where
     -- what is seen before and behind the step, and what it answers, are as its relation says
     pub comes : is_step (seen_in members asked_of heard_of may_ask before) (seen_in members asked_of heard_of may_ask after) answer
 
-  -- The client hears this text, or is gone, and nothing else changes but which run goes on.
+  -- The client hears this, an answer or that memory ran out, or is gone, and nothing else changes but which run goes on.
   pub record Tells (asked_of : K → List Asked) (heard_of : K → List Heard) (may_ask : K → ℕ) (keeps : K → Type 0) (label_of : K → ℕ)
-      (stops_of : K → Stop → Type 0) (text : List ℕ) (goes_on : Option ℕ) (before after : Server O K X Y) (answer : Next) : Type 0 where
+      (stops_of : K → Stop → Type 0) (told : Heard) (goes_on : Option ℕ) (before after : Server O K X Y) (answer : Next) : Type 0 where
     -- the client keeps true of itself what it says
     pub kept : keeps after.client
     -- its label is that from before
@@ -225,8 +225,8 @@ module _ {O K X : Type 0} {Y : X → Type 0} where
     pub asked : asked_of after.client ≡ asked_of before.client
     -- it may ask as often as before
     pub left : may_ask after.client ≡ may_ask before.client
-    -- it heard the text, or is gone
-    pub heard : HearsAnswer text (heard_of before.client) (heard_of after.client) answer
+    -- it heard what it is told, or is gone
+    pub heard : HearsOne told (heard_of before.client) (heard_of after.client) answer
 
 -- ---- runs
 

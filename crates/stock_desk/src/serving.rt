@@ -1,6 +1,6 @@
 //! A client at a desk with boxes of the stock modules: it asks one thing after the other, and hears what comes of it.
 
-ghost use Rattle.std.specs.Prelude.{◌≡◌, ◌<◌, ◌≤◌, ℕ, [], ◌∷◌, ◌++◌, Some, None, IsSome, OnOk, IfOk, IfErr, codes};
+ghost use Rattle.std.specs.Prelude.{◌≡◌, ◌<◌, ◌≤◌, ℕ, [], ◌∷◌, ◌++◌, Some, None, IsSome, OnOk, IfOk, IfErr};
 ghost use Rattle.models.specs.declared.model.Model.{Model};
 ghost use Rattle.model_texts.specs.Models.{IsModelOf, IsRuledOut, Refuses};
 ghost use Rattle.stock_modules.specs.Stock.{stock};
@@ -11,6 +11,7 @@ ghost use Rattle.command_lines.specs.declared.commands.Command.TheVariants as co
 ghost use Rattle.stock_desk.specs.Served.{command_asked};
 ghost use Rattle.stock_desk.specs.Serving.{AreFilled, ComesTo, Ends, HearsNext, IsMetIn, IsNextServing, IsReady, IsRunIn, IsServer, IsServingTurn, MayStopAt, MayStopIn, Serves, Tells};
 ghost use Rattle.result_lines.specs.Taken.{untouched};
+ghost use Rattle.transcripts.specs.Heard.{Answer, OutOfMemory};
 ghost use Rattle.desk_clients.specs.Devices.{HasFailed};
 ghost use Rattle.desk_clients.specs.declared.clients.Stop.TheVariants as why;
 
@@ -24,6 +25,7 @@ use model_texts::begin::BeginFault;
 use module_api::simple_module::SimpleModule;
 use ned_trees::texts::NedTexts;
 use result_lines::writer::Out;
+use sim_values::NoMemory;
 use sim_values::text::Text;
 use std::alloc::Global;
 use std::marker::PhantomData;
@@ -65,7 +67,7 @@ impl<O: Out + Drop, K: Client<O> + Drop> Server<O, K> {
     fn hear(&mut self, answer: &[u8]) -> Next
         requires { K.keeps self.old.client }
         ensures { Tells K.asked K.heard K.left K.keeps K.label K.stops
-            answer.now self.old.running self.old self.new result }
+            (Answer answer.now) self.old.running self.old self.new result }
     {
         match self.client.hear(answer) {
             Ok(()) => Next::GoOn,
@@ -108,18 +110,21 @@ impl<O: Out + Drop, K: Client<O> + Drop> Server<O, K> {
                 self.running = Some(limit);
                 self.need_of(alloc, &request)
             }
-            Err(_) => Turn::Over(self.out_of_memory()),
+            Err(error) => Turn::Over(self.out_of_memory(error)),
         }
     }
 
-    /// Memory ran out: no run goes on.
-    fn out_of_memory(&mut self) -> Next
+    /// The client hears that memory ran out, with that error. No run goes on.
+    fn out_of_memory(&mut self, error: NoMemory) -> Next
         requires { K.keeps self.old.client }
         ensures { Tells K.asked K.heard K.left K.keeps K.label K.stops
-            (codes "refused NoMemory") None self.old self.new result }
+            OutOfMemory None self.old self.new result }
     {
         self.running = None;
-        self.hear(b"refused NoMemory".as_slice())
+        match self.client.hear_no_memory(error) {
+            Ok(()) => Next::GoOn,
+            Err(Gone) => Next::Stop(Stop::Gone),
+        }
     }
 
     /// Changes the model as the edit says, or tells why not.
@@ -130,7 +135,7 @@ impl<O: Out + Drop, K: Client<O> + Drop> Server<O, K> {
     {
         match self.desk.edit(edit) {
             Ok(text) => self.hear(text.as_bytes()),
-            Err(_) => self.out_of_memory(),
+            Err(error) => self.out_of_memory(error),
         }
     }
 
@@ -154,7 +159,7 @@ impl<O: Out + Drop, K: Client<O> + Drop> Server<O, K> {
     {
         match self.desk.positions() {
             Ok(text) => self.hear(text.as_bytes()),
-            Err(_) => self.out_of_memory(),
+            Err(error) => self.out_of_memory(error),
         }
     }
 
@@ -166,7 +171,7 @@ impl<O: Out + Drop, K: Client<O> + Drop> Server<O, K> {
     {
         match self.desk.held() {
             Ok(text) => self.hear(text.as_bytes()),
-            Err(_) => self.out_of_memory(),
+            Err(error) => self.out_of_memory(error),
         }
     }
 
@@ -260,7 +265,7 @@ impl<O: Out + Drop, K: Client<O> + Drop> Server<O, K> {
         match asked {
             Asked::Line(text) => match command_of(alloc, text.as_bytes()) {
                 Ok(command) => self.command(alloc, command),
-                Err(_) => Turn::Over(self.out_of_memory()),
+                Err(error) => Turn::Over(self.out_of_memory(error)),
             },
             Asked::TooLong => self.command(alloc, Command::TooLarge),
         }
@@ -297,7 +302,7 @@ impl<O: Out + Drop, K: Client<O> + Drop> Server<O, K> {
         match self.desk.supply(held) {
             Ok(()) => Next::GoOn,
             Err(fault) => match fault.reason {
-                SupplyReason::NoMemory(_) => self.out_of_memory(),
+                SupplyReason::NoMemory(error) => self.out_of_memory(error),
                 SupplyReason::NotWanted => unreachable!(),
             },
         }
@@ -363,7 +368,7 @@ pub fn serve<O: Out + Drop, K: Client<O> + Drop>(
                     let held: Box<dyn SimpleModule> = held;
                     server.supply(held)
                 }
-                Err(_) => server.out_of_memory(),
+                Err(failed) => server.out_of_memory(failed.into()),
             },
             Turn::Over(next) => next,
         };

@@ -4,10 +4,11 @@ ghost use Rattle.std.specs.Prelude.{◌≡◌, List, [], ◌∷◌, ◌++◌};
 ghost use Rattle.std.specs.Borrow.{ftrue};
 ghost use Rattle.std.specs.Coded.{coded_list};
 ghost use Rattle.transcripts.specs.Asks.{asked_code};
-ghost use Rattle.transcripts.specs.Heard.{Heard, Answer, Files, Read, heard_code};
+ghost use Rattle.transcripts.specs.Heard.{Heard, Answer, Files, OutOfMemory, Read, heard_code};
 ghost use Rattle.transcripts.specs.declared.asked.Asked.{Asked as AskedValue};
 ghost use Rattle.transcripts.specs.declared.asked.Asked.TheVariants as asks;
 
+use sim_values::NoMemory;
 use std::marker::{Model, PhantomData};
 use text_files::noted::Noted;
 
@@ -64,6 +65,12 @@ impl Transcript {
     /// The file of that path was read, and holds these bytes.
     pub fn hears_read(&mut self, _path: &[u8], _text: &[u8])
         ensures heard { self.new.heard ≡ self.old.heard ++ Read _path.now _text.now ∷ [] }
+        ensures asked { self.new.asked ≡ self.old.asked }
+    {}
+
+    /// Memory ran out, with that error. No other call notes this, so who notes it has met one.
+    pub fn hears_no_memory(&mut self, _error: &NoMemory)
+        ensures heard { self.new.heard ≡ self.old.heard ++ OutOfMemory ∷ [] }
         ensures asked { self.new.asked ≡ self.old.asked }
     {}
 }
