@@ -28,6 +28,7 @@ fault_name fault.TooManyActions = codes "TooManyActions"
 fault_name fault.NotInFinish = codes "NotInFinish"
 fault_name fault.BadName = codes "BadName"
 fault_name fault.TimeOverflow = codes "TimeOverflow"
+fault_name fault.Past = codes "Past"
 fault_name fault.AlreadyScheduled = codes "AlreadyScheduled"
 fault_name (fault.ModuleFailed text) = codes "ModuleFailed"
 

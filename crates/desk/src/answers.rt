@@ -34,6 +34,7 @@ fn fault_name(fault: &Fault) -> &'static [u8]
         Fault::NotInFinish => b"NotInFinish",
         Fault::BadName => b"BadName",
         Fault::TimeOverflow => b"TimeOverflow",
+        Fault::Past => b"Past",
         Fault::AlreadyScheduled => b"AlreadyScheduled",
         Fault::ModuleFailed(_) => b"ModuleFailed",
     }

@@ -3,6 +3,7 @@ use Rattle.std.proofs.Common.{◌≡◌, ◌≢◌, ◌⊎◌, inl, inr, ⊎_eli
 use Rattle.std.proofs.lemmas.Int.{ints}
 use Rattle.std.proofs.lemmas.Bool.Decides.{leb_tells}
 use Rattle.event_set.specs.declared.pending.Pending.{Pending}
+use Rattle.event_set.specs.Timers.{is_timer, without_timer}
 use Rattle.event_set.specs.Order.{comes_before, inserted, Each, AreInOrder, HaveOwnNumbers}
 
 -- ---- the order
@@ -140,3 +141,26 @@ own_by false e f fs ne h k = (each_inserted (λ g. g.number ≢ f.number) e fs (
 pub own_inserted : (e : Pending) (es : List Pending) → Each (λ f. f.number ≢ e.number) es → HaveOwnNumbers es → HaveOwnNumbers (inserted e es)
 own_inserted e [] ne h = (tt, tt)
 own_inserted e (f ∷ fs) ne h = own_by (comes_before e f) e f fs ne h (own_inserted e fs ne.1 h.1)
+
+-- ---- without a timer
+
+-- of a list without its first, or with what is left of its tail
+left_of : (P : List Pending → Type 0) (c : Bool) (p : Pending) (ps rest : List Pending) → P ps → P (p ∷ rest) → P (if c then ps else p ∷ rest)
+left_of P true p ps rest h k = h
+left_of P false p ps rest h k = k
+
+pub each_without : (P : Pending → Type 0) (id timer : ℕ) (es : List Pending) → Each P es → Each P (without_timer id timer es)
+each_without P id timer [] h = tt
+each_without P id timer (e ∷ es) h = left_of (Each P) (is_timer id timer e) e es (without_timer id timer es) h.1 (h.0, each_without P id timer es h.1)
+
+pub ordered_without : (id timer : ℕ) (es : List Pending) → AreInOrder es → AreInOrder (without_timer id timer es)
+ordered_without id timer [] h = tt
+ordered_without id timer (e ∷ es) h =
+    left_of AreInOrder (is_timer id timer e) e es (without_timer id timer es) h.1
+    (each_without (λ f. IsTrue (comes_before e f)) id timer es h.0, ordered_without id timer es h.1)
+
+pub own_without : (id timer : ℕ) (es : List Pending) → HaveOwnNumbers es → HaveOwnNumbers (without_timer id timer es)
+own_without id timer [] h = tt
+own_without id timer (e ∷ es) h =
+    left_of HaveOwnNumbers (is_timer id timer e) e es (without_timer id timer es) h.1
+    (each_without (λ f. f.number ≢ e.number) id timer es h.0, own_without id timer es h.1)

@@ -1,11 +1,12 @@
 -- Deeds and questions neither read nor change modules.
-use Rattle.std.proofs.Common.{◌≡◌, ℕ, List, [], ◌∷◌, refl, sym, ap, ◌∙◌, Bool, true, false, Option, Some, None, length, nat_lt, if◌then◌else◌}
+use Rattle.std.proofs.Common.{◌≡◌, ℕ, List, [], ◌∷◌, refl, sym, ap, ◌∙◌, Bool, true, false, Option, Some, None, length, nat_lt, if◌then◌else◌, ℤ}
 use Rattle.sim_time.specs.Time.{time_sum}
 use Rattle.module_api.specs.declared.reply.Action.{Action}
 use Rattle.module_api.specs.Names.{is_scalar_name}
-use Rattle.module_api.specs.declared.reply.Action.TheVariants.{Emit, RecordScalar, ScheduleAfter, Fail}
+use Rattle.module_api.specs.declared.reply.Action.TheVariants.{Emit, RecordScalar, ScheduleAt, ScheduleAfter, Cancel, Fail}
 use Rattle.module_api.specs.declared.reply.Read.{Read}
 use Rattle.module_api.specs.declared.reply.Reply.{Reply}
+use Rattle.module_api.specs.declared.reply.Appointment.{Appointment}
 use Rattle.module_api.specs.declared.reply.Schedule.{Schedule}
 use Rattle.run_questions.specs.Answers.{Answers}
 use Rattle.run_semantics.specs.declared.occasions.Occasion.{Occasion}
@@ -16,7 +17,7 @@ use Rattle.run_semantics.specs.declared.outcome.Turn.TheVariants.{GoOn, Stop, Br
 use Rattle.run_semantics.specs.declared.traces.Instance.{Instance}
 use Rattle.run_semantics.specs.World.{World, asked}
 use Rattle.event_set.specs.Timers.{has_timer}
-use Rattle.run_semantics.specs.Perform.{Flow, On, Stopped, Broken, ◌>>=◌, flow_of, scheduled, deed, ask_all, ask_noted, question_of, broken}
+use Rattle.run_semantics.specs.Perform.{Flow, On, Stopped, Broken, ◌>>=◌, flow_of, scheduled_at, scheduled, appointed, deed, ask_all, ask_noted, question_of, broken}
 use Rattle.run_semantics.specs.Run.{prepared}
 use Rattle.run_semantics.proofs.Setting.{IsLasting, Stays, prepared_stays}
 
@@ -40,14 +41,22 @@ either_apart ms false f g h k e d = d
 
 -- ---- deeds: one line for each
 
+timer_apart : (ms : List Instance) (id timer : ℕ) (priority kind : ℤ) (w : World) (time : ℕ) → scheduled_at id timer priority kind (with_modules ms w) time ≡ flow_with ms (scheduled_at id timer priority kind w time)
+timer_apart ms id timer priority kind w time = either_apart ms (has_timer id timer w.pending) _ _ _ _ refl refl
+
 scheduled_apart : (ms : List Instance) (id : ℕ) (s : Schedule) (w : World) (time : Option ℕ) → scheduled id s (with_modules ms w) time ≡ flow_with ms (scheduled id s w time)
 scheduled_apart ms id s w None = refl
-scheduled_apart ms id s w (Some time) = either_apart ms (has_timer id s.timer w.pending) _ _ _ _ refl refl
+scheduled_apart ms id s w (Some time) = timer_apart ms id s.timer s.priority s.kind w time
+
+appointed_apart : (ms : List Instance) (id : ℕ) (a : Appointment) (w : World) → appointed id a (with_modules ms w) ≡ flow_with ms (appointed id a w)
+appointed_apart ms id a w = either_apart ms (nat_lt a.at w.clock) _ _ _ _ refl (timer_apart ms id a.timer a.priority a.kind w a.at)
 
 deed_apart : (ms : List Instance) (id : ℕ) (action : Action) (w : World) → deed id action (with_modules ms w) ≡ flow_with ms (deed id action w)
 deed_apart ms id (Emit signal value) w = refl
 deed_apart ms id (RecordScalar name value) w = either_apart ms (is_scalar_name name) _ _ _ _ refl refl
+deed_apart ms id (ScheduleAt a) w = appointed_apart ms id a w
 deed_apart ms id (ScheduleAfter s) w = scheduled_apart ms id s w (time_sum w.clock s.delay)
+deed_apart ms id (Cancel timer) w = refl
 deed_apart ms id (Fail text) w = refl
 
 -- ---- what the code of a core does to the world with these modules

@@ -1,18 +1,19 @@
 -- What is in the lists of a world that only grow stays there, whatever an event or the end did before memory ran out.
-use Rattle.std.proofs.Common.{◌≡◌, IfOk, OnErr, Result, Ok, Err, append-nil, append_assoc, ℕ, suc, ◌+◌, ◌≤◌, ◌<◌, Bool, true, false, List, [], ◌∷◌, ◌++◌, Option, Some, None, refl, sym, ap, ◌∙◌, arith, subst, drop, get_or, length, if◌then◌else◌}
+use Rattle.std.proofs.Common.{◌≡◌, IfOk, OnErr, Result, Ok, Err, append-nil, append_assoc, ℕ, suc, ◌+◌, ◌≤◌, ◌<◌, Bool, true, false, List, [], ◌∷◌, ◌++◌, Option, Some, None, refl, sym, ap, ◌∙◌, arith, subst, drop, get_or, length, if◌then◌else◌, ℤ, nat_lt}
 use Rattle.std.proofs.Math.ListN.{drop_of_length-le}
 use Rattle.std.proofs.Math.Seq.{drop-cons}
 use Rattle.sim_values.specs.declared.NoMemory.{NoMemory}
 use Rattle.sim_time.specs.Time.{time_sum}
 use Rattle.module_api.specs.declared.reply.Action.{Action}
-use Rattle.module_api.specs.declared.reply.Action.TheVariants.{Emit, RecordScalar, ScheduleAfter, Fail}
+use Rattle.module_api.specs.declared.reply.Action.TheVariants.{Emit, RecordScalar, ScheduleAt, ScheduleAfter, Cancel, Fail}
+use Rattle.module_api.specs.declared.reply.Appointment.{Appointment}
 use Rattle.module_api.specs.declared.reply.Schedule.{Schedule}
 use Rattle.module_api.specs.Names.{is_scalar_name}
 use Rattle.event_set.specs.Timers.{has_timer}
 use Rattle.run_semantics.specs.declared.outcome.Fault.TheVariants as fault
 use Rattle.run_semantics.specs.declared.outcome.Turn.{Turn}
 use Rattle.run_semantics.specs.World.{World}
-use Rattle.run_semantics.specs.Perform.{Flow, On, flow_of, broken, with_scalar, scheduled, deed}
+use Rattle.run_semantics.specs.Perform.{Flow, On, flow_of, broken, with_scalar, scheduled_at, scheduled, appointed, deed}
 use Rattle.run_semantics.proofs.Orderly.{on_same}
 use Rattle.run_semantics.proofs.Sound.{in_flow, in_flow-of}
 use Rattle.kernel_actions.specs.declared.looks.LookedAt.{LookedAt}
@@ -43,9 +44,8 @@ either_grows w false f g h k = k
 
 -- ---- deeds: one line for each
 
-scheduled_grows : (id : ℕ) (s : Schedule) (w : World) (time : Option ℕ) → IsGrownFrom w (in_flow (scheduled id s w time))
-scheduled_grows id s w None = growth_same w
-scheduled_grows id s w (Some time) = either_grows w (has_timer id s.timer w.pending) _ _ (growth_same w) (record {
+timer_grows : (id timer : ℕ) (priority kind : ℤ) (w : World) (time : ℕ) → IsGrownFrom w (in_flow (scheduled_at id timer priority kind w time))
+timer_grows id timer priority kind w time = either_grows w (has_timer id timer w.pending) _ _ (growth_same w) (record {
   records = on_same w.records;
   live = on_same w.live;
   started = on_same w.started;
@@ -54,6 +54,13 @@ scheduled_grows id s w (Some time) = either_grows w (has_timer id s.timer w.pend
   scalars = on_same w.scalars;
   questions = on_same w.questions;
 })
+
+scheduled_grows : (id : ℕ) (s : Schedule) (w : World) (time : Option ℕ) → IsGrownFrom w (in_flow (scheduled id s w time))
+scheduled_grows id s w None = growth_same w
+scheduled_grows id s w (Some time) = timer_grows id s.timer s.priority s.kind w time
+
+appointed_grows : (id : ℕ) (a : Appointment) (w : World) → IsGrownFrom w (in_flow (appointed id a w))
+appointed_grows id a w = either_grows w (nat_lt a.at w.clock) (broken id fault.Past w) _ (growth_same w) (timer_grows id a.timer a.priority a.kind w a.at)
 
 pub deed_grows : (id : ℕ) (action : Action) (w : World) → IsGrownFrom w (in_flow (deed id action w))
 deed_grows id (Emit signal value) w = record {
@@ -74,7 +81,17 @@ deed_grows id (RecordScalar name value) w = either_grows w (is_scalar_name name)
   scalars = (_, refl);
   questions = on_same w.questions;
 }) (growth_same w)
+deed_grows id (ScheduleAt a) w = appointed_grows id a w
 deed_grows id (ScheduleAfter s) w = scheduled_grows id s w (time_sum w.clock s.delay)
+deed_grows id (Cancel timer) w = record {
+  records = on_same w.records;
+  live = on_same w.live;
+  started = on_same w.started;
+  finished = on_same w.finished;
+  emissions = on_same w.emissions;
+  scalars = on_same w.scalars;
+  questions = on_same w.questions;
+}
 deed_grows id (Fail text) w = growth_same w
 
 -- what a flow leaves, by what the code says of it

@@ -23,7 +23,7 @@ use event_set::pending::{Happening, Pending};
 use event_set::set::EventSet;
 use injection_order::injection::{Due, Injection, Turn as InjectionTurn, injection_before};
 use module_api::names::is_scalar_name;
-use module_api::reply::{Action, Read, Schedule};
+use module_api::reply::{Action, Appointment, Read, Schedule};
 use question_log::cutting::cut_items;
 use question_log::entry::Entry;
 use question_log::log::QuestionLog;
@@ -209,23 +209,46 @@ impl Core {
         &mut self,
         alloc: Global,
         id: u32,
-        schedule: &Schedule,
+        timer: u32,
+        priority: i16,
+        kind: i16,
         time: SimTime,
     ) -> Result<Turn, NoMemory>
         requires { self.old.next + 1 < 2 ^ 128 }
         ensures flow { IfOk result (λ turn. flow_of turn self.new
-            ≡ scheduled_at id schedule.now self.old time) }
+            ≡ scheduled_at id timer priority kind self.old time) }
         ensures err { OnErr result (self.new ≡ self.old) }
     {
-        if self.pending.has_timer(id, schedule.timer) {
+        if self.pending.has_timer(id, timer) {
             return self.broken(alloc, id, Fault::AlreadyScheduled);
         }
-        let what = Happening::Timer(schedule.timer, schedule.kind);
-        self.pending.insert(time, schedule.priority, id, what)?;
+        let what = Happening::Timer(timer, kind);
+        self.pending.insert(time, priority, id, what)?;
         Ok(Turn::GoOn)
     }
 
-    /// Sets a timer.
+    /// Sets a timer at a time of the run.
+    fn appoint(&mut self, alloc: Global, id: u32, a: &Appointment) -> Result<Turn, NoMemory>
+        requires { self.old.next + 1 < 2 ^ 128 }
+        ensures flow { IfOk result (λ turn. flow_of turn self.new
+            ≡ deed id (Action.ScheduleAt a.now) self.old) }
+        ensures err { OnErr result (self.new ≡ self.old) }
+    {
+        if a.at < self.clock {
+            return self.broken(alloc, id, Fault::Past);
+        }
+        self.schedule_at(alloc, id, a.timer, a.priority, a.kind, a.at)
+    }
+
+    /// Takes a timer back, if it is pending.
+    fn cancel(&mut self, id: u32, timer: u32) -> Turn
+        ensures { flow_of result self.new ≡ deed id (Action.Cancel timer) self.old }
+    {
+        self.pending.cancel(id, timer);
+        Turn::GoOn
+    }
+
+    /// Sets a timer from now on.
     fn schedule(&mut self, alloc: Global, id: u32, schedule: &Schedule) -> Result<Turn, NoMemory>
         requires { self.old.next + 1 < 2 ^ 128 }
         ensures flow { IfOk result (λ turn. flow_of turn self.new
@@ -233,7 +256,14 @@ impl Core {
         ensures err { OnErr result (self.new ≡ self.old) }
     {
         match self.clock.checked_add(schedule.delay) {
-            Ok(time) => self.schedule_at(alloc, id, schedule, time),
+            Ok(time) => self.schedule_at(
+                alloc,
+                id,
+                schedule.timer,
+                schedule.priority,
+                schedule.kind,
+                time,
+            ),
             Err(_) => self.broken(alloc, id, Fault::TimeOverflow),
         }
     }
@@ -278,7 +308,9 @@ impl Core {
         match action {
             Action::Emit(signal, value) => self.emit(alloc, id, signal, *value),
             Action::RecordScalar(name, value) => self.record(alloc, id, name, *value),
+            Action::ScheduleAt(appointment) => self.appoint(alloc, id, appointment),
             Action::ScheduleAfter(schedule) => self.schedule(alloc, id, schedule),
+            Action::Cancel(timer) => Ok(self.cancel(id, *timer)),
             Action::Fail(text) => {
                 let text = text.copy(alloc)?;
                 self.broken(alloc, id, Fault::ModuleFailed(text))

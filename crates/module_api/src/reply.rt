@@ -13,13 +13,24 @@ pub enum Read {
     Gate(Text),
 }
 
-/// A timer to set.
+/// A timer to set, from now on.
 #[derive(Drop)]
 pub struct Schedule {
     /// The module's own number of the timer, of which one may be pending at a time.
     pub timer: u32,
     /// From now, in picoseconds.
     pub delay: SimTime,
+    pub priority: i16,
+    pub kind: i16,
+}
+
+/// A timer to set, at a time of the run.
+#[derive(Drop)]
+pub struct Appointment {
+    /// The module's own number of the timer, of which one may be pending at a time.
+    pub timer: u32,
+    /// The time of the run, in picoseconds.
+    pub at: SimTime,
     pub priority: i16,
     pub kind: i16,
 }
@@ -31,8 +42,12 @@ pub enum Action {
     Emit(Text, i64),
     /// Records a scalar of that name, which has to be one (`names::is_scalar_name`).
     RecordScalar(Text, i64),
-    /// Sets a timer.
+    /// Sets a timer at a time of the run, which is not before now.
+    ScheduleAt(Appointment),
+    /// Sets a timer from now on.
     ScheduleAfter(Schedule),
+    /// Takes back the timer of that number, if it is pending.
+    Cancel(u32),
     /// Ends the run with the fault ModuleFailed and this text.
     Fail(Text),
 }

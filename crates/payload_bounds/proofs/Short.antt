@@ -1,10 +1,10 @@
 -- At each moment of a run the messages of the events to come are short.
-use Rattle.std.proofs.Common.{◌≡◌, inl, inr, ℕ, zero, suc, nat_lt, Bool, true, false, List, [], ◌∷◌, Option, Some, None, length, refl, sym, subst, arith, if◌then◌else◌}
+use Rattle.std.proofs.Common.{◌≡◌, inl, inr, ℕ, zero, suc, nat_lt, Bool, true, false, List, [], ◌∷◌, Option, Some, None, length, refl, sym, subst, arith, if◌then◌else◌, ℤ}
 use Rattle.sim_time.specs.Time.{time_sum}
 use Rattle.event_set.specs.Timers.{has_timer}
 use Rattle.event_set.specs.declared.pending.Happening.TheVariants.{Timer}
 use Rattle.event_set.specs.declared.pending.Pending.{Pending}
-use Rattle.event_set.proofs.Order.{each_inserted}
+use Rattle.event_set.proofs.Order.{each_inserted, each_without}
 use Rattle.injection_order.specs.declared.injection.Due.{Due}
 use Rattle.injection_order.specs.declared.injection.Injection.{Injection}
 use Rattle.injection_order.specs.declared.injection.Turn.{Turn}
@@ -15,9 +15,10 @@ use Rattle.module_api.specs.Names.{is_scalar_name}
 use Rattle.module_api.specs.declared.call.Prompt.{Prompt}
 use Rattle.module_api.specs.declared.call.Prompt.TheVariants as prompt
 use Rattle.module_api.specs.declared.reply.Action.{Action}
-use Rattle.module_api.specs.declared.reply.Action.TheVariants.{Emit, RecordScalar, ScheduleAfter, Fail}
+use Rattle.module_api.specs.declared.reply.Action.TheVariants.{Emit, RecordScalar, ScheduleAt, ScheduleAfter, Cancel, Fail}
 use Rattle.module_api.specs.declared.reply.Read.{Read}
 use Rattle.module_api.specs.declared.reply.Reply.{Reply}
+use Rattle.module_api.specs.declared.reply.Appointment.{Appointment}
 use Rattle.module_api.specs.declared.reply.Schedule.{Schedule}
 use Rattle.run_questions.specs.Answers.{Answers}
 use Rattle.run_questions.specs.declared.answer.Answer.TheVariants as answer
@@ -28,7 +29,7 @@ use Rattle.run_semantics.specs.declared.outcome.Fault.{Fault}
 use Rattle.run_semantics.specs.declared.outcome.Outcome.TheVariants.{Ended, TimeLimit}
 use Rattle.run_semantics.specs.declared.traces.Instance.{Instance}
 use Rattle.run_semantics.specs.Event.{call_of, changed, called, call_module, begun, event, instance_in, message_of}
-use Rattle.run_semantics.specs.Perform.{Flow, On, Stopped, Broken, ◌>>=◌, with_scalar, for_each, scheduled, deed, is_allowed, act, act_all, ask_all, ask_noted, question_of, acted, read_fault, unless_fault, answered}
+use Rattle.run_semantics.specs.Perform.{Flow, On, Stopped, Broken, ◌>>=◌, with_scalar, for_each, scheduled_at, scheduled, appointed, deed, is_allowed, act, act_all, ask_all, ask_noted, question_of, acted, read_fault, unless_fault, answered}
 use Rattle.run_semantics.specs.Run.{ready, stages_in, most_stages, initialize, one_stage, stages_from, initialize_all, with_started, Stage, Running, Over, world_at, settled, is_after_limit, went, next_stage, after}
 use Rattle.run_semantics.specs.Subtree.{outer_first}
 use Rattle.run_semantics.specs.Upcoming.{first_due, delivered, target_of, Upcoming, Comes, Nothing, first_of, aimed, chosen, upcoming_in, upcoming}
@@ -51,16 +52,24 @@ either_short false f g h k = k
 
 -- ---- a reply
 
+timer_short : (id timer : ℕ) (priority kind : ℤ) (w : World) (time : ℕ) → Short w → Short (in_flow (scheduled_at id timer priority kind w time))
+timer_short id timer priority kind w time h =
+    either_short (has_timer id timer w.pending) _ _ h
+    (each_inserted (λ (p : Pending). IsShort (message_of p).payload) (record { time = time; priority = priority; number = w.next; id = id; what = Timer timer kind }) w.pending (omega arith) h)
+
 scheduled_short : (id : ℕ) (s : Schedule) (w : World) (found : Option ℕ) → Short w → Short (in_flow (scheduled id s w found))
 scheduled_short id s w None h = h
-scheduled_short id s w (Some time) h =
-    either_short (has_timer id s.timer w.pending) _ _ h
-    (each_inserted (λ (p : Pending). IsShort (message_of p).payload) (record { time = time; priority = s.priority; number = w.next; id = id; what = Timer s.timer s.kind }) w.pending (omega arith) h)
+scheduled_short id s w (Some time) h = timer_short id s.timer s.priority s.kind w time h
+
+appointed_short : (id : ℕ) (a : Appointment) (w : World) → Short w → Short (in_flow (appointed id a w))
+appointed_short id a w h = either_short (nat_lt a.at w.clock) _ _ h (timer_short id a.timer a.priority a.kind w a.at h)
 
 deed_short : (id : ℕ) (action : Action) (w : World) → Short w → Short (in_flow (deed id action w))
 deed_short id (Emit signal value) w h = h
 deed_short id (RecordScalar name value) w h = either_short (is_scalar_name name) (On (with_scalar id name value w)) _ h h
+deed_short id (ScheduleAt a) w h = appointed_short id a w h
 deed_short id (ScheduleAfter s) w h = scheduled_short id s w (time_sum w.clock s.delay) h
+deed_short id (Cancel timer) w h = each_without (λ (p : Pending). IsShort (message_of p).payload) id timer w.pending h
 deed_short id (Fail text) w h = h
 
 act_short : (b : Behaviour) (m : Answers) (o : Occasion) (id : ℕ) (action : Action) (w : World) → Short w → Short (in_flow (act b m o id action w))

@@ -1,7 +1,7 @@
 -- The end of a run asks nothing, creates no module, and counts no event; and of what it leaves nothing is undone.
 use Rattle.std.proofs.Common.{◌≡◌, ℕ, Bool, true, false, List, [], ◌∷◌, Option, Some, None, refl, ◌∙◌, length, nat_lt, if◌then◌else◌}
 use Rattle.module_api.specs.declared.reply.Action.{Action}
-use Rattle.module_api.specs.declared.reply.Action.TheVariants.{Emit, RecordScalar, ScheduleAfter, Fail}
+use Rattle.module_api.specs.declared.reply.Action.TheVariants.{Emit, RecordScalar, ScheduleAt, ScheduleAfter, Cancel, Fail}
 use Rattle.module_api.specs.declared.reply.Reply.{Reply}
 use Rattle.module_api.specs.declared.call.Prompt.TheVariants as prompt
 use Rattle.module_api.specs.Behaviour.{Behaviour}
@@ -65,7 +65,9 @@ act_closed b m id (RecordScalar name value) w =
     either_closed (is_scalar_name name) (On (with_scalar id name value w)) (broken id fault.BadName w) w
     (record { questions = refl; records = refl; count = refl; live = refl; started = refl; finished = on_same w.finished; emissions = on_same w.emissions; scalars = (_, refl) })
     (closed_same w)
+act_closed b m id (ScheduleAt a) w = closed_same w
 act_closed b m id (ScheduleAfter s) w = closed_same w
+act_closed b m id (Cancel timer) w = record { questions = refl; records = refl; count = refl; live = refl; started = refl; finished = on_same w.finished; emissions = on_same w.emissions; scalars = on_same w.scalars }
 act_closed b m id (Fail text) w = closed_same w
 
 act_all_closed : (b : Behaviour) (m : Answers) (id : ℕ) (actions : List Action) (w : World) → IsClosed w (in_flow (act_all b m occasion.End id actions w))

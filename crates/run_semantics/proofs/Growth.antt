@@ -1,15 +1,16 @@
 -- What parts of an event add to a world: questions, and modules.
-use Rattle.std.proofs.Common.{◌≡◌, ℕ, zero, suc, ◌+◌, ◌≤◌, ◌==◌, cond, Bool, true, false, List, [], ◌∷◌, ◌++◌, Option, Some, None, refl, sym, ap, ◌∙◌, arith, subst, append_assoc, append-nil, length-append, slice_get, length, map, if◌then◌else◌, nat_lt, eqb-true}
+use Rattle.std.proofs.Common.{◌≡◌, ℕ, zero, suc, ◌+◌, ◌≤◌, ◌==◌, cond, Bool, true, false, List, [], ◌∷◌, ◌++◌, Option, Some, None, refl, sym, ap, ◌∙◌, arith, subst, append_assoc, append-nil, length-append, slice_get, length, map, if◌then◌else◌, nat_lt, eqb-true, ℤ}
 use Rattle.sim_time.specs.Time.{time_sum}
 use Rattle.module_api.specs.Behaviour.{Behaviour, Replied}
 use Rattle.module_api.specs.declared.call.Prompt.{Prompt}
 use Rattle.module_api.specs.declared.call.Prompt.TheVariants as prompt
 use Rattle.module_api.specs.declared.reply.Action.{Action}
 use Rattle.module_api.specs.Names.{is_scalar_name}
-use Rattle.module_api.specs.declared.reply.Action.TheVariants.{Emit, RecordScalar, ScheduleAfter, Fail}
+use Rattle.module_api.specs.declared.reply.Action.TheVariants.{Emit, RecordScalar, ScheduleAt, ScheduleAfter, Cancel, Fail}
 use Rattle.module_api.specs.declared.reply.Read.{Read}
 use Rattle.module_api.specs.declared.reply.Read.TheVariants as read
 use Rattle.module_api.specs.declared.reply.Reply.{Reply}
+use Rattle.module_api.specs.declared.reply.Appointment.{Appointment}
 use Rattle.module_api.specs.declared.reply.Schedule.{Schedule}
 use Rattle.run_questions.specs.declared.answer.Answer.{Answer}
 use Rattle.run_questions.specs.declared.answer.Answer.TheVariants as answer
@@ -25,7 +26,7 @@ use Rattle.run_semantics.specs.declared.outcome.Fault.{Fault}
 use Rattle.run_semantics.specs.declared.traces.Instance.{Instance}
 use Rattle.run_semantics.specs.World.{World, empty, asked, is_asked, timed}
 use Rattle.event_set.specs.Timers.{has_timer}
-use Rattle.run_semantics.specs.Perform.{Flow, On, Stopped, Broken, ◌>>=◌, asking, for_each, scheduled, deed, is_allowed, act, act_all, ask_all, question_of, acted, read_fault, unless_fault, answered}
+use Rattle.run_semantics.specs.Perform.{Flow, On, Stopped, Broken, ◌>>=◌, asking, for_each, scheduled_at, scheduled, appointed, deed, is_allowed, act, act_all, ask_all, question_of, acted, read_fault, unless_fault, answered}
 use Rattle.run_semantics.specs.Event.{call_of, instance_in, with_state, changed, replied, called, call_module, event}
 use Rattle.run_semantics.specs.Run.{with_network, rooted, record_under, with_submodules, room_in, unless_many, created, set_up, Part, with_class, parts_from, parts_of, place, place_all, place_parts, stages_in, most_stages, initialize, one_stage, stages_from, started, initialize_all, with_started}
 use Rattle.run_semantics.specs.Subtree.{outer_first}
@@ -167,15 +168,23 @@ either_grows w false f g h k = k
 -- ---- actions: one line for each
 
 -- an event to come is no question
+timer_grows : (id timer : ℕ) (priority kind : ℤ) (w : World) (time : ℕ) → Fits w → IsGrown w (in_flow (scheduled_at id timer priority kind w time))
+timer_grows id timer priority kind w time f = either_grows w (has_timer id timer w.pending) _ _ (grown_same w f) (grown_beside w _ f refl refl refl refl)
+
 scheduled_grows : (id : ℕ) (s : Schedule) (w : World) (time : Option ℕ) → Fits w → IsGrown w (in_flow (scheduled id s w time))
 scheduled_grows id s w None f = grown_same w f
-scheduled_grows id s w (Some time) f = either_grows w (has_timer id s.timer w.pending) _ _ (grown_same w f) (grown_beside w _ f refl refl refl refl)
+scheduled_grows id s w (Some time) f = timer_grows id s.timer s.priority s.kind w time f
+
+appointed_grows : (id : ℕ) (a : Appointment) (w : World) → Fits w → IsGrown w (in_flow (appointed id a w))
+appointed_grows id a w f = either_grows w (nat_lt a.at w.clock) _ _ (grown_same w f) (timer_grows id a.timer a.priority a.kind w a.at f)
 
 -- a deed asks nothing
 deed_grows : (id : ℕ) (action : Action) (w : World) → Fits w → IsGrown w (in_flow (deed id action w))
 deed_grows id (Emit signal value) w f = grown_beside w _ f refl refl refl refl
 deed_grows id (RecordScalar name value) w f = either_grows w (is_scalar_name name) _ _ (grown_beside w _ f refl refl refl refl) (grown_same w f)
+deed_grows id (ScheduleAt a) w f = appointed_grows id a w f
 deed_grows id (ScheduleAfter s) w f = scheduled_grows id s w (time_sum w.clock s.delay) f
+deed_grows id (Cancel timer) w f = grown_beside w _ f refl refl refl refl
 deed_grows id (Fail text) w f = grown_same w f
 
 -- nor does an action, which is a deed

@@ -1,15 +1,16 @@
 -- In every world of a run the events to come are in order, none is late, each has a number of its own, and each is for a
 -- module that stands; and what was emitted stands in the order of events.
-use Rattle.std.proofs.Common.{◌≡◌, ◌≢◌, ◌⊎◌, inl, inr, ℕ, zero, suc, ◌+◌, ◌≤◌, ◌<◌, ◌==◌, cond, Bool, true, false, List, [], ◌∷◌, ◌++◌, Option, Some, None, refl, sym, ap, ◌∙◌, arith, subst, append_assoc, append-nil, length, map, if◌then◌else◌, nat_lt, nat_le, eqb-true}
+use Rattle.std.proofs.Common.{◌≡◌, ◌≢◌, ◌⊎◌, inl, inr, ℕ, zero, suc, ◌+◌, ◌≤◌, ◌<◌, ◌==◌, cond, Bool, true, false, List, [], ◌∷◌, ◌++◌, Option, Some, None, refl, sym, ap, ◌∙◌, arith, subst, append_assoc, append-nil, length, map, if◌then◌else◌, nat_lt, nat_le, eqb-true, ℤ, ltb-false}
 use Rattle.sim_time.specs.Time.{time_sum}
 use Rattle.module_api.specs.Behaviour.{Behaviour, Replied}
 use Rattle.module_api.specs.declared.call.Prompt.{Prompt}
 use Rattle.module_api.specs.declared.call.Prompt.TheVariants as prompt
 use Rattle.module_api.specs.declared.reply.Action.{Action}
 use Rattle.module_api.specs.Names.{is_scalar_name}
-use Rattle.module_api.specs.declared.reply.Action.TheVariants.{Emit, RecordScalar, ScheduleAfter, Fail}
+use Rattle.module_api.specs.declared.reply.Action.TheVariants.{Emit, RecordScalar, ScheduleAt, ScheduleAfter, Cancel, Fail}
 use Rattle.module_api.specs.declared.reply.Read.{Read}
 use Rattle.module_api.specs.declared.reply.Reply.{Reply}
+use Rattle.module_api.specs.declared.reply.Appointment.{Appointment}
 use Rattle.module_api.specs.declared.reply.Schedule.{Schedule}
 use Rattle.run_questions.specs.Answers.{Answers}
 use Rattle.run_semantics.specs.declared.occasions.Occasion.{Occasion}
@@ -25,7 +26,7 @@ use Rattle.run_semantics.specs.declared.traces.Instance.{Instance}
 use Rattle.run_semantics.specs.World.{World, asked}
 use Rattle.event_set.specs.Order.{inserted}
 use Rattle.event_set.specs.Timers.{has_timer}
-use Rattle.run_semantics.specs.Perform.{Flow, On, Stopped, Broken, ◌>>=◌, broken, for_each, with_scalar, scheduled, deed, is_allowed, act, act_all, ask_all, question_of, acted, read_fault, unless_fault, answered}
+use Rattle.run_semantics.specs.Perform.{Flow, On, Stopped, Broken, ◌>>=◌, broken, for_each, with_scalar, scheduled_at, scheduled, appointed, with_cancelled, deed, is_allowed, act, act_all, ask_all, question_of, acted, read_fault, unless_fault, answered}
 use Rattle.run_semantics.specs.Event.{call_of, instance_in, with_state, changed, called, call_module, begun, event, message_of}
 use Rattle.run_semantics.specs.Run.{prepared, Part, parts_of, place, place_all, place_parts, ready, standing, stages_in, most_stages, initialize, one_stage, stages_from, started, initialize_all, with_started, part_of, Stage, Running, Over, world_at, settled, is_after_limit, went, next_stage, after}
 use Rattle.run_semantics.specs.Laws.{Each, AreInOrder, AreInTurn, HaveOwnNumbers, IsAmong, ids_of, GoesOn}
@@ -36,7 +37,7 @@ use Rattle.run_semantics.proofs.Looking.{beside, looking, HasLooked, upcoming_lo
 use Rattle.run_semantics.proofs.Setting.{IsLasting, stays_in, prepared_stays}
 use Rattle.run_semantics.proofs.Sound.{in_flow}
 use Rattle.run_semantics.proofs.Counts.{event_count}
-use Rattle.event_set.proofs.Order.{each_map, each_append, each_inserted, ordered_inserted, own_inserted}
+use Rattle.event_set.proofs.Order.{each_map, each_append, each_inserted, ordered_inserted, own_inserted, each_without, ordered_without, own_without}
 
 -- what holds of the events to come of a world
 pub record IsOrderly (w : World) : Type 0 where
@@ -165,12 +166,50 @@ leads_inserted e w f number time stands =
       };
     }
 
--- an event is scheduled, unless its timer is pending or its time is none
+-- a timer is set at a time that is not past, unless it is pending
+timer_leads : (id timer : ℕ) (priority kind : ℤ) (w : World) (time : ℕ) → w.clock ≤ time → IsOrderly w → StandsIn id w → Leads w (in_flow (scheduled_at id timer priority kind w time))
+timer_leads id timer priority kind w time l f h =
+    either_leads w (has_timer id timer w.pending) _ _ (leads_same w f)
+    (leads_inserted (record { time = time; priority = priority; number = w.next; id = id; what = Timer timer kind }) w f refl l h)
+
+-- from now on, unless its time is none
 scheduled_leads : (id : ℕ) (s : Schedule) (w : World) (found : Option ℕ) → time_sum w.clock s.delay ≡ found → IsOrderly w → StandsIn id w → Leads w (in_flow (scheduled id s w found))
 scheduled_leads id s w None e f h = leads_same w f
-scheduled_leads id s w (Some time) e f h =
-    either_leads w (has_timer id s.timer w.pending) _ _ (leads_same w f)
-    (leads_inserted (record { time = time; priority = s.priority; number = w.next; id = id; what = Timer s.timer s.kind }) w f refl (sum_is_after w.clock s.delay time e) h)
+scheduled_leads id s w (Some time) e f h = timer_leads id s.timer s.priority s.kind w time (sum_is_after w.clock s.delay time e) f h
+
+-- at a time of the run, unless that is past
+past_by : (past : Bool) (w : World) (other on : Flow) (at : ℕ) → nat_lt at w.clock ≡ past → Leads w (in_flow other) → (w.clock ≤ at → Leads w (in_flow on)) → Leads w (in_flow (if past then other else on))
+past_by true w other on at e h k = h
+past_by false w other on at e h k = k (ltb-false at w.clock e)
+
+appointed_leads : (id : ℕ) (a : Appointment) (w : World) → IsOrderly w → StandsIn id w → Leads w (in_flow (appointed id a w))
+appointed_leads id a w f h =
+    past_by (nat_lt a.at w.clock) w (broken id fault.Past w) (scheduled_at id a.timer a.priority a.kind w a.at) a.at refl (leads_same w f)
+    (λ l. timer_leads id a.timer a.priority a.kind w a.at l f h)
+
+-- a timer is taken back, if it is pending
+cancelled_leads : (id timer : ℕ) (w : World) → IsOrderly w → Leads w (with_cancelled id timer w)
+cancelled_leads id timer w f = record {
+  clock = refl;
+  count = refl;
+  present = tt;
+  next = omega arith;
+  records = refl;
+  same = refl;
+  started = refl;
+  live = refl;
+  finished = refl;
+  delivered = refl;
+  emissions = on_same w.emissions;
+  scalars = on_same w.scalars;
+  orderly = record {
+    order = ordered_without id timer w.pending f.order;
+    own = own_without id timer w.pending f.own;
+    below = each_without (λ e. e.number < w.next) id timer w.pending f.below;
+    due = each_without (λ e. w.clock ≤ e.time) id timer w.pending f.due;
+    modules = each_without (λ e. IsAmong e.id (ids_of w.modules)) id timer w.pending f.modules;
+  };
+}
 
 -- one deed
 deed_leads : (id : ℕ) (action : Action) (w : World) → IsOrderly w → StandsIn id w → Leads w (in_flow (deed id action w))
@@ -207,7 +246,9 @@ deed_leads id (RecordScalar name value) w f h =
       orderly = record { order = f.order; own = f.own; below = f.below; due = f.due; modules = f.modules };
     })
     (leads_same w f)
+deed_leads id (ScheduleAt a) w f h = appointed_leads id a w f h
 deed_leads id (ScheduleAfter s) w f h = scheduled_leads id s w (time_sum w.clock s.delay) refl f h
+deed_leads id (Cancel timer) w f h = cancelled_leads id timer w f
 deed_leads id (Fail text) w f h = leads_same w f
 
 -- one action of a reply

@@ -1,14 +1,15 @@
 -- The worlds of a run have room for more: an action inserts one event at most.
-use Rattle.std.proofs.Common.{◌≡◌, ℕ, suc, ◌+◌, ◌≤◌, Bool, true, false, List, [], ◌∷◌, Option, Some, None, refl, sym, ◌∙◌, ap, arith, subst, length, nat_lt, if◌then◌else◌}
+use Rattle.std.proofs.Common.{◌≡◌, ℕ, suc, ◌+◌, ◌≤◌, Bool, true, false, List, [], ◌∷◌, Option, Some, None, refl, sym, ◌∙◌, ap, arith, subst, length, nat_lt, if◌then◌else◌, ℤ}
 use Rattle.std.proofs.lemmas.Bool.Decides.{nat_tests}
 use Rattle.sim_time.specs.Time.{time_sum}
 use Rattle.module_api.specs.Behaviour.{Behaviour, Replied}
 use Rattle.module_api.specs.declared.call.Prompt.{Prompt}
 use Rattle.module_api.specs.declared.reply.Action.{Action}
 use Rattle.module_api.specs.Names.{is_scalar_name}
-use Rattle.module_api.specs.declared.reply.Action.TheVariants.{Emit, RecordScalar, ScheduleAfter, Fail}
+use Rattle.module_api.specs.declared.reply.Action.TheVariants.{Emit, RecordScalar, ScheduleAt, ScheduleAfter, Cancel, Fail}
 use Rattle.module_api.specs.declared.reply.Read.{Read}
 use Rattle.module_api.specs.declared.reply.Reply.{Reply}
+use Rattle.module_api.specs.declared.reply.Appointment.{Appointment}
 use Rattle.module_api.specs.declared.reply.Schedule.{Schedule}
 use Rattle.run_questions.specs.Answers.{Answers}
 use Rattle.run_semantics.specs.declared.occasions.Occasion.{Occasion}
@@ -19,7 +20,7 @@ use Rattle.run_semantics.specs.declared.outcome.Turn.TheVariants.{GoOn, Stop, Br
 use Rattle.run_semantics.specs.declared.traces.Instance.{Instance}
 use Rattle.run_semantics.specs.World.{World, asked}
 use Rattle.event_set.specs.Timers.{has_timer}
-use Rattle.run_semantics.specs.Perform.{Flow, flow_of, On, Stopped, Broken, ◌>>=◌, for_each, scheduled, deed, is_allowed, act, act_all, ask_all, ask_noted, question_of, acted, read_fault, unless_fault, answered}
+use Rattle.run_semantics.specs.Perform.{Flow, flow_of, On, Stopped, Broken, ◌>>=◌, for_each, scheduled_at, scheduled, appointed, deed, is_allowed, act, act_all, ask_all, ask_noted, question_of, acted, read_fault, unless_fault, answered}
 use Rattle.run_semantics.specs.Event.{call_of, instance_in, changed, called, call_at, call_module}
 
 -- the world of a flow
@@ -59,15 +60,23 @@ either_keeps n false f g w h k = k refl
 
 -- ---- actions: one line for each
 
+timer_keeps : (id timer : ℕ) (priority kind : ℤ) (w : World) (time : ℕ) → Keeps 1 w (in_flow (scheduled_at id timer priority kind w time))
+timer_keeps id timer priority kind w time =
+    either_keeps 1 (has_timer id timer w.pending) _ _ w (keeps_same 1 w) (λ e. record { count = refl; next = omega arith })
+
 scheduled_keeps : (id : ℕ) (s : Schedule) (w : World) (time : Option ℕ) → Keeps 1 w (in_flow (scheduled id s w time))
 scheduled_keeps id s w None = keeps_same 1 w
-scheduled_keeps id s w (Some time) =
-    either_keeps 1 (has_timer id s.timer w.pending) _ _ w (keeps_same 1 w) (λ e. record { count = refl; next = omega arith })
+scheduled_keeps id s w (Some time) = timer_keeps id s.timer s.priority s.kind w time
+
+appointed_keeps : (id : ℕ) (a : Appointment) (w : World) → Keeps 1 w (in_flow (appointed id a w))
+appointed_keeps id a w = either_keeps 1 (nat_lt a.at w.clock) _ _ w (keeps_same 1 w) (λ e. timer_keeps id a.timer a.priority a.kind w a.at)
 
 pub deed_keeps : (id : ℕ) (action : Action) (w : World) → Keeps 1 w (in_flow (deed id action w))
 deed_keeps id (Emit signal value) w = record { count = refl; next = omega arith }
 deed_keeps id (RecordScalar name value) w = either_keeps 1 (is_scalar_name name) _ _ w (record { count = refl; next = omega arith }) (λ e. keeps_same 1 w)
+deed_keeps id (ScheduleAt a) w = appointed_keeps id a w
 deed_keeps id (ScheduleAfter s) w = scheduled_keeps id s w (time_sum w.clock s.delay)
+deed_keeps id (Cancel timer) w = record { count = refl; next = omega arith }
 deed_keeps id (Fail text) w = keeps_same 1 w
 
 pub act_keeps : (b : Behaviour) (m : Answers) (o : Occasion) (id : ℕ) (action : Action) (w : World) → Keeps 1 w (in_flow (act b m o id action w))

@@ -1,14 +1,15 @@
 -- In every world of a run each module's state is one of its kind.
-use Rattle.std.proofs.Common.{◌≡◌, ℕ, zero, suc, ◌==◌, cond, Bool, true, false, List, [], ◌∷◌, Option, Some, None, IsTrue, refl, subst, length, if◌then◌else◌, nat_lt}
+use Rattle.std.proofs.Common.{◌≡◌, ℕ, zero, suc, ◌==◌, cond, Bool, true, false, List, [], ◌∷◌, Option, Some, None, IsTrue, refl, subst, length, if◌then◌else◌, nat_lt, ℤ}
 use Rattle.sim_time.specs.Time.{time_sum}
 use Rattle.module_api.specs.Behaviour.{Behaviour, Replied}
 use Rattle.module_api.specs.Laws.{IsLawful}
 use Rattle.module_api.specs.declared.call.Prompt.{Prompt}
 use Rattle.module_api.specs.declared.call.Prompt.TheVariants as prompt
 use Rattle.module_api.specs.declared.reply.Action.{Action}
-use Rattle.module_api.specs.declared.reply.Action.TheVariants.{Emit, RecordScalar, ScheduleAfter, Fail}
+use Rattle.module_api.specs.declared.reply.Action.TheVariants.{Emit, RecordScalar, ScheduleAt, ScheduleAfter, Cancel, Fail}
 use Rattle.module_api.specs.declared.reply.Read.{Read}
 use Rattle.module_api.specs.declared.reply.Reply.{Reply}
+use Rattle.module_api.specs.declared.reply.Appointment.{Appointment}
 use Rattle.module_api.specs.declared.reply.Schedule.{Schedule}
 use Rattle.module_api.specs.Names.{is_scalar_name}
 use Rattle.run_questions.specs.Answers.{Answers}
@@ -23,7 +24,7 @@ use Rattle.run_semantics.specs.declared.outcome.Outcome.{Outcome}
 use Rattle.run_semantics.specs.declared.outcome.Outcome.TheVariants.{Ended, TimeLimit}
 use Rattle.run_semantics.specs.declared.traces.Instance.{Instance}
 use Rattle.run_semantics.specs.World.{World, asked}
-use Rattle.run_semantics.specs.Perform.{Flow, On, Stopped, Broken, ◌>>=◌, broken, for_each, scheduled, deed, is_allowed, act, act_all, ask_all, question_of, acted, read_fault, unless_fault, answered}
+use Rattle.run_semantics.specs.Perform.{Flow, On, Stopped, Broken, ◌>>=◌, broken, for_each, scheduled_at, scheduled, appointed, deed, is_allowed, act, act_all, ask_all, question_of, acted, read_fault, unless_fault, answered}
 use Rattle.run_semantics.specs.Event.{call_of, instance_in, with_state, changed, called, call_module, begun, event, message_of}
 use Rattle.run_semantics.specs.Run.{prepared, Part, parts_of, placed, place, place_all, place_parts, ready, stages_in, most_stages, initialize, one_stage, stages_from, started, initialize_all, with_started, Stage, Running, Over, world_at, settled, is_after_limit, went, next_stage, after}
 use Rattle.run_semantics.specs.Laws.{Each, AreStates}
@@ -55,14 +56,22 @@ either_in b false f g h k = k
 
 -- ---- actions and questions leave modules alone: one line for each
 
+timer_in : (b : Behaviour) (id timer : ℕ) (priority kind : ℤ) (w : World) (time : ℕ) → AllIn b w → AllIn b (in_flow (scheduled_at id timer priority kind w time))
+timer_in b id timer priority kind w time h = either_in b (has_timer id timer w.pending) _ _ h h
+
 scheduled_in : (b : Behaviour) (id : ℕ) (s : Schedule) (w : World) (time : Option ℕ) → AllIn b w → AllIn b (in_flow (scheduled id s w time))
 scheduled_in b id s w None h = h
-scheduled_in b id s w (Some time) h = either_in b (has_timer id s.timer w.pending) _ _ h h
+scheduled_in b id s w (Some time) h = timer_in b id s.timer s.priority s.kind w time h
+
+appointed_in : (b : Behaviour) (id : ℕ) (a : Appointment) (w : World) → AllIn b w → AllIn b (in_flow (appointed id a w))
+appointed_in b id a w h = either_in b (nat_lt a.at w.clock) _ _ h (timer_in b id a.timer a.priority a.kind w a.at h)
 
 deed_in : (b : Behaviour) (id : ℕ) (action : Action) (w : World) → AllIn b w → AllIn b (in_flow (deed id action w))
 deed_in b id (Emit signal value) w h = h
 deed_in b id (RecordScalar name value) w h = either_in b (is_scalar_name name) _ _ h h
+deed_in b id (ScheduleAt a) w h = appointed_in b id a w h
 deed_in b id (ScheduleAfter s) w h = scheduled_in b id s w (time_sum w.clock s.delay) h
+deed_in b id (Cancel timer) w h = h
 deed_in b id (Fail text) w h = h
 
 act_in : (b : Behaviour) (m : Answers) (o : Occasion) (id : ℕ) (action : Action) (w : World) → AllIn b w → AllIn b (in_flow (act b m o id action w))

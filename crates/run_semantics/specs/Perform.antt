@@ -2,10 +2,11 @@
 use Rattle.std.specs.Prelude.{ℕ, ℤ, ◌+◌, nat_lt, Bool, true, false, List, [], ◌∷◌, ◌++◌, Option, Some, None, if◌then◌else◌, length}
 use Rattle.sim_time.specs.Time.{time_sum}
 use Rattle.module_api.specs.declared.reply.Action.{Action}
-use Rattle.module_api.specs.declared.reply.Action.TheVariants.{Emit, RecordScalar, ScheduleAfter, Fail}
+use Rattle.module_api.specs.declared.reply.Action.TheVariants.{Emit, RecordScalar, ScheduleAt, ScheduleAfter, Cancel, Fail}
 use Rattle.module_api.specs.declared.reply.Read.{Read}
 use Rattle.module_api.specs.declared.reply.Read.TheVariants as read
 use Rattle.module_api.specs.declared.reply.Reply.{Reply}
+use Rattle.module_api.specs.declared.reply.Appointment.{Appointment}
 use Rattle.module_api.specs.declared.reply.Schedule.{Schedule}
 use Rattle.module_api.specs.Behaviour.{Behaviour}
 use Rattle.module_api.specs.Names.{is_scalar_name}
@@ -26,7 +27,7 @@ use Rattle.run_semantics.specs.declared.outcome.Turn.{Turn}
 use Rattle.run_semantics.specs.declared.outcome.Turn.TheVariants.{GoOn, Stop, Break}
 use Rattle.event_set.specs.declared.pending.Happening.TheVariants.{Timer}
 use Rattle.event_set.specs.Order.{inserted}
-use Rattle.event_set.specs.Timers.{has_timer}
+use Rattle.event_set.specs.Timers.{has_timer, without_timer}
 use Rattle.run_semantics.specs.World.{World, asked}
 
 -- where an event stands: it goes on; the rest of it is discarded; or a fault, told with a path, has ended the run
@@ -72,18 +73,27 @@ model_fault model_fault_kind.Circle = fault.Circle
 
 -- ---- deeds: actions that ask nothing and call no module
 
--- an event at a time, where there is one
-abbrev pub scheduled_at : ℕ → Schedule → World → ℕ → Flow
-scheduled_at id s w time =
-    if has_timer id s.timer w.pending then broken id fault.AlreadyScheduled w
+-- a timer of a module, with the priority and the kind of its message, at a time that is not before now
+abbrev pub scheduled_at : ℕ → ℕ → ℤ → ℤ → World → ℕ → Flow
+scheduled_at id timer priority kind w time =
+    if has_timer id timer w.pending then broken id fault.AlreadyScheduled w
     else On (record w {
-      pending = inserted (record { time = time; priority = s.priority; number = w.next; id = id; what = Timer s.timer s.kind }) w.pending;
+      pending = inserted (record { time = time; priority = priority; number = w.next; id = id; what = Timer timer kind }) w.pending;
       next = w.next + 1;
     })
 
+-- from now on, where that is a time
 abbrev pub scheduled : ℕ → Schedule → World → Option ℕ → Flow
 scheduled id s w None = broken id fault.TimeOverflow w
-scheduled id s w (Some time) = scheduled_at id s w time
+scheduled id s w (Some time) = scheduled_at id s.timer s.priority s.kind w time
+
+-- at a time of the run
+abbrev pub appointed : ℕ → Appointment → World → Flow
+appointed id a w = if nat_lt a.at w.clock then broken id fault.Past w else scheduled_at id a.timer a.priority a.kind w a.at
+
+-- a timer is no more among the events to come, if it was
+abbrev pub with_cancelled : ℕ → ℕ → World → World
+with_cancelled id timer w = record w { pending = without_timer id timer w.pending }
 
 -- a scalar more
 abbrev pub with_scalar : ℕ → List ℕ → ℤ → World → World
@@ -94,7 +104,9 @@ abbrev pub deed : ℕ → Action → World → Flow
 deed id (Emit signal value) w =
     On (record w { emissions = w.emissions ++ record { id = id; signal = signal; event = w.count; time = w.clock; value = value } ∷ [] })
 deed id (RecordScalar name value) w = if is_scalar_name name then On (with_scalar id name value w) else broken id fault.BadName w
+deed id (ScheduleAt a) w = appointed id a w
 deed id (ScheduleAfter s) w = scheduled id s w (time_sum w.clock s.delay)
+deed id (Cancel timer) w = On (with_cancelled id timer w)
 deed id (Fail text) w = broken id (fault.ModuleFailed text) w
 
 -- ---- reads
@@ -156,7 +168,9 @@ perform b m id action w = deed id action w
 abbrev pub is_last_action : Action → Bool
 is_last_action (Emit signal value) = true
 is_last_action (RecordScalar name value) = true
+is_last_action (ScheduleAt a) = false
 is_last_action (ScheduleAfter s) = false
+is_last_action (Cancel timer) = true
 is_last_action (Fail text) = true
 
 -- whether a reply may have that action, by what the module is called for

@@ -29,8 +29,10 @@ fn is_last_action(action: &Action) -> bool
     ensures { result ≡ is_last_action action.now }
 {
     match action {
-        Action::Emit(_, _) | Action::RecordScalar(_, _) | Action::Fail(_) => true,
-        Action::ScheduleAfter(_) => false,
+        Action::Cancel(_) | Action::Emit(_, _) | Action::RecordScalar(_, _) | Action::Fail(_) => {
+            true
+        }
+        Action::ScheduleAt(_) | Action::ScheduleAfter(_) => false,
     }
 }
 

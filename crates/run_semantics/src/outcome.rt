@@ -40,6 +40,8 @@ pub enum Fault {
     BadName,
     /// A time is above the greatest time.
     TimeOverflow,
+    /// A timer is to be set at a time before now.
+    Past,
     /// The timer is pending already.
     AlreadyScheduled,
     /// The module said so.
@@ -105,6 +107,7 @@ impl Fault {
             Fault::NotInFinish => Fault::NotInFinish,
             Fault::BadName => Fault::BadName,
             Fault::TimeOverflow => Fault::TimeOverflow,
+            Fault::Past => Fault::Past,
             Fault::AlreadyScheduled => Fault::AlreadyScheduled,
             Fault::ModuleFailed(text) => Fault::ModuleFailed(text.copy(alloc)?),
         })

@@ -91,6 +91,11 @@ fn add_action(text: &mut String, action: &Action) -> Result<(), AllocError> {
             let (timer, delay, priority) = (set.timer, set.delay.ps(), set.priority);
             write!(text, " timer{timer}+{delay}/{priority}")
         }
+        Action::ScheduleAt(set) => {
+            let (timer, at, priority) = (set.timer, set.at.ps(), set.priority);
+            write!(text, " timer{timer}@{at}/{priority}")
+        }
+        Action::Cancel(timer) => write!(text, " cancel{timer}"),
         Action::Fail(reason) => write!(text, " fail={}", written(reason)),
     }
 }
