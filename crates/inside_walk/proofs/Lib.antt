@@ -1,0 +1,6 @@
+pub mod Counts
+pub mod Spent
+pub mod OfElements
+pub mod OfEnds
+pub mod OfSubmodules
+pub mod OfItems

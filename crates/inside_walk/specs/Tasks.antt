@@ -1,0 +1,166 @@
+-- What is left to be done of an inside, as a stack of tasks of which the first is the next.
+use Rattle.std.specs.Prelude.{◌≡◌, ℕ, ℤ, pos, ◌+ℤ◌, Bool, List, [], ◌∷◌, Option, Some, None, Result, Ok, Err, length}
+use Rattle.asking.specs.Asking.{Done, Ask}
+use Rattle.inside_keys.specs.declared.found.State.{State}
+use Rattle.inside_keys.specs.declared.key.What.{What}
+use Rattle.inside_keys.specs.declared.key.What.TheVariants as what
+use Rattle.inside_keys.specs.Asked.{Asked, ask_then, result_then, whole_then, size_then, truth_then, number_then, valued_then}
+use Rattle.inside_keys.specs.Inside.{Rest, whole, looped, turns, count, gate_then, named_then, part_then, end_then, right_end, connected, connection_lines, items, gates, parameters, element_typed, elements, submodule_there, submodules, made_of}
+use Rattle.inside_keys.specs.Keys.{child}
+use Rattle.inside_keys.specs.Places.{Scope, bind, meant_under}
+use Rattle.inside_keys.specs.States.{with_wiring, grown, noted}
+use Rattle.inside_parts.specs.declared.fault.Stop.{Stop}
+use Rattle.inside_parts.specs.declared.fault.Stop.TheVariants as stop
+use Rattle.ned_trees.specs.declared.connections.Connection.{Connection}
+use Rattle.ned_trees.specs.declared.connections.End.{End}
+use Rattle.ned_trees.specs.declared.connections.GateIndex.{GateIndex}
+use Rattle.ned_trees.specs.declared.declarations.Submodule.{Submodule}
+use Rattle.ned_trees.specs.declared.connections.Owner.{Owner}
+use Rattle.inside_parts.specs.declared.parts.NamedGate.{NamedGate}
+use Rattle.inside_wiring.specs.declared.ends.Taken.{Taken}
+use Rattle.inside_parts.specs.declared.parts.Made.TheVariants.{Absent, Vector}
+use Rattle.inside_wiring.specs.declared.wiring.Role.{Role}
+use Rattle.inside_wiring.specs.declared.wiring.GateId.{GateId}
+use Rattle.inside_wiring.specs.Ends.{part_named, at_index, left_role, right_role, beside, linked}
+use Rattle.param_eval.specs.Evaluating.{came_to, resumed}
+use Rattle.sim_values.specs.declared.value.Value.{Value}
+use Rattle.inside_walk.specs.declared.task.Body.{Body}
+use Rattle.inside_walk.specs.declared.task.Body.TheVariants as body
+use Rattle.inside_walk.specs.declared.task.Doing.{Doing}
+use Rattle.inside_walk.specs.declared.task.Doing.TheVariants as doing
+use Rattle.inside_walk.specs.declared.task.Ground.{Ground}
+use Rattle.inside_walk.specs.declared.task.Halt.{Halt}
+use Rattle.inside_walk.specs.declared.task.Halt.TheVariants as halt
+use Rattle.inside_walk.specs.declared.task.Next.{Next}
+use Rattle.inside_walk.specs.declared.task.Next.TheVariants as next
+use Rattle.inside_walk.specs.declared.task.Side.{Side}
+use Rattle.inside_walk.specs.declared.task.Side.TheVariants as side
+use Rattle.inside_walk.specs.declared.task.Sort.{Sort}
+use Rattle.inside_walk.specs.declared.task.Sort.TheVariants as sort
+use Rattle.inside_walk.specs.declared.task.Task.{Task}
+use Rattle.inside_walk.specs.declared.task.Task.TheVariants as task
+use Rattle.inside_walk.specs.declared.task.Wait.{Wait}
+use Rattle.inside_walk.specs.declared.task.Wait.TheVariants as wait
+use Rattle.inside_walk.specs.declared.task.Want.{Want}
+use Rattle.inside_walk.specs.declared.task.Want.TheVariants as want
+
+-- the loop variables in scope: those of the loops that have begun
+abbrev pub scope_of : List Task → Scope
+scope_of [] = []
+scope_of (task.Turns x z last cs b ∷ ts) = bind x.now z (scope_of ts)
+scope_of (_ ∷ ts) = scope_of ts
+
+-- which size of a gate is asked for
+abbrev pub size_by : Sort → List ℕ → What
+size_by sort.Own x = what.GateSize x
+size_by sort.Declared x = what.Declared x
+
+-- ---- ends of connections
+
+abbrev pub end_at : Side → Connection → End
+end_at side.Left c = c.left
+end_at (side.Right l) c = c.right
+
+abbrev pub role_at : Side → Connection → Role
+role_at side.Left c = left_role c.arrow
+role_at (side.Right l) c = right_role c.arrow
+
+abbrev pub other_at : Side → Connection → Option GateId
+other_at side.Left c = None
+other_at (side.Right l) c = beside c.arrow l
+
+module _ (g : Ground) where
+  -- what comes behind an end that has taken a gate
+  abbrev pub taken : Connection → Side → Scope → State → Rest → Taken → Asked
+  taken c side.Left scope s rest t = right_end g.place g.submodules.now g.gates.now c t.id scope (with_wiring s t.wiring) rest
+  taken c (side.Right l) scope s rest t = rest (with_wiring s (linked c.arrow l t.id t.wiring))
+
+  -- an end of a connection, and what comes behind it
+  abbrev pub end_begun : Connection → Side → Scope → State → Rest → Asked
+  end_begun c at scope s rest = end_then g.place g.submodules.now g.gates.now (end_at at c) (role_at at c) (other_at at c) scope s (taken c at scope s rest)
+
+  -- the gate at that place, and what comes behind it
+  abbrev pub place_begun : Connection → Side → Option GateIndex → Scope → State → Rest → NamedGate → Asked
+  place_begun c at place scope s rest gate = gate_then g.place g.submodules.now g.gates.now place gate (role_at at c) (other_at at c) scope s (taken c at scope s rest)
+
+  -- the gate of that part at the place that the end names, and what comes behind it
+  abbrev pub gate_begun : Connection → Side → Scope → State → Rest → NamedGate → Asked
+  gate_begun c at scope s rest gate = place_begun c at (end_at at c).gate.index scope s rest gate
+
+  -- the gate of that part, and what comes behind it
+  abbrev pub part_begun : Connection → Side → Scope → State → Rest → ℕ → Asked
+  part_begun c at scope s rest part = named_then g.place g.submodules.now g.gates.now (end_at at c) (role_at at c) (other_at at c) scope s part (taken c at scope s rest)
+
+  -- the gate of the submodule of that name, and what comes behind it
+  abbrev pub name_begun : Connection → Side → Scope → State → Rest → Owner → Asked
+  name_begun c at scope s rest m = part_then g.place g.submodules.now g.gates.now (Some m) scope s (part_begun c at scope s rest)
+
+  -- ---- tasks
+
+  abbrev pub body_of : Body → Scope → State → Rest → Asked
+  body_of (body.Connections cs) = connection_lines g.place g.submodules.now g.gates.now cs.now
+  body_of (body.Connection c) = connected g.place g.submodules.now g.gates.now c.now
+
+  -- a task under the loop variables in scope, and then the rest
+  abbrev pub after : Task → Scope → State → Rest → Asked
+  after (task.Parameters m xs) scope s rest = parameters m xs.now s rest
+  after (task.Gates m sort gs) scope s rest = gates m (size_by sort) gs.now s rest
+  after (task.Elements l n all) scope s rest = elements g.site g.types.now g.gates.now g.is_whole n all l.now s rest
+  after (task.Submodules ls) scope s rest = submodules g.site g.types.now g.gates.now g.is_whole ls.now s rest
+  after (task.Items is) scope s rest = items g.place g.submodules.now g.gates.now is.now scope s rest
+  after (task.Connections cs) scope s rest = connection_lines g.place g.submodules.now g.gates.now cs.now scope s rest
+  after (task.Clauses cs b) scope s rest = looped g.place cs.now (body_of b) scope s rest
+  after (task.Turns x z last cs b) scope s rest =
+      turns (count (z +ℤ pos 1) last) (z +ℤ pos 1) (λ y t next. looped g.place cs.now (body_of b) (bind x.now y scope) t next) s rest
+  after (task.End c at) scope s rest = end_begun c.now at scope s rest
+
+  -- all tasks, and then the inside is there
+  abbrev pub continued : List Task → State → Asked
+  continued [] s = made_of s
+  continued (t ∷ ts) s = after t (scope_of ts) s (continued ts)
+
+  -- what is done with the value of a key
+  abbrev pub waited : Wait → Value → State → Rest → Asked
+  waited wait.Parameter v s rest = rest s
+  waited wait.Gate v s rest = size_then v (λ n. rest (grown s n))
+  waited (wait.Condition l) v s rest = truth_then v (submodule_there g.site g.types.now g.gates.now g.is_whole l.now s rest) (rest (noted s Absent))
+  waited (wait.Size l) v s rest = size_then v (λ n. elements g.site g.types.now g.gates.now g.is_whole n n l.now (noted s (Vector (length s.parts.parts) n)) rest)
+  waited (wait.Type l index) v s rest = number_then v (λ n. element_typed g.site g.types.now g.gates.now g.is_whole (child g.site l.now.name index) n s rest)
+
+  -- what is done with the value of an expression
+  abbrev pub wanted : Want → Value → Scope → State → Rest → Asked
+  wanted (want.If cs b) v scope s rest = truth_then v (looped g.place cs.now (body_of b) scope s rest) (rest s)
+  wanted (want.First x e cs b) v scope s rest =
+      whole_then v (λ first. whole g.place e.now scope (λ last. turns (count first last) first (λ y t next. looped g.place cs.now (body_of b) (bind x.now y scope) t next) s rest))
+  wanted (want.Last x first cs b) v scope s rest =
+      whole_then v (λ last. turns (count first last) first (λ y t next. looped g.place cs.now (body_of b) (bind x.now y scope) t next) s rest)
+  wanted (want.Part c at name) v scope s rest =
+      whole_then v (λ z. result_then (part_named g.submodules.now s.parts name.now (Some z)) (part_begun c.now at scope s rest))
+  wanted (want.Index c at gate) v scope s rest =
+      whole_then v (λ z. result_then (at_index s.wiring (other_at at c.now) (role_at at c.now) gate z) (taken c.now at scope s rest))
+
+  -- what is done next, and then the tasks
+  abbrev pub next_of : List Task → Next → Asked
+  next_of ts (next.Go s) = continued ts s
+  next_of ts (next.Ask k w s) = ask_then k (λ v. waited w v s (continued ts))
+  next_of ts (next.At e t w s) = valued_then (meant_under (scope_of ts) g.place) (came_to e t) (λ v. wanted w v (scope_of ts) s (continued ts))
+
+  -- a step has led to that
+  abbrev pub Leads : Result Next Stop → List Task → Asked → Type 0
+  Leads (Ok n) ts t = next_of ts n ≡ t
+  Leads (Err (stop.Fault f)) ts t = t ≡ Done (Err f)
+  Leads (Err (stop.Memory e)) ts t = Unit {0}
+
+  -- what is done with the value that was asked for
+  abbrev pub done_with : Doing → Value → List Task → State → Asked
+  done_with (doing.Key w) v ts s = waited w v s (continued ts)
+  done_with (doing.Expression e w) v ts s = valued_then (meant_under (scope_of ts) g.place) (resumed e v) (λ u. wanted w u (scope_of ts) s (continued ts))
+
+  abbrev pub halted : List Task → Halt → Asked
+  halted ts (halt.Asks k d s) = ask_then k (λ v. done_with d v ts s)
+  halted ts (halt.Done f) = Done (Ok f)
+
+  abbrev pub Halts : Result Halt Stop → List Task → Asked → Type 0
+  Halts (Ok h) ts t = halted ts h ≡ t
+  Halts (Err (stop.Fault f)) ts t = t ≡ Done (Err f)
+  Halts (Err (stop.Memory e)) ts t = Unit {0}
