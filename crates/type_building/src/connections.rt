@@ -10,13 +10,13 @@ ghost use Rattle.ned_types.specs.Types.{body_clashes, is_given};
 ghost use Rattle.type_building.specs.Places.{first_from, unknown_channel_from, unknown_channel_of};
 
 use crate::bodies::{Misfit, first_misfit};
-use crate::channels::add_built_in;
 use crate::faults::{is_built_in, is_taken};
 use crate::named::NamedTypes;
 use crate::places::Member;
+use ned_channels::built_in::add_built_in;
+use ned_channels::channel::{channel_name, lines_of_channel};
 use ned_trees::connections::{Channel, ConnectionItem, ConnectionLine};
-use ned_trees::declarations::{SectionLine, TypeDeclaration, TypeKind};
-use ned_types::given::gives;
+use ned_trees::declarations::SectionLine;
 use sqlite_items::Items;
 use std::alloc::{AllocError, Global};
 
@@ -95,63 +95,6 @@ pub(crate) fn unknown_channel(named: &NamedTypes<'_>, items: &[ConnectionItem]) 
         }
     }
     None
-}
-
-// ---- what a channel is
-
-/// Whether the lines give the parameter of that name a value.
-fn is_given(name: &[u8], lines: &[SectionLine]) -> bool
-    ensures { result ≡ is_given name.now lines.now }
-{
-    lines.iter().any(|line| gives(name, line))
-}
-
-fn sets_rate(lines: &[SectionLine]) -> bool
-    ensures { result ≡ sets_rate lines.now }
-{
-    is_given(b"datarate", lines) || is_given(b"ber", lines) || is_given(b"per", lines)
-}
-
-fn sets_delay(lines: &[SectionLine]) -> bool
-    ensures { result ≡ sets_delay lines.now }
-{
-    is_given(b"delay", lines) || is_given(b"disabled", lines)
-}
-
-/// The built-in channel that a block alone means: it tells it by what it sets.
-fn channel_of_block(lines: &[SectionLine]) -> &'static [u8]
-    ensures { result.now ≡ channel_of_block lines.now }
-{
-    if sets_rate(lines) {
-        return b"DatarateChannel";
-    }
-    if sets_delay(lines) {
-        return b"DelayChannel";
-    }
-    b"IdealChannel"
-}
-
-/// The name of a channel's type: the one that is written, or that which its block means.
-fn channel_name(channel: &Channel) -> &[u8]
-    ensures { result.now ≡ channel_name channel.now }
-{
-    match &channel.type_name {
-        Some(name) => name.as_bytes(),
-        None => channel_of_block(channel.lines.as_slice()),
-    }
-}
-
-/// The lines of a type, where it is a channel.
-fn lines_of_channel(declared: Option<&TypeDeclaration>) -> Option<&[SectionLine]>
-    ensures { option_copied result ≡ lines_of_channel (option_copied declared.entry) }
-{
-    match declared {
-        Some(found) => match found.kind {
-            TypeKind::Channel => Some(found.lines.as_slice()),
-            _ => None,
-        },
-        None => None,
-    }
 }
 
 // ---- blocks

@@ -6,11 +6,11 @@ ghost use Rattle.ned_types.specs.Types.{is_channel_kind, is_simple_kind};
 ghost use Rattle.type_building.specs.Inheritance.{base_of, line_of, extends_unknown, extends_other, can_extend, is_base, is_channel_of, with_members, joined_with, class_along, class_lines, bare, bare_heir_of, flat_by, gathered, heir_of, flat_type, is_compound_kind, joined_behind, joined_connections, no_connections, types_in};
 ghost use Rattle.type_building.specs.Named.{HaveLines, flat_by_lines, line_at};
 
-use crate::channels::add_root;
 use crate::faults::{is_built_in, is_taken};
 use crate::lines::{Lines, add_lines_of};
 use crate::named::NamedTypes;
 use crate::order::is_interface_kind;
+use ned_channels::built_in::add_root;
 use ned_scopes::connections::add_items;
 use ned_scopes::copies::{add_gates, add_lines, add_names, add_submodules, copy_type};
 use ned_trees::connections::ConnectionSection;

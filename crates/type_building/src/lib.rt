@@ -2,7 +2,6 @@
 #![tactic(auto)]
 
 mod bodies;
-mod channels;
 mod connections;
 mod faults;
 mod gates;

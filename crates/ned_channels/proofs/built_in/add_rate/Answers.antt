@@ -5,7 +5,7 @@ use Rattle.sim_values.specs.declared.value.Dimension.TheVariants.{Rate}
 use Rattle.sim_values.specs.declared.value.Value.TheVariants as values
 use Rattle.std.specs.Prelude.{pos}
 use Rattle.ned_types.specs.Channels.{built_in_line, error_lines}
-use Rattle.type_building.proofs.channels.add_rate.Goals as goal
+use Rattle.ned_channels.proofs.built_in.add_rate.Goals as goal
 
 pub returns : goal.returns
 returns c =

@@ -10,6 +10,7 @@ use sim_values::text::{Text, spells};
 use sim_values::value::{Dimension, Value};
 use sqlite_items::Items;
 use std::alloc::{AllocError, Global};
+use std::marker::Model;
 
 /// A parameter with a default.
 fn built_in_line(
@@ -77,7 +78,7 @@ fn add_rate(alloc: Global, lines: &mut Items<SectionLine>) -> Result<(), AllocEr
 }
 
 /// Adds what the built-in channel of that name has.
-pub(crate) fn add_built_in(
+pub fn add_built_in(
     alloc: Global,
     lines: &mut Items<SectionLine>,
     name: &[u8],
@@ -95,7 +96,7 @@ pub(crate) fn add_built_in(
 }
 
 /// Adds what the built-in channel has that a type extends, where it extends one.
-pub(crate) fn add_root(
+pub fn add_root(
     alloc: Global,
     lines: &mut Items<SectionLine>,
     base: &Option<Text>,
@@ -105,5 +106,53 @@ pub(crate) fn add_root(
     match base {
         Some(name) => add_built_in(alloc, lines, name.as_bytes()),
         None => Ok(()),
+    }
+}
+
+/// The lines of the built-in channels, made once.
+#[derive(Drop)]
+pub struct BuiltInChannels {
+    none: Items<SectionLine>,
+    delay: Items<SectionLine>,
+    rate: Items<SectionLine>,
+}
+
+impl Model for BuiltInChannels {
+    ghost use Rattle.std.specs.Prelude.{◌≡◌, ◌++◌, []};
+    ghost use Rattle.ned_types.specs.Channels.{delay_lines, rate_lines};
+
+    ghost Value = { Unit {0} };
+
+    ghost view = { λ c. tt };
+
+    ghost invariant = { λ c. (c.none ≡ []) × (c.delay ≡ delay_lines) × (c.rate ≡ delay_lines ++ rate_lines) };
+}
+
+impl BuiltInChannels {
+    /// The lines of all of them.
+    pub fn new(alloc: Global) -> Result<BuiltInChannels, AllocError> {
+        let mut delay = Items::new(alloc);
+        add_delay(alloc, &mut delay)?;
+        let mut rate = Items::new(alloc);
+        add_delay(alloc, &mut rate)?;
+        add_rate(alloc, &mut rate)?;
+        Ok(BuiltInChannels {
+            none: Items::new(alloc),
+            delay,
+            rate,
+        })
+    }
+
+    /// The lines of the one of that name: an IdealChannel has none.
+    pub fn lines(&self, name: &[u8]) -> &[SectionLine]
+        ensures { result.now ≡ built_in_lines name.now }
+    {
+        if spells(name, b"DelayChannel") {
+            return self.delay.as_slice();
+        }
+        if spells(name, b"DatarateChannel") {
+            return self.rate.as_slice();
+        }
+        self.none.as_slice()
     }
 }
