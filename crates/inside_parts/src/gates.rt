@@ -70,7 +70,7 @@ fn add_all_loosened(alloc: Global, names: &mut Names, lines: &[GateLine]) -> Res
 }
 
 /// The names of the gates of which some line says that they may stay unconnected.
-fn loosened(alloc: Global, lines: &[GateLine]) -> Result<Names, NoMemory>
+pub fn loosened(alloc: Global, lines: &[GateLine]) -> Result<Names, NoMemory>
     ensures { IfOk result (λ names. names ≡ loosened lines.now) }
 {
     let mut names = Names::new(alloc);

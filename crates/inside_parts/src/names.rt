@@ -1,6 +1,7 @@
 //! Names that are found by hashing.
 
-ghost use Rattle.std.specs.Prelude.{◌≡◌, [], not, IfOk, OnOk};
+ghost use Rattle.std.specs.Prelude.{◌≡◌, [], not, IfOk, OnOk, slice_get};
+ghost use Rattle.std.specs.Option.{option_copied};
 ghost use Rattle.inside_parts.specs.Names.{is_one, position_of, with_name};
 
 use indexmap::IndexSet;
@@ -47,5 +48,12 @@ impl Names {
         ensures { result ≡ position_of name.now self.now }
     {
         self.names.get_index_of(name)
+    }
+
+    /// The name at a place.
+    pub fn get(&self, place: usize) -> Option<&Text>
+        ensures { option_copied result ≡ slice_get self.now place }
+    {
+        self.names.get_index(place)
     }
 }

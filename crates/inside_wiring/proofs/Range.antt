@@ -5,13 +5,13 @@ use Rattle.inside_parts.specs.declared.fault.Fault.TheVariants.{GateSize}
 use Rattle.inside_parts.specs.declared.parts.NamedGate.{NamedGate}
 use Rattle.inside_wiring.specs.declared.wiring.GateId.{GateId}
 use Rattle.inside_wiring.specs.declared.wiring.Role.{Role}
-use Rattle.inside_wiring.specs.Ends.{at_natural, at_index, unless_taken, natural}
+use Rattle.inside_wiring.specs.Ends.{at_natural, at_index, gate_of_vector, unless_taken, natural}
 use Rattle.inside_wiring.specs.Wired.{Wired}
 
-past : (w : Wired) (other : Option GateId) (role : Role) (v : ℕ) (i : Option ℕ) → length w.sizes ≤ v → at_natural w other role v i ≡ Err GateSize
-past w other role v None h = refl
-past w other role v (Some i) h = ap (λ n. if nat_lt i n then unless_taken w other role v i else Err GateSize) (get_or_past w.sizes v 0 h)
-    ∙ (let none : nat_lt i 0 ≡ false = grind arith in ap (λ b. if b then unless_taken w other role v i else Err GateSize) none)
+past : (w : Wired) (other : Option GateId) (role : Role) (g : NamedGate) (i : Option ℕ) → length w.sizes ≤ g.vector → at_natural w other role g i ≡ Err GateSize
+past w other role g None h = refl
+past w other role g (Some i) h = ap (λ n. if nat_lt i n then unless_taken w other role (gate_of_vector g i) else Err GateSize) (get_or_past w.sizes g.vector 0 h)
+    ∙ (let none : nat_lt i 0 ≡ false = grind arith in ap (λ b. if b then unless_taken w other role (gate_of_vector g i) else Err GateSize) none)
 
 pub past_all : (w : Wired) (other : Option GateId) (role : Role) (g : NamedGate) (z : ℤ) → length w.sizes ≤ g.vector → at_index w other role g z ≡ Err GateSize
-past_all w other role g z h = past w other role g.vector (natural z) h
+past_all w other role g z h = past w other role g (natural z) h

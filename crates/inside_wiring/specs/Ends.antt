@@ -16,12 +16,13 @@ use Rattle.inside_parts.specs.declared.parts.Made.TheVariants.{Absent, Single, V
 use Rattle.inside_parts.specs.declared.parts.Part.{Part}
 use Rattle.inside_parts.specs.declared.parts.NamedGate.{NamedGate}
 use Rattle.inside_parts.specs.declared.parts.Parts.{Parts}
+use Rattle.inside_wiring.specs.declared.wiring.Carrier.{Carrier}
 use Rattle.inside_wiring.specs.declared.wiring.GateId.{GateId}
 use Rattle.inside_wiring.specs.declared.wiring.Link.{Link}
 use Rattle.inside_wiring.specs.declared.wiring.Role.{Role}
 use Rattle.inside_wiring.specs.declared.wiring.Role.TheVariants.{Source, Target, Both}
 use Rattle.inside_wiring.specs.declared.ends.Taken.{Taken}
-use Rattle.inside_wiring.specs.Wired.{Wired, is_open, next_index}
+use Rattle.inside_wiring.specs.Wired.{Wired, is_open, key, next_index}
 
 abbrev pub or_fault : {A : Type 0} → Fault → Option A → Result A Fault
 or_fault f None = Err f
@@ -53,26 +54,27 @@ part_at ps (Some line) index = part_of (length ps.parts) (slice_get ps.made line
 abbrev pub part_named : List (List ℕ) → Parts → List ℕ → Option ℤ → Result ℕ Fault
 part_named names ps name index = or_fault NoGate (part_at ps (position_of name names) index)
 
-abbrev pub gate_of_kind : ℕ → Part → ℕ → Option TypeGate → Option NamedGate
-gate_of_kind count part g None = None
-gate_of_kind count part g (Some gate) =
-    if nat_lt (part.first + g) count then Some (record { vector = part.first + g; kind = gate.kind; is_own = part.is_own }) else None
+-- of the part of that number
+abbrev pub gate_of_kind : ℕ → ℕ → Part → ℕ → Option TypeGate → Option NamedGate
+gate_of_kind count number part g None = None
+gate_of_kind count number part g (Some gate) =
+    if nat_lt (part.first + g) count then Some (record { part = number; vector = part.first + g; kind = gate.kind; is_own = part.is_own }) else None
 
-abbrev pub gate_at : ℕ → Part → TypeGates → Option ℕ → Option NamedGate
-gate_at count part found None = None
-gate_at count part found (Some g) = gate_of_kind count part g (slice_get found.gates g)
+abbrev pub gate_at : ℕ → ℕ → Part → TypeGates → Option ℕ → Option NamedGate
+gate_at count number part found None = None
+gate_at count number part found (Some g) = gate_of_kind count number part g (slice_get found.gates g)
 
-abbrev pub gate_of_part : ℕ → List ℕ → Part → Option TypeGates → Option NamedGate
-gate_of_part count name part None = None
-gate_of_part count name part (Some found) = gate_at count part found (position_of name found.names)
+abbrev pub gate_of_part : ℕ → ℕ → List ℕ → Part → Option TypeGates → Option NamedGate
+gate_of_part count number name part None = None
+gate_of_part count number name part (Some found) = gate_at count number part found (position_of name found.names)
 
-abbrev pub gate_of : ℕ → List TypeGates → List ℕ → Option Part → Option NamedGate
-gate_of count types name None = None
-gate_of count types name (Some part) = gate_of_part count name part (slice_get types part.of_type)
+abbrev pub gate_of : ℕ → ℕ → List TypeGates → List ℕ → Option Part → Option NamedGate
+gate_of count number types name None = None
+gate_of count number types name (Some part) = gate_of_part count number name part (slice_get types part.of_type)
 
 -- WHICH GATE a name means in a part, where the types have these gates; `count` is the number of all gate vectors
 abbrev pub gate_named : List TypeGates → Parts → ℕ → ℕ → List ℕ → Result NamedGate Fault
-gate_named types ps count part name = or_fault NoGate (gate_of count types name (slice_get ps.parts part))
+gate_named types ps count part name = or_fault NoGate (gate_of count part types name (slice_get ps.parts part))
 
 -- whether a half of a gate gives what a role needs: inside a compound module its own gates are seen from within
 abbrev pub through : Bool → Half → Role → Bool
@@ -98,30 +100,34 @@ abbrev pub extended : Wired → ℕ → Wired
 extended w v = record { sizes = slice_set w.sizes v (slice_index w.sizes v + 1); links = w.links }
 
 -- a gate at an index within the vector
-abbrev pub unless_taken : Wired → Option GateId → Role → ℕ → ℕ → Result Taken Fault
-unless_taken w other role v i = if is_open w.links other role (v, i) then Ok (record { wiring = w; id = record { vector = v; index = i } }) else Err AlreadyConnected
+abbrev pub unless_taken : Wired → Option GateId → Role → GateId → Result Taken Fault
+unless_taken w other role id = if is_open w.links other role (key id) then Ok (record { wiring = w; id = id }) else Err AlreadyConnected
 
-abbrev pub at_natural : Wired → Option GateId → Role → ℕ → Option ℕ → Result Taken Fault
-at_natural w other role v None = Err GateSize
-at_natural w other role v (Some i) = if nat_lt i (slice_index w.sizes v) then unless_taken w other role v i else Err GateSize
+-- the gate of a vector at an index
+abbrev pub gate_of_vector : NamedGate → ℕ → GateId
+gate_of_vector g i = record { part = g.part; vector = g.vector; index = i }
+
+abbrev pub at_natural : Wired → Option GateId → Role → NamedGate → Option ℕ → Result Taken Fault
+at_natural w other role g None = Err GateSize
+at_natural w other role g (Some i) = if nat_lt i (slice_index w.sizes g.vector) then unless_taken w other role (gate_of_vector g i) else Err GateSize
 
 -- `[index]`
 abbrev pub at_index : Wired → Option GateId → Role → NamedGate → ℤ → Result Taken Fault
-at_index w other role g z = at_natural w other role g.vector (natural z)
+at_index w other role g z = at_natural w other role g (natural z)
 
-abbrev pub at_free : Wired → Bool → ℕ → ℕ → Result Taken Fault
-at_free w own v i =
-    if nat_lt i (slice_index w.sizes v) then Ok (record { wiring = w; id = record { vector = v; index = i } })
-    else if own || not (nat_lt i 65536) then Err GateSize
-    else Ok (record { wiring = extended w v; id = record { vector = v; index = i } })
+abbrev pub at_free : Wired → NamedGate → ℕ → Result Taken Fault
+at_free w g i =
+    if nat_lt i (slice_index w.sizes g.vector) then Ok (record { wiring = w; id = gate_of_vector g i })
+    else if g.is_own || not (nat_lt i 65536) then Err GateSize
+    else Ok (record { wiring = extended w g.vector; id = gate_of_vector g i })
 
 -- `++`: the first free gate, or one more of a submodule's vector
 abbrev pub at_next : Wired → Option GateId → Role → NamedGate → Result Taken Fault
-at_next w other role g = at_free w g.is_own g.vector (next_index w other role g.vector)
+at_next w other role g = at_free w g (next_index w other role g.vector)
 
 -- a single gate
 abbrev pub at_single : Wired → Option GateId → Role → NamedGate → Result Taken Fault
-at_single w other role g = unless_taken w other role g.vector 0
+at_single w other role g = unless_taken w other role (gate_of_vector g 0)
 
 abbrev pub left_role : Arrow → Role
 left_role Right = Source
@@ -139,10 +145,11 @@ beside Right s = None
 beside Left s = None
 beside BothWays s = Some s
 
-abbrev pub link : GateId → GateId → Link
-link s t = record { from = s; to = t }
+abbrev pub link : GateId → GateId → Carrier → Link
+link s t c = record { from = s; to = t; carrier = c }
 
-abbrev pub linked : Arrow → GateId → GateId → Wired → Wired
-linked Right l r w = record { sizes = w.sizes; links = link l r ∷ w.links }
-linked Left l r w = record { sizes = w.sizes; links = link r l ∷ w.links }
-linked BothWays l r w = record { sizes = w.sizes; links = link r l ∷ link l r ∷ w.links }
+-- with a connection: of `<-->` the one carries from the left end, the other back
+abbrev pub linked : Arrow → GateId → GateId → Carrier → Carrier → Wired → Wired
+linked Right l r onwards back w = record { sizes = w.sizes; links = link l r onwards ∷ w.links }
+linked Left l r onwards back w = record { sizes = w.sizes; links = link r l onwards ∷ w.links }
+linked BothWays l r onwards back w = record { sizes = w.sizes; links = link r l back ∷ link l r onwards ∷ w.links }

@@ -7,7 +7,7 @@ ghost use Rattle.inside_parts.specs.Names.{position_of};
 ghost use Rattle.inside_wiring.specs.Ends as ends;
 ghost use Rattle.inside_wiring.specs.Wired.{next_index};
 
-use crate::wiring::{GateId, Link, Role, Wiring};
+use crate::wiring::{Carrier, GateId, Link, Role, Wiring};
 use inside_parts::fault::{Fault, Stop};
 use inside_parts::gates::{TypeGate, TypeGates};
 use inside_parts::names::Names;
@@ -83,14 +83,21 @@ pub fn part_named(
     }
 }
 
-/// The gate vector of a gate of a part, among `count` vectors.
-fn kind_found(count: usize, part: Part, place: usize, gate: Option<&TypeGate>) -> Option<NamedGate>
-    ensures value { result ≡ ends.gate_of_kind count part place (option_copied gate.entry) }
+/// The gate vector of a gate of a part, which has that number, among `count` vectors.
+fn kind_found(
+    count: usize,
+    number: usize,
+    part: Part,
+    place: usize,
+    gate: Option<&TypeGate>,
+) -> Option<NamedGate>
+    ensures value { result ≡ ends.gate_of_kind count number part place (option_copied gate.entry) }
     ensures within { IfSome result (λ f. f.vector < count) }
 {
     let gate = gate?;
     if place < count.saturating_sub(part.first) {
         Some(NamedGate {
+            part: number,
             vector: part.first + place,
             kind: gate.kind,
             is_own: part.is_own,
@@ -112,7 +119,7 @@ pub fn gate_named(
     ensures within { IfOk result (λ f. f.vector < count) }
 {
     let found = match parts.parts.get(part) {
-        Some(part) => gate_of_part(types, count, *part, name),
+        Some(found) => gate_of_part(types, count, part, *found, name),
         None => None,
     };
     match found {
@@ -121,14 +128,20 @@ pub fn gate_named(
     }
 }
 
-/// The gate vector of that name in that part.
-fn gate_of_part(types: &[TypeGates], count: usize, part: Part, name: &Text) -> Option<NamedGate>
-    ensures value { result ≡ ends.gate_of_part count name.now part (slice_get types.now part.of_type) }
+/// The gate vector of that name in that part, which has that number.
+fn gate_of_part(
+    types: &[TypeGates],
+    count: usize,
+    number: usize,
+    part: Part,
+    name: &Text,
+) -> Option<NamedGate>
+    ensures value { result ≡ ends.gate_of_part count number name.now part (slice_get types.now part.of_type) }
     ensures within { IfSome result (λ f. f.vector < count) }
 {
     let found = types.get(part.of_type)?;
     let place = found.names.position(name)?;
-    kind_found(count, part, place, found.gates.get(place))
+    kind_found(count, number, part, place, found.gates.get(place))
 }
 
 /// Whether a half of a gate gives what a role needs.
@@ -172,9 +185,9 @@ fn unless_taken(
     role: Role,
     id: GateId,
 ) -> Result<Taken, Stop>
-    ensures { Tells result (ends.unless_taken wiring other role id.vector id.index) }
+    ensures { Tells result (ends.unless_taken wiring other role id) }
 {
-    if wiring.is_open(other, role, id) {
+    if wiring.is_open(other, role, id.vector, id.index) {
         Ok(Taken { wiring, id })
     } else {
         Err(Stop::Fault(Fault::AlreadyConnected))
@@ -191,6 +204,7 @@ pub fn at_single(
     ensures { Tells result (ends.at_single wiring other role found) }
 {
     let id = GateId {
+        part: found.part,
         vector: found.vector,
         index: 0,
     };
@@ -202,17 +216,18 @@ fn at_natural(
     wiring: Wiring,
     other: Option<GateId>,
     role: Role,
-    vector: usize,
+    found: NamedGate,
     index: Option<u64>,
 ) -> Result<Taken, Stop>
-    requires { vector < length wiring.sizes }
-    ensures { Tells result (ends.at_natural wiring other role vector index) }
+    requires { found.vector < length wiring.sizes }
+    ensures { Tells result (ends.at_natural wiring other role found index) }
 {
     match index {
         Some(index) => {
-            if index < wiring.size(vector) as u64 {
+            if index < wiring.size(found.vector) as u64 {
                 let id = GateId {
-                    vector,
+                    part: found.part,
+                    vector: found.vector,
                     index: index as u32,
                 };
                 unless_taken(wiring, other, role, id)
@@ -237,7 +252,7 @@ pub fn at_index(
     if found.vector >= wiring.count() {
         return Err(Stop::Fault(Fault::GateSize));
     }
-    at_natural(wiring, other, role, found.vector, natural(index))
+    at_natural(wiring, other, role, found, natural(index))
 }
 
 /// `++`: takes the first free gate, or one more of a submodule's vector.
@@ -252,7 +267,11 @@ pub fn at_next(
 {
     let vector = found.vector;
     let index = wiring.next_index(other, role, vector);
-    let id = GateId { vector, index };
+    let id = GateId {
+        part: found.part,
+        vector,
+        index,
+    };
     if index < wiring.size(vector) {
         let wiring = wiring.note_next(other, role, id)?;
         return Ok(Taken { wiring, id });
@@ -297,24 +316,30 @@ pub fn beside(arrow: Arrow, taken: GateId) -> Option<GateId>
     }
 }
 
-/// Connects two gates that were taken.
-pub fn linked(wiring: Wiring, arrow: Arrow, left: GateId, right: GateId) -> Result<Wiring, NoMemory>
-    ensures { IfOk result (λ w. w ≡ ends.linked arrow left right wiring) }
+/// The link from one gate to another.
+fn link(from: GateId, to: GateId, carrier: Carrier) -> Link
+    ensures { result ≡ ends.link from to carrier }
 {
-    let onwards = Link {
-        from: left,
-        to: right,
-    };
-    let back = Link {
-        from: right,
-        to: left,
-    };
+    Link { from, to, carrier }
+}
+
+/// Connects two gates that were taken. Of `<-->` the one carries from the left end, the other back.
+pub fn linked(
+    wiring: Wiring,
+    arrow: Arrow,
+    left: GateId,
+    right: GateId,
+    onwards: Carrier,
+    back: Carrier,
+) -> Result<Wiring, NoMemory>
+    ensures { IfOk result (λ w. w ≡ ends.linked arrow left right onwards back wiring) }
+{
     match arrow {
-        Arrow::Right => wiring.connect(onwards),
-        Arrow::Left => wiring.connect(back),
+        Arrow::Right => wiring.connect(link(left, right, onwards)),
+        Arrow::Left => wiring.connect(link(right, left, onwards)),
         Arrow::Both => {
-            let wiring = wiring.connect(onwards)?;
-            wiring.connect(back)
+            let wiring = wiring.connect(link(left, right, onwards))?;
+            wiring.connect(link(right, left, back))
         }
     }
 }

@@ -10,9 +10,10 @@ use std::alloc::Global;
 use std::collections::HashMap;
 use std::marker::Model;
 
-/// A gate: the number of its gate vector among those of the whole inside, and its index.
+/// A gate: the number of its part, the number of its gate vector among those of the whole inside, and its index.
 #[derive(Clone, Copy)]
 pub struct GateId {
+    pub part: usize,
     pub vector: usize,
     pub index: u32,
 }
@@ -25,11 +26,32 @@ pub enum Role {
     Both,
 }
 
+/// The three kinds of channels (OMNeT++ Simulation Manual, "Channels").
+#[derive(Clone, Copy, PartialEq, Eq)]
+pub enum ChannelKind {
+    Ideal,
+    Delay,
+    Datarate,
+}
+
+/// What carries messages along a connection.
+#[derive(Clone, Copy, PartialEq, Eq)]
+pub struct Carrier {
+    pub kind: ChannelKind,
+    /// In picoseconds, 0 of an ideal channel.
+    pub delay: u64,
+    /// In bits per second; 0: a transmission takes no time.
+    pub datarate: u64,
+    /// It loses each message.
+    pub disabled: bool,
+}
+
 /// One direction of a connection.
 #[derive(Clone, Copy)]
 pub struct Link {
     pub from: GateId,
     pub to: GateId,
+    pub carrier: Carrier,
 }
 
 /// The sizes of the gate vectors and the connections made so far, with tables of what is connected and hints to the first free gates.
@@ -127,28 +149,30 @@ impl Wiring {
         self.sizes[vector] += 1;
     }
 
-    /// The connection that leads away from a gate.
-    pub fn link_from(&self, id: GateId) -> Option<Link>
-        ensures { result ≡ link_from self.now.links (key id) }
+    /// The connection that leads away from a gate of a vector.
+    pub fn link_from(&self, vector: usize, index: u32) -> Option<Link>
+        ensures { result ≡ link_from self.now.links (vector, index) }
     {
-        self.sources.get(&key_of(id)).copied()
+        self.sources.get(&(vector, index)).copied()
     }
 
-    /// The connection that leads to a gate.
-    pub fn link_to(&self, id: GateId) -> Option<Link>
-        ensures { result ≡ link_to self.now.links (key id) }
+    /// The connection that leads to a gate of a vector.
+    pub fn link_to(&self, vector: usize, index: u32) -> Option<Link>
+        ensures { result ≡ link_to self.now.links (vector, index) }
     {
-        self.targets.get(&key_of(id)).copied()
+        self.targets.get(&(vector, index)).copied()
     }
 
-    /// Whether a gate isn't connected yet.
-    pub fn is_free(&self, role: Role, id: GateId) -> bool
-        ensures { result ≡ is_free self.now.links role (key id) }
+    /// Whether a gate of a vector isn't connected yet.
+    pub fn is_free(&self, role: Role, vector: usize, index: u32) -> bool
+        ensures { result ≡ is_free self.now.links role (vector, index) }
     {
         match role {
-            Role::Source => self.link_from(id).is_none(),
-            Role::Target => self.link_to(id).is_none(),
-            Role::Both => self.link_from(id).is_none() && self.link_to(id).is_none(),
+            Role::Source => self.link_from(vector, index).is_none(),
+            Role::Target => self.link_to(vector, index).is_none(),
+            Role::Both => {
+                self.link_from(vector, index).is_none() && self.link_to(vector, index).is_none()
+            }
         }
     }
 
@@ -191,15 +215,15 @@ impl Wiring {
         hints.get(&vector).copied().unwrap_or(0)
     }
 
-    /// Whether a gate can be taken beside the other end of the same connection.
-    pub fn is_open(&self, other: Option<GateId>, role: Role, id: GateId) -> bool
-        ensures { result ≡ is_open self.now.links other role (key id) }
+    /// Whether a gate of a vector can be taken beside the other end of the same connection.
+    pub fn is_open(&self, other: Option<GateId>, role: Role, vector: usize, index: u32) -> bool
+        ensures { result ≡ is_open self.now.links other role (vector, index) }
     {
         let apart = match other {
             None => true,
-            Some(taken) => key_of(taken) != key_of(id),
+            Some(taken) => key_of(taken) != (vector, index),
         };
-        apart && self.is_free(role, id)
+        apart && self.is_free(role, vector, index)
     }
 
     /// `++`: the least index of a gate vector that is free, else its size.
@@ -210,7 +234,7 @@ impl Wiring {
     {
         let size = self.size(vector);
         for index in self.hint(role, vector)..size {
-            if self.is_open(other, role, GateId { vector, index }) {
+            if self.is_open(other, role, vector, index) {
                 return index;
             }
         }
