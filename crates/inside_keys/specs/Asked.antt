@@ -1,11 +1,12 @@
 -- Askings for keys, with what is done next.
-use Rattle.std.specs.Prelude.{ℕ, ℤ, pos, negsuc, Bool, true, false, List, Option, Some, None, Result, Ok, Err, nat_lt, if◌then◌else◌}
+use Rattle.std.specs.Prelude.{ℕ, ℤ, pos, negsuc, true, false, Option, Some, None, Result, Ok, Err, nat_lt, if◌then◌else◌}
 use Rattle.asking.specs.Asking.{Asking, Done, Ask}
 use Rattle.sim_values.specs.declared.value.Value.{Value}
 use Rattle.sim_values.specs.declared.value.Value.TheVariants as value
 use Rattle.inside_parts.specs.declared.fault.Fault.{Fault}
 use Rattle.inside_parts.specs.declared.fault.Fault.TheVariants.{UnknownType, Unassigned, Mismatch, GateSize}
 use Rattle.inside_parts.specs.Faults.{of_value}
+use Rattle.inside_wiring.specs.declared.wiring.Carrier.{Carrier}
 use Rattle.param_eval.specs.References.{Reference}
 use Rattle.param_eval.specs.Values.{Valued}
 use Rattle.inside_keys.specs.declared.found.Found.{Found}
@@ -21,11 +22,22 @@ Asked = Asking Key Found Fault Found
 -- with a value; an inside is never asked for where a value is wanted
 abbrev pub value_then : (Value → Asked) → Found → Asked
 value_then next (found.Value v) = next v
+value_then next (found.Carrier c) = Done (Err Mismatch)
 value_then next (found.Inside i) = Done (Err Mismatch)
 
 -- the value of a key, and then the rest
 abbrev pub ask_then : Key → (Value → Asked) → Asked
 ask_then k next = Ask k (value_then next)
+
+-- with what a channel does
+abbrev pub carrier_then : (Carrier → Asked) → Found → Asked
+carrier_then next (found.Carrier c) = next c
+carrier_then next (found.Value v) = Done (Err Mismatch)
+carrier_then next (found.Inside i) = Done (Err Mismatch)
+
+-- what a channel does, and then the rest
+abbrev pub carried_then : Key → (Carrier → Asked) → Asked
+carried_then k next = Ask k (carrier_then next)
 
 -- the first fault, or the rest
 abbrev pub result_then : {A : Type 0} → Result A Fault → (A → Asked) → Asked

@@ -1,11 +1,12 @@
 -- What values have to be.
-use Rattle.std.specs.Prelude.{ℕ, nat_lt, ℤ, pos, negsuc, Result, Ok, Err, if◌then◌else◌}
+use Rattle.std.specs.Prelude.{zero, nat_lt, ℤ, pos, negsuc, Result, Ok, Err, if◌then◌else◌}
 use Rattle.sim_values.specs.declared.value.Value.{Value}
 use Rattle.sim_values.specs.declared.value.Value.TheVariants as value
 use Rattle.inside_parts.specs.declared.fault.Fault.{Fault}
 use Rattle.inside_parts.specs.declared.fault.Fault.TheVariants.{Mismatch, TooManyModules, GateSize}
 use Rattle.inside_parts.specs.Faults.{of_value}
 use Rattle.param_eval.specs.Operators.{Evaluated}
+use Rattle.parameter_values.specs.declared.kind.Kind.{Kind}
 use Rattle.parameter_values.specs.Kinds.{of_kind}
 use Rattle.inside_keys.specs.declared.check.Check.{Check}
 use Rattle.inside_keys.specs.declared.check.Check.TheVariants as check
@@ -19,9 +20,23 @@ abbrev pub sized : Fault → Fault → ℤ → Result Value Fault
 sized below above (pos n) = if nat_lt 65536 n then Err above else Ok (value.Whole (pos n))
 sized below above (negsuc n) = Err below
 
+abbrev pub not_negative : Value → Result Value Fault
+not_negative (value.Quantity d (pos n)) = Ok (value.Quantity d (pos n))
+not_negative _ = Err Mismatch
+
+abbrev pub amount_by : Result Value Fault → Result Value Fault
+amount_by (Ok v) = not_negative v
+amount_by (Err f) = Err f
+
+-- of that kind, and not negative
+abbrev pub amount : Kind → Value → Result Value Fault
+amount k v = amount_by (told (of_kind k v))
+
 -- the value, where it is what it has to be
 abbrev pub checked : Check → Value → Result Value Fault
 checked (check.Parameter k) v = told (of_kind k v)
+checked (check.Amount k) v = amount k v
+checked check.Zero (value.Whole (pos zero)) = Ok (value.Whole (pos zero))
 checked check.Condition (value.Truth b) = Ok (value.Truth b)
 checked check.VectorSize (value.Whole z) = sized Mismatch TooManyModules z
 checked check.GateSize (value.Whole z) = sized GateSize GateSize z

@@ -121,6 +121,7 @@ abbrev pub sizes_in : Option (Result Found Fault) → Option (Result (List ℕ) 
 sizes_in None = None
 sizes_in (Some (Ok (found.Inside i))) = Some (Ok i.wiring.sizes)
 sizes_in (Some (Ok (found.Value v))) = None
+sizes_in (Some (Ok (found.Carrier c))) = None
 sizes_in (Some (Err f)) = Some (Err f)
 
 -- of a network of three routers

@@ -1,8 +1,13 @@
 -- The expressions that give keys their values (OMNeT++ Simulation Manual, "Assigning Parameters", "Gates", "Submodules").
-use Rattle.std.specs.Prelude.{ℕ, Bool, false, List, [], ◌∷◌, ◌++◌, Option, Some, None, bytes_eq, if◌then◌else◌, slice_get}
+use Rattle.std.specs.Prelude.{ℕ, ◌==◌, ℤ, Bool, false, List, [], ◌∷◌, ◌++◌, length, reverse, Option, Some, None, bytes_eq, if◌then◌else◌, slice_get}
 use Rattle.std.specs.Option.{option_and_then}
-use Rattle.sim_values.specs.declared.value.Dimension.{Dimension}
-use Rattle.ini_texts.specs.declared.entry.EntryValue.{EntryValue}
+use Rattle.ned_trees.specs.declared.connections.Channel.{Channel}
+use Rattle.ned_trees.specs.declared.connections.Clause.{Clause}
+use Rattle.ned_trees.specs.declared.connections.Clause.TheVariants.{For, If}
+use Rattle.ned_trees.specs.declared.connections.Connection.{Connection}
+use Rattle.ned_trees.specs.declared.connections.ConnectionItem.{ConnectionItem}
+use Rattle.ned_trees.specs.declared.connections.ConnectionItem.TheVariants as item
+use Rattle.ned_trees.specs.declared.connections.ConnectionLine.{ConnectionLine}
 use Rattle.ned_trees.specs.declared.declarations.Declaration.{Declaration}
 use Rattle.ned_trees.specs.declared.declarations.GateLine.{GateLine}
 use Rattle.ned_trees.specs.declared.declarations.GateLine.TheVariants as gate
@@ -10,15 +15,12 @@ use Rattle.ned_trees.specs.declared.declarations.GateSize.{GateSize}
 use Rattle.ned_trees.specs.declared.declarations.GateSize.TheVariants as size
 use Rattle.ned_trees.specs.declared.declarations.ParameterValue.{ParameterValue}
 use Rattle.ned_trees.specs.declared.declarations.ParameterValue.TheVariants as value
-use Rattle.ned_trees.specs.declared.declarations.ParameterWord.{ParameterWord}
-use Rattle.ned_trees.specs.declared.declarations.ParameterWord.TheVariants as word
+use Rattle.ned_trees.specs.declared.declarations.SectionLine.{SectionLine}
 use Rattle.ned_trees.specs.declared.declarations.Submodule.{Submodule}
 use Rattle.ned_trees.specs.declared.declarations.SubmoduleBody.{SubmoduleBody}
 use Rattle.ned_trees.specs.declared.declarations.TypeDeclaration.{TypeDeclaration}
 use Rattle.ned_trees.specs.declared.expressions.Expression.{Expression}
 use Rattle.ned_types.specs.Flat.{declaration_named, last_value, or_else, submodule_named}
-use Rattle.parameter_values.specs.declared.kind.Kind.{Kind}
-use Rattle.parameter_values.specs.declared.kind.Kind.TheVariants as kind
 use Rattle.parameter_values.specs.declared.scene.Section as written_section
 use Rattle.parameter_values.specs.declared.scene.Section.TheVariants as written
 use Rattle.parameter_values.specs.Settings.{Written, Given, Fixed, Default}
@@ -28,22 +30,17 @@ use Rattle.inside_parts.specs.declared.gates.TypeGates.{TypeGates}
 use Rattle.inside_parts.specs.Names.{position_of}
 use Rattle.inside_keys.specs.declared.check.Check.{Check}
 use Rattle.inside_keys.specs.declared.check.Check.TheVariants as check
+use Rattle.inside_keys.specs.declared.key.ChannelAt.{ChannelAt}
 use Rattle.inside_keys.specs.declared.key.Module.{Module}
+use Rattle.inside_keys.specs.declared.key.WrittenAt.{WrittenAt}
 use Rattle.inside_keys.specs.declared.place.Section.{Section}
 use Rattle.inside_keys.specs.declared.place.Section.TheVariants as section
-use Rattle.inside_keys.specs.Settings.{Setting, Posed, place_in}
+use Rattle.inside_keys.specs.Channels.{channel_check, channel_kind, lines_of}
+use Rattle.inside_keys.specs.Kinds.{kind_of}
+use Rattle.inside_keys.specs.Places.{Scope, bind}
+use Rattle.inside_keys.specs.Settings.{Setting, Posed, channel_place, place_in, type_names}
 
 -- ---- parameters
-
-abbrev pub kind_by : ParameterWord → Option Dimension → Kind
-kind_by word.Bool unit = kind.Truth
-kind_by word.Text unit = kind.Text
-kind_by word.Int unit = kind.Int unit
-kind_by word.Double unit = kind.Double unit
-
--- of what kind the values of a parameter are that is declared so
-abbrev pub kind_of : Declaration → Kind
-kind_of d = kind_by d.word d.unit
 
 -- what a value that stands in such a section gives a parameter
 abbrev pub given_in : written_section.Section → Option ParameterValue → Option Given
@@ -102,6 +99,101 @@ module _ (s : Setting) (m : Module) where
   -- the size of a vector of submodules that the type declares
   abbrev pub vector_size_posed : TypeDeclaration → List ℕ → Option Posed
   vector_size_posed t sub = vector_size_in (submodule_named sub t.submodules)
+
+-- ---- channels
+
+-- an item of a section, or a connection of an item, behind which so many stand
+abbrev pub behind : {A : Type 0} → ℕ → List A → Option A
+behind n [] = None
+behind n (x ∷ xs) = if length xs == n then Some x else behind n xs
+
+-- a connection, and the clauses around it: the outermost first
+pub record FoundLine : Type 0 where
+  pub connection : Connection
+  pub clauses : List Clause
+
+abbrev pub found_line : List Clause → Option ConnectionLine → Option FoundLine
+found_line clauses None = None
+found_line clauses (Some l) = Some (record { connection = l.connection; clauses = clauses ++ l.clauses })
+
+abbrev pub found_in_item : ℕ → Option ConnectionItem → Option FoundLine
+found_in_item n None = None
+found_in_item n (Some (item.Line l)) = found_line [] (Some l)
+found_in_item n (Some (item.Group g)) = found_line g.clauses (behind n g.lines)
+
+-- the connection that is written there
+abbrev pub connection_at : WrittenAt → List ConnectionItem → Option FoundLine
+connection_at w items = found_in_item w.lines (behind w.items items)
+
+-- the loop variables of clauses, the innermost first, with these values, behind those around
+abbrev pub bound_by : List Clause → Scope → List ℤ → Scope
+bound_by [] scope zs = scope
+bound_by (If e ∷ cs) scope zs = bound_by cs scope zs
+bound_by (For f ∷ cs) scope [] = bound_by cs scope []
+bound_by (For f ∷ cs) scope (z ∷ zs) = bound_by cs (bind f.variable z scope) zs
+
+-- loop variables around a connection, whose values stand with the innermost first
+abbrev pub scope_at : List Clause → List ℤ → Scope
+scope_at clauses turn = bound_by clauses [] (reverse turn)
+
+-- an expression of a channel's block may name loop variables
+abbrev pub variables_in : Section → Scope → Scope
+variables_in section.OfParameters scope = []
+variables_in section.OfInside scope = []
+variables_in section.OfBody scope = []
+variables_in section.OfBlock scope = scope
+variables_in section.OfChannel scope = []
+
+abbrev pub channel_section : written_section.Section → Section
+channel_section written.OfType = section.OfChannel
+channel_section written.OfBody = section.OfBlock
+
+-- what the NED text gives a parameter of a channel: its block goes before the lines of its type
+abbrev pub given_to_channel : List SectionLine → List SectionLine → List ℕ → Option Given
+given_to_channel lines block x = or_else (given_in written.OfBody (last_value x block)) (given_in written.OfType (last_value x lines))
+
+-- the full path of a parameter of a channel
+abbrev pub channel_parameter_path : ChannelAt → List ℕ → List ℕ
+channel_parameter_path c x = c.path ++ 46 ∷ x
+
+module _ (s : Setting) (m : Module) (c : ChannelAt) where
+  abbrev pub channel_posed_as : Check → Scope → Option Written → Option Posed
+  channel_posed_as k scope None = None
+  channel_posed_as k scope (Some w) = Some (record {
+    expression = w.expression;
+    place = channel_place s m c (channel_section w.section);
+    variables = variables_in (channel_section w.section) scope;
+    check = k;
+  })
+
+  abbrev pub channel_posed_by : List SectionLine → List SectionLine → Scope → List ℕ → Option Declaration → Option Posed
+  channel_posed_by lines block scope x None = None
+  channel_posed_by lines block scope x (Some d) =
+      channel_posed_as (channel_check (channel_kind lines) x (kind_of d)) scope (first_given (given_to_channel lines block x) (s.entry (channel_parameter_path c x)))
+
+  abbrev pub channel_posed_over : Option (List SectionLine) → List SectionLine → Scope → List ℕ → Option Posed
+  channel_posed_over None block scope x = None
+  channel_posed_over (Some lines) block scope x = channel_posed_by lines block scope x (declaration_named x lines)
+
+  abbrev pub channel_posed_in : Option Channel → Scope → List ℕ → Option Posed
+  channel_posed_in None scope x = None
+  channel_posed_in (Some channel) scope x = channel_posed_over (lines_of (type_names s) s.types channel) channel.lines scope x
+
+  abbrev pub channel_posed_at : Option FoundLine → List ℕ → Option Posed
+  channel_posed_at None x = None
+  channel_posed_at (Some f) x = channel_posed_in f.connection.channel (scope_at f.clauses c.turn) x
+
+  -- WHAT GIVES A PARAMETER OF A CHANNEL ITS VALUE, as for a module; its block is as the body of a submodule
+  abbrev pub channel_posed : TypeDeclaration → List ℕ → Option Posed
+  channel_posed t x = channel_posed_at (connection_at c.written t.connections.items) x
+
+-- the lines of a channel's type
+abbrev pub lines_at : Setting → Option FoundLine → Option (List SectionLine)
+lines_at s None = None
+lines_at s (Some f) = option_and_then (lines_of (type_names s) s.types) f.connection.channel
+
+abbrev pub channel_lines : Setting → TypeDeclaration → ChannelAt → Option (List SectionLine)
+channel_lines s t c = lines_at s (connection_at c.written t.connections.items)
 
 -- ---- gates
 

@@ -1,7 +1,10 @@
 -- The inside of a compound module: what it asks, and what is made of the answers. Each definition says one thing that is done, and then `rest`.
 -- OMNeT++ Simulation Manual, "Submodules", "Connections", "Parametric Connections".
-use Rattle.std.specs.Prelude.{ℕ, zero, suc, ◌+◌, ◌-◌, ◌==◌, ℤ, pos, negsuc, ◌+ℤ◌, ◌-ℤ◌, Bool, true, false, List, [], ◌∷◌, Option, Some, None, Result, Ok, Err, if◌then◌else◌, is_some, length, map, slice_get}
+use Rattle.std.specs.Prelude.{ℕ, zero, suc, ◌+◌, ◌-◌, ◌==◌, ℤ, pos, negsuc, ◌+ℤ◌, ◌-ℤ◌, Bool, true, List, [], ◌∷◌, Option, Some, None, Ok, Err, if◌then◌else◌, is_some, length, map, slice_get}
 use Rattle.asking.specs.Asking.{Done}
+use Rattle.ned_trees.specs.declared.connections.Arrow.{Arrow}
+use Rattle.ned_trees.specs.declared.connections.Arrow.TheVariants.{Right, Left, Both}
+use Rattle.ned_trees.specs.declared.connections.Channel.{Channel}
 use Rattle.ned_trees.specs.declared.connections.Clause.{Clause}
 use Rattle.ned_trees.specs.declared.connections.Clause.TheVariants.{For, If}
 use Rattle.ned_trees.specs.declared.connections.Connection.{Connection}
@@ -24,20 +27,24 @@ use Rattle.inside_parts.specs.declared.gates.TypeGates.{TypeGates}
 use Rattle.inside_parts.specs.declared.parts.Made.TheVariants.{Absent, Single, Vector}
 use Rattle.inside_parts.specs.declared.parts.NamedGate.{NamedGate}
 use Rattle.inside_wiring.specs.declared.ends.Taken.{Taken}
+use Rattle.inside_wiring.specs.declared.wiring.Carrier.{Carrier}
 use Rattle.inside_wiring.specs.declared.wiring.GateId.{GateId}
 use Rattle.inside_wiring.specs.declared.wiring.Role.{Role}
 use Rattle.inside_wiring.specs.Ends.{part_named, gate_named, fits, at_index, at_next, at_single, left_role, right_role, beside, linked}
 use Rattle.param_eval.specs.Values.{valued}
 use Rattle.inside_keys.specs.declared.found.Found.TheVariants as found
 use Rattle.inside_keys.specs.declared.found.State.{State}
+use Rattle.inside_keys.specs.declared.key.ChannelAt.{ChannelAt}
+use Rattle.inside_keys.specs.declared.key.Key.{Key}
 use Rattle.inside_keys.specs.declared.key.Module.{Module}
 use Rattle.inside_keys.specs.declared.key.What.{What}
 use Rattle.inside_keys.specs.declared.key.What.TheVariants as what
 use Rattle.inside_keys.specs.declared.place.Place.{Place}
-use Rattle.inside_keys.specs.Asked.{Asked, ask_then, known_then, number_then, result_then, size_then, truth_then, valued_then, whole_then}
+use Rattle.inside_keys.specs.Asked.{Asked, ask_then, carried_then, known_then, number_then, result_then, size_then, truth_then, valued_then, whole_then}
+use Rattle.inside_keys.specs.Channels.{channel_path, ideal}
 use Rattle.inside_keys.specs.Keys.{child, key}
 use Rattle.inside_keys.specs.Places.{Scope, bind, meant_under}
-use Rattle.inside_keys.specs.States.{with_wiring, grown, part_added, noted}
+use Rattle.inside_keys.specs.States.{at_item, at_line, with_wiring, grown, part_added, noted}
 
 -- what is done next, with the inside as it has become
 abbrev pub Rest : Type 0
@@ -47,7 +54,7 @@ Rest = State → Asked
 
 -- a turn is counted, where one is left
 abbrev pub counted : State → Rest → Asked
-counted s rest = if s.turns == 0 then Done (Err TooManyTurns) else rest (record { parts = s.parts; wiring = s.wiring; turns = s.turns - 1 })
+counted s rest = if s.turns == 0 then Done (Err TooManyTurns) else rest (record { parts = s.parts; wiring = s.wiring; turns = s.turns - 1; written = s.written })
 
 -- n turns, the first with this number
 abbrev pub turns : ℕ → ℤ → (ℤ → State → Rest → Asked) → State → Rest → Asked
@@ -107,28 +114,77 @@ module _ (place : Place) where
     abbrev pub end_then : End → Role → Option GateId → Scope → State → (Taken → Asked) → Asked
     end_then e role other scope s rest = part_then e.owner scope s (λ part. named_then e role other scope s part rest)
 
-    -- the right end of a connection, and the connection
-    abbrev pub right_end : Connection → GateId → Scope → State → Rest → Asked
-    right_end c l scope s rest =
-        end_then c.right (right_role c.arrow) (beside c.arrow l) scope s (λ r. rest (with_wiring s (linked c.arrow l r.id r.wiring)))
+    -- where this joins two gates that the ends of a connection have taken
+    module _ (joined : Connection → GateId → GateId → Scope → State → Rest → Asked) where
+      -- the right end of a connection, and the connection
+      abbrev pub right_end : Connection → GateId → Scope → State → Rest → Asked
+      right_end c l scope s rest = end_then c.right (right_role c.arrow) (beside c.arrow l) scope s (λ r. joined c l r.id scope (with_wiring s r.wiring) rest)
 
-    -- A CONNECTION: its left end, and its right end
-    abbrev pub connected : Connection → Scope → State → Rest → Asked
-    connected c scope s rest = end_then c.left (left_role c.arrow) None scope s (λ l. right_end c l.id scope (with_wiring s l.wiring) rest)
+      -- A CONNECTION: its left end, its right end, and what joins them
+      abbrev pub connected : Connection → Scope → State → Rest → Asked
+      connected c scope s rest = end_then c.left (left_role c.arrow) None scope s (λ l. right_end c l.id scope (with_wiring s l.wiring) rest)
 
-    -- connections, each with its clauses
-    abbrev pub connection_lines : List ConnectionLine → Scope → State → Rest → Asked
-    connection_lines [] scope s rest = rest s
-    connection_lines (c ∷ cs) scope s rest = looped c.clauses (connected c.connection) scope s (λ t. connection_lines cs scope t rest)
+      -- connections, each with its clauses
+      abbrev pub connection_lines : List ConnectionLine → Scope → State → Rest → Asked
+      connection_lines [] scope s rest = rest s
+      connection_lines (c ∷ cs) scope s rest = looped c.clauses (connected c.connection) scope (at_line s (length cs)) (λ t. connection_lines cs scope t rest)
 
-    abbrev pub item : ConnectionItem → Scope → State → Rest → Asked
-    item (Line c) scope s rest = looped c.clauses (connected c.connection) scope s rest
-    item (Group g) scope s rest = looped g.clauses (connection_lines g.lines) scope s rest
+      abbrev pub item : ConnectionItem → Scope → State → Rest → Asked
+      item (Line c) scope s rest = looped c.clauses (connected c.connection) scope s rest
+      item (Group g) scope s rest = looped g.clauses (connection_lines g.lines) scope s rest
 
-    -- THE CONNECTIONS SECTION: its items, one after another
-    abbrev pub items : List ConnectionItem → Scope → State → Rest → Asked
-    items [] scope s rest = rest s
-    items (i ∷ is) scope s rest = item i scope s (λ t. items is scope t rest)
+      -- THE CONNECTIONS SECTION: its items, one after another
+      abbrev pub items : List ConnectionItem → Scope → State → Rest → Asked
+      items [] scope s rest = rest s
+      items (i ∷ is) scope s rest = item i scope (at_item s (length is)) (λ t. items is scope t rest)
+
+-- ---- what joins two gates
+
+-- the values of the loop variables in scope
+abbrev pub values_in : Scope → List ℤ
+values_in [] = []
+values_in (b ∷ scope) = b.value ∷ values_in scope
+
+-- the gate that messages leave by first: that of the left end where it leads both ways
+abbrev pub source_of : Arrow → GateId → GateId → GateId
+source_of Right l r = l
+source_of Left l r = r
+source_of Both l r = l
+
+-- the channel of a connection, where what it does is asked for
+abbrev pub channel_of : Bool → Connection → Option Channel
+channel_of is_whole c = if is_whole then c.channel else None
+
+-- in a module whose types have these gates, and whose submodules these names; with what channels do, or only as far as gate sizes need it
+module _ (m : Module) (names : List (List ℕ)) (gates : List TypeGates) (is_whole : Bool) where
+  -- the channel of a connection from that gate
+  abbrev pub channel_from : GateId → Scope → State → ChannelAt
+  channel_from id scope s = record { path = channel_path m names gates s.parts id; written = s.written; turn = values_in scope }
+
+  abbrev pub carrier_from : GateId → Scope → State → Key
+  carrier_from id scope s = key m (what.Carrier (channel_from id scope s))
+
+  -- what carries messages from that gate to the other
+  abbrev pub carried_from : GateId → Scope → State → (Carrier → Asked) → Asked
+  carried_from id scope s next = carried_then (carrier_from id scope s) next
+
+  -- the connection is made
+  abbrev pub linked_then : Arrow → GateId → GateId → State → Rest → Carrier → Carrier → Asked
+  linked_then way l r s rest onwards back = rest (with_wiring s (linked way l r onwards back s.wiring))
+
+  -- what carries messages back, where the connection leads both ways
+  abbrev pub back_then : Arrow → GateId → GateId → Scope → State → Rest → Carrier → Asked
+  back_then Right l r scope s rest onwards = linked_then Right l r s rest onwards onwards
+  back_then Left l r scope s rest onwards = linked_then Left l r s rest onwards onwards
+  back_then Both l r scope s rest onwards = carried_from r scope s (linked_then Both l r s rest onwards)
+
+  abbrev pub joined_by : Option Channel → Arrow → GateId → GateId → Scope → State → Rest → Asked
+  joined_by None way l r scope s rest = linked_then way l r s rest ideal ideal
+  joined_by (Some channel) way l r scope s rest = carried_from (source_of way l r) scope s (back_then way l r scope s rest)
+
+  -- TWO GATES ARE JOINED: what the channel does in the one direction and in the other, and then the connection
+  abbrev pub joined : Connection → GateId → GateId → Scope → State → Rest → Asked
+  joined c l r scope s rest = joined_by (channel_of is_whole c) c.arrow l r scope s rest
 
 -- ---- submodules
 
@@ -171,15 +227,15 @@ module _ (m : Module) (types : List TypeDeclaration) (type_gates : List TypeGate
   asked_lines t = if is_whole then t.lines else []
 
   -- a submodule of the type of that number: its parameters, its declared gate sizes
-  abbrev pub element_of : Module → ℕ → State → Rest → TypeDeclaration → Asked
-  element_of at n s rest t = parameters at (asked_lines t) (part_added s n) (λ u. gates at what.Declared (gates_of n) u rest)
+  abbrev pub element_of : Module → Option ℕ → ℕ → State → Rest → TypeDeclaration → Asked
+  element_of at index n s rest t = parameters at (asked_lines t) (part_added s n index) (λ u. gates at what.Declared (gates_of n) u rest)
 
-  abbrev pub element_typed : Module → ℕ → State → Rest → Asked
-  element_typed at n s rest = known_then (slice_get types n) (element_of at n s rest)
+  abbrev pub element_typed : Module → Option ℕ → ℕ → State → Rest → Asked
+  element_typed at index n s rest = known_then (slice_get types n) (element_of at index n s rest)
 
   -- A SUBMODULE: its nesting and its type, its parameters, its declared gate sizes
   abbrev pub element : Submodule → Option ℕ → State → Rest → Asked
-  element l index s rest = ask_then (key (child m l.name index) what.Type) (λ v. number_then v (λ n. element_typed (child m l.name index) n s rest))
+  element l index s rest = ask_then (key (child m l.name index) what.Type) (λ v. number_then v (λ n. element_typed (child m l.name index) index n s rest))
 
   -- the last n of so many elements of a vector
   abbrev pub elements : ℕ → ℕ → Submodule → State → Rest → Asked
@@ -204,9 +260,10 @@ module _ (m : Module) (types : List TypeDeclaration) (type_gates : List TypeGate
 -- the inside before anything is made, of a module of the type of that number
 abbrev pub own_part : ℕ → State
 own_part n = record {
-  parts = record { made = []; parts = record { first = 0; of_type = n; is_own = true } ∷ [] };
+  parts = record { made = []; parts = record { first = 0; of_type = n; is_own = true; line = 0; index = None } ∷ [] };
   wiring = record { sizes = []; links = [] };
   turns = 1000000;
+  written = record { items = 0; lines = 0 };
 }
 
 -- the inside, as it is found at the end
@@ -222,4 +279,4 @@ abbrev pub inside : Module → List TypeDeclaration → List TypeGates → Bool 
 inside m types type_gates is_whole place n t =
     gates m what.GateSize (gates_of m types type_gates is_whole n) (own_part n) (λ s.
     submodules m types type_gates is_whole t.submodules s (λ u.
-    items place (submodule_names t) type_gates t.connections.items [] u made_of))
+    items place (submodule_names t) type_gates (joined m (submodule_names t) type_gates is_whole) t.connections.items [] u made_of))

@@ -1,10 +1,13 @@
 -- Keys.
 use Rattle.std.specs.Prelude.{ℕ, ◌==◌, Bool, true, false, ◌&&◌, bytes_eq, List, [], ◌∷◌, ◌++◌, Option, Some, None, decimal}
+use Rattle.std.specs.Cmp.Lexicographic.{pointwise}
 use Rattle.std.specs.Ordering.{int_eq}
+use Rattle.inside_keys.specs.declared.key.ChannelAt.{ChannelAt}
 use Rattle.inside_keys.specs.declared.key.Key.{Key}
 use Rattle.inside_keys.specs.declared.key.Module.{Module}
 use Rattle.inside_keys.specs.declared.key.What.{What}
 use Rattle.inside_keys.specs.declared.key.What.TheVariants as what
+use Rattle.inside_keys.specs.declared.key.WrittenAt.{WrittenAt}
 
 -- a module's name among its siblings: its index stands in brackets
 abbrev pub own_name : List ℕ → Option ℕ → List ℕ
@@ -22,6 +25,12 @@ key m w = record { site = m; what = w }
 
 abbrev pub same_module : Module → Module → Bool
 same_module a b = (a.created == b.created) && bytes_eq a.path b.path
+
+abbrev pub same_written : WrittenAt → WrittenAt → Bool
+same_written a b = (a.items == b.items) && (a.lines == b.lines)
+
+abbrev pub same_channel : ChannelAt → ChannelAt → Bool
+same_channel a b = bytes_eq a.path b.path && (same_written a.written b.written && pointwise int_eq a.turn b.turn)
 
 abbrev pub same_what : What → What → Bool
 same_what what.Type what.Type = true
@@ -46,6 +55,10 @@ same_what (what.Member s x) (what.Member t y) = bytes_eq s t && bytes_eq x y
 same_what (what.Member s x) _ = false
 same_what (what.Element s k x) (what.Element t l y) = bytes_eq s t && (int_eq k l && bytes_eq x y)
 same_what (what.Element s k x) _ = false
+same_what (what.Channel c x) (what.Channel d y) = same_channel c d && bytes_eq x y
+same_what (what.Channel c x) _ = false
+same_what (what.Carrier c) (what.Carrier d) = same_channel c d
+same_what (what.Carrier c) _ = false
 same_what what.Joined what.Joined = true
 same_what what.Joined _ = false
 same_what what.Inside what.Inside = true

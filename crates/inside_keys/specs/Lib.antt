@@ -1,4 +1,6 @@
 pub mod Keys
+pub mod Kinds
+pub mod Channels
 pub mod Places
 pub mod Checks
 pub mod Asked
@@ -8,4 +10,6 @@ pub mod Settings
 pub mod Given
 pub mod Values
 pub mod Blamed
+pub mod Unconnected
 pub mod Examples
+pub mod ChannelExamples

@@ -1,11 +1,12 @@
 -- What values rest on.
-use Rattle.std.specs.Prelude.{ℕ, ℤ, Bool, List, [], ◌∷◌, ◌++◌, Option, Some, None, if◌then◌else◌, map}
+use Rattle.std.specs.Prelude.{ℕ, ℤ, Bool, List, Option, Some, None, if◌then◌else◌, map}
 use Rattle.ini_texts.specs.declared.entry.EntryValue.{EntryValue}
 use Rattle.ned_trees.specs.declared.declarations.TypeDeclaration.{TypeDeclaration}
 use Rattle.ned_trees.specs.declared.expressions.Expression.{Expression}
 use Rattle.inside_parts.specs.declared.gates.TypeGates.{TypeGates}
 use Rattle.inside_parts.specs.Gates as gates
 use Rattle.inside_keys.specs.declared.check.Check.{Check}
+use Rattle.inside_keys.specs.declared.key.ChannelAt.{ChannelAt}
 use Rattle.inside_keys.specs.declared.key.Module.{Module}
 use Rattle.inside_keys.specs.declared.place.Place.{Place}
 use Rattle.inside_keys.specs.declared.place.Section.{Section}
@@ -27,6 +28,10 @@ pub record Setting : Type 0 where
   pub is_too_deep : Module → Bool
   pub entry : List ℕ → Option EntryValue
   pub types : List TypeDeclaration
+
+-- the names of the types
+abbrev pub type_names : Setting → List (List ℕ)
+type_names s = map (λ (t : TypeDeclaration). t.name) s.types
 
 -- the gates of each type
 abbrev pub type_gates : Setting → List TypeGates
@@ -51,6 +56,18 @@ place_in s m section = record {
   section = section;
   index = (s.stands m).index;
   around_index = index_at s (s.stands m).around;
+  channel = None;
+}
+
+-- and one that says something of a channel in a module
+abbrev pub channel_place : Setting → Module → ChannelAt → Section → Place
+channel_place s m c section = record {
+  own = m;
+  around = (s.stands m).around;
+  section = section;
+  index = None;
+  around_index = (s.stands m).index;
+  channel = Some c;
 }
 
 -- an expression that gives a value: where it stands, under which loop variables, and what its value has to be

@@ -1,36 +1,48 @@
 -- What each key asks.
-use Rattle.std.specs.Prelude.{ℕ, nat_lt, ℤ, pos, Bool, true, false, List, [], Option, Some, None, Result, Ok, Err, if◌then◌else◌, length, map, slice_get, slice_index}
+use Rattle.std.specs.Prelude.{ℕ, nat_lt, ℤ, pos, Bool, true, false, not, ◌&&◌, List, [], ◌∷◌, ◌++◌, codes, Option, Some, None, Result, Ok, Err, if◌then◌else◌, length, slice_get, slice_index}
+use Rattle.std.specs.List.{list_any}
 use Rattle.asking.specs.Asking.{Done, Ask}
 use Rattle.asking.specs.Following.{Rules, value_of}
+use Rattle.ned_trees.specs.declared.declarations.ParametricType.{ParametricType}
+use Rattle.ned_trees.specs.declared.declarations.SectionLine.{SectionLine}
+use Rattle.ned_trees.specs.declared.declarations.SectionLine.TheVariants as line
 use Rattle.ned_trees.specs.declared.declarations.Submodule.{Submodule}
 use Rattle.ned_trees.specs.declared.declarations.SubmoduleBody.{SubmoduleBody}
 use Rattle.ned_trees.specs.declared.declarations.SubmoduleType.{SubmoduleType}
 use Rattle.ned_trees.specs.declared.declarations.SubmoduleType.TheVariants.{Named, Like}
 use Rattle.ned_trees.specs.declared.declarations.TypeDeclaration.{TypeDeclaration}
-use Rattle.ned_types.specs.Flat.{submodule_named}
+use Rattle.ini_texts.specs.Entries.{last_name}
+use Rattle.ned_types.specs.Flat.{or_else, submodule_named}
+use Rattle.ned_types.specs.Types.{is_kind_of_modules, is_refixed}
+use Rattle.parameter_values.specs.declared.scene.Section.TheVariants as written
+use Rattle.parameter_values.specs.Settings.{Written}
+use Rattle.parameter_values.specs.Values.{first_given}
 use Rattle.sim_values.specs.declared.value.Value.{Value}
 use Rattle.sim_values.specs.declared.value.Value.TheVariants as value
 use Rattle.param_eval.specs.Values.{valued}
 use Rattle.inside_parts.specs.declared.fault.Fault.{Fault}
-use Rattle.inside_parts.specs.declared.fault.Fault.TheVariants.{UnknownType, Unassigned, Circle, NoGate, TooDeep}
+use Rattle.inside_parts.specs.declared.fault.Fault.TheVariants.{UnknownType, Interface, Unassigned, Mismatch, Circle, NoGate, TooDeep}
 use Rattle.inside_parts.specs.Gates as type_gates
-use Rattle.inside_parts.specs.Names.{position_of}
+use Rattle.inside_parts.specs.Names.{is_one, position_of}
+use Rattle.inside_wiring.specs.declared.wiring.Carrier.{Carrier}
 use Rattle.inside_wiring.specs.Ends.{part_named, gate_named, natural}
 use Rattle.inside_keys.specs.declared.found.Found.{Found}
 use Rattle.inside_keys.specs.declared.found.Found.TheVariants as found
 use Rattle.inside_keys.specs.declared.found.Inside.{Inside}
+use Rattle.inside_keys.specs.declared.key.ChannelAt.{ChannelAt}
 use Rattle.inside_keys.specs.declared.key.Key.{Key}
 use Rattle.inside_keys.specs.declared.key.Module.{Module}
 use Rattle.inside_keys.specs.declared.key.What.{What}
 use Rattle.inside_keys.specs.declared.key.What.TheVariants as what
 use Rattle.inside_keys.specs.declared.place.Section.TheVariants as section
 use Rattle.inside_keys.specs.Asked.{Asked, ask_then, known_then, number_then, result_then, valued_then}
+use Rattle.inside_keys.specs.Channels.{carrier_begun, channel_kind, with_value}
 use Rattle.inside_keys.specs.Checks.{checked}
-use Rattle.inside_keys.specs.Given.{parameter_posed, condition_posed, vector_size_posed, gate_size_posed, has_vector}
+use Rattle.inside_keys.specs.Given.{channel_lines, channel_posed, given_in, parameter_posed, condition_posed, vector_size_posed, gate_size_posed, has_vector}
 use Rattle.inside_keys.specs.Inside.{conditioned, inside, is_vector, sized, submodule_names}
 use Rattle.inside_keys.specs.Keys.{child, key, same_key}
 use Rattle.inside_keys.specs.Places.{meant_under}
-use Rattle.inside_keys.specs.Settings.{Setting, Standing, Posed, declarer, place_in, type_gates}
+use Rattle.inside_keys.specs.Settings.{Setting, Standing, Posed, declarer, place_in, type_gates, type_names}
 
 -- done with this value
 abbrev pub is : Value → Asked
@@ -100,6 +112,19 @@ abbrev pub body_by : Option Submodule → SubmoduleBody
 body_by None = no_body
 body_by (Some l) = l.body
 
+-- ---- channels
+
+-- what a channel does, by the values of the parameters that these lines declare, in their order
+abbrev pub carrier : Module → ChannelAt → List SectionLine → Carrier → Asked
+carrier m c [] k = Done (Ok (found.Carrier k))
+carrier m c (line.Declaration d ∷ ls) k = ask_then (key m (what.Channel c d.name)) (λ v. carrier m c ls (with_value d.name v k k.kind))
+carrier m c (_ ∷ ls) k = carrier m c ls k
+
+abbrev pub carrier_by : Module → ChannelAt → List SectionLine → Asked
+carrier_by m c lines = carrier m c lines (carrier_begun (channel_kind lines))
+
+-- ---- sizes of gates
+
 -- the size of an own gate vector of a part, as the inside of the module around has it
 abbrev pub size_of_gate : Setting → Standing → List ℕ → Inside → ℕ → Asked
 size_of_gate s t g i part =
@@ -111,6 +136,7 @@ size_in s around t g i = result_then (part_named (submodule_names around) i.part
 
 abbrev pub size_read : Setting → TypeDeclaration → Standing → List ℕ → Found → Asked
 size_read s around t g (found.Inside i) = size_in s around t g i
+size_read s around t g (found.Carrier c) = Done (Err NoGate)
 size_read s around t g (found.Value v) = Done (Err NoGate)
 
 module _ (s : Setting) where
@@ -121,17 +147,57 @@ module _ (s : Setting) where
   numbered None = Done (Err UnknownType)
   numbered (Some n) = is (value.Whole (pos n))
 
-  abbrev pub type_names : List (List ℕ)
-  type_names = map (λ (t : TypeDeclaration). t.name) s.types
+  -- ---- types that values choose
 
-  -- the type of a declared submodule. One that a value chooses isn't known yet
-  abbrev pub type_by : SubmoduleType → Asked
-  type_by (Named name) = numbered (position_of name type_names)
-  type_by (Like p) = Done (Err UnknownType)
+  -- which type a name means in the text of a type: one that stands in that, or a global one. Of a name with its package the last part counts
+  abbrev pub type_meant : TypeDeclaration → List ℕ → Option ℕ
+  type_meant t name = or_else (position_of (t.name ++ 46 ∷ last_name name) (type_names s)) (position_of (last_name name) (type_names s))
 
-  abbrev pub type_in : Option Submodule → Asked
-  type_in None = Done (Err UnknownType)
-  type_in (Some l) = type_by l.submodule_type
+  -- whether the body of a submodule gives a value to a parameter that has a fixed one in these lines
+  abbrev pub sets_fixed : List SectionLine → SubmoduleBody → Bool
+  sets_fixed lines body = list_any (λ l. is_refixed lines l) body.lines
+
+  -- whether a type may stand behind `like`: one of modules that says that it keeps the interface, and fixes nothing that the body sets
+  abbrev pub keeps : ParametricType → SubmoduleBody → TypeDeclaration → Bool
+  keeps p body u = is_kind_of_modules u.kind && (is_one p.interface u.interfaces && not (sets_fixed u.lines body))
+
+  abbrev pub kept_type : ParametricType → SubmoduleBody → ℕ → Option TypeDeclaration → Asked
+  kept_type p body n None = Done (Err UnknownType)
+  kept_type p body n (Some u) = if keeps p body u then is (value.Whole (pos n)) else Done (Err Interface)
+
+  abbrev pub type_found : ParametricType → SubmoduleBody → Option ℕ → Asked
+  type_found p body None = Done (Err UnknownType)
+  type_found p body (Some n) = kept_type p body n (slice_get s.types n)
+
+  -- the type that a value names
+  abbrev pub type_told : TypeDeclaration → ParametricType → SubmoduleBody → Value → Asked
+  type_told t p body (value.Text name) = type_found p body (type_meant t name)
+  type_told t p body _ = Done (Err Mismatch)
+
+  -- the full path of an entry that names a submodule's type
+  abbrev pub type_path : Module → List ℕ
+  type_path m = m.path ++ codes ".typename"
+
+  -- an expression that stands in the type of the module around
+  abbrev pub type_asking_by : Module → TypeDeclaration → ParametricType → SubmoduleBody → Option Written → Asked
+  type_asking_by around t p body None = Done (Err Unassigned)
+  type_asking_by around t p body (Some w) = valued_then (meant_under [] (place_in s around section.OfInside)) (valued w.expression) (type_told t p body)
+
+  -- WHAT CHOOSES THE TYPE OF A SUBMODULE: `<e>`; or the first entry of the ini text that matches its path and `typename`; or `<default(e)>`
+  abbrev pub type_written : Module → ParametricType → Option Written
+  type_written m p = first_given (given_in written.OfType p.given) (s.entry (type_path m))
+
+  abbrev pub type_chosen : Module → Module → TypeDeclaration → ParametricType → SubmoduleBody → Asked
+  type_chosen m around t p body = type_asking_by around t p body (type_written m p)
+
+  -- the type of a declared submodule, in a module of that type
+  abbrev pub type_by : Module → Module → TypeDeclaration → SubmoduleBody → SubmoduleType → Asked
+  type_by m around t body (Named name) = numbered (position_of name (type_names s))
+  type_by m around t body (Like p) = type_chosen m around t p body
+
+  abbrev pub type_in : Module → Module → TypeDeclaration → Option Submodule → Asked
+  type_in m around t None = Done (Err UnknownType)
+  type_in m around t (Some l) = type_by m around t l.body l.submodule_type
 
   -- with the type of a module, and its number
   abbrev pub typed_then : Module → (ℕ → TypeDeclaration → Asked) → Asked
@@ -147,7 +213,7 @@ module _ (s : Setting) where
 
   abbrev pub type_declared : Module → Option Module → Asked
   type_declared m None = numbered (s.root m)
-  type_declared m (Some around) = if s.is_too_deep m then Done (Err TooDeep) else typed_then around (λ n t. type_in (submodule_named (s.stands m).name t.submodules))
+  type_declared m (Some around) = if s.is_too_deep m then Done (Err TooDeep) else typed_then around (λ n t. type_in m around t (submodule_named (s.stands m).name t.submodules))
 
   -- THE TYPE OF A MODULE: its nesting comes first
   abbrev pub type_asking : Module → Asked
@@ -188,6 +254,8 @@ module _ (s : Setting) where
   asking_in m (what.ExistsAt sub k) n t = exists_at m k (submodule_named sub t.submodules)
   asking_in m (what.Member sub x) n t = member m x (submodule_named sub t.submodules)
   asking_in m (what.Element sub k x) n t = element_of m k x (submodule_named sub t.submodules)
+  asking_in m (what.Channel c x) n t = posed_asking (channel_posed s m c t x)
+  asking_in m (what.Carrier c) n t = known_then (channel_lines s t c) (carrier_by m c)
   asking_in m what.Joined n t = inside_of m false n t
   asking_in m what.Inside n t = inside_of m true n t
   asking_in m what.Type n t = numbered (Some n)

@@ -1,7 +1,8 @@
 //! Values.
 
+use crate::key::WrittenAt;
 use inside_parts::parts::Parts;
-use inside_wiring::wiring::Wiring;
+use inside_wiring::wiring::{Carrier, Wiring};
 use sim_values::value::Value;
 
 /// The inside of a compound module: its submodules, the sizes of their gate vectors and of its own, and the connections.
@@ -16,6 +17,8 @@ pub struct Inside {
 pub enum Found {
     /// Of a parameter, a condition or a size; of a type its number.
     Value(Value),
+    /// Of a channel, what it does to messages.
+    Carrier(Carrier),
     /// Of a module's inside. It stands once, in the table of values, and is read where it stands.
     Inside(Inside),
 }
@@ -27,4 +30,6 @@ pub struct State {
     pub wiring: Wiring,
     /// How many turns of loops may still be made.
     pub turns: u32,
+    /// Where the connection is written that is made.
+    pub written: WrittenAt,
 }

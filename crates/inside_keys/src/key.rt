@@ -3,6 +3,7 @@
 ghost use Rattle.std.specs.Prelude.{◌≡◌, ◌++◌, IfOk, OnOk};
 ghost use Rattle.inside_keys.specs.Keys as keys;
 
+use crate::turn::Turn;
 use itoa::Buffer;
 use sim_values::NoMemory;
 use sim_values::text::Text;
@@ -16,6 +17,24 @@ pub struct Module {
     pub created: u32,
     /// Its full path.
     pub path: Text,
+}
+
+/// Where a connection is written: how many items stand behind its own in the section of its type, and how many connections behind it in its
+/// item.
+#[derive(Clone, Copy, PartialEq, Eq, Hash)]
+pub struct WrittenAt {
+    pub items: usize,
+    pub lines: usize,
+}
+
+/// The channel of a connection, in one of its directions.
+#[derive(PartialEq, Eq, Hash, Drop)]
+pub struct ChannelAt {
+    /// Its full path: that of the gate that messages leave by, and `.channel`.
+    pub path: Text,
+    pub written: WrittenAt,
+    /// The values of the loop variables in scope, the innermost first.
+    pub turn: Turn,
 }
 
 /// What of a module has a value. Submodules, gates and parameters go by their names.
@@ -43,6 +62,10 @@ pub enum What {
     Member(Text, Text),
     /// `sub[e].x`.
     Element(Text, i64, Text),
+    /// A parameter of a channel in it.
+    Channel(ChannelAt, Text),
+    /// What a channel in it does to messages.
+    Carrier(ChannelAt),
     /// Its submodules and connections, as far as gate sizes need them: without parameters and channels.
     Joined,
     /// Its whole inside.
@@ -57,7 +80,11 @@ pub struct Key {
 }
 
 /// Adds a name, with an index in brackets where there is one.
-fn push_name(path: &mut Vec<u8>, name: &[u8], index: Option<u32>) -> Result<(), AllocError>
+pub(crate) fn push_name(
+    path: &mut Vec<u8>,
+    name: &[u8],
+    index: Option<u32>,
+) -> Result<(), AllocError>
     ensures { OnOk result (path.new.items ≡ path.old.items ++ keys.own_name name.now index) }
 {
     path.extend_from_slice(name)?;
@@ -68,6 +95,19 @@ fn push_name(path: &mut Vec<u8>, name: &[u8], index: Option<u32>) -> Result<(), 
     let mut buffer = Buffer::new();
     path.extend_from_slice(buffer.format(index).as_bytes())?;
     path.extend_from_slice(b"]")
+}
+
+impl ChannelAt {
+    /// The same channel.
+    pub fn copy(&self, alloc: Global) -> Result<ChannelAt, NoMemory>
+        ensures { IfOk result (λ c. c ≡ self.now) }
+    {
+        Ok(ChannelAt {
+            path: self.path.copy(alloc)?,
+            written: self.written,
+            turn: self.turn.copy(alloc)?,
+        })
+    }
 }
 
 impl Module {

@@ -5,7 +5,7 @@ ghost use Rattle.std.specs.Option.{option_copied};
 ghost use Rattle.param_eval.specs.References.{reference_of};
 ghost use Rattle.inside_keys.specs.Places as places;
 
-use crate::key::{Key, Module, What};
+use crate::key::{ChannelAt, Key, Module, What};
 use ned_trees::expressions::Scope;
 use param_eval::names::Name;
 use sim_values::NoMemory;
@@ -22,6 +22,10 @@ pub enum Section {
     OfInside,
     /// The body of the submodule that the module is.
     OfBody,
+    /// The block of a channel in the module.
+    OfBlock,
+    /// The parameter section of the type of a channel in the module, or the ini text.
+    OfChannel,
 }
 
 /// A loop variable, and its value in this turn.
@@ -43,6 +47,8 @@ pub struct Place {
     pub index: Option<i64>,
     /// The index of the module around it.
     pub around_index: Option<i64>,
+    /// The channel in that module of which it says something instead.
+    pub channel: Option<ChannelAt>,
 }
 
 /// What a reference means.
@@ -76,14 +82,27 @@ fn indexed(index: Option<i64>) -> Meaning
     }
 }
 
+/// The value of the loop variable of that name, the innermost of these.
+pub fn variable_in(scope: &[Binding], name: &Text) -> Option<i64>
+    ensures { result ≡ places.variable_in scope.now name.now }
+{
+    for binding in scope {
+        if binding.variable.is(name.as_bytes()) {
+            return Some(binding.value);
+        }
+    }
+    None
+}
+
 impl Place {
     /// The module whose names bare names are.
     fn hearer(&self) -> Option<&Module>
         ensures { option_copied result ≡ places.hearer self.now }
     {
         match self.section {
-            Section::OfParameters | Section::OfInside => Some(&self.own),
+            Section::OfParameters | Section::OfInside | Section::OfBlock => Some(&self.own),
             Section::OfBody => self.around.as_ref(),
+            Section::OfChannel => None,
         }
     }
 
@@ -92,9 +111,53 @@ impl Place {
         ensures { option_copied result ≡ places.sizer self.now }
     {
         match self.section {
-            Section::OfParameters => None,
-            Section::OfInside => Some(&self.own),
+            Section::OfParameters | Section::OfChannel => None,
+            Section::OfInside | Section::OfBlock => Some(&self.own),
             Section::OfBody => self.around.as_ref(),
+        }
+    }
+
+    /// The channel's own parameter of that name.
+    fn of_channel(&self, alloc: Global, name: &Text) -> Result<Meaning, NoMemory>
+        ensures { IfOk result (λ m. m ≡ places.of_channel self.now.own self.now.channel name.now) }
+    {
+        match &self.channel {
+            Some(channel) => {
+                let what = What::Channel(channel.copy(alloc)?, name.copy(alloc)?);
+                of(alloc, Some(&self.own), what)
+            }
+            None => Ok(Meaning::Nothing),
+        }
+    }
+
+    /// What a bare name means.
+    fn bare(&self, alloc: Global, name: &Text) -> Result<Meaning, NoMemory>
+        ensures { IfOk result (λ m. m ≡ places.bare self.now name.now) }
+    {
+        match self.section {
+            Section::OfChannel => self.of_channel(alloc, name),
+            _ => of(alloc, self.hearer(), What::Param(name.copy(alloc)?)),
+        }
+    }
+
+    /// What `this` before a name means.
+    fn this(&self, alloc: Global, name: &Text) -> Result<Meaning, NoMemory>
+        ensures { IfOk result (λ m. m ≡ places.this self.now name.now) }
+    {
+        match self.section {
+            Section::OfBlock | Section::OfChannel => self.of_channel(alloc, name),
+            _ => of(alloc, Some(&self.own), What::Param(name.copy(alloc)?)),
+        }
+    }
+
+    /// What `parent` before a name means.
+    fn parent(&self, alloc: Global, name: &Text) -> Result<Meaning, NoMemory>
+        ensures { IfOk result (λ m. m ≡ places.parent self.now name.now) }
+    {
+        let what = What::Param(name.copy(alloc)?);
+        match self.section {
+            Section::OfBlock | Section::OfChannel => of(alloc, Some(&self.own), what),
+            _ => of(alloc, self.around.as_ref(), what),
         }
     }
 
@@ -103,11 +166,9 @@ impl Place {
         ensures { IfOk result (λ m. m ≡ places.meant self.now (reference_of name.entry)) }
     {
         match name {
-            Name::Own(x) => of(alloc, self.hearer(), What::Param(x.copy(alloc)?)),
-            Name::Scoped(Scope::This, x) => of(alloc, Some(&self.own), What::Param(x.copy(alloc)?)),
-            Name::Scoped(Scope::Parent, x) => {
-                of(alloc, self.around.as_ref(), What::Param(x.copy(alloc)?))
-            }
+            Name::Own(x) => self.bare(alloc, x),
+            Name::Scoped(Scope::This, x) => self.this(alloc, x),
+            Name::Scoped(Scope::Parent, x) => self.parent(alloc, x),
             Name::Member(sub, x) => {
                 of(
                     alloc,
@@ -131,5 +192,22 @@ impl Place {
                 )
             }
         }
+    }
+
+    /// What a reference means there under loop variables, which hide parameters.
+    pub fn meant_under(
+        &self,
+        alloc: Global,
+        scope: &[Binding],
+        name: Name<'_>,
+    ) -> Result<Meaning, NoMemory>
+        ensures { IfOk result (λ m. m ≡ places.meant_under scope.now self.now (reference_of name.entry)) }
+    {
+        if let Name::Own(x) = name {
+            if let Some(number) = variable_in(scope, x) {
+                return Ok(Meaning::Is(Value::Whole(number)));
+            }
+        }
+        self.meant(alloc, name)
     }
 }
