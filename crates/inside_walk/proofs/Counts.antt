@@ -1,5 +1,5 @@
 -- The turns of a loop.
-use Rattle.std.proofs.Common.{◌≡◌, ℕ, suc, zero, ◌+◌, ◌-◌, ◌==◌, ◌≤◌, ◌<◌, ℤ, pos, negsuc, ◌+ℤ◌, ◌-ℤ◌, ◌≤ℤ◌, ◌<ℤ◌, Bool, true, false, if◌then◌else◌, List, [], ◌∷◌, Result, Err, Bor, refl, ap, sym, subst, ◌∙◌, arith, add-one}
+use Rattle.std.proofs.Common.{◌≡◌, ℕ, suc, zero, ◌+◌, ◌-◌, ◌==◌, ◌≤◌, ◌<◌, ℤ, pos, negsuc, ◌+ℤ◌, ◌-ℤ◌, ◌≤ℤ◌, ◌<ℤ◌, Bool, true, false, if◌then◌else◌, List, ◌∷◌, Result, Err, Bor, refl, ap, sym, subst, ◌∙◌, arith, add-one}
 use Rattle.std.proofs.lemmas.Int.{ints, to_z-of_z}
 use mir.Syntax.{w64}
 use mir.Val.{SFits, of_z, to_z}
@@ -64,18 +64,18 @@ module _ (g : Ground) (x : List ℕ) (cs : List Clause) (b : Body) (scope : Scop
 
   -- but none may be made
   pub too_many : (a last : ℤ) (s : State) (rest : Rest) → a ≤ℤ last → s.turns ≡ 0 → turns (count a last) a each s rest ≡ Done (Err TooManyTurns)
-  too_many a last s rest h e = one_more a last s rest h ∙ ap (λ n. if n == 0 then Done (Err TooManyTurns) else each a (record { parts = s.parts; wiring = s.wiring; turns = n - 1 }) (λ u. turns (count (a +ℤ pos 1) last) (a +ℤ pos 1) each u rest)) e
+  too_many a last s rest h e = one_more a last s rest h ∙ ap (λ n. if n == 0 then Done (Err TooManyTurns) else each a (record { parts = s.parts; wiring = s.wiring; turns = n - 1; written = s.written }) (λ u. turns (count (a +ℤ pos 1) last) (a +ℤ pos 1) each u rest)) e
 
-spent : (t : Bool) (s : State) (rest : Rest) → t ≡ false → (if t then Done (Err TooManyTurns) else rest (record { parts = s.parts; wiring = s.wiring; turns = s.turns - 1 })) ≡ rest (record { parts = s.parts; wiring = s.wiring; turns = s.turns - 1 })
+spent : (t : Bool) (s : State) (rest : Rest) → t ≡ false → (if t then Done (Err TooManyTurns) else rest (record { parts = s.parts; wiring = s.wiring; turns = s.turns - 1; written = s.written })) ≡ rest (record { parts = s.parts; wiring = s.wiring; turns = s.turns - 1; written = s.written })
 spent true s rest h = absurd cc
 spent false s rest h = refl
 
 -- a turn has begun
 pub turned : (g : Ground) (ts above all : List Task) (x : Bor (List ℕ)) (a last : ℤ) (cs : Bor (List Clause)) (b : Body) (s : State)
     → above ≡ task.Turns x a last cs b ∷ ts → all ≡ task.Clauses cs b ∷ above → a ≤ℤ last → (s.turns == 0) ≡ false
-    → continued g all (record { parts = s.parts; wiring = s.wiring; turns = s.turns - 1 }) ≡ turns (count a last) a (each g x.now cs.now b (scope_of ts)) s (continued g ts)
+    → continued g all (record { parts = s.parts; wiring = s.wiring; turns = s.turns - 1; written = s.written }) ≡ turns (count a last) a (each g x.now cs.now b (scope_of ts)) s (continued g ts)
 turned g ts above all x a last cs b s e f h k =
-    ap (λ l. continued g l (record { parts = s.parts; wiring = s.wiring; turns = s.turns - 1 })) (f ∙ ap (λ l. task.Clauses cs b ∷ l) e)
+    ap (λ l. continued g l (record { parts = s.parts; wiring = s.wiring; turns = s.turns - 1; written = s.written })) (f ∙ ap (λ l. task.Clauses cs b ∷ l) e)
     ∙ sym (one_more g x.now cs.now b (scope_of ts) a last s (continued g ts) h
     ∙ spent (s.turns == 0) s (λ t. each g x.now cs.now b (scope_of ts) a t (λ u. turns (count (a +ℤ pos 1) last) (a +ℤ pos 1) (each g x.now cs.now b (scope_of ts)) u (continued g ts))) k)
 

@@ -1,4 +1,6 @@
 pub mod Counts
+pub mod Carrying
+pub mod Turns
 pub mod Spent
 pub mod OfElements
 pub mod OfEnds

@@ -1,5 +1,5 @@
 -- Ends of connections that have taken a gate.
-use Rattle.std.proofs.Common.{◌≡◌, ℕ, ◌+◌, ◌≤◌, ℤ, Bool, true, false, List, length, Option, Some, Result, Ok, Err, if◌then◌else◌, refl, ap, sym, subst, ◌∙◌, arith}
+use Rattle.std.proofs.Common.{◌≡◌, ℕ, ◌+◌, ◌≤◌, ℤ, Bool, true, List, length, Option, Some, Result, Ok, Err, if◌then◌else◌, refl, ap, sym, subst, ◌∙◌, arith}
 use Rattle.asking.specs.Asking.{Done}
 use Rattle.inside_keys.specs.declared.found.State.{State}
 use Rattle.inside_keys.specs.Asked.{Asked, result_then}
@@ -25,12 +25,12 @@ use Rattle.inside_walk.specs.Tasks.{Leads, continued, scope_of, end_at, role_at,
 use Rattle.inside_walk.specs.Weights.{of_end, of_maybe, of_owner, of_position}
 
 module _ (g : Ground) (c : Connection) where
-  taken_same : (at : Side) (scope : Scope) (s : State) (rest : Rest) (t : Taken) → taken g c at scope (record { parts = s.parts; wiring = t.wiring; turns = s.turns }) rest t ≡ taken g c at scope s rest t
+  taken_same : (at : Side) (scope : Scope) (s : State) (rest : Rest) (t : Taken) → taken g c at scope (record { parts = s.parts; wiring = t.wiring; turns = s.turns; written = s.written }) rest t ≡ taken g c at scope s rest t
   taken_same side.Left scope s rest t = refl
   taken_same (side.Right l) scope s rest t = refl
 
   module _ (at : Side) (ts us : List Task) (s : State) (gate : NamedGate) (t : Taken) (r : Result Next Stop)
-      (h : Leads g r us (taken g c at (scope_of ts) (record { parts = s.parts; wiring = t.wiring; turns = s.turns }) (continued g ts) t)) (other : Option GateId) (role : Role)
+      (h : Leads g r us (taken g c at (scope_of ts) (record { parts = s.parts; wiring = t.wiring; turns = s.turns; written = s.written }) (continued g ts) t)) (other : Option GateId) (role : Role)
       (same_other : other ≡ other_at at c) (same_role : role ≡ role_at at c) where
     led : (found : Result Taken Fault) → found ≡ Ok t → Leads g r us (result_then found (taken g c at (scope_of ts) s (continued g ts)))
     led found e = subst (λ y. Leads g r us y) (taken_same at (scope_of ts) s (continued g ts) t ∙ sym (ap (λ (f : Result Taken Fault). result_then f (taken g c at (scope_of ts) s (continued g ts))) e)) h

@@ -1,12 +1,11 @@
 -- Submodules, gates and parameters.
-use Rattle.std.proofs.Common.{◌≡◌, ℕ, suc, zero, ◌+◌, ◌*◌, ◌<◌, ◌≤◌, max, Bool, true, false, if◌then◌else◌, List, [], ◌∷◌, length, slice_get, Option, Some, None, IfSome, is_some, Result, Ok, Err, Bor, refl, ap, sym, subst, ◌∙◌, arith}
+use Rattle.std.proofs.Common.{◌≡◌, ℕ, suc, zero, ◌+◌, ◌*◌, ◌<◌, ◌≤◌, max, true, false, if◌then◌else◌, List, [], ◌∷◌, length, slice_get, Option, Some, None, IfSome, Result, Ok, Bor, ap, sym, subst, ◌∙◌, arith}
 use Rattle.std.specs.Option.{option_copied}
 use Rattle.sim_values.specs.declared.value.Value.{Value}
 use Rattle.inside_keys.specs.declared.found.State.{State}
 use Rattle.inside_keys.specs.declared.key.Key.{Key}
 use Rattle.inside_keys.specs.declared.key.Module.{Module}
 use Rattle.inside_keys.specs.declared.key.What.{What}
-use Rattle.inside_keys.specs.declared.key.What.TheVariants as what
 use Rattle.inside_keys.specs.Asked.{Asked, ask_then, number_then, numbered_by, result_then, size_then}
 use Rattle.inside_keys.specs.Inside.{gates, gates_in, is_vector, parameters, element, element_of, element_typed, elements, sized, submodule_there, submodule, submodules}
 use Rattle.inside_keys.specs.Keys.{child, key}
@@ -26,10 +25,9 @@ use Rattle.inside_walk.specs.declared.task.Sort.{Sort}
 use Rattle.inside_walk.specs.declared.task.Sort.TheVariants as sort
 use Rattle.inside_walk.specs.declared.task.Task.{Task}
 use Rattle.inside_walk.specs.declared.task.Task.TheVariants as task
-use Rattle.inside_walk.specs.declared.task.Wait.{Wait}
 use Rattle.inside_walk.specs.declared.task.Wait.TheVariants as wait
 use Rattle.inside_walk.specs.Tasks.{Leads, continued, size_by, waited}
-use Rattle.inside_walk.specs.Weights.{IsSpent, Spends, of_section, of_gates, of_types, of_type_gates, of_typed, of_element, of_submodule, of_submodules, of_wait, of_tasks, cost_of_tasks}
+use Rattle.inside_walk.specs.Weights.{IsSpent, Spends, of_section, of_gates, of_types, of_type_gates, of_typed, of_element, of_submodule, of_submodules, of_tasks, cost_of_tasks}
 use Rattle.inside_walk.proofs.Spent.{below}
 
 pub section_some : (ls : List SectionLine) → 1 ≤ of_section ls
@@ -88,15 +86,15 @@ module _ (g : Ground) where
   here = submodules g.site g.types.now g.gates.now g.is_whole
 
   -- a submodule's parameters and gates are laid on the stack
-  pub type_leads : (ts a b : List Task) (d : TypeDeclaration) (n : ℕ) (s t : State) (m holder : Module) (gs : Bor (List TypeGate)) (ls : Bor (List SectionLine)) → a ≡ task.Gates holder sort.Declared gs ∷ ts → b ≡ task.Parameters m ls ∷ a
-      → holder ≡ m → gs.now ≡ gates_in (slice_get g.gates.now n) → ls.now ≡ (if g.is_whole then d.lines else []) → t ≡ part_added s n
-      → continued g b t ≡ element_of g.site g.types.now g.gates.now g.is_whole m n s (continued g ts) d
-  type_leads ts a b d n s t m holder gs ls is js same f k q =
+  pub type_leads : (ts a b : List Task) (d : TypeDeclaration) (n : ℕ) (s t : State) (m holder : Module) (index : Option ℕ) (gs : Bor (List TypeGate)) (ls : Bor (List SectionLine)) → a ≡ task.Gates holder sort.Declared gs ∷ ts → b ≡ task.Parameters m ls ∷ a
+      → holder ≡ m → gs.now ≡ gates_in (slice_get g.gates.now n) → ls.now ≡ (if g.is_whole then d.lines else []) → t ≡ part_added s n index
+      → continued g b t ≡ element_of g.site g.types.now g.gates.now g.is_whole m index n s (continued g ts) d
+  type_leads ts a b d n s t m holder index gs ls is js same f k q =
       ap (λ x. continued g x t) (js ∙ ap (λ x. task.Parameters m ls ∷ x) is)
       ∙ ap (λ ns. parameters m ns t (λ u. gates holder (size_by sort.Declared) gs.now u (continued g ts))) k
       ∙ ap (λ x. parameters m asked x (λ u. gates holder (size_by sort.Declared) gs.now u (continued g ts))) q
-      ∙ ap (λ x. parameters m asked (part_added s n) (λ u. gates holder (size_by sort.Declared) x u (continued g ts))) f
-      ∙ ap (λ x. parameters m asked (part_added s n) (λ u. gates x (size_by sort.Declared) declared u (continued g ts))) same
+      ∙ ap (λ x. parameters m asked (part_added s n index) (λ u. gates holder (size_by sort.Declared) x u (continued g ts))) f
+      ∙ ap (λ x. parameters m asked (part_added s n index) (λ u. gates x (size_by sort.Declared) declared u (continued g ts))) same
     where
       asked : List SectionLine
       asked = if g.is_whole then d.lines else []
@@ -113,10 +111,10 @@ module _ (g : Ground) where
   both_within : (a b c : ℕ) → a ≤ b → b ≤ c → a ≤ c
   both_within a b c h k = omega arith
 
-  pub type_spends : (ts a b : List Task) (d : TypeDeclaration) (n : ℕ) (s t : State) (m holder : Module) (gs : Bor (List TypeGate)) (ls : Bor (List SectionLine)) → a ≡ task.Gates holder sort.Declared gs ∷ ts → b ≡ task.Parameters m ls ∷ a
-      → of_gates gs.now ≤ of_type_gates g.gates.now → of_section ls.now ≤ of_section d.lines → of_section d.lines ≤ of_types g.types.now → t ≡ part_added s n
+  pub type_spends : (ts a b : List Task) (d : TypeDeclaration) (n : ℕ) (s t : State) (m holder : Module) (index : Option ℕ) (gs : Bor (List TypeGate)) (ls : Bor (List SectionLine)) → a ≡ task.Gates holder sort.Declared gs ∷ ts → b ≡ task.Parameters m ls ∷ a
+      → of_gates gs.now ≤ of_type_gates g.gates.now → of_section ls.now ≤ of_section d.lines → of_section d.lines ≤ of_types g.types.now → t ≡ part_added s n index
       → (most : ℕ) → 0 ≤ most → cost_of_tasks ts ≤ most → IsSpent g most (of_typed g) ts s.turns (next.Go t) b
-  type_spends ts a b d n s t m holder gs ls is js f w v q most z c =
+  type_spends ts a b d n s t m holder index gs ls is js f w v q most z c =
       subst (λ x. IsSpent g most (of_typed g) ts s.turns (next.Go t) x) (sym (js ∙ ap (λ x. task.Parameters m ls ∷ x) is))
       (record {
         cost = z;
@@ -127,12 +125,12 @@ module _ (g : Ground) where
 
   -- the type of a submodule is known
   pub known_leads : (ts us : List Task) (l : Submodule) (index : Option ℕ) (v : Value) (n : ℕ) (m : Module) (s : State) (r : Result Next Stop) → numbered_by v ≡ Ok n → m ≡ child g.site l.name index
-      → Leads g r us (element_typed g.site g.types.now g.gates.now g.is_whole m n s (continued g ts))
-      → Leads g r us (number_then v (λ k. element_typed g.site g.types.now g.gates.now g.is_whole (child g.site l.name index) k s (continued g ts)))
+      → Leads g r us (element_typed g.site g.types.now g.gates.now g.is_whole m index n s (continued g ts))
+      → Leads g r us (number_then v (λ k. element_typed g.site g.types.now g.gates.now g.is_whole (child g.site l.name index) index k s (continued g ts)))
   known_leads ts us l index v n m s r e f h =
       subst (λ x. Leads g r us x)
-      (ap (λ (a : Module). element_typed g.site g.types.now g.gates.now g.is_whole a n s (continued g ts)) f
-      ∙ sym (ap (λ (x : Result ℕ Fault). result_then x (λ k. element_typed g.site g.types.now g.gates.now g.is_whole (child g.site l.name index) k s (continued g ts))) e))
+      (ap (λ (a : Module). element_typed g.site g.types.now g.gates.now g.is_whole a index n s (continued g ts)) f
+      ∙ sym (ap (λ (x : Result ℕ Fault). result_then x (λ k. element_typed g.site g.types.now g.gates.now g.is_whole (child g.site l.name index) index k s (continued g ts))) e))
       h
 
   -- what is made of a declaration that is no vector

@@ -1,5 +1,5 @@
 -- What steps leave to be done.
-use Rattle.std.proofs.Common.{◌≡◌, ℕ, suc, zero, ◌+◌, ◌-◌, ◌*◌, ◌<◌, ◌≤◌, max, ℤ, List, [], ◌∷◌, length, Result, Ok, Err, Bor, refl, ap, sym, subst, ◌∙◌, arith}
+use Rattle.std.proofs.Common.{◌≡◌, ℕ, suc, zero, ◌+◌, ◌-◌, ◌*◌, ◌<◌, ◌≤◌, max, ℤ, List, [], ◌∷◌, Result, Ok, Err, Bor, ap, sym, subst, ◌∙◌, arith}
 use Rattle.std.proofs.Math.Nat.{suc-mul}
 use Rattle.inside_keys.specs.declared.found.State.{State}
 use Rattle.inside_parts.specs.declared.fault.Stop.{Stop}
@@ -54,9 +54,9 @@ turn_less c t a b most h e = omega arith
 pub one_spent : (g : Ground) (ts above all : List Task) (x : Bor (List ℕ)) (a last : ℤ) (cs : Bor (List Clause)) (b : Body) (s : State)
     → above ≡ task.Turns x a last cs b ∷ ts → all ≡ task.Clauses cs b ∷ above → 0 < s.turns
     → (most : ℕ) → of_clauses cs.now (of_body b) + 1 ≤ most → cost_of_tasks ts ≤ most
-    → IsSpent g most 1 ts s.turns (next.Go (record { parts = s.parts; wiring = s.wiring; turns = s.turns - 1 })) all
+    → IsSpent g most 1 ts s.turns (next.Go (record { parts = s.parts; wiring = s.wiring; turns = s.turns - 1; written = s.written })) all
 one_spent g ts above all x a last cs b s e f h most k l =
-    subst (λ us. IsSpent g most 1 ts s.turns (next.Go (record { parts = s.parts; wiring = s.wiring; turns = s.turns - 1 })) us) (sym (f ∙ ap (λ us. task.Clauses cs b ∷ us) e))
+    subst (λ us. IsSpent g most 1 ts s.turns (next.Go (record { parts = s.parts; wiring = s.wiring; turns = s.turns - 1; written = s.written })) us) (sym (f ∙ ap (λ us. task.Clauses cs b ∷ us) e))
     (record {
       cost = omega arith;
       costs = under (of_clauses cs.now (of_body b)) (cost_of_tasks ts) k l;

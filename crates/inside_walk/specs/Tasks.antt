@@ -1,11 +1,13 @@
 -- What is left to be done of an inside, as a stack of tasks of which the first is the next.
-use Rattle.std.specs.Prelude.{◌≡◌, ℕ, ℤ, pos, ◌+ℤ◌, Bool, List, [], ◌∷◌, Option, Some, None, Result, Ok, Err, length}
+use Rattle.std.specs.Prelude.{◌≡◌, ℕ, ℤ, pos, ◌+ℤ◌, List, [], ◌∷◌, Option, Some, None, Result, Ok, Err, length}
 use Rattle.asking.specs.Asking.{Done, Ask}
 use Rattle.inside_keys.specs.declared.found.State.{State}
 use Rattle.inside_keys.specs.declared.key.What.{What}
 use Rattle.inside_keys.specs.declared.key.What.TheVariants as what
-use Rattle.inside_keys.specs.Asked.{Asked, ask_then, result_then, whole_then, size_then, truth_then, number_then, valued_then}
-use Rattle.inside_keys.specs.Inside.{Rest, whole, looped, turns, count, gate_then, named_then, part_then, end_then, right_end, connected, connection_lines, items, gates, parameters, element_typed, elements, submodule_there, submodules, made_of}
+use Rattle.inside_keys.specs.declared.found.Found.{Found}
+use Rattle.inside_keys.specs.Asked.{Asked, ask_then, carried_then, carrier_then, result_then, whole_then, size_then, truth_then, number_then, value_then, valued_then}
+use Rattle.inside_keys.specs.Inside.{Rest, whole, looped, turns, count, gate_then, named_then, part_then, end_then, right_end, connected, connection_lines, items, gates, parameters, element_typed, elements, submodule_there, submodules, made_of, back_then, linked_then}
+use Rattle.inside_keys.specs.Inside as joins
 use Rattle.inside_keys.specs.Keys.{child}
 use Rattle.inside_keys.specs.Places.{Scope, bind, meant_under}
 use Rattle.inside_keys.specs.States.{with_wiring, grown, noted}
@@ -14,18 +16,20 @@ use Rattle.inside_parts.specs.declared.fault.Stop.TheVariants as stop
 use Rattle.ned_trees.specs.declared.connections.Connection.{Connection}
 use Rattle.ned_trees.specs.declared.connections.End.{End}
 use Rattle.ned_trees.specs.declared.connections.GateIndex.{GateIndex}
-use Rattle.ned_trees.specs.declared.declarations.Submodule.{Submodule}
 use Rattle.ned_trees.specs.declared.connections.Owner.{Owner}
 use Rattle.inside_parts.specs.declared.parts.NamedGate.{NamedGate}
 use Rattle.inside_wiring.specs.declared.ends.Taken.{Taken}
 use Rattle.inside_parts.specs.declared.parts.Made.TheVariants.{Absent, Vector}
 use Rattle.inside_wiring.specs.declared.wiring.Role.{Role}
+use Rattle.inside_wiring.specs.declared.wiring.Carrier.{Carrier}
 use Rattle.inside_wiring.specs.declared.wiring.GateId.{GateId}
-use Rattle.inside_wiring.specs.Ends.{part_named, at_index, left_role, right_role, beside, linked}
+use Rattle.inside_wiring.specs.Ends.{part_named, at_index, left_role, right_role, beside}
 use Rattle.param_eval.specs.Evaluating.{came_to, resumed}
 use Rattle.sim_values.specs.declared.value.Value.{Value}
 use Rattle.inside_walk.specs.declared.task.Body.{Body}
 use Rattle.inside_walk.specs.declared.task.Body.TheVariants as body
+use Rattle.inside_walk.specs.declared.task.Carry.{Carry}
+use Rattle.inside_walk.specs.declared.task.Carry.TheVariants as carry
 use Rattle.inside_walk.specs.declared.task.Doing.{Doing}
 use Rattle.inside_walk.specs.declared.task.Doing.TheVariants as doing
 use Rattle.inside_walk.specs.declared.task.Ground.{Ground}
@@ -69,11 +73,25 @@ abbrev pub other_at : Side → Connection → Option GateId
 other_at side.Left c = None
 other_at (side.Right l) c = beside c.arrow l
 
+-- the number that a loop gives its variable now
+abbrev pub numbers_of : Task → List ℤ
+numbers_of (task.Turns x z last cs b) = z ∷ []
+numbers_of _ = []
+
 module _ (g : Ground) where
+  -- two gates are joined
+  abbrev pub joined : Connection → GateId → GateId → Scope → State → Rest → Asked
+  joined = joins.joined g.site g.submodules.now g.gates.now g.is_whole
+
+  -- what is done with what a channel does
+  abbrev pub carried : Carry → Carrier → Scope → State → Rest → Asked
+  carried (carry.Onwards way l r) k scope s rest = back_then g.site g.submodules.now g.gates.now g.is_whole way l r scope s rest k
+  carried (carry.Back way l r onwards) k scope s rest = linked_then g.site g.submodules.now g.gates.now g.is_whole way l r s rest onwards k
+
   -- what comes behind an end that has taken a gate
   abbrev pub taken : Connection → Side → Scope → State → Rest → Taken → Asked
-  taken c side.Left scope s rest t = right_end g.place g.submodules.now g.gates.now c t.id scope (with_wiring s t.wiring) rest
-  taken c (side.Right l) scope s rest t = rest (with_wiring s (linked c.arrow l t.id t.wiring))
+  taken c side.Left scope s rest t = right_end g.place g.submodules.now g.gates.now joined c t.id scope (with_wiring s t.wiring) rest
+  taken c (side.Right l) scope s rest t = joined c l t.id scope (with_wiring s t.wiring) rest
 
   -- an end of a connection, and what comes behind it
   abbrev pub end_begun : Connection → Side → Scope → State → Rest → Asked
@@ -98,8 +116,8 @@ module _ (g : Ground) where
   -- ---- tasks
 
   abbrev pub body_of : Body → Scope → State → Rest → Asked
-  body_of (body.Connections cs) = connection_lines g.place g.submodules.now g.gates.now cs.now
-  body_of (body.Connection c) = connected g.place g.submodules.now g.gates.now c.now
+  body_of (body.Connections cs) = connection_lines g.place g.submodules.now g.gates.now joined cs.now
+  body_of (body.Connection c) = connected g.place g.submodules.now g.gates.now joined c.now
 
   -- a task under the loop variables in scope, and then the rest
   abbrev pub after : Task → Scope → State → Rest → Asked
@@ -107,8 +125,8 @@ module _ (g : Ground) where
   after (task.Gates m sort gs) scope s rest = gates m (size_by sort) gs.now s rest
   after (task.Elements l n all) scope s rest = elements g.site g.types.now g.gates.now g.is_whole n all l.now s rest
   after (task.Submodules ls) scope s rest = submodules g.site g.types.now g.gates.now g.is_whole ls.now s rest
-  after (task.Items is) scope s rest = items g.place g.submodules.now g.gates.now is.now scope s rest
-  after (task.Connections cs) scope s rest = connection_lines g.place g.submodules.now g.gates.now cs.now scope s rest
+  after (task.Items is) scope s rest = items g.place g.submodules.now g.gates.now joined is.now scope s rest
+  after (task.Connections cs) scope s rest = connection_lines g.place g.submodules.now g.gates.now joined cs.now scope s rest
   after (task.Clauses cs b) scope s rest = looped g.place cs.now (body_of b) scope s rest
   after (task.Turns x z last cs b) scope s rest =
       turns (count (z +ℤ pos 1) last) (z +ℤ pos 1) (λ y t next. looped g.place cs.now (body_of b) (bind x.now y scope) t next) s rest
@@ -125,7 +143,7 @@ module _ (g : Ground) where
   waited wait.Gate v s rest = size_then v (λ n. rest (grown s n))
   waited (wait.Condition l) v s rest = truth_then v (submodule_there g.site g.types.now g.gates.now g.is_whole l.now s rest) (rest (noted s Absent))
   waited (wait.Size l) v s rest = size_then v (λ n. elements g.site g.types.now g.gates.now g.is_whole n n l.now (noted s (Vector (length s.parts.parts) n)) rest)
-  waited (wait.Type l index) v s rest = number_then v (λ n. element_typed g.site g.types.now g.gates.now g.is_whole (child g.site l.now.name index) n s rest)
+  waited (wait.Type l index) v s rest = number_then v (λ n. element_typed g.site g.types.now g.gates.now g.is_whole (child g.site l.now.name index) index n s rest)
 
   -- what is done with the value of an expression
   abbrev pub wanted : Want → Value → Scope → State → Rest → Asked
@@ -144,6 +162,7 @@ module _ (g : Ground) where
   next_of ts (next.Go s) = continued ts s
   next_of ts (next.Ask k w s) = ask_then k (λ v. waited w v s (continued ts))
   next_of ts (next.At e t w s) = valued_then (meant_under (scope_of ts) g.place) (came_to e t) (λ v. wanted w v (scope_of ts) s (continued ts))
+  next_of ts (next.Carry k c s) = carried_then k (λ x. carried c x (scope_of ts) s (continued ts))
 
   -- a step has led to that
   abbrev pub Leads : Result Next Stop → List Task → Asked → Type 0
@@ -151,13 +170,14 @@ module _ (g : Ground) where
   Leads (Err (stop.Fault f)) ts t = t ≡ Done (Err f)
   Leads (Err (stop.Memory e)) ts t = Unit {0}
 
-  -- what is done with the value that was asked for
-  abbrev pub done_with : Doing → Value → List Task → State → Asked
-  done_with (doing.Key w) v ts s = waited w v s (continued ts)
-  done_with (doing.Expression e w) v ts s = valued_then (meant_under (scope_of ts) g.place) (resumed e v) (λ u. wanted w u (scope_of ts) s (continued ts))
+  -- what is done with what was asked for
+  abbrev pub done_with : Doing → List Task → State → Found → Asked
+  done_with (doing.Key w) ts s = value_then (λ v. waited w v s (continued ts))
+  done_with (doing.Expression e w) ts s = value_then (λ v. valued_then (meant_under (scope_of ts) g.place) (resumed e v) (λ u. wanted w u (scope_of ts) s (continued ts)))
+  done_with (doing.Carrier c) ts s = carrier_then (λ x. carried c x (scope_of ts) s (continued ts))
 
   abbrev pub halted : List Task → Halt → Asked
-  halted ts (halt.Asks k d s) = ask_then k (λ v. done_with d v ts s)
+  halted ts (halt.Asks k d s) = Ask k (done_with d ts s)
   halted ts (halt.Done f) = Done (Ok f)
 
   abbrev pub Halts : Result Halt Stop → List Task → Asked → Type 0

@@ -1,7 +1,6 @@
 -- How much is left to be done of an inside, as a number that falls with each step.
-use Rattle.std.specs.Prelude.{ℕ, ◌+◌, ◌*◌, ◌<◌, ◌≤◌, max, Bool, List, [], ◌∷◌, Option, Some, None, Result, Ok, Err}
+use Rattle.std.specs.Prelude.{ℕ, ◌+◌, ◌*◌, ◌<◌, ◌≤◌, max, List, [], ◌∷◌, Option, Some, None, Result, Ok, Err}
 use Rattle.ned_trees.specs.declared.expressions.Expression.{Expression}
-use Rattle.inside_keys.specs.declared.found.State.{State}
 use Rattle.inside_parts.specs.declared.fault.Stop.{Stop}
 use Rattle.ned_trees.specs.declared.connections.Clause.{Clause}
 use Rattle.ned_trees.specs.declared.connections.Clause.TheVariants.{For, If}
@@ -21,6 +20,8 @@ use Rattle.ned_trees.specs.declared.connections.ConnectionLine.{ConnectionLine}
 use Rattle.param_eval.specs.Evaluating.{weight_of, asks, left}
 use Rattle.inside_walk.specs.declared.task.Body.{Body}
 use Rattle.inside_walk.specs.declared.task.Body.TheVariants as body
+use Rattle.inside_walk.specs.declared.task.Carry.{Carry}
+use Rattle.inside_walk.specs.declared.task.Carry.TheVariants as carry
 use Rattle.inside_walk.specs.declared.task.Doing.{Doing}
 use Rattle.inside_walk.specs.declared.task.Doing.TheVariants as doing
 use Rattle.inside_walk.specs.declared.task.Ground.{Ground}
@@ -74,7 +75,7 @@ abbrev pub of_end : End → ℕ
 of_end e = of_owner e.owner + of_position e.gate.index + 6
 
 abbrev pub of_connection : Connection → ℕ
-of_connection c = of_end c.left + of_end c.right + 2
+of_connection c = of_end c.left + of_end c.right + 8
 
 abbrev pub of_clause : Clause → ℕ
 of_clause (If e) = weight_of e + 4
@@ -103,8 +104,13 @@ of_body (body.Connection c) = of_connection c.now
 
 -- behind an end of a connection
 abbrev pub of_rest : Connection → side_type.Side → ℕ
-of_rest c side.Left = of_end c.right + 2
-of_rest c (side.Right l) = 1
+of_rest c side.Left = of_end c.right + 8
+of_rest c (side.Right l) = 7
+
+-- behind what a channel does
+abbrev pub of_carry : Carry → ℕ
+of_carry (carry.Onwards way l r) = 4
+of_carry (carry.Back way l r onwards) = 1
 
 module _ (g : Ground) where
   -- a submodule whose type is known, whichever that is
@@ -137,7 +143,7 @@ module _ (g : Ground) where
   of_task (task.Clauses cs b) = of_clauses cs.now (of_body b)
   of_task (task.Turns x z last cs b) = 1
   of_task (task.End c side.Left) = of_connection c.now
-  of_task (task.End c (side.Right l)) = of_end c.now.right + 1
+  of_task (task.End c (side.Right l)) = of_end c.now.right + 7
 
   abbrev pub of_tasks : List Task → ℕ
   of_tasks [] = 0
@@ -161,10 +167,12 @@ module _ (g : Ground) where
   of_next (next.Go s) = 0
   of_next (next.Ask k w s) = of_wait w + 1
   of_next (next.At e t w s) = asks t + left e + of_want w
+  of_next (next.Carry k c s) = of_carry c + 1
 
   abbrev pub of_doing : Doing → ℕ
   of_doing (doing.Key w) = of_wait w
   of_doing (doing.Expression e w) = left e + of_want w
+  of_doing (doing.Carrier c) = of_carry c
 
 -- ---- the most that one turn of a loop costs
 
@@ -192,11 +200,13 @@ cost_of_next _ = 0
 abbrev pub cost_of_doing : Doing → ℕ
 cost_of_doing (doing.Expression e w) = cost_of_want w
 cost_of_doing (doing.Key w) = 0
+cost_of_doing (doing.Carrier c) = 0
 
 abbrev pub turns_of : Next → ℕ
 turns_of (next.Go s) = s.turns
 turns_of (next.Ask k w s) = s.turns
 turns_of (next.At e t w s) = s.turns
+turns_of (next.Carry k c s) = s.turns
 
 -- What a step leaves to be done is less than a weight and what the tasks before it had, where each turn that is left counts as much as `most`.
 pub record IsSpent (g : Ground) (most weight : ℕ) (before : List Task) (n : ℕ) (found : Next) (ts : List Task) : Type 0 where

@@ -7,15 +7,17 @@ ghost use Rattle.inside_wiring.specs.Ends as named;
 ghost use Rattle.inside_walk.specs.Tasks.{Leads, continued, end_at, role_at, other_at, end_begun, part_begun, name_begun, gate_begun, place_begun, taken, scope_of};
 ghost use Rattle.inside_walk.specs.Weights.{Spends, of_end, of_maybe, of_position, of_rest};
 
+use crate::joins::joined;
 use crate::loops::evaluate;
 use crate::task::{Ground, Next, Side, Task, Want};
 use inside_keys::found::State;
+use inside_keys::key::WrittenAt;
 use inside_parts::fault::{Fault, Stop};
 use inside_parts::parts::{NamedGate, Parts};
 use inside_parts::stack::Stack;
 use inside_wiring::ends::{
-    Taken, at_index, at_next, at_single, beside, gate_named, has_role, left_role, linked,
-    part_named, right_role,
+    Taken, at_index, at_next, at_single, beside, gate_named, has_role, left_role, part_named,
+    right_role,
 };
 use inside_wiring::wiring::{GateId, Role};
 use ned_trees::connections::{Connection, End, GateIndex, Owner};
@@ -51,43 +53,41 @@ fn other_at(side: Side, connection: &Connection) -> Option<GateId>
     }
 }
 
-/// An end has taken a gate: the right end comes next, or the connection is made.
+/// An end has taken a gate: the right end comes next, or the two gates are joined.
 fn took<'m>(
-    _ground: &Ground<'m>,
+    alloc: Global,
+    ground: &Ground<'m>,
     tasks: &mut Stack<Task<'m>>,
     connection: &'m Connection,
     side: Side,
     parts: Parts,
     turns: u32,
+    written: WrittenAt,
     found: Taken,
 ) -> Result<Next<'m>, Stop>
-    ensures leads { Leads _ground.now result tasks.new (taken _ground.now connection.now side (scope_of tasks.old)
-        (record { parts = parts; wiring = found.wiring; turns = turns }) (continued _ground.now tasks.old) found) }
-    ensures spends { Spends _ground.now (of_rest connection.now side) 0 tasks.old turns result tasks.new }
+    ensures leads { Leads ground.now result tasks.new (taken ground.now connection.now side (scope_of tasks.old)
+        (record { parts = parts; wiring = found.wiring; turns = turns; written = written }) (continued ground.now tasks.old) found) }
+    ensures spends { Spends ground.now (of_rest connection.now side) 0 tasks.old turns result tasks.new }
 {
     let Taken { wiring, id } = found;
+    let state = State {
+        parts,
+        wiring,
+        turns,
+        written,
+    };
     match side {
         Side::Left => {
             tasks.push(Task::End(connection, Side::Right(id)))?;
-            Ok(Next::Go(State {
-                parts,
-                wiring,
-                turns,
-            }))
+            Ok(Next::Go(state))
         }
-        Side::Right(left) => {
-            let wiring = linked(wiring, connection.arrow, left, id)?;
-            Ok(Next::Go(State {
-                parts,
-                wiring,
-                turns,
-            }))
-        }
+        Side::Right(left) => joined(alloc, ground, tasks, connection, left, id, state),
     }
 }
 
 /// Takes the single gate.
 fn single<'m>(
+    alloc: Global,
     ground: &Ground<'m>,
     tasks: &mut Stack<Task<'m>>,
     connection: &'m Connection,
@@ -105,13 +105,17 @@ fn single<'m>(
         parts,
         wiring,
         turns,
+        written,
     } = state;
     let taken = at_single(wiring, other, role, gate)?;
-    took(ground, tasks, connection, side, parts, turns, taken)
+    took(
+        alloc, ground, tasks, connection, side, parts, turns, written, taken,
+    )
 }
 
 /// Takes the first free gate, or one more.
 fn free<'m>(
+    alloc: Global,
     ground: &Ground<'m>,
     tasks: &mut Stack<Task<'m>>,
     connection: &'m Connection,
@@ -130,9 +134,12 @@ fn free<'m>(
         parts,
         wiring,
         turns,
+        written,
     } = state;
     let taken = at_next(wiring, other, role, gate)?;
-    took(ground, tasks, connection, side, parts, turns, taken)
+    took(
+        alloc, ground, tasks, connection, side, parts, turns, written, taken,
+    )
 }
 
 /// Takes the gate of a vector that an end names by its place.
@@ -157,7 +164,7 @@ fn placed<'m>(
         GateIndex::At(index) => {
             Ok(evaluate(alloc, index, Want::Index(connection, side, gate), state)?)
         }
-        GateIndex::Next => free(ground, tasks, connection, side, gate, state),
+        GateIndex::Next => free(alloc, ground, tasks, connection, side, gate, state),
     }
 }
 
@@ -182,7 +189,7 @@ fn position<'m>(
             if gate.kind.is_vector {
                 return Err(Stop::Fault(Fault::NoGate));
             }
-            single(ground, tasks, connection, side, gate, state)
+            single(alloc, ground, tasks, connection, side, gate, state)
         }
     }
 }
@@ -261,6 +268,7 @@ pub fn end<'m>(
 
 /// Takes the gate at an index.
 pub fn at<'m>(
+    alloc: Global,
     ground: &Ground<'m>,
     tasks: &mut Stack<Task<'m>>,
     connection: &'m Connection,
@@ -279,7 +287,10 @@ pub fn at<'m>(
         parts,
         wiring,
         turns,
+        written,
     } = state;
     let taken = at_index(wiring, other, role, gate, index)?;
-    took(ground, tasks, connection, side, parts, turns, taken)
+    took(
+        alloc, ground, tasks, connection, side, parts, turns, written, taken,
+    )
 }

@@ -2,6 +2,7 @@
 #![tactic(auto)]
 
 pub mod ends;
+pub mod joins;
 pub mod loops;
 pub mod submodules;
 pub mod task;

@@ -4,14 +4,16 @@ ghost use Rattle.std.specs.Prelude.{◌≡◌, ◌+◌, ◌<◌, ◌≤◌, IfOk
 ghost use Rattle.std.specs.Bool.{MatchBool};
 ghost use Rattle.inside_keys.specs.Inside as inside;
 ghost use Rattle.inside_keys.specs.Places as places;
+ghost use Rattle.inside_keys.specs.States as states;
 ghost use Rattle.param_eval.specs.Evaluating.{weight_of};
-ghost use Rattle.inside_walk.specs.Tasks.{Leads, body_of, continued, next_of, scope_of, wanted};
+ghost use Rattle.inside_walk.specs.Tasks.{Leads, body_of, continued, joined, next_of, scope_of, wanted};
 ghost use Rattle.inside_walk.specs.Weights.{Spends, of_next, of_clauses, of_connection, of_body, of_item, of_items, of_connection_lines, of_want, cost_of_next, cost_of_want, turns_of};
 ghost use Rattle.inside_walk.specs.declared.task.Ground.{Ground as ground_type};
 ghost use Rattle.inside_walk.specs.declared.task.Task.{Task as task_type};
 
 use crate::task::{Body, Ground, Next, Side, Task, Want};
 use inside_keys::found::State;
+use inside_keys::key::WrittenAt;
 use inside_parts::fault::{Fault, Stop};
 use inside_parts::stack::Stack;
 use ned_trees::connections::{Clause, ConnectionGroup, ConnectionItem, ConnectionLine};
@@ -143,6 +145,7 @@ pub fn turns_from<'m>(
         parts,
         wiring,
         turns,
+        written,
     } = state;
     if turns == 0 {
         return Err(Stop::Fault(Fault::TooManyTurns));
@@ -153,6 +156,7 @@ pub fn turns_from<'m>(
         parts,
         wiring,
         turns: turns - 1,
+        written,
     }))
 }
 
@@ -178,9 +182,52 @@ pub fn next_turn<'m>(
     }
 }
 
+/// The connection of the item behind which so many stand comes next.
+fn at_line(state: State, behind: usize) -> State
+    ensures { result ≡ states.at_line state behind }
+{
+    let State {
+        parts,
+        wiring,
+        turns,
+        written,
+    } = state;
+    let WrittenAt { items, lines: _ } = written;
+    State {
+        parts,
+        wiring,
+        turns,
+        written: WrittenAt {
+            items,
+            lines: behind,
+        },
+    }
+}
+
+/// The item behind which so many stand comes next.
+fn at_item(state: State, behind: usize) -> State
+    ensures { result ≡ states.at_item state behind }
+{
+    let State {
+        parts,
+        wiring,
+        turns,
+        written: _,
+    } = state;
+    State {
+        parts,
+        wiring,
+        turns,
+        written: WrittenAt {
+            items: behind,
+            lines: 0,
+        },
+    }
+}
+
 /// A connection, as what clauses stand around.
 fn body_of_line<'m>(line: &'m ConnectionLine) -> Body<'m>
-    ensures same { (g : ground_type) → body_of g result ≡ inside.connected g.place g.submodules.now g.gates.now line.now.connection }
+    ensures same { (g : ground_type) → body_of g result ≡ inside.connected g.place g.submodules.now g.gates.now (joined g) line.now.connection }
     ensures weight { of_body result ≡ of_connection line.now.connection }
 {
     Body::Connection(&line.connection)
@@ -194,7 +241,7 @@ fn connection_line<'m>(
     line: &'m ConnectionLine,
     state: State,
 ) -> Result<Next<'m>, Stop>
-    ensures leads { Leads ground.now result tasks.new (inside.looped ground.now.place line.now.clauses (inside.connected ground.now.place ground.now.submodules.now ground.now.gates.now line.now.connection) (scope_of tasks.old) state (continued ground.now tasks.old)) }
+    ensures leads { Leads ground.now result tasks.new (inside.looped ground.now.place line.now.clauses (inside.connected ground.now.place ground.now.submodules.now ground.now.gates.now (joined ground.now) line.now.connection) (scope_of tasks.old) state (continued ground.now tasks.old)) }
     ensures spends { Spends ground.now (of_clauses line.now.clauses (of_connection line.now.connection)) (of_clauses line.now.clauses (of_connection line.now.connection)) tasks.old state.turns result tasks.new }
 {
     let body = body_of_line(line);
@@ -209,13 +256,15 @@ pub fn connection_lines<'m>(
     lines: &'m [ConnectionLine],
     state: State,
 ) -> Result<Next<'m>, Stop>
-    ensures leads { Leads ground.now result tasks.new (inside.connection_lines ground.now.place ground.now.submodules.now ground.now.gates.now lines.now (scope_of tasks.old) state (continued ground.now tasks.old)) }
+    ensures leads { Leads ground.now result tasks.new (inside.connection_lines ground.now.place ground.now.submodules.now ground.now.gates.now (joined ground.now) lines.now (scope_of tasks.old) state (continued ground.now tasks.old)) }
     ensures spends { Spends ground.now (of_connection_lines lines.now) (of_connection_lines lines.now) tasks.old state.turns result tasks.new }
 {
     let Some((first, rest)) = lines.split_first() else {
         return Ok(Next::Go(state));
     };
     tasks.push(Task::Connections(rest))?;
+    let behind = rest.len();
+    let state = at_line(state, behind);
     connection_line(alloc, ground, tasks, first, state)
 }
 
@@ -227,7 +276,7 @@ fn group<'m>(
     group: &'m ConnectionGroup,
     state: State,
 ) -> Result<Next<'m>, Stop>
-    ensures leads { Leads ground.now result tasks.new (inside.looped ground.now.place group.now.clauses (inside.connection_lines ground.now.place ground.now.submodules.now ground.now.gates.now group.now.lines) (scope_of tasks.old) state (continued ground.now tasks.old)) }
+    ensures leads { Leads ground.now result tasks.new (inside.looped ground.now.place group.now.clauses (inside.connection_lines ground.now.place ground.now.submodules.now ground.now.gates.now (joined ground.now) group.now.lines) (scope_of tasks.old) state (continued ground.now tasks.old)) }
     ensures spends { Spends ground.now (of_clauses group.now.clauses (of_connection_lines group.now.lines)) (of_clauses group.now.clauses (of_connection_lines group.now.lines)) tasks.old state.turns result tasks.new }
 {
     let body = Body::Connections(group.lines.as_slice());
@@ -242,7 +291,7 @@ fn item<'m>(
     item: &'m ConnectionItem,
     state: State,
 ) -> Result<Next<'m>, Stop>
-    ensures leads { Leads ground.now result tasks.new (inside.item ground.now.place ground.now.submodules.now ground.now.gates.now item.now (scope_of tasks.old) state (continued ground.now tasks.old)) }
+    ensures leads { Leads ground.now result tasks.new (inside.item ground.now.place ground.now.submodules.now ground.now.gates.now (joined ground.now) item.now (scope_of tasks.old) state (continued ground.now tasks.old)) }
     ensures spends { Spends ground.now (of_item item.now) (of_item item.now) tasks.old state.turns result tasks.new }
 {
     match item {
@@ -259,12 +308,14 @@ pub fn items<'m>(
     items: &'m [ConnectionItem],
     state: State,
 ) -> Result<Next<'m>, Stop>
-    ensures leads { Leads ground.now result tasks.new (inside.items ground.now.place ground.now.submodules.now ground.now.gates.now items.now (scope_of tasks.old) state (continued ground.now tasks.old)) }
+    ensures leads { Leads ground.now result tasks.new (inside.items ground.now.place ground.now.submodules.now ground.now.gates.now (joined ground.now) items.now (scope_of tasks.old) state (continued ground.now tasks.old)) }
     ensures spends { Spends ground.now (of_items items.now) (of_items items.now) tasks.old state.turns result tasks.new }
 {
     let Some((first, rest)) = items.split_first() else {
         return Ok(Next::Go(state));
     };
     tasks.push(Task::Items(rest))?;
+    let behind = rest.len();
+    let state = at_item(state, behind);
     item(alloc, ground, tasks, first, state)
 }

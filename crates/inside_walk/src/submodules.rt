@@ -31,34 +31,40 @@ fn grown(state: State, size: u32) -> Result<State, NoMemory>
         parts,
         wiring,
         turns,
+        written,
     } = state;
     let wiring = wiring.add(size)?;
     Ok(State {
         parts,
         wiring,
         turns,
+        written,
     })
 }
 
-/// One part more, of the type of that number, whose gate vectors come next.
-fn part_added(state: State, number: usize) -> Result<State, NoMemory>
-    ensures { IfOk result (λ s. s ≡ states.part_added state number) }
+/// One part more, of the type of that number, whose gate vectors come next: an element of what was declared last, or all of it.
+fn part_added(state: State, number: usize, index: Option<u32>) -> Result<State, NoMemory>
+    ensures { IfOk result (λ s. s ≡ states.part_added state number index) }
 {
     let State {
         parts,
         wiring,
         turns,
+        written,
     } = state;
     let Parts { made, mut parts } = parts;
     parts.push(Part {
         first: wiring.count(),
         of_type: number,
         is_own: false,
+        line: made.len().saturating_sub(1),
+        index,
     })?;
     Ok(State {
         parts: Parts { made, parts },
         wiring,
         turns,
+        written,
     })
 }
 
@@ -70,6 +76,7 @@ fn noted(state: State, made_now: Made) -> Result<State, NoMemory>
         parts,
         wiring,
         turns,
+        written,
     } = state;
     let Parts { mut made, parts } = parts;
     made.push(made_now)?;
@@ -77,6 +84,7 @@ fn noted(state: State, made_now: Made) -> Result<State, NoMemory>
         parts: Parts { made, parts },
         wiring,
         turns,
+        written,
     })
 }
 
@@ -210,12 +218,13 @@ fn of_type<'m>(
     ground: &Ground<'m>,
     tasks: &mut Stack<Task<'m>>,
     child: Module,
+    index: Option<u32>,
     number: usize,
     declared: &'m TypeDeclaration,
     state: State,
 ) -> Result<Next<'m>, Stop>
     requires { of_section declared.now.lines ≤ of_types ground.now.types.now }
-    ensures leads { Leads ground.now result tasks.new (inside.element_of ground.now.site ground.now.types.now ground.now.gates.now ground.now.is_whole child number state (continued ground.now tasks.old) declared.now) }
+    ensures leads { Leads ground.now result tasks.new (inside.element_of ground.now.site ground.now.types.now ground.now.gates.now ground.now.is_whole child index number state (continued ground.now tasks.old) declared.now) }
     ensures spends { Spends ground.now (of_typed ground.now) 0 tasks.old state.turns result tasks.new }
 {
     let holder = child.copy(alloc)?;
@@ -223,7 +232,7 @@ fn of_type<'m>(
     let lines = asked_lines(ground.is_whole, declared);
     tasks.push(Task::Gates(holder, Sort::Declared, gates))?;
     tasks.push(Task::Parameters(child, lines))?;
-    let state = part_added(state, number)?;
+    let state = part_added(state, number, index)?;
     Ok(Next::Go(state))
 }
 
@@ -248,16 +257,17 @@ fn typed<'m>(
     ground: &Ground<'m>,
     tasks: &mut Stack<Task<'m>>,
     child: Module,
+    index: Option<u32>,
     number: usize,
     state: State,
 ) -> Result<Next<'m>, Stop>
-    ensures leads { Leads ground.now result tasks.new (inside.element_typed ground.now.site ground.now.types.now ground.now.gates.now ground.now.is_whole child number state (continued ground.now tasks.old)) }
+    ensures leads { Leads ground.now result tasks.new (inside.element_typed ground.now.site ground.now.types.now ground.now.gates.now ground.now.is_whole child index number state (continued ground.now tasks.old)) }
     ensures spends { Spends ground.now (of_typed ground.now) 0 tasks.old state.turns result tasks.new }
 {
     let Some(declared) = type_at(ground.types, number) else {
         return Err(Stop::Fault(Fault::UnknownType));
     };
-    of_type(alloc, ground, tasks, child, number, declared, state)
+    of_type(alloc, ground, tasks, child, index, number, declared, state)
 }
 
 /// A submodule: its type is asked for.
@@ -454,7 +464,7 @@ fn known<'m>(
 {
     let number = number(value)?;
     let child = ground.site.child(alloc, &submodule.name, index)?;
-    typed(alloc, ground, tasks, child, number, state)
+    typed(alloc, ground, tasks, child, index, number, state)
 }
 
 /// Does what the value of a key is for.

@@ -6,8 +6,8 @@ use inside_keys::place::Place;
 use inside_parts::gates::{TypeGate, TypeGates};
 use inside_parts::names::Names;
 use inside_parts::parts::NamedGate;
-use inside_wiring::wiring::GateId;
-use ned_trees::connections::{Clause, Connection, ConnectionItem, ConnectionLine};
+use inside_wiring::wiring::{Carrier, GateId};
+use ned_trees::connections::{Arrow, Clause, Connection, ConnectionItem, ConnectionLine};
 use ned_trees::declarations::{SectionLine, Submodule, TypeDeclaration};
 use ned_trees::expressions::Expression;
 use param_eval::evaluation::{Evaluation, Turn};
@@ -96,6 +96,15 @@ pub enum Want<'m> {
     Index(&'m Connection, Side, NamedGate),
 }
 
+/// What is done with what a channel does: two gates are joined.
+#[derive(Clone, Copy)]
+pub enum Carry {
+    /// From the gate of the left end, or of the one that messages leave by.
+    Onwards(Arrow, GateId, GateId),
+    /// Back, where this carries messages from the gate of the left end.
+    Back(Arrow, GateId, GateId, Carrier),
+}
+
 /// What is done next.
 #[derive(Drop)]
 pub enum Next<'m> {
@@ -105,6 +114,8 @@ pub enum Next<'m> {
     Ask(Key, Wait<'m>, State),
     /// An expression has come to this.
     At(Evaluation<'m>, Turn<'m>, Want<'m>, State),
+    /// What a channel does is asked for.
+    Carry(Key, Carry, State),
 }
 
 /// What a value is asked for.
@@ -112,6 +123,7 @@ pub enum Next<'m> {
 pub enum Doing<'m> {
     Key(Wait<'m>),
     Expression(Evaluation<'m>, Want<'m>),
+    Carrier(Carry),
 }
 
 /// Where building has stopped.

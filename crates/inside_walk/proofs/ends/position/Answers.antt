@@ -1,4 +1,4 @@
-use Rattle.std.proofs.Common.{◌+◌, Option, Some, arith, ap, sym, subst, ◌∙◌}
+use Rattle.std.proofs.Common.{◌+◌, Option, arith, ap, sym, subst, ◌∙◌}
 use Rattle.ned_trees.specs.declared.connections.End.{End}
 use Rattle.ned_trees.specs.declared.connections.GateIndex.{GateIndex}
 use Rattle.inside_walk.specs.Tasks.{Leads, continued, end_at, place_begun, scope_of}
