@@ -5,6 +5,7 @@
 
 mod configurations;
 mod ini_lines;
+mod insides;
 mod reading;
 pub mod refusals;
 pub mod runs;

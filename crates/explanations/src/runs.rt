@@ -1,5 +1,6 @@
 //! Why a run ended with a fault.
 
+use crate::insides::tell_inside;
 use crate::reading::read_types;
 use ini_entries::constants::is_constant;
 use ini_texts::entries::value_for;
@@ -9,7 +10,7 @@ use model_answers::scene::{Placed, Told};
 use model_texts::begin::model_of;
 use models::model::Model;
 use ned_trees::declarations::{
-    Declaration, ParameterValue, ParameterWord, SectionLine, TypeDeclaration,
+    Declaration, ParameterValue, ParameterWord, SectionLine, TypeDeclaration, TypeKind,
 };
 use ned_trees::expressions::Expression;
 use ned_types::flat::{class_of, last_value, submodule_named, type_name};
@@ -361,6 +362,24 @@ fn tell_declared(told: &mut Explanation, of: &TypeDeclaration) {
     tell_parameters(told, of);
 }
 
+/// Says that a simple module reads a gate that its type doesn't declare.
+fn tell_gates(told: &mut Explanation, of: &TypeDeclaration) {
+    told.say("the class ");
+    told.say_name(class_of(of));
+    told.say(" reads a gate that the type ");
+    told.say_name(of.name.as_bytes());
+    told.say(" doesn't declare");
+}
+
+/// Whether a fault of that name is one of a module of that type when it is called, and not of its inside.
+fn is_of_call(name: &str, of: &TypeDeclaration) -> bool {
+    match name {
+        "NoParameter" | "UnknownClass" | "TimeOverflow" | "ModuleFailed:" => true,
+        "NoGate" => of.kind == TypeKind::Simple,
+        _ => false,
+    }
+}
+
 /// Says which classes there are, of which none has the name of a module's.
 fn tell_classes(told: &mut Explanation, of: &TypeDeclaration, classes: &[&[u8]]) {
     told.say("this program has no module of the class ");
@@ -376,16 +395,14 @@ fn tell_other(
     of: &TypeDeclaration,
     classes: &[&[u8]],
 ) {
-    if !matches!(
-        fault.name,
-        "NoParameter" | "UnknownClass" | "TimeOverflow" | "ModuleFailed:"
-    ) {
-        return;
+    if !is_of_call(fault.name, of) {
+        return tell_inside(told, fault.path, fault.name);
     }
     told.say(fault.path);
     told.say(": ");
     match fault.name {
         "NoParameter" => tell_declared(told, of),
+        "NoGate" => tell_gates(told, of),
         "UnknownClass" => tell_classes(told, of, classes),
         "TimeOverflow" => told.say(
             "a time is above 9223372.036854775807s: a shorter delay, or a sim-time-limit, ends the run before",
@@ -403,7 +420,7 @@ fn tell_fault(
     classes: &[&[u8]],
 ) {
     let Some(it) = found_at(model, fault.path) else {
-        return;
+        return tell_inside(told, fault.path, fault.name);
     };
     match parameter_fault(fault.name) {
         None => tell_other(told, fault, it.of, classes),

@@ -7,7 +7,7 @@ use Rattle.param_eval.specs.declared.fault.Fault.TheVariants as eval_fault
 use Rattle.param_eval.specs.Operators.{Evaluated}
 use Rattle.parameter_values.specs.Values.{found_at, value_at}
 use Rattle.run_questions.specs.declared.answer.ModelFault.{ModelFault}
-use Rattle.run_questions.specs.declared.answer.ModelFault.TheVariants.{Unassigned, Overflow, Inexact, Mismatch, Circle}
+use Rattle.run_questions.specs.declared.answer.ModelFault.TheVariants.{Unassigned, Overflow, Inexact, Mismatch, Circle, TooDeep}
 use Rattle.model_answers.specs.Scenes.{Site, Told, around_key, own_key, setting_in}
 
 -- why a parameter has no value, as the model tells it
@@ -17,7 +17,7 @@ fault_of eval_fault.Inexact = Inexact
 fault_of eval_fault.Mismatch = Mismatch
 fault_of eval_fault.Circle = Circle
 fault_of eval_fault.Unassigned = Unassigned
-fault_of eval_fault.TooDeep = Unassigned
+fault_of eval_fault.TooDeep = TooDeep
 
 abbrev pub told : Evaluated → Result Value ModelFault
 told (Ok v) = Ok v

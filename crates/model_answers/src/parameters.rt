@@ -26,7 +26,8 @@ fn fault_of(fault: Fault) -> ModelFault
         Fault::Inexact => ModelFault::Inexact,
         Fault::Mismatch => ModelFault::Mismatch,
         Fault::Circle => ModelFault::Circle,
-        Fault::Unassigned | Fault::TooDeep => ModelFault::Unassigned,
+        Fault::Unassigned => ModelFault::Unassigned,
+        Fault::TooDeep => ModelFault::TooDeep,
     }
 }
 

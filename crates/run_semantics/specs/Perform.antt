@@ -65,11 +65,19 @@ broken id f w = Broken w (path_of w.records id) f
 -- the fault that a model answers
 abbrev pub model_fault : ModelFault → Fault
 model_fault model_fault_kind.UnknownType = fault.UnknownType
+model_fault model_fault_kind.Interface = fault.Interface
 model_fault model_fault_kind.Unassigned = fault.Unassigned
+model_fault model_fault_kind.Circle = fault.Circle
 model_fault model_fault_kind.Overflow = fault.Overflow
 model_fault model_fault_kind.Inexact = fault.Inexact
 model_fault model_fault_kind.Mismatch = fault.Mismatch
-model_fault model_fault_kind.Circle = fault.Circle
+model_fault model_fault_kind.GateSize = fault.GateSize
+model_fault model_fault_kind.NoGate = fault.NoGate
+model_fault model_fault_kind.AlreadyConnected = fault.AlreadyConnected
+model_fault model_fault_kind.Unconnected = fault.Unconnected
+model_fault model_fault_kind.TooManyTurns = fault.TooManyTurns
+model_fault model_fault_kind.TooManyModules = fault.TooManyModules
+model_fault model_fault_kind.TooDeep = fault.TooDeep
 
 -- ---- deeds: actions that ask nothing and call no module
 

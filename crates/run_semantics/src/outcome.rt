@@ -13,24 +13,37 @@ use std::alloc::{AllocError, Global};
 pub enum Fault {
     /// A submodule's type isn't declared.
     UnknownType,
+    /// The type that was chosen for a submodule doesn't keep the interface that it has to keep.
+    Interface,
     /// A parameter has no value.
     Unassigned,
-    /// A number of the expression that gives a parameter its value is outside -2^63 to 2^63 - 1, or an amount to shift by is
-    /// outside 0 to 63.
-    Overflow,
-    /// A quotient in that expression is no whole number, something is divided by zero, or an exponent is below zero.
-    Inexact,
-    /// A parameter's value is of another kind than its declaration, or one in its expression than its operator wants.
-    Mismatch,
-    /// A parameter's value rests on itself.
+    /// A value rests on itself.
     Circle,
-    /// More than 65,536 modules would live.
+    /// A number of an expression is outside -2^63 to 2^63 - 1, or an amount to shift by is outside 0 to 63.
+    Overflow,
+    /// A quotient in an expression is no whole number, something is divided by zero, or an exponent is below zero.
+    Inexact,
+    /// A value is of another kind than its declaration, or one in its expression than its operator wants, or the size of a vector
+    /// of submodules is negative.
+    Mismatch,
+    /// A gate's index is out of range, no gate is free, or the size of a gate vector is outside 0 to 65,536.
+    GateSize,
+    /// A gate is used by two connections.
+    AlreadyConnected,
+    /// A gate that has to be connected isn't.
+    Unconnected,
+    /// The loops of a compound module make more than 1,000,000 turns.
+    TooManyTurns,
+    /// More than 65,536 modules would live, or a vector of submodules would have more elements than that.
     TooManyModules,
+    /// Modules are nested too deep.
+    TooDeep,
     /// No box is there for a module's class.
     UnknownClass,
     /// A reply read a parameter that the module doesn't have.
     NoParameter,
-    /// A reply read a gate that the module doesn't have.
+    /// A reply read a gate that the module doesn't have; or a connection names a submodule or a gate that isn't there, or a gate of
+    /// another direction, or one by an index that is no vector, or a vector without one.
     NoGate,
     /// A reply has more than 1,000 actions.
     TooManyActions,
@@ -79,11 +92,19 @@ pub fn fault_of(fault: ModelFault) -> Fault
 {
     match fault {
         ModelFault::UnknownType => Fault::UnknownType,
+        ModelFault::Interface => Fault::Interface,
         ModelFault::Unassigned => Fault::Unassigned,
+        ModelFault::Circle => Fault::Circle,
         ModelFault::Overflow => Fault::Overflow,
         ModelFault::Inexact => Fault::Inexact,
         ModelFault::Mismatch => Fault::Mismatch,
-        ModelFault::Circle => Fault::Circle,
+        ModelFault::GateSize => Fault::GateSize,
+        ModelFault::NoGate => Fault::NoGate,
+        ModelFault::AlreadyConnected => Fault::AlreadyConnected,
+        ModelFault::Unconnected => Fault::Unconnected,
+        ModelFault::TooManyTurns => Fault::TooManyTurns,
+        ModelFault::TooManyModules => Fault::TooManyModules,
+        ModelFault::TooDeep => Fault::TooDeep,
     }
 }
 
@@ -94,12 +115,18 @@ impl Fault {
     {
         Ok(match self {
             Fault::UnknownType => Fault::UnknownType,
+            Fault::Interface => Fault::Interface,
             Fault::Unassigned => Fault::Unassigned,
+            Fault::Circle => Fault::Circle,
             Fault::Overflow => Fault::Overflow,
             Fault::Inexact => Fault::Inexact,
             Fault::Mismatch => Fault::Mismatch,
-            Fault::Circle => Fault::Circle,
+            Fault::GateSize => Fault::GateSize,
+            Fault::AlreadyConnected => Fault::AlreadyConnected,
+            Fault::Unconnected => Fault::Unconnected,
+            Fault::TooManyTurns => Fault::TooManyTurns,
             Fault::TooManyModules => Fault::TooManyModules,
+            Fault::TooDeep => Fault::TooDeep,
             Fault::UnknownClass => Fault::UnknownClass,
             Fault::NoParameter => Fault::NoParameter,
             Fault::NoGate => Fault::NoGate,
