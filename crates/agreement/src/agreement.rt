@@ -13,8 +13,7 @@ ghost use Rattle.agreement.specs.Narrowing.{Narrows};
 use crate::common::{Common, common_of};
 use crate::same::same_answer;
 use injection_order::injection::Due;
-use model_answers::answering::answer;
-use models::model::Model;
+use model_answers::plain::PlainAnswers;
 use question_log::entry::{Entry, first_injection};
 use run_questions::answer::Question;
 use run_questions::record::Record;
@@ -25,8 +24,8 @@ use std::alloc::Global;
 fn agrees(
     alloc: Global,
     common: Common,
-    one: &Model,
-    other: &Model,
+    one: &PlainAnswers<'_>,
+    other: &PlainAnswers<'_>,
     records: &[Record],
     question: &Question,
 ) -> Result<bool, NoMemory>
@@ -37,8 +36,8 @@ fn agrees(
     if common.is_about(question) {
         return Ok(true);
     }
-    let first = answer(alloc, one, records, question)?;
-    let second = answer(alloc, other, records, question)?;
+    let first = one.answer(alloc, records, question)?;
+    let second = other.answer(alloc, records, question)?;
     Ok(same_answer(&first, &second))
 }
 
@@ -47,8 +46,8 @@ fn agrees(
 fn agrees_on_both(
     alloc: Global,
     common: Common,
-    one: &Model,
-    other: &Model,
+    one: &PlainAnswers<'_>,
+    other: &PlainAnswers<'_>,
     records: &[Record],
     due: Due,
 ) -> Result<bool, NoMemory>
@@ -69,8 +68,8 @@ fn agrees_on_both(
 fn agrees_on(
     alloc: Global,
     common: Common,
-    one: &Model,
-    other: &Model,
+    one: &PlainAnswers<'_>,
+    other: &PlainAnswers<'_>,
     records: &[Record],
     entry: &Entry,
 ) -> Result<bool, NoMemory>
@@ -107,8 +106,8 @@ fn agrees_on(
 fn narrowed(
     alloc: Global,
     common: Common,
-    one: &Model,
-    other: &Model,
+    one: &PlainAnswers<'_>,
+    other: &PlainAnswers<'_>,
     records: &[Record],
     entry: &Entry,
     valid: u64,
@@ -133,8 +132,8 @@ fn narrowed(
 /// None where they differ on a question of event zero.
 pub fn agreement(
     alloc: Global,
-    one: &Model,
-    other: &Model,
+    one: &PlainAnswers<'_>,
+    other: &PlainAnswers<'_>,
     records: &[Record],
     asked: &[Entry],
     last: u64,

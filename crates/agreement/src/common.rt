@@ -6,7 +6,7 @@ ghost use Rattle.question_log.specs.Entries.{asked_in};
 ghost use Rattle.agreement.specs.Common.{is_about, are_about, IsCommon};
 
 use crate::same::same_injections;
-use models::model::Model;
+use model_answers::plain::PlainAnswers;
 use question_log::entry::Entry;
 use run_questions::answer::Question;
 
@@ -57,11 +57,11 @@ fn same_limit(one: Option<u64>, other: Option<u64>) -> bool
 
 #[tactic(auto, unfolding(model_answers::specs::Answering::answers_of))]
 /// What two models have in common.
-pub fn common_of(one: &Model, other: &Model) -> Common
+pub fn common_of(one: &PlainAnswers<'_>, other: &PlainAnswers<'_>) -> Common
     ensures { IsCommon (answers_of one.now) (answers_of other.now) result }
 {
     Common {
         limit: same_limit(one.time_limit(), other.time_limit()),
-        injections: same_injections(one.injections.as_slice(), other.injections.as_slice()),
+        injections: same_injections(one.injections(), other.injections()),
     }
 }

@@ -16,7 +16,7 @@ ghost use Rattle.checkpointed_runs.specs.declared.running.Stood.{Stood};
 use checkpoints::positions::Positions;
 use kernel::kernel::Kernel;
 use kernel::request::Request;
-use model_answers::answering::time_limit;
+use model_answers::plain::PlainAnswers;
 use models::model::Model;
 use module_api::catalogue::Catalogue;
 use module_api::simple_module::SimpleModule;
@@ -124,7 +124,8 @@ impl<C: Catalogue> Runner<C> {
         ensures wants { IfOk result (λ standing.
             (phase : Phase) → IsUndeclined phase → Wants (answers_of model.now) 0 phase standing) }
     {
-        match self.kernel.setup(alloc, model)? {
+        let answers = PlainAnswers::new(alloc, model)?;
+        match self.kernel.setup(alloc, &answers)? {
             Some(outcome) => Ok(Standing::Over(outcome)),
             None => {
                 let standing = self.next_box(alloc, model)?;
@@ -263,7 +264,12 @@ impl<C: Catalogue> Runner<C> {
 
     /// Goes on to the limit or to an end. After each event whose number is a multiple of the interval as it is then, a position is
     /// stored.
-    fn go_on(&mut self, alloc: Global, model: &Model, limit: u64) -> Result<Outcome, NoMemory>
+    fn go_on(
+        &mut self,
+        alloc: Global,
+        model: &PlainAnswers<'_>,
+        limit: u64,
+    ) -> Result<Outcome, NoMemory>
         requires going { IsGoing C.behaviour (answers_of model.now) SimpleModule-box limit self.old }
         requires kinds { HasKinds C.behaviour SimpleModule-box self.old.kernel }
         ensures kinds { HasKinds C.behaviour SimpleModule-box self.new.kernel }
@@ -279,7 +285,7 @@ impl<C: Catalogue> Runner<C> {
             IfOk result (λ outcome. HasGoneOn C.behaviour (answers_of model.now) from self.old.positions
             self.new.positions left outcome) }
     {
-        let last_time = time_limit(model);
+        let last_time = model.time_limit();
         let mut shown = ShownModules::new(alloc);
         for _k in self.kernel.count()..limit {
             if let Some(outcome) = self.kernel.step(alloc, model, last_time, &mut shown)? {
@@ -292,7 +298,12 @@ impl<C: Catalogue> Runner<C> {
     }
 
     /// Goes on to the limit or to an end, and ends the run. A position is stored after its last event too, unless that ended in a fault.
-    fn run_on(&mut self, alloc: Global, model: &Model, limit: u64) -> Result<Outcome, NoMemory>
+    fn run_on(
+        &mut self,
+        alloc: Global,
+        model: &PlainAnswers<'_>,
+        limit: u64,
+    ) -> Result<Outcome, NoMemory>
         requires going { IsGoing C.behaviour (answers_of model.now) SimpleModule-box limit self.old }
         requires kinds { HasKinds C.behaviour SimpleModule-box self.old.kernel }
         ensures kinds { HasKinds C.behaviour SimpleModule-box self.new.kernel }
@@ -317,7 +328,12 @@ impl<C: Catalogue> Runner<C> {
     }
 
     /// A whole run from where each module has its box: its events, and its end.
-    fn complete(&mut self, alloc: Global, model: &Model, limit: u64) -> Result<Outcome, NoMemory>
+    fn complete(
+        &mut self,
+        alloc: Global,
+        model: &PlainAnswers<'_>,
+        limit: u64,
+    ) -> Result<Outcome, NoMemory>
         requires ready { let world = world_in SimpleModule-box self.old.kernel in
             On world ≡ ready C.behaviour (answers_of model.now) }
         requires next { (world_in SimpleModule-box self.old.kernel).next ≡ 0 }
@@ -370,7 +386,8 @@ impl<C: Catalogue> Runner<C> {
             Standing::Over(outcome) => Ok(Advance::Ends(None, outcome)),
             Standing::Missing(request) => Ok(Advance::Waits(request)),
             Standing::Ready => {
-                let outcome = self.complete(alloc, model, limit)?;
+                let answers = PlainAnswers::new(alloc, model)?;
+                let outcome = self.complete(alloc, &answers, limit)?;
                 Ok(Advance::Ends(None, outcome))
             }
         }
@@ -401,7 +418,8 @@ impl<C: Catalogue> Runner<C> {
     {
         match self.go_back(alloc, model, limit)? {
             Some(start) => {
-                let outcome = self.run_on(alloc, model, limit)?;
+                let answers = PlainAnswers::new(alloc, model)?;
+                let outcome = self.run_on(alloc, &answers, limit)?;
                 Ok(Advance::Ends(Some(start), outcome))
             }
             None => {

@@ -17,8 +17,7 @@ use injection_order::injection::Injection;
 use kernel_actions::core_part::Core;
 use kernel_actions::looks::Look;
 use kernel_actions::reads::{fault_of_read, question_of, was_told};
-use model_answers::answering::answer;
-use models::model::Model;
+use model_answers::plain::PlainAnswers;
 use module_api::call::{Call, Prompt};
 use module_api::reply::Read;
 use run_questions::answer::{Answer, Built, Question};
@@ -35,7 +34,7 @@ use std::alloc::Global;
 pub fn call(
     core: &Core,
     alloc: Global,
-    model: &Model,
+    model: &PlainAnswers<'_>,
     id: u32,
     prompt: Prompt,
 ) -> Result<Call, NoMemory>
@@ -67,7 +66,7 @@ pub fn call_shown(core: &Core, id: u32, prompt: Prompt, shown: Shown) -> Call
 fn fault_at(
     core: &Core,
     alloc: Global,
-    model: &Model,
+    model: &PlainAnswers<'_>,
     call: &Call,
     read: &Read,
 ) -> Result<Option<Fault>, NoMemory>
@@ -80,7 +79,7 @@ fn fault_at(
         return Ok(None);
     }
     let question = question_of(alloc, call.id, read)?;
-    let answer = answer(alloc, model, core.records(), &question)?;
+    let answer = model.answer(alloc, core.records(), &question)?;
     Ok(fault_of_read(read, &answer))
 }
 
@@ -88,7 +87,7 @@ fn fault_at(
 pub fn read_fault(
     core: &Core,
     alloc: Global,
-    model: &Model,
+    model: &PlainAnswers<'_>,
     call: &Call,
     reads: &[Read],
 ) -> Result<Option<Fault>, NoMemory>
@@ -111,7 +110,7 @@ pub fn read_fault(
 pub fn ask_injection(
     core: &Core,
     alloc: Global,
-    model: &Model,
+    model: &PlainAnswers<'_>,
     look: &mut Look,
 ) -> Result<Option<Injection>, NoMemory>
     requires { core.now.count + 1 < 2 ^ 64 }
@@ -120,18 +119,18 @@ pub fn ask_injection(
     ensures noted { let before = looked core.now look.old in
         OnOk result (looked core.now look.new ≡ with_injection_asked before) }
 {
-    core.ask_injection(alloc, model.injections.as_slice(), look)
+    core.ask_injection(alloc, model.injections(), look)
 }
 
 // ---- setup
 
 /// Asks which network is run, and creates it.
-fn ask_root(core: &mut Core, alloc: Global, model: &Model) -> Result<Turn, NoMemory>
+fn ask_root(core: &mut Core, alloc: Global, model: &PlainAnswers<'_>) -> Result<Turn, NoMemory>
     requires { core.old ≡ empty }
     ensures { IfOk result (λ turn. flow_of turn core.new ≡ root_asked (answers_of model.now)) }
 {
     core.ask(alloc, Question::Root)?;
-    let found = answer(alloc, model, &[], &Question::Root)?;
+    let found = model.answer(alloc, &[], &Question::Root)?;
     core.root(alloc, found)
 }
 
@@ -163,13 +162,13 @@ fn compounds_behind(alloc: Global, last: usize, inside: &[Built]) -> Result<Item
 fn build(
     core: &mut Core,
     alloc: Global,
-    model: &Model,
+    model: &PlainAnswers<'_>,
     id: u32,
 ) -> Result<(Turn, Items<u32>), NoMemory>
     ensures { IfOk result (λ left.
         HasBuilt (answers_of model.now) id core.old left.0 left.1 core.new) }
 {
-    let found = answer(alloc, model, core.records(), &Question::Build(id))?;
+    let found = model.answer(alloc, core.records(), &Question::Build(id))?;
     core.ask(alloc, Question::Build(id))?;
     let last = core.records().len();
     match core.build(alloc, id, &found)? {
@@ -186,7 +185,7 @@ fn build(
 fn set_up(
     core: &mut Core,
     alloc: Global,
-    model: &Model,
+    model: &PlainAnswers<'_>,
     depth: u32,
     id: u32,
 ) -> Result<Turn, NoMemory>
@@ -211,7 +210,7 @@ fn set_up(
 
 /// Creates the network and all that is inside of it, as the model answers.
 #[tactic(auto, unfolding(run_semantics::specs::Run::most_nested))]
-pub fn prepare(core: &mut Core, alloc: Global, model: &Model) -> Result<Turn, NoMemory>
+pub fn prepare(core: &mut Core, alloc: Global, model: &PlainAnswers<'_>) -> Result<Turn, NoMemory>
     requires { core.old ≡ empty }
     ensures { IfOk result (λ turn. flow_of turn core.new ≡ prepared (answers_of model.now)) }
 {

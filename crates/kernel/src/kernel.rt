@@ -27,7 +27,7 @@ use kernel_actions::core_part::Core;
 use kernel_actions::events::{arrival, message_of};
 use kernel_actions::looks::{Look, Next};
 use kernel_actions::position::Position;
-use models::model::Model;
+use model_answers::plain::PlainAnswers;
 use module_api::call::{Call, Prompt};
 use module_api::catalogue::Catalogue;
 use module_api::reply::{Action, Reply};
@@ -146,7 +146,11 @@ impl<C: Catalogue> Kernel<C> {
     }
 
     /// Sets the network up anew, as the model answers. All boxes are dropped.
-    pub fn setup(&mut self, alloc: Global, model: &Model) -> Result<Option<Outcome>, NoMemory>
+    pub fn setup(
+        &mut self,
+        alloc: Global,
+        model: &PlainAnswers<'_>,
+    ) -> Result<Option<Outcome>, NoMemory>
         requires { HasKinds C.behaviour SimpleModule-box self.old }
         ensures empty { seats_in SimpleModule-box self.new ≡ [] }
         ensures kinds { HasKinds C.behaviour SimpleModule-box self.new }
@@ -222,7 +226,7 @@ impl<C: Catalogue> Kernel<C> {
     fn perform(
         &mut self,
         alloc: Global,
-        model: &Model,
+        model: &PlainAnswers<'_>,
         id: u32,
         action: &Action,
     ) -> Result<Turn, NoMemory>
@@ -241,7 +245,7 @@ impl<C: Catalogue> Kernel<C> {
     fn act(
         &mut self,
         alloc: Global,
-        model: &Model,
+        model: &PlainAnswers<'_>,
         occasion: Occasion,
         id: u32,
         action: &Action,
@@ -262,7 +266,7 @@ impl<C: Catalogue> Kernel<C> {
     fn act_all(
         &mut self,
         alloc: Global,
-        model: &Model,
+        model: &PlainAnswers<'_>,
         occasion: Occasion,
         id: u32,
         actions: &[Action],
@@ -287,7 +291,7 @@ impl<C: Catalogue> Kernel<C> {
     fn act_few(
         &mut self,
         alloc: Global,
-        model: &Model,
+        model: &PlainAnswers<'_>,
         occasion: Occasion,
         id: u32,
         actions: &[Action],
@@ -309,7 +313,7 @@ impl<C: Catalogue> Kernel<C> {
     fn follow(
         &mut self,
         alloc: Global,
-        model: &Model,
+        model: &PlainAnswers<'_>,
         occasion: Occasion,
         call: &Call,
         reply: &Reply,
@@ -353,7 +357,7 @@ impl<C: Catalogue> Kernel<C> {
     fn carry_out(
         &mut self,
         alloc: Global,
-        model: &Model,
+        model: &PlainAnswers<'_>,
         occasion: Occasion,
         call: &Call,
     ) -> Result<Turn, NoMemory>
@@ -379,7 +383,7 @@ impl<C: Catalogue> Kernel<C> {
     fn call_module(
         &mut self,
         alloc: Global,
-        model: &Model,
+        model: &PlainAnswers<'_>,
         occasion: Occasion,
         id: u32,
         prompt: Prompt,
@@ -400,7 +404,7 @@ impl<C: Catalogue> Kernel<C> {
     fn call_shown(
         &mut self,
         alloc: Global,
-        model: &Model,
+        model: &PlainAnswers<'_>,
         shown: &mut ShownModules,
         id: u32,
         prompt: Prompt,
@@ -447,7 +451,7 @@ impl<C: Catalogue> Kernel<C> {
     fn initialize(
         &mut self,
         alloc: Global,
-        model: &Model,
+        model: &PlainAnswers<'_>,
         stage: u8,
         id: u32,
     ) -> Result<Turn, NoMemory>
@@ -471,7 +475,7 @@ impl<C: Catalogue> Kernel<C> {
     fn one_stage(
         &mut self,
         alloc: Global,
-        model: &Model,
+        model: &PlainAnswers<'_>,
         stage: u8,
         ids: &[u32],
     ) -> Result<Turn, NoMemory>
@@ -509,7 +513,7 @@ impl<C: Catalogue> Kernel<C> {
     fn stages(
         &mut self,
         alloc: Global,
-        model: &Model,
+        model: &PlainAnswers<'_>,
         most: u8,
         ids: &[u32],
     ) -> Result<Turn, NoMemory>
@@ -531,7 +535,11 @@ impl<C: Catalogue> Kernel<C> {
     }
 
     /// Initializes all modules, where each has its box: the end of event zero.
-    pub fn start(&mut self, alloc: Global, model: &Model) -> Result<Option<Outcome>, NoMemory>
+    pub fn start(
+        &mut self,
+        alloc: Global,
+        model: &PlainAnswers<'_>,
+    ) -> Result<Option<Outcome>, NoMemory>
         requires ready { On (world_in SimpleModule-box self.old) ≡ ready C.behaviour (answers_of model.now) }
         requires next { (world_in SimpleModule-box self.old).next ≡ 0 }
         requires kinds { HasKinds C.behaviour SimpleModule-box self.old }
@@ -578,7 +586,7 @@ impl<C: Catalogue> Kernel<C> {
     fn look_on(
         &self,
         alloc: Global,
-        model: &Model,
+        model: &PlainAnswers<'_>,
         look: &mut Look,
     ) -> Result<Option<Next>, NoMemory>
         requires count { (world_in SimpleModule-box self.now).count + 1 < 2 ^ 64 }
@@ -597,14 +605,14 @@ impl<C: Catalogue> Kernel<C> {
     }
 
     /// What comes next, and what was asked to know it.
-    fn upcoming(&self, alloc: Global, model: &Model) -> Result<(Look, Next), NoMemory>
+    fn upcoming(&self, alloc: Global, model: &PlainAnswers<'_>) -> Result<(Look, Next), NoMemory>
         requires count { (world_in SimpleModule-box self.now).count + 1 < 2 ^ 64 }
         ensures { let world = world_in SimpleModule-box self.now in
             IfOk result (λ r. upcoming (answers_of model.now) world ≡ upcoming_of r.1 (looked world r.0)) }
     {
         let mut look = self.core.look(alloc);
         // Each look but the last delivers an injection.
-        let looks = model.injections.as_slice().len() + 1;
+        let looks = model.injections().len() + 1;
         for _ in 0..looks {
             if let Some(next) = self.look_on(alloc, model, &mut look)? {
                 return Ok((look, next));
@@ -619,7 +627,7 @@ impl<C: Catalogue> Kernel<C> {
     pub fn step(
         &mut self,
         alloc: Global,
-        model: &Model,
+        model: &PlainAnswers<'_>,
         limit: Option<u64>,
         shown: &mut ShownModules,
     ) -> Result<Option<Outcome>, NoMemory>
@@ -668,7 +676,12 @@ impl<C: Catalogue> Kernel<C> {
 
     /// Tells the module of that id that the run is over, where it has a box.
     #[tactic(auto, using(kernel_actions::proofs::Lasting::growth_same))]
-    fn call_last(&mut self, alloc: Global, model: &Model, id: u32) -> Result<Turn, NoMemory>
+    fn call_last(
+        &mut self,
+        alloc: Global,
+        model: &PlainAnswers<'_>,
+        id: u32,
+    ) -> Result<Turn, NoMemory>
         requires callable { IsCallable C.behaviour SimpleModule-box 1000 self.old }
         ensures kept { KeepsBoxes C.behaviour SimpleModule-box self.old self.new }
         ensures step { let before = world_in SimpleModule-box self.old in
@@ -685,7 +698,12 @@ impl<C: Catalogue> Kernel<C> {
 
     /// Finishes the module of that id: a simple one is told first, a compound one just counts as finished.
     #[tactic(auto, using(kernel_actions::proofs::Lasting::growth_same))]
-    fn finish_one(&mut self, alloc: Global, model: &Model, id: u32) -> Result<Turn, NoMemory>
+    fn finish_one(
+        &mut self,
+        alloc: Global,
+        model: &PlainAnswers<'_>,
+        id: u32,
+    ) -> Result<Turn, NoMemory>
         requires callable { IsCallable C.behaviour SimpleModule-box 1000 self.old }
         ensures kept { KeepsBoxes C.behaviour SimpleModule-box self.old self.new }
         ensures next { let before = world_in SimpleModule-box self.old in
@@ -706,7 +724,12 @@ impl<C: Catalogue> Kernel<C> {
     }
 
     /// Finishes these modules, in this order.
-    fn finish_all(&mut self, alloc: Global, model: &Model, ids: &[u32]) -> Result<Turn, NoMemory>
+    fn finish_all(
+        &mut self,
+        alloc: Global,
+        model: &PlainAnswers<'_>,
+        ids: &[u32],
+    ) -> Result<Turn, NoMemory>
         requires callable { IsCallable C.behaviour SimpleModule-box (2 ^ 75) self.old }
         ensures kept { KeepsBoxes C.behaviour SimpleModule-box self.old self.new }
         ensures step { let before = world_in SimpleModule-box self.old in
@@ -729,7 +752,7 @@ impl<C: Catalogue> Kernel<C> {
     pub fn finish(
         &mut self,
         alloc: Global,
-        model: &Model,
+        model: &PlainAnswers<'_>,
         outcome: Outcome,
     ) -> Result<Outcome, NoMemory>
         requires room { HasRoom (world_in SimpleModule-box self.old) }

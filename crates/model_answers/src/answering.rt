@@ -1,4 +1,4 @@
-//! The answers of a model.
+//! The answer to each question.
 
 ghost use Rattle.std.specs.Prelude.{◌≡◌, ◌++◌, [], ◌∷◌, Some, IfOk, OnOk};
 ghost use Rattle.answer_engine.specs.Tables.{IsKept};
@@ -32,7 +32,7 @@ use std::alloc::Global;
 
 #[tactic(auto, unfolding(crate::specs::Answering::answers_of))]
 /// The model's answer to a question, with the modules of these records.
-pub fn answer(
+pub(crate) fn answer(
     alloc: Global,
     model: &Model,
     records: &[Record],
@@ -50,14 +50,6 @@ pub fn answer(
         Question::BeyondLimit(time) => Ok(Answer::Beyond(is_beyond(model.time_limit(), *time))),
         Question::InjectionBefore(due, last) => injection_answer(alloc, model, *due, *last),
     }
-}
-
-/// The time after which no event is executed, in picoseconds.
-#[tactic(auto, unfolding(crate::specs::Answering::answers_of))]
-pub fn time_limit(model: &Model) -> Option<u64>
-    ensures { result ≡ (answers_of model.now).time_limit }
-{
-    model.time_limit()
 }
 
 /// The injection that goes before an event that is due then, behind the one that was delivered last.
@@ -179,7 +171,7 @@ fn is_declared(name: &[u8], lines: &[SectionLine]) -> bool
 
 #[tactic(auto, unfolding(crate::specs::Answering::answers_of))]
 /// All parameters of the module of that id and their values, in the order of their declaration.
-pub fn parameters_of(
+pub(crate) fn parameters_of(
     alloc: Global,
     model: &Model,
     records: &[Record],
@@ -198,7 +190,7 @@ pub fn parameters_of(
 
 /// All gates of the module of that id, in the order of their declaration.
 #[tactic(auto, unfolding(crate::specs::Answering::answers_of))]
-pub fn gates_of(alloc: Global, model: &Model, records: &[Record], id: u32) -> Items<Gate>
+pub(crate) fn gates_of(alloc: Global, model: &Model, records: &[Record], id: u32) -> Items<Gate>
     ensures { result ≡ gates_of (answers_of model.now) records.now id }
 {
     let _model = model;

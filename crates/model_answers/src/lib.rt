@@ -5,4 +5,5 @@ pub mod answering;
 pub mod inside;
 pub mod laws;
 pub mod parameters;
+pub mod plain;
 pub mod scene;

@@ -9,8 +9,7 @@ ghost use Rattle.module_tree.specs.Boxes.{with_box, without_box};
 ghost use Rattle.shown_modules.specs.declared.ShownModules.{ShownModules};
 ghost use Rattle.shown_modules.specs.Tables.{entries_in, is_whole, shown_of, AreShown, IsShown};
 
-use model_answers::answering::{gates_of, parameters_of};
-use models::model::Model;
+use model_answers::plain::PlainAnswers;
 use module_api::call::{Gate, Parameter};
 use module_tree::Tree;
 use run_questions::record::{MAX_NESTING, Record, path_of, record_at};
@@ -33,7 +32,7 @@ pub struct Shown {
 /// What calls show of the module of that id, found anew.
 pub fn shown_of(
     alloc: Global,
-    model: &Model,
+    model: &PlainAnswers<'_>,
     records: &[Record],
     id: u32,
 ) -> Result<Shown, NoMemory>
@@ -41,8 +40,8 @@ pub fn shown_of(
 {
     Ok(Shown {
         path: path_of(alloc, records, id)?,
-        parameters: parameters_of(alloc, model, records, id)?,
-        gates: gates_of(alloc, model, records, id),
+        parameters: model.parameters_of(alloc, records, id)?,
+        gates: model.gates_of(alloc, records, id)?,
     })
 }
 
@@ -88,7 +87,7 @@ impl ShownModules {
     pub fn take(
         &mut self,
         alloc: Global,
-        model: &Model,
+        model: &PlainAnswers<'_>,
         records: &[Record],
         id: u32,
     ) -> Result<Shown, NoMemory>

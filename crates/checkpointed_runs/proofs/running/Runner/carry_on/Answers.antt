@@ -5,9 +5,23 @@ use Rattle.kernel.specs.Kernels.{world_in}
 use Rattle.run_semantics.specs.Run.{run_to}
 use Rattle.checkpointed_runs.specs.Running.{kept_boxes, needed_by}
 use Rattle.checkpointed_runs.specs.Kept.{HasBegun, HasLeft}
-use Rattle.checkpointed_runs.proofs.Counting.{kept_counts, left_after_start, setup_stored, start_stored}
+use Rattle.checkpointed_runs.specs.Positions.{CanGoOn, HasStored}
+use Rattle.checkpointed_runs.specs.declared.running.Stood.TheVariants as stood
+use Rattle.checkpointed_runs.proofs.Counting.{back_stored, kept_counts, left_after_start, setup_stored, start_stored}
 use Rattle.checkpointed_runs.proofs.Whole.{whole_count}
 use Rattle.checkpointed_runs.proofs.running.Runner.carry_on.Goals as goal
+
+-- where the run begins it stands, when there is no memory for its answers
+pub returns-in_err-answers-in-Some-clause-stopped : goal.returns-in_err-answers-in-Some-clause-stopped
+returns-in_err-answers-in-Some-clause-stopped g c =
+    let b = g.C.Catalogue.behaviour in
+    let m = (answers_of c.args.model.now) in
+    let back = rw c.in-Some.is at c.in_ok-start.ensures.back in
+    let stood = back.1.0.stood ∙ ap stood.After back.1.1 in
+    subst (λ at. HasStored b m c.args.limit (counts_in c.args.self.now.positions) at (counts_in c.go_back.new.self.positions)) (sym stood)
+    (back_stored b m c.args.limit c.in-Some.start (counts_in c.args.self.now.positions) (counts_in c.go_back.new.self.positions) (sym back.0)
+    (subst (CanGoOn b m) back.1.1 (_, back.1.0.going))
+    (ap counts_in back.1.2 ∙ kept_counts (Some c.in-Some.start) c.args.self.now.positions))
 
 pub returns-in_err-outcome-in-Some-clause-stopped : goal.returns-in_err-outcome-in-Some-clause-stopped
 returns-in_err-outcome-in-Some-clause-stopped g c =
@@ -19,7 +33,7 @@ returns-in_err-outcome-in-Some-clause-stopped g c =
     let back = rw c.in-Some.is at c.in_ok-start.ensures.back in
     start_stored b m c.args.limit c.in-Some.start (counts_in c.args.self.now.positions) c.run_on.new.self.stood before after (sym back.0)
     (ap counts_in back.1.2 ∙ kept_counts (Some c.in-Some.start) c.args.self.now.positions)
-    (subst (λ n. HasBegun b m n c.run_on.new.self.stood before after ran) back.1.1 c.run_on.ensures.stopped)
+    (subst (λ n. HasBegun b m n c.run_on.new.self.stood before after ran) back.1.1 (rw c.in_ok-answers-in-Some.ensures at c.run_on.ensures.stopped))
 
 pub returns-in_ok-outcome-in-Some-clause-stopped : goal.returns-in_ok-outcome-in-Some-clause-stopped
 returns-in_ok-outcome-in-Some-clause-stopped g c =
@@ -31,7 +45,7 @@ returns-in_ok-outcome-in-Some-clause-stopped g c =
     let back = rw c.in-Some.is at c.in_ok-start.ensures.back in
     start_stored b m c.args.limit c.in-Some.start (counts_in c.args.self.now.positions) c.run_on.new.self.stood before after (sym back.0)
     (ap counts_in back.1.2 ∙ kept_counts (Some c.in-Some.start) c.args.self.now.positions)
-    (subst (λ n. HasBegun b m n c.run_on.new.self.stood before after ran) back.1.1 c.run_on.ensures.stopped)
+    (subst (λ n. HasBegun b m n c.run_on.new.self.stood before after ran) back.1.1 (rw c.in_ok-answers-in-Some.ensures at c.run_on.ensures.stopped))
 
 pub returns-in_ok-outcome-in-Some-clause-advances : goal.returns-in_ok-outcome-in-Some-clause-advances
 returns-in_ok-outcome-in-Some-clause-advances g c =
@@ -42,10 +56,10 @@ returns-in_ok-outcome-in-Some-clause-advances g c =
     let ran = run_to b m c.args.limit in
     let kept = kept_boxes c.args.phase (length (world_in (λ b. (g.dyn-1.0.entry b.vtable).1) c.args.self.now.kernel).modules) in
     let back = rw c.in-Some.is at c.in_ok-start.ensures.back in
-    let left : HasLeft c.in-Some.start before after ran = subst (λ n. HasLeft n before after ran) back.1.1 c.in_ok-outcome-in-Some.ensures.left in
-    let count = whole_count b m c.args.limit (world_in (λ b. (g.dyn-1.0.entry b.vtable).1) c.run_on.new.self.kernel) c.in_ok-outcome-in-Some.outcome c.in_ok-outcome-in-Some.ensures.ran in
+    let left : HasLeft c.in-Some.start before after ran = subst (λ n. HasLeft n before after ran) back.1.1 (rw c.in_ok-answers-in-Some.ensures at c.in_ok-outcome-in-Some.ensures.left) in
+    let count = whole_count b m c.args.limit (world_in (λ b. (g.dyn-1.0.entry b.vtable).1) c.run_on.new.self.kernel) c.in_ok-outcome-in-Some.outcome (rw c.in_ok-answers-in-Some.ensures at c.in_ok-outcome-in-Some.ensures.ran) in
     record {
-      whole = c.in_ok-outcome-in-Some.ensures.ran;
+      whole = rw c.in_ok-answers-in-Some.ensures at c.in_ok-outcome-in-Some.ensures.ran;
       start = back.0;
       within = omega (arith, left.grew, count);
       needs_none = inr (subst (λ o. needed_by m o kept ≡ None) back.0 refl);
