@@ -1,9 +1,9 @@
 //! A run, from setup or from a position, and the positions that it leaves.
 
-ghost use Rattle.std.specs.Prelude.{◌≡◌, ◌≤◌, ◌&&◌, nat_lt, not, true, None, OnOk, OnErr, IfOk, length};
+ghost use Rattle.std.specs.Prelude.{◌≡◌, ◌≤◌, ◌&&◌, [], nat_lt, not, true, None, OnOk, OnErr, IfOk, length};
 ghost use Rattle.model_answers.specs.Answering.{answers_of};
 ghost use Rattle.run_semantics.specs.Perform.{On};
-ghost use Rattle.run_semantics.specs.Run.{ready, run_to};
+ghost use Rattle.run_semantics.specs.Run.{prepared, ready, run_to, settled, stage_of};
 ghost use Rattle.kernel_actions.specs.Positions.{position_of};
 ghost use Rattle.kernel.specs.Kernels.{seats_in, world_in, ran_in, HasKinds};
 ghost use Rattle.checkpoints.specs.Stored.{counts_in, counts_of, is_multiple, last_of, AreBelow, AreRising, IsBegun};
@@ -114,6 +114,19 @@ impl<C: Catalogue> Runner<C> {
         }
     }
 
+    /// Sets the network up anew, as the model answers. All boxes are dropped.
+    fn set_network_up(&mut self, alloc: Global, model: &Model) -> Result<Option<Outcome>, NoMemory>
+        requires { HasKinds C.behaviour SimpleModule-box self.old.kernel }
+        ensures kinds { HasKinds C.behaviour SimpleModule-box self.new.kernel }
+        ensures kept { IsBesideKernel self.old self.new }
+        ensures empty { OnOk result (seats_in SimpleModule-box self.new.kernel ≡ []) }
+        ensures step { IfOk result (λ over.
+            stage_of over (world_in SimpleModule-box self.new.kernel) ≡ settled (prepared (answers_of model.now))) }
+    {
+        let answers = PlainAnswers::new(alloc, model)?;
+        self.kernel.setup(alloc, &answers)
+    }
+
     /// Sets a run up anew, up to its boxes.
     fn set_up(&mut self, alloc: Global, model: &Model) -> Result<Standing, NoMemory>
         requires { HasKinds C.behaviour SimpleModule-box self.old.kernel }
@@ -124,8 +137,7 @@ impl<C: Catalogue> Runner<C> {
         ensures wants { IfOk result (λ standing.
             (phase : Phase) → IsUndeclined phase → Wants (answers_of model.now) 0 phase standing) }
     {
-        let answers = PlainAnswers::new(alloc, model)?;
-        match self.kernel.setup(alloc, &answers)? {
+        match self.set_network_up(alloc, model)? {
             Some(outcome) => Ok(Standing::Over(outcome)),
             None => {
                 let standing = self.next_box(alloc, model)?;

@@ -9,7 +9,7 @@ use Rattle.checkpointed_runs.proofs.running.Runner.set_up.Goals as goal
 -- what was set up waits for its boxes
 pub next_box-requires : goal.next_box-requires
 next_box-requires g c = record {
-  filled = filled_first g.C.Catalogue.behaviour (answers_of c.args.model.now) (world_in (λ b. (g.dyn-1.0.entry b.vtable).1) c.setup.new.self) (ap (map instance_of) c.in_ok-outcome.ensures.empty) (rw (c.in-None.is, c.in_ok-answers.ensures) at c.in_ok-outcome.ensures.step);
+  filled = filled_first g.C.Catalogue.behaviour (answers_of c.args.model.now) (world_in (λ b. (g.dyn-1.0.entry b.vtable).1) c.set_network_up.new.self.kernel) (ap (map instance_of) c.in_ok-outcome.ensures.empty) (rw c.in-None.is at c.in_ok-outcome.ensures.step);
 }
 
 pub returns-in_ok-standing-in-None-clause-wants : goal.returns-in_ok-standing-in-None-clause-wants
