@@ -14,6 +14,7 @@ use crate::common::{Common, common_of};
 use crate::same::same_answer;
 use injection_order::injection::Due;
 use model_answers::plain::PlainAnswers;
+use models::model::Model;
 use question_log::entry::{Entry, first_injection};
 use run_questions::answer::Question;
 use run_questions::record::Record;
@@ -128,9 +129,8 @@ fn narrowed(
     Ok(Some(event - 1))
 }
 
-/// The greatest event, up to the last one, such that both models give all questions up to it the same answers, with the modules of these records.
-/// None where they differ on a question of event zero.
-pub fn agreement(
+/// The greatest event up to which both models give all questions the same answers, as `agreement` tells it.
+fn agreed_up_to(
     alloc: Global,
     one: &PlainAnswers<'_>,
     other: &PlainAnswers<'_>,
@@ -149,4 +149,21 @@ pub fn agreement(
         }
     }
     Ok(Some(valid))
+}
+
+/// The greatest event, up to the last one, such that both models give all questions up to it the same answers, with the modules of these records.
+/// None where they differ on a question of event zero.
+pub fn agreement(
+    alloc: Global,
+    one: &Model,
+    other: &Model,
+    records: &[Record],
+    asked: &[Entry],
+    last: u64,
+) -> Result<Option<u64>, NoMemory>
+    ensures { IfOk result (λ valid. IsAgreement (answers_of one.now) (answers_of other.now) records.now last (noted_in asked.now) valid) }
+{
+    let first = PlainAnswers::new(alloc, one)?;
+    let second = PlainAnswers::new(alloc, other)?;
+    agreed_up_to(alloc, &first, &second, records, asked, last)
 }

@@ -24,7 +24,6 @@ use checkpointed_runs::running::{Advance, Phase, Runner, Stood};
 use checkpoints::positions::Positions;
 use kernel::kernel::Kernel;
 use kernel::request::Request;
-use model_answers::plain::PlainAnswers;
 use model_edits::edit::{Edit, Refusal, edited, number_given};
 use model_texts::begin::{BeginFault, model_of};
 use models::model::Model;
@@ -266,12 +265,10 @@ impl<C: Catalogue> Session<C> {
             return Ok(None);
         };
         let kernel = &self.runner.kernel;
-        let before = PlainAnswers::new(self.alloc, &self.model)?;
-        let after = PlainAnswers::new(self.alloc, model)?;
         agreement(
             self.alloc,
-            &before,
-            &after,
+            &self.model,
+            model,
             kernel.records(),
             kernel.questions(),
             last,

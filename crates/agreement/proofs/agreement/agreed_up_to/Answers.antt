@@ -7,7 +7,7 @@ use Rattle.question_log.specs.Entries.{asked_in, noted_in}
 use Rattle.run_semantics.specs.Agreement.{IsAgreement}
 use Rattle.agreement.specs.Narrowing.{Narrows}
 use Rattle.agreement.proofs.Agreed.{none_left}
-use Rattle.agreement.proofs.agreement.agreement.Goals as goal
+use Rattle.agreement.proofs.agreement.agreed_up_to.Goals as goal
 
 pub returns-in-None : goal.returns-in-None
 returns-in-None c =

@@ -2,7 +2,7 @@ use Rattle.std.proofs.Common.{◌≤◌, Option, ℕ, drop}
 use Rattle.model_answers.specs.Answering.{answers_of}
 use Rattle.question_log.specs.Entries.{noted_in}
 use Rattle.run_semantics.specs.Agreement.{IsAgreement}
-use Rattle.agreement.proofs.agreement.agreement.Given as goal
+use Rattle.agreement.proofs.agreement.agreed_up_to.Given as goal
 
 abbrev pub invariant-loop-entry : goal.invariant-loop-entry
 invariant-loop-entry l = record {
