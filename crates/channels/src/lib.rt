@@ -33,7 +33,7 @@ pub fn travel(
 }
 
 /// How many of the channels have a datarate.
-fn transmissions(hops: &[Channel]) -> usize
+pub fn transmissions(hops: &[Channel]) -> usize
     ensures { result ≡ transmissions hops.now }
 {
     let mut count: usize = 0;

@@ -9,7 +9,7 @@ use Rattle.std.specs.List.Sorted.{IsStrictlySortedBy}
 use Rattle.std.specs.Map.{keys_of, remove_entry}
 use Rattle.std.specs.Option.{option_and_then}
 use Rattle.event_set.specs.declared.pending.Happening.{Happening}
-use Rattle.event_set.specs.declared.pending.Happening.TheVariants.{Timer, Arrival}
+use Rattle.event_set.specs.declared.pending.Happening.TheVariants.{Timer, Arrival, Delivery}
 use Rattle.event_set.specs.declared.pending.Pending.{Pending}
 use Rattle.event_set.specs.declared.set.Entry.{Entry}
 use Rattle.event_set.specs.declared.set.Key.{Key}
@@ -81,6 +81,7 @@ number_is id timer other (Timer number kind) h =
     let two : number ≡ timer = eqb-true number timer both.1 in
     λ i. Some (record { id = one i; timer = two i })
 number_is id timer other (Arrival kind bits payload) h = absurd (no_and (other == id) h)
+number_is id timer other (Delivery delivery) h = absurd (no_and (other == id) h)
 
 abbrev id_in : ℕ → Option TimerKey → ℕ
 id_in d None = d
@@ -96,6 +97,7 @@ is_number t other (Timer number kind) h =
     let two : number ≡ t.timer = ap (λ (o : Option TimerKey). number_in number o) h in
     rw (eq-eqb other t.id one) (eq-eqb number t.timer two)
 is_number t other (Arrival kind bits payload) h = cc
+is_number t other (Delivery delivery) h = cc
 
 -- what stands where the place is known
 timer_there : (es : Held) (k : Key) (e : Entry) (t : TimerKey) → at_key es k ≡ Some e → option_and_then timer_of (at_key es k) ≡ Some t → timer_of e ≡ Some t
@@ -335,6 +337,7 @@ none_if (Some x) h = absurd (true≢false h)
 pub free_if : (es : Held) (ts : List (TimerKey × Key)) (n : ℕ) (id : ℕ) (what : Happening) → AreSound es ts n → is_pending id what (list_of es) ≡ false → IsFree ts (timer_in id what)
 free_if es ts n id (Timer timer kind) s h = none_if (place_at ts (record { id = id; timer = timer })) (has es ts n (record { id = id; timer = timer }) s ∙ h)
 free_if es ts n id (Arrival kind bits payload) s h = tt
+free_if es ts n id (Delivery delivery) s h = tt
 
 undone_by : (b : Bool) (u t : TimerKey) (k : Key) (ts mid : List (TimerKey × Key)) → is_at (timer_order u) t ≡ b → place_at ts u ≡ None → place_at mid t ≡ cond b (Some k) (place_at ts t) → cond b None (place_at mid t) ≡ place_at ts t
 undone_by true u t k ts mid h free is = sym free ∙ ap (place_at ts) (timer_at u t h)

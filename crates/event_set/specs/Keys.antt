@@ -7,7 +7,7 @@ use Rattle.std.specs.List.Sorted.{IsStrictlySortedBy}
 use Rattle.std.specs.Map.{lookup, keys_of}
 use Rattle.std.specs.Option.{option_and_then}
 use Rattle.event_set.specs.declared.pending.Happening.{Happening}
-use Rattle.event_set.specs.declared.pending.Happening.TheVariants.{Timer, Arrival}
+use Rattle.event_set.specs.declared.pending.Happening.TheVariants.{Timer, Arrival, Delivery}
 use Rattle.event_set.specs.declared.pending.Pending.{Pending}
 use Rattle.event_set.specs.declared.set.Entry.{Entry}
 use Rattle.event_set.specs.declared.set.Key.{Key}
@@ -31,6 +31,7 @@ list_of es = map pending_of es
 abbrev pub timer_in : ℕ → Happening → Option TimerKey
 timer_in id (Timer timer kind) = Some (record { id = id; timer = timer })
 timer_in id (Arrival kind bits payload) = None
+timer_in id (Delivery delivery) = None
 
 abbrev pub timer_of : Entry → Option TimerKey
 timer_of e = timer_in e.id e.what

@@ -6,6 +6,19 @@ use sim_time::SimTime;
 use sim_values::text::Text;
 use std::alloc::{AllocError, Global};
 
+/// A message that arrives at a gate of the module that it is for.
+#[derive(Drop)]
+pub struct Delivery {
+    pub kind: i16,
+    /// Its length in bits.
+    pub bits: u64,
+    pub payload: Text,
+    /// The gate's name; that of a half has its mark, as `port$i`.
+    pub gate: Text,
+    /// Its place in its vector, 0 of a scalar gate.
+    pub index: u32,
+}
+
 /// What is to happen.
 #[derive(Drop)]
 pub enum Happening {
@@ -13,6 +26,23 @@ pub enum Happening {
     Timer(u32, i16),
     /// A message from outside: its kind, its length in bits, and its payload.
     Arrival(i16, u64, Text),
+    /// A message of a module.
+    Delivery(Delivery),
+}
+
+impl Delivery {
+    /// An equal one.
+    pub fn copy(&self, alloc: Global) -> Result<Delivery, AllocError>
+        ensures { IfOk result (λ copy. copy ≡ self.now) }
+    {
+        Ok(Delivery {
+            kind: self.kind,
+            bits: self.bits,
+            payload: self.payload.copy(alloc)?,
+            gate: self.gate.copy(alloc)?,
+            index: self.index,
+        })
+    }
 }
 
 impl Happening {
@@ -25,6 +55,7 @@ impl Happening {
             Happening::Arrival(kind, bits, payload) => {
                 Happening::Arrival(*kind, *bits, payload.copy(alloc)?)
             }
+            Happening::Delivery(delivery) => Happening::Delivery(delivery.copy(alloc)?),
         })
     }
 }

@@ -299,6 +299,6 @@ fn timer_in(id: u32, what: &Happening) -> Option<TimerKey>
 {
     match what {
         Happening::Timer(timer, _) => Some(TimerKey { id, timer: *timer }),
-        Happening::Arrival(_, _, _) => None,
+        Happening::Arrival(_, _, _) | Happening::Delivery(_) => None,
     }
 }

@@ -1,3 +1,4 @@
+pub mod Actions
 pub mod Behaviour
 pub mod Laws
 pub mod Meaning

@@ -1,5 +1,9 @@
 //! What a module answers to a call.
 
+ghost use Rattle.std.specs.Prelude.{◌≡◌};
+ghost use Rattle.module_api.specs.Actions.{has_large_payload};
+
+use crate::message::{MAX_PAYLOAD, Outgoing};
 use sim_time::SimTime;
 use sim_values::text::Text;
 use sqlite_items::Items;
@@ -11,6 +15,32 @@ pub enum Read {
     Parameter(Text),
     /// The direction and size of the gate of that name, or that there is none.
     Gate(Text),
+}
+
+/// A gate of the module that acts. An inout gate has the halves `NAME$i` and `NAME$o`.
+#[derive(Drop)]
+pub struct OwnGate {
+    pub name: Text,
+    /// Its place in its vector, 0 for a scalar gate.
+    pub index: u32,
+}
+
+/// A gate of a module, which is named by its full path.
+#[derive(Drop)]
+pub struct GatePlace {
+    pub path: Text,
+    pub name: Text,
+    /// Its place in its vector, 0 for a scalar gate.
+    pub index: u32,
+}
+
+/// How long a message that goes directly to a gate is under way.
+#[derive(Clone, Copy, Drop)]
+pub struct Flight {
+    /// From now to its start there, in picoseconds.
+    pub delay: SimTime,
+    /// From its start to its end, in picoseconds. It arrives at its end.
+    pub duration: SimTime,
 }
 
 /// A timer to set, from now on.
@@ -42,6 +72,12 @@ pub enum Action {
     Emit(Text, i64),
     /// Records a scalar of that name, which has to be one (`names::is_scalar_name`).
     RecordScalar(Text, i64),
+    /// Sends a message through an output gate of its own.
+    Send(OwnGate, Outgoing),
+    /// The same, where it departs so much later than now, in picoseconds.
+    SendDelayed(OwnGate, Outgoing, SimTime),
+    /// Sends a message to an input gate of a module that nothing is connected to from outside.
+    SendDirect(GatePlace, Outgoing, Flight),
     /// Sets a timer at a time of the run, which is not before now.
     ScheduleAt(Appointment),
     /// Sets a timer from now on.
@@ -50,6 +86,20 @@ pub enum Action {
     Cancel(u32),
     /// Ends the run with the fault ModuleFailed and this text.
     Fail(Text),
+}
+
+impl Action {
+    /// Whether it sends a message with a payload of more than 4,096 bytes.
+    pub fn has_large_payload(&self) -> bool
+        ensures { result ≡ has_large_payload self.now }
+    {
+        match self {
+            Action::Send(_, message)
+            | Action::SendDelayed(_, message, _)
+            | Action::SendDirect(_, message, _) => message.payload.as_bytes().len() > MAX_PAYLOAD,
+            _ => false,
+        }
+    }
 }
 
 /// What a module answers: what it read, and what is to be done, in order.

@@ -1,6 +1,6 @@
 -- What is answered about a module that is there does not change when more modules are created, and a call shows the values that are
 -- answered.
-use Rattle.std.proofs.Common.{◌≡◌, ℕ, zero, suc, ◌+◌, ◌≤◌, ◌<◌, ◌==◌, Bool, true, false, List, [], ◌∷◌, ◌++◌, Option, Some, None, refl, sym, ap, ◌∙◌, arith, slice_get, length, length-append, ◌&&◌, if◌then◌else◌, bytes_eq}
+use Rattle.std.proofs.Common.{◌≡◌, ℕ, zero, suc, ◌+◌, ◌≤◌, ◌<◌, ◌==◌, Bool, true, false, List, [], ◌∷◌, ◌++◌, Option, Some, None, refl, sym, ap, ◌∙◌, arith, slice_get, length, length-append, if◌then◌else◌, bytes_eq}
 use Rattle.std.proofs.lemmas.Slice.Eq.{bytes_eq-Decides}
 use Rattle.sim_values.specs.declared.value.Value.{Value}
 use Rattle.module_api.specs.declared.call.Direction.TheVariants.{Input, Output}
@@ -42,7 +42,7 @@ parent_by k (s ∷ rs) zero r h e = let same : s ≡ r = cc in let p : s.parent 
 parent_by k (s ∷ rs) (suc i) r h e = let f = parent_by (suc k) rs i r h.1 e in omega (arith, f)
 
 -- the enclosing module is among the records too
-parent_within : (rs : List Record) (id : ℕ) (r : Record) → AreNested 0 rs → id ≤ length rs → record_at rs id ≡ Some r → r.parent ≤ length rs
+pub parent_within : (rs : List Record) (id : ℕ) (r : Record) → AreNested 0 rs → id ≤ length rs → record_at rs id ≡ Some r → r.parent ≤ length rs
 parent_within rs zero r h l e = cc
 parent_within rs (suc k) r h l e = let f = parent_by 0 rs k r h e in omega (arith, f)
 

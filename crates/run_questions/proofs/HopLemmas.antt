@@ -1,10 +1,11 @@
--- Where a hop leads stays when more modules are created.
-use Rattle.std.proofs.Common.{◌≡◌, ℕ, zero, suc, Bool, true, false, List, [], ◌∷◌, ◌++◌, Option, Some, None, refl, ap, ◌∙◌, slice_get, if◌then◌else◌}
+-- Where a hop leads stays when more modules are created, and is a module that was created.
+use Rattle.std.proofs.Common.{◌≡◌, ℕ, zero, suc, ◌+◌, ◌≤◌, ◌<◌, ◌==◌, length, arith, Bool, true, false, List, [], ◌∷◌, ◌++◌, Option, Some, None, refl, ap, ◌∙◌, slice_get, if◌then◌else◌}
 use Rattle.std.specs.Option.{option_and_then}
 use Rattle.run_questions.specs.declared.answer.Neighbour.{Neighbour}
 use Rattle.run_questions.specs.declared.answer.Neighbour.TheVariants.{Itself, Around, Beside, Inside}
 use Rattle.run_questions.specs.declared.record.Record.{Record}
-use Rattle.run_questions.specs.Hops.{neighbour_id}
+use Rattle.run_questions.specs.Hops.{id_around, neighbour_id}
+use Rattle.run_questions.proofs.AnswerLemmas.{AreNested, parent_within}
 use Rattle.run_questions.specs.Records.{record_at, is_named, named_from, built_id}
 
 -- the first of that name stays the first
@@ -38,3 +39,28 @@ neighbour_more rs more id k Around e = by_record _ _ (record_at rs id) (record_a
 neighbour_more rs more id k (Beside name index) e =
     by_record _ _ (record_at rs id) (record_at (rs ++ more) id) k (λ r h. there_more rs more id r h) (λ r h. named_more 1 r.parent name index rs more k h) e
 neighbour_more rs more id k (Inside name index) e = named_more 1 id name index rs more k e
+
+-- the submodule that is found is one of the records
+named_within : (first parent : ℕ) (name : List ℕ) (index : Option ℕ) (rs : List Record) (k : ℕ) → named_from first parent name index rs ≡ Some k → k < first + length rs
+named_within first parent name index [] k e = cc
+named_within first parent name index (r ∷ rs) k e = by (is_named parent name index r) e (named_within (suc first) parent name index rs k)
+  where
+    by : (t : Bool) → (if t then Some first else named_from (suc first) parent name index rs) ≡ Some k → (named_from (suc first) parent name index rs ≡ Some k → k < suc first + length rs) → k < first + suc (length rs)
+    by true f later = let same : first ≡ k = cc in omega (arith, same)
+    by false f later = let l = later f in omega (arith, l)
+
+around_within : (c : Bool) (parent n k : ℕ) → parent ≤ n → (if c then None else Some parent) ≡ Some k → k ≤ n
+around_within true parent n k l e = cc
+around_within false parent n k l e = let same : parent ≡ k = cc in omega (arith, l, same)
+
+found_by : (f : Record → Option ℕ) (o : Option Record) (n k : ℕ) → ((r : Record) → o ≡ Some r → f r ≡ Some k → k ≤ n) → option_and_then f o ≡ Some k → k ≤ n
+found_by f None n k h e = cc
+found_by f (Some r) n k h e = h r refl e
+
+-- A HOP LEADS TO A MODULE THAT WAS CREATED, from one that was
+pub neighbour_within : (records : List Record) (id k : ℕ) (n : Neighbour) → AreNested 0 records → id ≤ length records → neighbour_id records id n ≡ Some k → k ≤ length records
+neighbour_within rs id k Itself h l e = let same : id ≡ k = cc in omega (arith, l, same)
+neighbour_within rs id k Around h l e = found_by id_around (record_at rs id) (length rs) k (λ r f g. around_within (r.parent == 0) r.parent (length rs) k (parent_within rs id r h l f) g) e
+neighbour_within rs id k (Beside name index) h l e =
+    found_by (λ (r : Record). built_id rs r.parent name index) (record_at rs id) (length rs) k (λ r f g. let m = named_within 1 r.parent name index rs k g in omega (arith, m)) e
+neighbour_within rs id k (Inside name index) h l e = let m = named_within 1 id name index rs k e in omega (arith, m)
