@@ -8,6 +8,7 @@ use Rattle.run_semantics.specs.Perform.{Flow, On, Stopped, Broken, ◌>>=◌}
 use Rattle.run_semantics.specs.Run.{Part, prepared, parts_of, place, place_all, place_parts, ready, initialize_all, world_at, settled, after}
 use Rattle.run_semantics.proofs.Sound.{in_flow}
 use Rattle.run_semantics.proofs.Setting.{Stays, stays_in}
+use Rattle.run_semantics.proofs.Placing.{OnlyOn, IsReady, ready_ready}
 use Rattle.run_semantics.proofs.Orderly.{initialize_all_leads, orderly_none, ready_none, after_follows}
 
 -- the property of a world
@@ -35,10 +36,10 @@ ready_holds : (Q : List Record → List ℕ → Type 0) (b : Behaviour) (m : Ans
 ready_holds Q b m h = then_holds Q (prepared m) (place_parts b) (stays_in (Holds Q) (prepared m) h) (λ w f. place_all_holds Q b (parts_of w) w f)
 
 -- nor does an initialization, or an event
-begun_holds : (Q : List Record → List ℕ → Type 0) (b : Behaviour) (m : Answers) (fl : Flow) → Holds Q (in_flow fl) → (in_flow fl).pending ≡ [] → Holds Q (in_flow (fl >>= initialize_all b m))
-begun_holds Q b m (On w) f e = let g = initialize_all_leads b m w (orderly_none w e) in holds_same Q w (in_flow (initialize_all b m w)) g.records g.live f
-begun_holds Q b m (Stopped w) f e = f
-begun_holds Q b m (Broken w path fault) f e = f
+begun_holds : (Q : List Record → List ℕ → Type 0) (b : Behaviour) (m : Answers) (fl : Flow) → Holds Q (in_flow fl) → (in_flow fl).pending ≡ [] → OnlyOn IsReady fl → Holds Q (in_flow (fl >>= initialize_all b m))
+begun_holds Q b m (On w) f e r = let g = initialize_all_leads b m w (orderly_none w e) r.parts in holds_same Q w (in_flow (initialize_all b m w)) g.records g.live f
+begun_holds Q b m (Stopped w) f e r = f
+begun_holds Q b m (Broken w path fault) f e r = f
 
 settled_holds : (Q : List Record → List ℕ → Type 0) (fl : Flow) → Holds Q (in_flow fl) → Holds Q (world_at (settled fl))
 settled_holds Q (On w) f = f
@@ -46,5 +47,5 @@ settled_holds Q (Stopped w) f = f
 settled_holds Q (Broken w path e) f = f
 
 pub kept_after : (Q : List Record → List ℕ → Type 0) (b : Behaviour) (m : Answers) → Stays (Holds Q) (prepared m) → (n : ℕ) → Holds Q (world_at (after b m n))
-kept_after Q b m h zero = settled_holds Q (ready b m >>= initialize_all b m) (begun_holds Q b m (ready b m) (ready_holds Q b m h) (ready_none b m).0)
+kept_after Q b m h zero = settled_holds Q (ready b m >>= initialize_all b m) (begun_holds Q b m (ready b m) (ready_holds Q b m h) (ready_none b m).0 (ready_ready b m))
 kept_after Q b m h (suc n) = let g = after_follows b m n in holds_same Q (world_at (after b m n)) (world_at (after b m (suc n))) g.records g.live (kept_after Q b m h n)

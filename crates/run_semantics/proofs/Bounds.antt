@@ -1,14 +1,13 @@
 -- At most so many modules live in a run, and at most so many were created.
-use Rattle.std.proofs.Common.{◌≡◌, ℕ, zero, suc, ◌+◌, ◌-◌, ◌≤◌, min, Bool, true, false, List, [], ◌∷◌, ◌++◌, Option, Some, None, refl, ap, ◌∙◌, arith, length, length-append, map, slice_get, if◌then◌else◌}
-use Rattle.std.proofs.lemmas.List.{length-map}
+use Rattle.std.proofs.Common.{◌≡◌, ℕ, zero, suc, ◌+◌, ◌-◌, ◌≤◌, min, Bool, true, false, List, [], ◌∷◌, None, refl, ap, arith, length, length-append, slice_get, if◌then◌else◌}
 use Rattle.module_api.specs.Behaviour.{Behaviour}
-use Rattle.run_questions.specs.declared.answer.Built.{Built}
 use Rattle.run_questions.specs.Answers.{Answers}
 use Rattle.run_semantics.specs.World.{World}
 use Rattle.run_semantics.specs.Perform.{Flow, On, Stopped, Broken, ◌>>=◌}
-use Rattle.run_semantics.specs.Run.{Part, record_under, ids_from, with_submodules, room_in, prepared, parts_of, place, place_all, place_parts, ready, initialize_all, world_at, settled, after}
+use Rattle.run_semantics.specs.Run.{Part, ids_from, room_in, prepared, parts_of, place, place_all, place_parts, ready, initialize_all, world_at, settled, after}
 use Rattle.run_semantics.specs.Laws.{IsBounded}
-use Rattle.run_semantics.proofs.Sound.{in_flow}
+use Rattle.run_semantics.proofs.Flows.{in_flow}
+use Rattle.run_semantics.proofs.Placing.{OnlyOn, IsReady, ready_ready}
 use Rattle.run_semantics.proofs.Setting.{IsLasting, stays_in, prepared_stays, length_created}
 use Rattle.run_semantics.proofs.Orderly.{initialize_all_leads, orderly_none, ready_none, after_follows}
 
@@ -58,12 +57,12 @@ ready_bounded b m =
     (λ w f. place_all_bounded b (parts_of w) w f)
 
 -- nor does an initialization
-begun_bounded : (b : Behaviour) (m : Answers) (fl : Flow) → IsBounded (in_flow fl) → (in_flow fl).pending ≡ [] → IsBounded (in_flow (fl >>= initialize_all b m))
-begun_bounded b m (On w) f e =
-    let g = initialize_all_leads b m w (orderly_none w e) in
+begun_bounded : (b : Behaviour) (m : Answers) (fl : Flow) → IsBounded (in_flow fl) → (in_flow fl).pending ≡ [] → OnlyOn IsReady fl → IsBounded (in_flow (fl >>= initialize_all b m))
+begun_bounded b m (On w) f e r =
+    let g = initialize_all_leads b m w (orderly_none w e) r.parts in
     record { live = omega (arith, f.live, ap (λ (ids : List ℕ). length ids) g.live); created = omega (arith, f.created, ap length g.records) }
-begun_bounded b m (Stopped w) f e = f
-begun_bounded b m (Broken w path fault) f e = f
+begun_bounded b m (Stopped w) f e r = f
+begun_bounded b m (Broken w path fault) f e r = f
 
 settled_bounded : (fl : Flow) → IsBounded (in_flow fl) → IsBounded (world_at (settled fl))
 settled_bounded (On w) f = f
@@ -72,7 +71,7 @@ settled_bounded (Broken w path e) f = f
 
 -- so it is in each world of a run
 pub bounded_after : (b : Behaviour) (m : Answers) (n : ℕ) → IsBounded (world_at (after b m n))
-bounded_after b m zero = settled_bounded (ready b m >>= initialize_all b m) (begun_bounded b m (ready b m) (ready_bounded b m) (ready_none b m).0)
+bounded_after b m zero = settled_bounded (ready b m >>= initialize_all b m) (begun_bounded b m (ready b m) (ready_bounded b m) (ready_none b m).0 (ready_ready b m))
 bounded_after b m (suc n) =
     let f = bounded_after b m n in
     let g = after_follows b m n in

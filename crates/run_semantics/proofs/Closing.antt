@@ -1,7 +1,8 @@
 -- The end of a run asks nothing, creates no module, and counts no event; and of what it leaves nothing is undone.
 use Rattle.std.proofs.Common.{◌≡◌, ℕ, Bool, true, false, List, [], ◌∷◌, Option, Some, None, refl, ◌∙◌, length, nat_lt, if◌then◌else◌}
 use Rattle.module_api.specs.declared.reply.Action.{Action}
-use Rattle.module_api.specs.declared.reply.Action.TheVariants.{Emit, RecordScalar, ScheduleAt, ScheduleAfter, Cancel, Fail}
+use Rattle.module_api.specs.declared.reply.Action.TheVariants.{Emit, RecordScalar, Send, SendDelayed, SendDirect, ScheduleAt, ScheduleAfter, Cancel, Fail}
+use Rattle.module_api.specs.Actions.{has_large_payload}
 use Rattle.module_api.specs.declared.reply.Reply.{Reply}
 use Rattle.module_api.specs.declared.call.Prompt.TheVariants as prompt
 use Rattle.module_api.specs.Behaviour.{Behaviour}
@@ -13,12 +14,12 @@ use Rattle.run_semantics.specs.declared.outcome.Fault.TheVariants as fault
 use Rattle.run_semantics.specs.declared.outcome.Outcome.{Outcome}
 use Rattle.run_semantics.specs.declared.traces.Instance.{Instance}
 use Rattle.run_semantics.specs.World.{World}
-use Rattle.run_semantics.specs.Perform.{Flow, On, Stopped, Broken, ◌>>=◌, act, act_all, acted, answered, broken, for_each, read_fault, unless_fault, with_scalar}
+use Rattle.run_semantics.specs.Perform.{Flow, On, Stopped, Broken, ◌>>=◌, is_allowed, perform, act, act_all, acted, answered, broken, for_each, read_fault, unless_fault, with_scalar}
 use Rattle.run_semantics.specs.Event.{call_of, called, instance_in, changed}
 use Rattle.run_semantics.specs.Run.{Ran, is_fault}
 use Rattle.run_semantics.specs.Ending.{call_last, marked, with_finished, finish, finish_all, to_finish, concluded, ending}
 use Rattle.run_semantics.specs.Laws.{GoesOn}
-use Rattle.run_semantics.proofs.Sound.{in_flow}
+use Rattle.run_semantics.proofs.Flows.{in_flow}
 use Rattle.run_semantics.proofs.Orderly.{on_same, on_more}
 
 pub record IsClosed (old new : World) : Type 0 where
@@ -59,16 +60,23 @@ either_closed : (c : Bool) (f g : Flow) (w : World) → IsClosed w (in_flow f) �
 either_closed true f g w x y = x
 either_closed false f g w x y = y
 
-act_closed : (b : Behaviour) (m : Answers) (id : ℕ) (action : Action) (w : World) → IsClosed w (in_flow (act b m occasion.End id action w))
-act_closed b m id (Emit signal value) w = record { questions = refl; records = refl; count = refl; live = refl; started = refl; finished = on_same w.finished; emissions = (_, refl); scalars = on_same w.scalars }
-act_closed b m id (RecordScalar name value) w =
+-- an action that is for the end
+last_closed : (b : Behaviour) (m : Answers) (id : ℕ) (action : Action) (w : World) → IsClosed w (in_flow (if is_allowed occasion.End action then perform b m id action w else broken id fault.NotInFinish w))
+last_closed b m id (Emit signal value) w = record { questions = refl; records = refl; count = refl; live = refl; started = refl; finished = on_same w.finished; emissions = (_, refl); scalars = on_same w.scalars }
+last_closed b m id (RecordScalar name value) w =
     either_closed (is_scalar_name name) (On (with_scalar id name value w)) (broken id fault.BadName w) w
     (record { questions = refl; records = refl; count = refl; live = refl; started = refl; finished = on_same w.finished; emissions = on_same w.emissions; scalars = (_, refl) })
     (closed_same w)
-act_closed b m id (ScheduleAt a) w = closed_same w
-act_closed b m id (ScheduleAfter s) w = closed_same w
-act_closed b m id (Cancel timer) w = record { questions = refl; records = refl; count = refl; live = refl; started = refl; finished = on_same w.finished; emissions = on_same w.emissions; scalars = on_same w.scalars }
-act_closed b m id (Fail text) w = closed_same w
+last_closed b m id (ScheduleAt a) w = closed_same w
+last_closed b m id (ScheduleAfter s) w = closed_same w
+last_closed b m id (Cancel timer) w = record { questions = refl; records = refl; count = refl; live = refl; started = refl; finished = on_same w.finished; emissions = on_same w.emissions; scalars = on_same w.scalars }
+last_closed b m id (Fail text) w = closed_same w
+last_closed b m id (Send gate message) w = closed_same w
+last_closed b m id (SendDelayed gate message delay) w = closed_same w
+last_closed b m id (SendDirect place message flight) w = closed_same w
+
+act_closed : (b : Behaviour) (m : Answers) (id : ℕ) (action : Action) (w : World) → IsClosed w (in_flow (act b m occasion.End id action w))
+act_closed b m id action w = either_closed (has_large_payload action) (broken id fault.PayloadTooLarge w) _ w (closed_same w) (last_closed b m id action w)
 
 act_all_closed : (b : Behaviour) (m : Answers) (id : ℕ) (actions : List Action) (w : World) → IsClosed w (in_flow (act_all b m occasion.End id actions w))
 act_all_closed b m id [] w = closed_same w

@@ -1,7 +1,6 @@
 -- Runs grow, and call only modules that were started.
-use Rattle.std.proofs.Common.{◌≡◌, inl, inr, ⊎_elim, ℕ, zero, suc, ◌+◌, ◌≤◌, ◌<◌, ◌==◌, cond, Bool, true, false, List, [], ◌∷◌, ◌++◌, Option, Some, None, IsSome, refl, sym, ap, ◌∙◌, arith, subst, append-nil, length, map, if◌then◌else◌, true≢false, eq-eqb, eq-or-lt_of_le}
+use Rattle.std.proofs.Common.{◌≡◌, inl, inr, ⊎_elim, ℕ, zero, suc, ◌+◌, ◌≤◌, ◌<◌, ◌==◌, cond, Bool, true, false, List, [], ◌∷◌, ◌++◌, Option, Some, None, IsSome, refl, sym, ap, ◌∙◌, arith, subst, true≢false, eq-eqb, eq-or-lt_of_le}
 use Rattle.module_api.specs.Behaviour.{Behaviour}
-use Rattle.run_questions.specs.declared.answer.Built.{Built}
 use Rattle.run_questions.specs.Answers.{Answers}
 use Rattle.run_questions.specs.declared.record.Record.{Record}
 use Rattle.run_semantics.specs.declared.outcome.Outcome.{Outcome}
@@ -9,10 +8,10 @@ use Rattle.run_semantics.specs.declared.traces.Instance.{Instance}
 use Rattle.run_semantics.specs.World.{World}
 use Rattle.run_semantics.specs.Perform.{Flow, On, Stopped, Broken, ◌>>=◌}
 use Rattle.run_semantics.specs.Event.{instance_in}
-use Rattle.run_semantics.specs.Run.{record_under, ids_from, prepared, Part, with_class, parts_from, parts_of, placed, place_all, place_parts, ready, initialize_all, with_started, standing, part_of, Stage, Running, Over, world_at, settled, after}
+use Rattle.run_semantics.specs.Run.{ids_from, with_class, parts_from, parts_of, placed, ready, initialize_all, with_started, standing, Stage, Running, Over, world_at, settled, after}
 use Rattle.run_semantics.specs.Laws.{Each, IsAmong, ids_of, HasGrown, CanBeCalled}
-use Rattle.run_semantics.proofs.Setting.{IsLasting, Stays, prepared_stays}
-use Rattle.run_semantics.proofs.Sound.{in_flow}
+use Rattle.run_semantics.proofs.Placing.{OnlyOn, IsReady, ready_ready}
+use Rattle.run_semantics.proofs.Flows.{in_flow}
 use Rattle.event_set.proofs.Order.{each_map}
 use Rattle.run_semantics.proofs.Reuse.{after_later}
 use Rattle.run_semantics.proofs.Orderly.{IsOrderly, Follows, same_ids, on_same, on_more, initialize_all_leads, orderly_none, ready_none, orderly_after, after_follows}
@@ -74,96 +73,7 @@ alike_after b m n (suc k) h =
     (λ (l : n < suc k). alike_on (world_at (after b m n)) (world_at (after b m k)) (world_at (after b m (suc k))) (alike_after b m n k (omega (arith, l))) (alike_next b m k))
     (eq-or-lt_of_le h)
 
--- ---- setup: the modules that are placed live
-
--- the flow goes on in a world with the property, or it is broken
-abbrev OnlyOn : (World → Type 0) → Flow → Type 0
-OnlyOn P (On w) = P w
-OnlyOn P (Stopped w) = ⊥
-OnlyOn P (Broken w path f) = Unit {0}
-
--- the next part, where the flow goes on
-only_then : (P Q : World → Type 0) (fl : Flow) (k : World → Flow) → Stays P fl → ((w : World) → P w → OnlyOn Q (k w)) → OnlyOn Q (fl >>= k)
-only_then P Q (On w) k p h = h w p
-only_then P Q (Stopped w) k p h = p
-only_then P Q (Broken w path f) k p h = tt
-
--- all records are of modules that live, no module has a state yet, and none was started
-record IsBuilt (w : World) : Type 0 where
-  live : w.live ≡ ids_from 1 w.records
-  modules : w.modules ≡ []
-  started : w.started ≡ []
-
--- ids of these and of more that are created
-ids_from-append : (k : ℕ) (rs : List Record) (parent : ℕ) (bs : List Built) → ids_from k rs ++ ids_from (k + length rs) bs ≡ ids_from k (rs ++ map (record_under parent) bs)
-ids_from-append k [] parent [] = refl
-ids_from-append k [] parent (b ∷ bs) =
-    let here : k + 0 ≡ k = omega arith in
-    let rest : suc (k + 0) ≡ suc k + 0 = omega arith in
-    ap (λ i. i ∷ ids_from (suc (k + 0)) bs) here ∙ ap (λ i. k ∷ ids_from i bs) rest ∙ ap (λ is. k ∷ is) (ids_from-append (suc k) [] parent bs)
-ids_from-append k (r ∷ rs) parent bs =
-    let same : k + suc (length rs) ≡ suc k + length rs = omega arith in
-    ap (λ i. k ∷ ids_from (suc k) rs ++ ids_from i bs) same ∙ ap (λ is. k ∷ is) (ids_from-append (suc k) rs parent bs)
-
--- a setup leaves it so
-built_lasts : IsLasting IsBuilt
-built_lasts = record {
-  asked = λ id w f l. record { live = f.live; modules = f.modules; started = f.started };
-  created = λ parent bs w f l few.
-      let next : suc (length w.records) ≡ 1 + length w.records = omega arith in
-      record {
-        live = ap (λ is. is ++ ids_from (suc (length w.records)) bs) f.live ∙ ap (λ i. ids_from 1 w.records ++ ids_from i bs) next ∙ ids_from-append 1 w.records parent bs;
-        modules = f.modules;
-        started = f.started;
-      };
-}
-
--- so it is after setup
-prepared_built : (m : Answers) → Stays IsBuilt (prepared m)
-prepared_built m = prepared_stays IsBuilt m built_lasts (record { live = refl; modules = refl; started = refl }) (λ name. record { live = refl; modules = refl; started = refl })
-
--- exactly the simple modules that were created stand, all that were created live, and none was started
-record IsReady (w : World) : Type 0 where
-  parts : standing w.modules ≡ parts_of w
-  live : w.live ≡ ids_from 1 w.records
-  started : w.started ≡ []
-
--- these parts stand at last, and records, what lives and what was started are those of that world
-record StandAll (ps : List Part) (u w : World) : Type 0 where
-  parts : standing w.modules ≡ ps
-  live : w.live ≡ u.live
-  records : w.records ≡ u.records
-  started : w.started ≡ u.started
-
--- one more stands
-standing_one_more : (is : List Instance) (i : Instance) (ps : List Part) → standing (is ++ i ∷ []) ++ ps ≡ standing is ++ part_of i ∷ ps
-standing_one_more [] i ps = refl
-standing_one_more (j ∷ js) i ps = ap (λ qs. part_of j ∷ qs) (standing_one_more js i ps)
-
--- where the kind is known the module is placed
-place_stands : (b : Behaviour) (all ps : List Part) (u : World) (p : Part) (w : World) (c : Bool) (g : Flow) → (OnlyOn (StandAll all u) (On (placed p (b.naming p.kind).initial w) >>= place_all b ps)) → OnlyOn (StandAll all u) (g >>= place_all b ps) → OnlyOn (StandAll all u) ((if c then On (placed p (b.naming p.kind).initial w) else g) >>= place_all b ps)
-place_stands b all ps u p w true g h l = h
-place_stands b all ps u p w false g h l = l
-
--- all parts are placed
-place_all_stands : (b : Behaviour) (all ps : List Part) (u w : World) → standing w.modules ++ ps ≡ all → w.live ≡ u.live → w.records ≡ u.records → w.started ≡ u.started → OnlyOn (StandAll all u) (place_all b ps w)
-place_all_stands b all [] u w e live records began = record { parts = sym (append-nil (standing w.modules)) ∙ e; live = live; records = records; started = began }
-place_all_stands b all (p ∷ ps) u w e live records began =
-    let v : World = placed p (b.naming p.kind).initial w in
-    place_stands b all ps u p w (b.known p.kind) _ (place_all_stands b all ps u v (standing_one_more w.modules _ ps ∙ e) live records began) tt
-
--- those of the records
-place_parts_ready : (b : Behaviour) (w : World) → IsBuilt w → OnlyOn IsReady (place_parts b w)
-place_parts_ready b w f = by (place_parts b w) (place_all_stands b (parts_of w) (parts_of w) w w (rw f.modules refl) refl refl refl)
-  where
-    by : (fl : Flow) → OnlyOn (StandAll (parts_of w) w) fl → OnlyOn IsReady fl
-    by (On v) h = record { parts = h.parts ∙ ap (parts_from 1) (sym h.records); live = h.live ∙ (f.live ∙ ap (ids_from 1) (sym h.records)); started = h.started ∙ f.started }
-    by (Stopped v) h = h
-    by (Broken v path fault) h = tt
-
--- so it is when all boxes are there
-ready_ready : (b : Behaviour) (m : Answers) → OnlyOn IsReady (ready b m)
-ready_ready b m = only_then IsBuilt IsReady (prepared m) (place_parts b) (prepared_built m) (place_parts_ready b)
+-- ---- the modules that are placed live
 
 -- the ids of parts are those of records
 parts_among : (id : ℕ) (rs : List Record) → Each (λ p. IsAmong p.id (ids_from id rs)) (parts_from id rs)
@@ -213,7 +123,7 @@ settled_started (Broken w path fault) f = tt
 -- the modules are started before the first of them is called
 begin_started : (b : Behaviour) (m : Answers) (fl : Flow) → IsOrderly (in_flow fl) → OnlyOn IsReady fl → IfRunning AreStarted (settled (fl >>= initialize_all b m))
 begin_started b m (On w) f h =
-    let g = initialize_all_leads b m w f in
+    let g = initialize_all_leads b m w f h.parts in
     let all : w.started ++ w.live ≡ w.live = ap (λ ids. ids ++ w.live) h.started in
     let at_first : AreStarted (with_started w.live w) = record { parts = h.parts; modules = subst (λ ids. Each (λ id. IsAmong id ids) (ids_of w.modules)) (sym all) (ready_lives w h); live = all } in
     settled_started (initialize_all b m w) (started_kept (with_started w.live w) (in_flow (initialize_all b m w)) g.records g.same g.started g.live at_first)

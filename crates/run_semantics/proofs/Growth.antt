@@ -6,7 +6,9 @@ use Rattle.module_api.specs.declared.call.Prompt.{Prompt}
 use Rattle.module_api.specs.declared.call.Prompt.TheVariants as prompt
 use Rattle.module_api.specs.declared.reply.Action.{Action}
 use Rattle.module_api.specs.Names.{is_scalar_name}
-use Rattle.module_api.specs.declared.reply.Action.TheVariants.{Emit, RecordScalar, ScheduleAt, ScheduleAfter, Cancel, Fail}
+use Rattle.module_api.specs.declared.reply.Action.TheVariants.{Emit, RecordScalar, Send, SendDelayed, SendDirect, ScheduleAt, ScheduleAfter, Cancel, Fail}
+use Rattle.module_api.specs.declared.message.Outgoing.{Outgoing}
+use Rattle.module_api.specs.Actions.{has_large_payload}
 use Rattle.module_api.specs.declared.reply.Read.{Read}
 use Rattle.module_api.specs.declared.reply.Read.TheVariants as read
 use Rattle.module_api.specs.declared.reply.Reply.{Reply}
@@ -26,13 +28,15 @@ use Rattle.run_semantics.specs.declared.outcome.Fault.{Fault}
 use Rattle.run_semantics.specs.declared.traces.Instance.{Instance}
 use Rattle.run_semantics.specs.World.{World, empty, asked, is_asked, timed}
 use Rattle.event_set.specs.Timers.{has_timer}
-use Rattle.run_semantics.specs.Perform.{Flow, On, Stopped, Broken, ◌>>=◌, asking, for_each, scheduled_at, scheduled, appointed, deed, is_allowed, act, act_all, ask_all, question_of, acted, read_fault, unless_fault, answered}
+use Rattle.run_semantics.specs.Perform.{Flow, On, Stopped, Broken, ◌>>=◌, asking, for_each, scheduled_at, scheduled, appointed, deed, is_allowed, perform, act, act_all, ask_all, question_of, acted, read_fault, unless_fault, answered}
 use Rattle.run_semantics.specs.Event.{call_of, instance_in, with_state, changed, replied, called, call_module, event}
 use Rattle.run_semantics.specs.Run.{with_network, rooted, record_under, with_submodules, room_in, unless_many, created, set_up, Part, with_class, parts_from, parts_of, place, place_all, place_parts, stages_in, most_stages, initialize, one_stage, stages_from, started, initialize_all, with_started}
 use Rattle.run_semantics.specs.Subtree.{outer_first}
 use Rattle.run_semantics.proofs.Setting.{IsLasting, stays_in, set_up_stays}
-use Rattle.run_semantics.proofs.Sound.{in_flow}
+use Rattle.run_semantics.proofs.Flows.{in_flow}
+use Rattle.run_semantics.proofs.Sending.{LastsSending, sends, sends_delayed, sends_direct}
 use Rattle.run_questions.proofs.AnswerLemmas.{AreNested, about}
+use Rattle.run_questions.proofs.HopLemmas.{neighbour_within}
 
 -- ---- worlds whose ids are those of records
 
@@ -165,40 +169,15 @@ pub either_grows : (w : World) (c : Bool) (f g : Flow) → IsGrown w (in_flow f)
 either_grows w true f g h k = h
 either_grows w false f g h k = k
 
--- ---- actions: one line for each
+-- records become more
+pub longer : (u v : World) → IsGrown u v → length u.records ≤ length v.records
+longer u v g = omega (arith, length-append u.records g.more, ap (λ (rs : List Record). length rs) g.records)
 
--- an event to come is no question
-timer_grows : (id timer : ℕ) (priority kind : ℤ) (w : World) (time : ℕ) → Fits w → IsGrown w (in_flow (scheduled_at id timer priority kind w time))
-timer_grows id timer priority kind w time f = either_grows w (has_timer id timer w.pending) _ _ (grown_same w f) (grown_beside w _ f refl refl refl refl)
-
-scheduled_grows : (id : ℕ) (s : Schedule) (w : World) (time : Option ℕ) → Fits w → IsGrown w (in_flow (scheduled id s w time))
-scheduled_grows id s w None f = grown_same w f
-scheduled_grows id s w (Some time) f = timer_grows id s.timer s.priority s.kind w time f
-
-appointed_grows : (id : ℕ) (a : Appointment) (w : World) → Fits w → IsGrown w (in_flow (appointed id a w))
-appointed_grows id a w f = either_grows w (nat_lt a.at w.clock) _ _ (grown_same w f) (timer_grows id a.timer a.priority a.kind w a.at f)
-
--- a deed asks nothing
-deed_grows : (id : ℕ) (action : Action) (w : World) → Fits w → IsGrown w (in_flow (deed id action w))
-deed_grows id (Emit signal value) w f = grown_beside w _ f refl refl refl refl
-deed_grows id (RecordScalar name value) w f = either_grows w (is_scalar_name name) _ _ (grown_beside w _ f refl refl refl refl) (grown_same w f)
-deed_grows id (ScheduleAt a) w f = appointed_grows id a w f
-deed_grows id (ScheduleAfter s) w f = scheduled_grows id s w (time_sum w.clock s.delay) f
-deed_grows id (Cancel timer) w f = grown_beside w _ f refl refl refl refl
-deed_grows id (Fail text) w f = grown_same w f
-
--- nor does an action, which is a deed
-pub act_grows : (b : Behaviour) (m : Answers) (o : Occasion) (id : ℕ) (action : Action) (w : World) → Fits w → IsGrown w (in_flow (act b m o id action w))
-act_grows b m o id action w f = either_grows w (is_allowed o action) _ _ (deed_grows id action w f) (grown_same w f)
-
--- nor do all actions of a reply
-act_all_grows : (b : Behaviour) (m : Answers) (o : Occasion) (id : ℕ) (actions : List Action) (w : World) → Fits w → IsGrown w (in_flow (act_all b m o id actions w))
-act_all_grows b m o id [] w f = grown_same w f
-act_all_grows b m o id (action ∷ actions) w f = grown_then w (act b m o id action w) (for_each (act b m o id) actions) (act_grows b m o id action w f) (act_all_grows b m o id actions)
-
--- nor do they where there may be too many
-acted_grows : (b : Behaviour) (m : Answers) (o : Occasion) (id : ℕ) (actions : List Action) (w : World) → Fits w → IsGrown w (in_flow (acted b m o id actions w))
-acted_grows b m o id actions w f = either_grows w (nat_lt 1000 (length actions)) _ _ (grown_same w f) (act_all_grows b m o id actions w f)
+-- the next part, where there are so many records
+then_grows_where : (n : ℕ) (fl : Flow) (k : World → Flow) → Fits (in_flow fl) → n ≤ length (in_flow fl).records → ((w : World) → Fits w → n ≤ length w.records → IsGrown w (in_flow (k w))) → IsGrown (in_flow fl) (in_flow (fl >>= k))
+then_grows_where n (On w) k f l h = h w f l
+then_grows_where n (Stopped w) k f l h = grown_same w f
+then_grows_where n (Broken w path fault) k f l h = grown_same w f
 
 -- ---- questions
 
@@ -234,6 +213,76 @@ asked_grows q w f l = by (is_asked q w.questions)
 pub asking_grows : (m : Answers) (q : Question) (next : Answer → World → Flow) (w : World) → Fits w → about q ≤ length w.records → ((a : Answer) → Fits (asked q w) → IsGrown (asked q w) (in_flow (next a (asked q w)))) → IsGrown w (in_flow (asking m q next w))
 asking_grows m q next w f l h = let g = asked_grows q w f l in grown_on g (h (answer_of m w.records q) g.fits)
 
+-- ---- actions: one line for each
+
+-- an event to come is no question
+timer_grows : (id timer : ℕ) (priority kind : ℤ) (w : World) (time : ℕ) → Fits w → IsGrown w (in_flow (scheduled_at id timer priority kind w time))
+timer_grows id timer priority kind w time f = either_grows w (has_timer id timer w.pending) _ _ (grown_same w f) (grown_beside w _ f refl refl refl refl)
+
+scheduled_grows : (id : ℕ) (s : Schedule) (w : World) (time : Option ℕ) → Fits w → IsGrown w (in_flow (scheduled id s w time))
+scheduled_grows id s w None f = grown_same w f
+scheduled_grows id s w (Some time) f = timer_grows id s.timer s.priority s.kind w time f
+
+appointed_grows : (id : ℕ) (a : Appointment) (w : World) → Fits w → IsGrown w (in_flow (appointed id a w))
+appointed_grows id a w f = either_grows w (nat_lt a.at w.clock) _ _ (grown_same w f) (timer_grows id a.timer a.priority a.kind w a.at f)
+
+-- a deed asks nothing
+deed_grows : (id : ℕ) (action : Action) (w : World) → Fits w → IsGrown w (in_flow (deed id action w))
+deed_grows id (Emit signal value) w f = grown_beside w _ f refl refl refl refl
+deed_grows id (RecordScalar name value) w f = either_grows w (is_scalar_name name) _ _ (grown_beside w _ f refl refl refl refl) (grown_same w f)
+deed_grows id (ScheduleAt a) w f = appointed_grows id a w f
+deed_grows id (ScheduleAfter s) w f = scheduled_grows id s w (time_sum w.clock s.delay) f
+deed_grows id (Cancel timer) w f = grown_beside w _ f refl refl refl refl
+deed_grows id (Fail text) w f = grown_same w f
+deed_grows id (Send gate message) w f = grown_same w f
+deed_grows id (SendDelayed gate message delay) w f = grown_same w f
+deed_grows id (SendDirect place message flight) w f = grown_same w f
+
+-- a sending asks about modules that were created
+abbrev pub IsCreated : ℕ → List Record → Type 0
+IsCreated id rs = id ≤ length rs
+
+growth_lasts_sending : (message : Outgoing) (u : World) → LastsSending message IsCreated (IsGrown u) (IsGrown u)
+growth_lasts_sending message u = record {
+  weaker = λ w g. g;
+  created = λ w id g e. e;
+  next = λ w id k n g e f. neighbour_within w.records id k n g.fits.nested e f;
+  asked = λ q w g e. grown_on g (asked_grows q w g.fits e);
+  transmitted = λ ts w g. grown_on g (grown_beside w _ g.fits refl refl refl refl);
+  arrived = λ gate time w g c e. grown_on g (grown_beside w _ g.fits refl refl refl refl);
+}
+
+pub perform_grows : (b : Behaviour) (m : Answers) (id : ℕ) (action : Action) (w : World) → Fits w → id ≤ length w.records → IsGrown w (in_flow (perform b m id action w))
+perform_grows b m id (Emit signal value) w f l = deed_grows id (Emit signal value) w f
+perform_grows b m id (RecordScalar name value) w f l = deed_grows id (RecordScalar name value) w f
+perform_grows b m id (Send gate message) w f l = sends message IsCreated (IsGrown w) (IsGrown w) (growth_lasts_sending message w) m id gate w (grown_same w f) l
+perform_grows b m id (SendDelayed gate message delay) w f l = sends_delayed message IsCreated (IsGrown w) (IsGrown w) (growth_lasts_sending message w) m id gate delay w (grown_same w f) l
+perform_grows b m id (SendDirect place message flight) w f l = sends_direct message IsCreated (IsGrown w) (IsGrown w) (growth_lasts_sending message w) m id place flight w (grown_same w f)
+perform_grows b m id (ScheduleAt a) w f l = deed_grows id (ScheduleAt a) w f
+perform_grows b m id (ScheduleAfter s) w f l = deed_grows id (ScheduleAfter s) w f
+perform_grows b m id (Cancel timer) w f l = deed_grows id (Cancel timer) w f
+perform_grows b m id (Fail text) w f l = deed_grows id (Fail text) w f
+
+-- an action of a reply
+pub act_grows : (b : Behaviour) (m : Answers) (o : Occasion) (id : ℕ) (action : Action) (w : World) → Fits w → id ≤ length w.records → IsGrown w (in_flow (act b m o id action w))
+act_grows b m o id action w f l =
+    either_grows w (has_large_payload action) _ _ (grown_same w f)
+    (either_grows w (is_allowed o action) _ _ (perform_grows b m id action w f l) (grown_same w f))
+
+-- all actions of a reply
+act_all_grows : (b : Behaviour) (m : Answers) (o : Occasion) (id : ℕ) (actions : List Action) (w : World) → Fits w → id ≤ length w.records → IsGrown w (in_flow (act_all b m o id actions w))
+act_all_grows b m o id [] w f l = grown_same w f
+act_all_grows b m o id (action ∷ actions) w f l =
+    let g = act_grows b m o id action w f l in
+    let more = longer w (in_flow (act b m o id action w)) g in
+    grown_on g (then_grows_where id (act b m o id action w) (for_each (act b m o id) actions) g.fits (omega (arith, more, l)) (act_all_grows b m o id actions))
+
+-- where there may be too many
+acted_grows : (b : Behaviour) (m : Answers) (o : Occasion) (id : ℕ) (actions : List Action) (w : World) → Fits w → id ≤ length w.records → IsGrown w (in_flow (acted b m o id actions w))
+acted_grows b m o id actions w f l = either_grows w (nat_lt 1000 (length actions)) _ _ (grown_same w f) (act_all_grows b m o id actions w f l)
+
+-- ---- reads
+
 -- a read is about the module that replied
 about_read : (id : ℕ) (r : Read) → about (question_of id r) ≡ id
 about_read id (read.Parameter name) = refl
@@ -258,8 +307,8 @@ unless_grows w id (Some fault) go f h = grown_same w f
 unless_grows w id None go f h = h
 
 -- what follows the questions
-pub answered_on : (b : Behaviour) (m : Answers) (o : Occasion) (id : ℕ) (found : Option Fault) (actions : List Action) (w : World) → Fits w → IsGrown w (in_flow (unless_fault id found (acted b m o id actions) w))
-answered_on b m o id found actions w f = unless_grows w id found (acted b m o id actions) f (acted_grows b m o id actions w f)
+pub answered_on : (b : Behaviour) (m : Answers) (o : Occasion) (id : ℕ) (found : Option Fault) (actions : List Action) (w : World) → Fits w → id ≤ length w.records → IsGrown w (in_flow (unless_fault id found (acted b m o id actions) w))
+answered_on b m o id found actions w f l = unless_grows w id found (acted b m o id actions) f (acted_grows b m o id actions w f l)
 
 -- a new state leaves the ids
 pub fits_changed : (id : ℕ) (state : List ℕ) (w : World) → Fits w → Fits (changed id state w)
@@ -273,7 +322,8 @@ fits_changed id state w f = record {
 pub answered_grows : (b : Behaviour) (m : Answers) (id : ℕ) (reply : Reply) (w : World) → Fits w → id ≤ length w.records → IsGrown w (in_flow (answered b m occasion.Event id reply w))
 answered_grows b m id reply w f l =
     let asks = ask_all_grows id reply.reads w f l in
-    grown_on asks (answered_on b m occasion.Event id (read_fault m w.records id reply.reads) reply.actions (ask_all id reply.reads w) asks.fits)
+    let more = longer w (ask_all id reply.reads w) asks in
+    grown_on asks (answered_on b m occasion.Event id (read_fault m w.records id reply.reads) reply.actions (ask_all id reply.reads w) asks.fits (omega (arith, more, l)))
 
 -- it is done where the module has its new state
 pub replied_grows : (follow : Reply → World → Flow) (id : ℕ) (r : Replied) (w : World) → Fits w → ((v : World) → Fits v → v.records ≡ w.records → IsGrown v (in_flow (follow r.reply v))) → IsGrown w (in_flow (replied follow id r w))
@@ -323,16 +373,6 @@ place_grows b p w f l = either_grows w (b.known p.kind) _ _ (record {
 PartsWithin-more : (n k : ℕ) (ps : List Part) → n ≤ k → PartsWithin n ps → PartsWithin k ps
 PartsWithin-more n k [] h f = tt
 PartsWithin-more n k (p ∷ ps) h f = (omega (arith, f.0), PartsWithin-more n k ps h f.1)
-
--- records become more
-pub longer : (u v : World) → IsGrown u v → length u.records ≤ length v.records
-longer u v g = omega (arith, length-append u.records g.more, ap (λ (rs : List Record). length rs) g.records)
-
--- the next part, where there are so many records
-then_grows_where : (n : ℕ) (fl : Flow) (k : World → Flow) → Fits (in_flow fl) → n ≤ length (in_flow fl).records → ((w : World) → Fits w → n ≤ length w.records → IsGrown w (in_flow (k w))) → IsGrown (in_flow fl) (in_flow (fl >>= k))
-then_grows_where n (On w) k f l h = h w f l
-then_grows_where n (Stopped w) k f l h = grown_same w f
-then_grows_where n (Broken w path fault) k f l h = grown_same w f
 
 -- all modules are placed
 place_all_grows : (b : Behaviour) (n : ℕ) (ps : List Part) (w : World) → PartsWithin n ps → Fits w → n ≤ length w.records → IsGrown w (in_flow (place_all b ps w))

@@ -4,14 +4,17 @@ pub mod Bounds
 pub mod Closing
 pub mod Counts
 pub mod Ends
+pub mod Flows
 pub mod Grown
 pub mod Growth
 pub mod Looking
 pub mod Looks
 pub mod Once
 pub mod Orderly
+pub mod Placing
 pub mod Reached
 pub mod Reuse
+pub mod Sending
 pub mod Setting
 pub mod Setup
 pub mod Sound

@@ -1,13 +1,15 @@
 -- In every world of a run the events to come are in order, none is late, each has a number of its own, and each is for a
 -- module that stands; and what was emitted stands in the order of events.
-use Rattle.std.proofs.Common.{◌≡◌, ◌≢◌, ◌⊎◌, inl, inr, ℕ, zero, suc, ◌+◌, ◌≤◌, ◌<◌, ◌==◌, cond, Bool, true, false, List, [], ◌∷◌, ◌++◌, Option, Some, None, refl, sym, ap, ◌∙◌, arith, subst, append_assoc, append-nil, length, map, if◌then◌else◌, nat_lt, nat_le, eqb-true, ℤ, ltb-false}
+use Rattle.std.proofs.Common.{◌≡◌, ◌≢◌, ◌⊎◌, inl, inr, ℕ, zero, suc, ◌+◌, ◌≤◌, ◌<◌, ◌==◌, cond, Bool, true, false, List, [], ◌∷◌, ◌++◌, Option, Some, None, refl, sym, ap, ◌∙◌, arith, subst, append_assoc, append-nil, length, if◌then◌else◌, nat_lt, eqb-true, ℤ, ltb-false}
 use Rattle.sim_time.specs.Time.{time_sum}
 use Rattle.module_api.specs.Behaviour.{Behaviour, Replied}
 use Rattle.module_api.specs.declared.call.Prompt.{Prompt}
 use Rattle.module_api.specs.declared.call.Prompt.TheVariants as prompt
 use Rattle.module_api.specs.declared.reply.Action.{Action}
 use Rattle.module_api.specs.Names.{is_scalar_name}
-use Rattle.module_api.specs.declared.reply.Action.TheVariants.{Emit, RecordScalar, ScheduleAt, ScheduleAfter, Cancel, Fail}
+use Rattle.module_api.specs.declared.reply.Action.TheVariants.{Emit, RecordScalar, Send, SendDelayed, SendDirect, ScheduleAt, ScheduleAfter, Cancel, Fail}
+use Rattle.module_api.specs.declared.message.Outgoing.{Outgoing}
+use Rattle.module_api.specs.Actions.{has_large_payload}
 use Rattle.module_api.specs.declared.reply.Read.{Read}
 use Rattle.module_api.specs.declared.reply.Reply.{Reply}
 use Rattle.module_api.specs.declared.reply.Appointment.{Appointment}
@@ -23,19 +25,23 @@ use Rattle.event_set.specs.declared.pending.Happening.TheVariants.{Timer}
 use Rattle.event_set.specs.declared.pending.Pending.{Pending}
 use Rattle.run_semantics.specs.declared.traces.Emission.{Emission}
 use Rattle.run_semantics.specs.declared.traces.Instance.{Instance}
+use Rattle.run_semantics.specs.Routes.{arriving_at}
 use Rattle.run_semantics.specs.World.{World, asked}
 use Rattle.event_set.specs.Order.{inserted}
 use Rattle.event_set.specs.Timers.{has_timer}
-use Rattle.run_semantics.specs.Perform.{Flow, On, Stopped, Broken, ◌>>=◌, broken, for_each, with_scalar, scheduled_at, scheduled, appointed, with_cancelled, deed, is_allowed, act, act_all, ask_all, question_of, acted, read_fault, unless_fault, answered}
+use Rattle.run_semantics.specs.Perform.{Flow, On, Stopped, Broken, ◌>>=◌, broken, for_each, with_scalar, scheduled_at, scheduled, appointed, with_cancelled, deed, is_allowed, perform, act, act_all, ask_all, question_of, acted, read_fault, unless_fault, answered}
 use Rattle.run_semantics.specs.Event.{call_of, instance_in, with_state, changed, called, call_module, begun, event, message_of}
-use Rattle.run_semantics.specs.Run.{prepared, Part, parts_of, place, place_all, place_parts, ready, standing, stages_in, most_stages, initialize, one_stage, stages_from, started, initialize_all, with_started, part_of, Stage, Running, Over, world_at, settled, is_after_limit, went, next_stage, after}
+use Rattle.run_semantics.specs.Run.{prepared, Part, parts_from, parts_of, place, place_all, place_parts, ready, standing, stages_in, most_stages, initialize, one_stage, stages_from, started, initialize_all, with_started, part_of, Stage, Running, Over, world_at, settled, is_after_limit, went, next_stage, after}
 use Rattle.run_semantics.specs.Laws.{Each, AreInOrder, AreInTurn, HaveOwnNumbers, IsAmong, ids_of, GoesOn}
 use Rattle.run_semantics.specs.Subtree.{outer_first}
 use Rattle.run_semantics.specs.Upcoming.{Upcoming, Comes, Nothing, upcoming}
 use Rattle.run_semantics.proofs.Ahead.{IsAhead, MayCome, ComesWell, ahead_at_zero, upcoming_well}
 use Rattle.run_semantics.proofs.Looking.{beside, looking, HasLooked, upcoming_looks}
 use Rattle.run_semantics.proofs.Setting.{IsLasting, stays_in, prepared_stays}
-use Rattle.run_semantics.proofs.Sound.{in_flow}
+pub use Rattle.run_semantics.proofs.Placing.{same_ids}
+use Rattle.run_semantics.proofs.Flows.{in_flow}
+use Rattle.run_semantics.proofs.Placing.{OnlyOn, IsReady, IsComplete, ready_ready, simple_stands}
+use Rattle.run_semantics.proofs.Sending.{LastsSending, sends, sends_delayed, sends_direct, sum_is_after}
 use Rattle.run_semantics.proofs.Counts.{event_count}
 use Rattle.event_set.proofs.Order.{each_map, each_append, each_inserted, ordered_inserted, own_inserted, each_without, ordered_without, own_without}
 
@@ -66,15 +72,6 @@ pub record Leads (old new : World) : Type 0 where
   pub scalars : GoesOn old.scalars new.scalars
   pub present : AreOf old.count old.clock emissions.0
   pub orderly : IsOrderly new
-
--- the ids of what stands
-ids_standing : (is : List Instance) → map (λ (p : Part). p.id) (standing is) ≡ ids_of is
-ids_standing [] = refl
-ids_standing (i ∷ is) = ap (λ ids. i.id ∷ ids) (ids_standing is)
-
--- where the same modules stand, the ids are the same
-pub same_ids : (is js : List Instance) → standing is ≡ standing js → ids_of is ≡ ids_of js
-same_ids is js e = sym (ids_standing is) ∙ (ap (map (λ (p : Part). p.id)) e ∙ ids_standing js)
 
 -- a list goes on from itself
 abbrev pub on_same : {X : Type 0} (xs : List X) → GoesOn xs xs
@@ -129,16 +126,35 @@ either_leads : (w : World) (c : Bool) (f g : Flow) → Leads w (in_flow f) → L
 either_leads w true f g h k = h
 either_leads w false f g h k = k
 
+-- what changes neither clock, modules, events, emissions nor scalars
+leads_beside : (u v : World) → IsOrderly u → v.clock ≡ u.clock → v.next ≡ u.next → v.pending ≡ u.pending → v.records ≡ u.records → standing v.modules ≡ standing u.modules → v.started ≡ u.started → v.live ≡ u.live → v.finished ≡ u.finished → v.delivered ≡ u.delivered → v.emissions ≡ u.emissions → v.scalars ≡ u.scalars → v.count ≡ u.count → Leads u v
+leads_beside u v f clock next pending records same started live finished delivered emissions scalars count = record {
+  clock = clock;
+  count = count;
+  present = tt;
+  next = omega (arith, next);
+  records = records;
+  same = same;
+  started = started;
+  live = live;
+  finished = finished;
+  delivered = delivered;
+  emissions = ([], append-nil u.emissions ∙ sym emissions);
+  scalars = ([], append-nil u.scalars ∙ sym scalars);
+  orderly = record {
+    order = subst AreInOrder (sym pending) f.order;
+    own = subst HaveOwnNumbers (sym pending) f.own;
+    below = rw (pending, next) f.below;
+    due = rw (pending, clock) f.due;
+    modules = rw (pending, same_ids v.modules u.modules same) f.modules;
+  };
+}
+
+-- what stands and was created stays
+complete_on : (u v : World) → Leads u v → IsComplete u → IsComplete v
+complete_on u v f all = f.same ∙ (all ∙ ap (parts_from 1) (sym f.records))
+
 -- ---- actions: one line for each
-
--- by whether the sum is a time
-sum_by : (c : Bool) (n a time : ℕ) → a ≤ n → (if c then Some n else None) ≡ Some time → a ≤ time
-sum_by true n a time l e = let same : n ≡ time = cc in omega (arith, l, same)
-sum_by false n a time l e = cc
-
--- a sum of times is no less than the first
-sum_is_after : (a b time : ℕ) → time_sum a b ≡ Some time → a ≤ time
-sum_is_after a b time e = sum_by (nat_le (a + b) 9223372036854775807) (a + b) a time (omega arith) e
 
 -- one more event, at a time that is not past, for a module that stands
 leads_inserted : (e : Pending) (w : World) → IsOrderly w → e.number ≡ w.next → w.clock ≤ e.time → StandsIn e.id w → Leads w (record w { pending = inserted e w.pending; next = w.next + 1 })
@@ -250,47 +266,54 @@ deed_leads id (ScheduleAt a) w f h = appointed_leads id a w f h
 deed_leads id (ScheduleAfter s) w f h = scheduled_leads id s w (time_sum w.clock s.delay) refl f h
 deed_leads id (Cancel timer) w f h = cancelled_leads id timer w f
 deed_leads id (Fail text) w f h = leads_same w f
+deed_leads id (Send gate message) w f h = leads_same w f
+deed_leads id (SendDelayed gate message delay) w f h = leads_same w f
+deed_leads id (SendDirect place message flight) w f h = leads_same w f
+
+-- a message that is sent arrives at a simple module, and all of these stand
+leads_last : (message : Outgoing) (u : World) → IsComplete u → LastsSending message (λ id rs. Unit {0}) (Leads u) (Leads u)
+leads_last message u all = record {
+  weaker = λ w f. f;
+  created = λ w id f l. tt;
+  next = λ w id k n f l e. tt;
+  asked = λ q w f l. leads_on f (leads_beside w _ f.orderly refl refl refl refl refl refl refl refl refl refl refl refl);
+  transmitted = λ ts w f. leads_on f (leads_beside w _ f.orderly refl refl refl refl refl refl refl refl refl refl refl refl);
+  arrived = λ g time w f c e. leads_on f (leads_inserted (arriving_at g message time w.next) w f.orderly refl c (simple_stands w g.id (complete_on u w f all) e));
+}
+
+perform_leads : (b : Behaviour) (m : Answers) (id : ℕ) (action : Action) (w : World) → IsOrderly w → StandsIn id w → IsComplete w → Leads w (in_flow (perform b m id action w))
+perform_leads b m id (Emit signal value) w f h all = deed_leads id (Emit signal value) w f h
+perform_leads b m id (RecordScalar name value) w f h all = deed_leads id (RecordScalar name value) w f h
+perform_leads b m id (Send gate message) w f h all = sends message _ (Leads w) (Leads w) (leads_last message w all) m id gate w (leads_same w f) tt
+perform_leads b m id (SendDelayed gate message delay) w f h all = sends_delayed message _ (Leads w) (Leads w) (leads_last message w all) m id gate delay w (leads_same w f) tt
+perform_leads b m id (SendDirect place message flight) w f h all = sends_direct message _ (Leads w) (Leads w) (leads_last message w all) m id place flight w (leads_same w f)
+perform_leads b m id (ScheduleAt a) w f h all = deed_leads id (ScheduleAt a) w f h
+perform_leads b m id (ScheduleAfter s) w f h all = deed_leads id (ScheduleAfter s) w f h
+perform_leads b m id (Cancel timer) w f h all = deed_leads id (Cancel timer) w f h
+perform_leads b m id (Fail text) w f h all = deed_leads id (Fail text) w f h
 
 -- one action of a reply
-act_leads : (b : Behaviour) (m : Answers) (o : Occasion) (id : ℕ) (action : Action) (w : World) → IsOrderly w → StandsIn id w → Leads w (in_flow (act b m o id action w))
-act_leads b m o id action w f h = either_leads w (is_allowed o action) _ _ (deed_leads id action w f h) (leads_same w f)
+act_leads : (b : Behaviour) (m : Answers) (o : Occasion) (id : ℕ) (action : Action) (w : World) → IsOrderly w → StandsIn id w → IsComplete w → Leads w (in_flow (act b m o id action w))
+act_leads b m o id action w f h all =
+    either_leads w (has_large_payload action) _ _ (leads_same w f) (either_leads w (is_allowed o action) _ _ (perform_leads b m id action w f h all) (leads_same w f))
+
+-- a module stands, and all others
+abbrev AllStand : ℕ → World → Type 0
+AllStand id w = StandsIn id w × IsComplete w
 
 -- all actions of a reply
-act_all_leads : (b : Behaviour) (m : Answers) (o : Occasion) (id : ℕ) (actions : List Action) (w : World) → IsOrderly w → StandsIn id w → Leads w (in_flow (act_all b m o id actions w))
+act_all_leads : (b : Behaviour) (m : Answers) (o : Occasion) (id : ℕ) (actions : List Action) (w : World) → IsOrderly w → AllStand id w → Leads w (in_flow (act_all b m o id actions w))
 act_all_leads b m o id [] w f h = leads_same w f
 act_all_leads b m o id (action ∷ actions) w f h =
-    let g = act_leads b m o id action w f h in
-    leads_then (StandsIn id) w (act b m o id action w) (for_each (act b m o id) actions) g (stands_on id w (in_flow (act b m o id action w)) g h) (act_all_leads b m o id actions)
+    let v : World = in_flow (act b m o id action w) in
+    let g = act_leads b m o id action w f h.0 h.1 in
+    leads_then (AllStand id) w (act b m o id action w) (for_each (act b m o id) actions) g (stands_on id w v g h.0, complete_on w v g h.1) (act_all_leads b m o id actions)
 
 -- unless they are too many
-acted_leads : (b : Behaviour) (m : Answers) (o : Occasion) (id : ℕ) (actions : List Action) (w : World) → IsOrderly w → StandsIn id w → Leads w (in_flow (acted b m o id actions w))
+acted_leads : (b : Behaviour) (m : Answers) (o : Occasion) (id : ℕ) (actions : List Action) (w : World) → IsOrderly w → AllStand id w → Leads w (in_flow (acted b m o id actions w))
 acted_leads b m o id actions w f h = either_leads w (nat_lt 1000 (length actions)) _ _ (leads_same w f) (act_all_leads b m o id actions w f h)
 
 -- ---- replies and calls
-
--- what changes neither clock, modules, events, emissions nor scalars
-leads_beside : (u v : World) → IsOrderly u → v.clock ≡ u.clock → v.next ≡ u.next → v.pending ≡ u.pending → v.records ≡ u.records → standing v.modules ≡ standing u.modules → v.started ≡ u.started → v.live ≡ u.live → v.finished ≡ u.finished → v.delivered ≡ u.delivered → v.emissions ≡ u.emissions → v.scalars ≡ u.scalars → v.count ≡ u.count → Leads u v
-leads_beside u v f clock next pending records same started live finished delivered emissions scalars count = record {
-  clock = clock;
-  count = count;
-  present = tt;
-  next = omega (arith, next);
-  records = records;
-  same = same;
-  started = started;
-  live = live;
-  finished = finished;
-  delivered = delivered;
-  emissions = ([], append-nil u.emissions ∙ sym emissions);
-  scalars = ([], append-nil u.scalars ∙ sym scalars);
-  orderly = record {
-    order = subst AreInOrder (sym pending) f.order;
-    own = subst HaveOwnNumbers (sym pending) f.own;
-    below = rw (pending, next) f.below;
-    due = rw (pending, clock) f.due;
-    modules = rw (pending, same_ids v.modules u.modules same) f.modules;
-  };
-}
 
 -- the questions of a reply
 ask_all_leads : (id : ℕ) (reads : List Read) (w : World) → IsOrderly w → Leads w (ask_all id reads w)
@@ -305,11 +328,11 @@ unless_leads w id (Some fault) go f h = leads_same w f
 unless_leads w id None go f h = h
 
 -- what follows a reply
-answered_leads : (b : Behaviour) (m : Answers) (id : ℕ) (reply : Reply) (w : World) → IsOrderly w → StandsIn id w → Leads w (in_flow (answered b m occasion.Event id reply w))
+answered_leads : (b : Behaviour) (m : Answers) (id : ℕ) (reply : Reply) (w : World) → IsOrderly w → AllStand id w → Leads w (in_flow (answered b m occasion.Event id reply w))
 answered_leads b m id reply w f h =
     let v : World = ask_all id reply.reads w in
     let g = ask_all_leads id reply.reads w f in
-    leads_on g (unless_leads v id (read_fault m w.records id reply.reads) (acted b m occasion.Event id reply.actions) g.orderly (acted_leads b m occasion.Event id reply.actions v g.orderly (stands_on id w v g h)))
+    leads_on g (unless_leads v id (read_fault m w.records id reply.reads) (acted b m occasion.Event id reply.actions) g.orderly (acted_leads b m occasion.Event id reply.actions v g.orderly (stands_on id w v g h.0, complete_on w v g h.1)))
 
 -- a new state leaves what stands
 standing_state : (id : ℕ) (state : List ℕ) (is : List Instance) → standing (with_state id state is) ≡ standing is
@@ -330,43 +353,45 @@ found_stands id (j ∷ js) i e = by (j.id == id) refl (found_stands id js i) e
     by false t later e = inr (later e)
 
 -- a call of a module that may stand
-called_leads : (b : Behaviour) (m : Answers) (id : ℕ) (p : Prompt) (w : World) (found : Option Instance) → instance_in id w.modules ≡ found → IsOrderly w → Leads w (in_flow (called b m (answered b m occasion.Event id) id p w found))
-called_leads b m id p w None e f = leads_same w f
-called_leads b m id p w (Some i) e f =
+called_leads : (b : Behaviour) (m : Answers) (id : ℕ) (p : Prompt) (w : World) (found : Option Instance) → instance_in id w.modules ≡ found → IsOrderly w → IsComplete w → Leads w (in_flow (called b m (answered b m occasion.Event id) id p w found))
+called_leads b m id p w None e f all = leads_same w f
+called_leads b m id p w (Some i) e f all =
     let r : Replied = (b.naming i.kind).reply i.state (call_of m id p w) in
     let v : World = changed id r.state w in
     let g : Leads w v = leads_beside w v f refl refl refl refl (standing_state id r.state w.modules) refl refl refl refl refl refl refl in
-    leads_on g (answered_leads b m id r.reply v g.orderly (stands_on id w v g (found_stands id w.modules i e)))
+    leads_on g (answered_leads b m id r.reply v g.orderly (stands_on id w v g (found_stands id w.modules i e), complete_on w v g all))
 
 -- one call
-pub call_leads : (b : Behaviour) (m : Answers) (id : ℕ) (p : Prompt) (w : World) → IsOrderly w → Leads w (in_flow (call_module b m id p w))
-call_leads b m id p w f = called_leads b m id p w (instance_in id w.modules) refl f
+pub call_leads : (b : Behaviour) (m : Answers) (id : ℕ) (p : Prompt) (w : World) → IsOrderly w → IsComplete w → Leads w (in_flow (call_module b m id p w))
+call_leads b m id p w f all = called_leads b m id p w (instance_in id w.modules) refl f all
 
 -- ---- initialization
 
 -- one module is initialized, where it has the stage
-initialize_leads : (b : Behaviour) (m : Answers) (stage id : ℕ) (w : World) → IsOrderly w → Leads w (in_flow (initialize b m stage id w))
-initialize_leads b m stage id w f = either_leads w (nat_lt stage (stages_in b (instance_in id w.modules))) _ _ (call_leads b m id (prompt.Initialize stage) w f) (leads_same w f)
+initialize_leads : (b : Behaviour) (m : Answers) (stage id : ℕ) (w : World) → IsOrderly w → IsComplete w → Leads w (in_flow (initialize b m stage id w))
+initialize_leads b m stage id w f all = either_leads w (nat_lt stage (stages_in b (instance_in id w.modules))) _ _ (call_leads b m id (prompt.Initialize stage) w f all) (leads_same w f)
 
 -- one stage of these modules
-one_stage_leads : (b : Behaviour) (m : Answers) (stage : ℕ) (ids : List ℕ) (w : World) → IsOrderly w → Leads w (in_flow (one_stage b m stage ids w))
-one_stage_leads b m stage [] w f = leads_same w f
-one_stage_leads b m stage (id ∷ ids) w f =
-    leads_then (λ v. Unit {0}) w (initialize b m stage id w) (for_each (initialize b m stage) ids) (initialize_leads b m stage id w f) tt (λ v g u. one_stage_leads b m stage ids v g)
+one_stage_leads : (b : Behaviour) (m : Answers) (stage : ℕ) (ids : List ℕ) (w : World) → IsOrderly w → IsComplete w → Leads w (in_flow (one_stage b m stage ids w))
+one_stage_leads b m stage [] w f all = leads_same w f
+one_stage_leads b m stage (id ∷ ids) w f all =
+    let g = initialize_leads b m stage id w f all in
+    leads_then IsComplete w (initialize b m stage id w) (for_each (initialize b m stage) ids) g (complete_on w _ g all) (one_stage_leads b m stage ids)
 
 -- the stages that are left
-stages_lead : (b : Behaviour) (m : Answers) (ids : List ℕ) (stage left : ℕ) (w : World) → IsOrderly w → Leads w (in_flow (stages_from b m ids stage left w))
-stages_lead b m ids stage zero w f = leads_same w f
-stages_lead b m ids stage (suc left) w f =
-    leads_then (λ v. Unit {0}) w (one_stage b m stage ids w) (stages_from b m ids (suc stage) left) (one_stage_leads b m stage ids w f) tt (λ v g u. stages_lead b m ids (suc stage) left v g)
+stages_lead : (b : Behaviour) (m : Answers) (ids : List ℕ) (stage left : ℕ) (w : World) → IsOrderly w → IsComplete w → Leads w (in_flow (stages_from b m ids stage left w))
+stages_lead b m ids stage zero w f all = leads_same w f
+stages_lead b m ids stage (suc left) w f all =
+    let g = one_stage_leads b m stage ids w f all in
+    leads_then IsComplete w (one_stage b m stage ids w) (stages_from b m ids (suc stage) left) g (complete_on w _ g all) (stages_lead b m ids (suc stage) left)
 
 -- a start of modules, once they count as started
-pub started_leads : (b : Behaviour) (m : Answers) (ids calls : List ℕ) (w : World) → IsOrderly w → Leads (with_started ids w) (in_flow (started b m ids calls w))
-started_leads b m ids calls w f = stages_lead b m calls 0 (most_stages b w.modules calls) (with_started ids w) (record { order = f.order; own = f.own; below = f.below; due = f.due; modules = f.modules })
+pub started_leads : (b : Behaviour) (m : Answers) (ids calls : List ℕ) (w : World) → IsOrderly w → IsComplete w → Leads (with_started ids w) (in_flow (started b m ids calls w))
+started_leads b m ids calls w f all = stages_lead b m calls 0 (most_stages b w.modules calls) (with_started ids w) (record { order = f.order; own = f.own; below = f.below; due = f.due; modules = f.modules }) all
 
 -- that of the network
-pub initialize_all_leads : (b : Behaviour) (m : Answers) (w : World) → IsOrderly w → Leads (with_started w.live w) (in_flow (initialize_all b m w))
-initialize_all_leads b m w f = started_leads b m w.live (outer_first w.records w.live 1) w f
+pub initialize_all_leads : (b : Behaviour) (m : Answers) (w : World) → IsOrderly w → IsComplete w → Leads (with_started w.live w) (in_flow (initialize_all b m w))
+initialize_all_leads b m w f all = started_leads b m w.live (outer_first w.records w.live 1) w f all
 
 -- ---- setup: no event is to come, nothing was emitted, and no module is finished
 
@@ -466,14 +491,14 @@ settled_at (Stopped w) = refl
 settled_at (Broken w path f) = refl
 
 -- one event, from a world in which only questions were asked and injections delivered
-event_follows : (b : Behaviour) (m : Answers) (p : Pending) (rest : List Pending) (w u : World) → HasLooked w u → MayCome m w.clock w.pending u p rest → IsOrderly w → Follows m w (world_at (settled (event b m p rest u)))
-event_follows b m p rest w u looked may f =
+event_follows : (b : Behaviour) (m : Answers) (p : Pending) (rest : List Pending) (w u : World) → HasLooked w u → MayCome m w.clock w.pending u p rest → IsOrderly w → IsComplete w → Follows m w (world_at (settled (event b m p rest u)))
+event_follows b m p rest w u looked may f all =
     subst (λ v. MayCome m w.clock w.pending v p rest → Follows m w (world_at (settled (event b m p rest v)))) looked.same (by (looking w looked.last looked.rest) refl refl refl refl refl refl refl refl refl refl (record { order = f.order; own = f.own; below = f.below; due = f.due; modules = f.modules })) may
   where
     by : (v : World) → v.pending ≡ w.pending → v.count ≡ w.count → v.next ≡ w.next → v.records ≡ w.records → v.modules ≡ w.modules → v.started ≡ w.started → v.live ≡ w.live → v.finished ≡ w.finished → v.emissions ≡ w.emissions → v.scalars ≡ w.scalars → IsOrderly v → MayCome m w.clock w.pending v p rest → Follows m w (world_at (settled (event b m p rest v)))
     by v pending count next records modules started live finished emissions scalars o c =
         let left : (rest ≡ v.pending) ⊎ (v.pending ≡ p ∷ rest) = subst (λ (ps : List Pending). (rest ≡ ps) ⊎ (ps ≡ p ∷ rest)) (sym pending) c.left in
-        let g = call_leads b m p.id (prompt.Message (message_of p)) (begun p rest v) (orderly_begun p rest v left c.later o) in
+        let g = call_leads b m p.id (prompt.Message (message_of p)) (begun p rest v) (orderly_begun p rest v left c.later o) (ap standing modules ∙ (all ∙ ap (parts_from 1) (sym records))) in
         let more = event_count b m p rest v in
         subst (Follows m w) (sym (settled_at (event b m p rest v))) (record {
           clock = omega (arith, g.clock, c.due);
@@ -497,16 +522,21 @@ either_follows m true w outcome s f g = f
 either_follows m false w outcome s f g = g
 
 -- the next event, where there is one
-went_follows : (b : Behaviour) (m : Answers) (w : World) (up : Upcoming) → HasLooked w (beside up) → ComesWell m w.clock w.pending up → IsOrderly w → IsInTime m w → Follows m w (world_at (went b m w up))
-went_follows b m w (Nothing u) looked may f t = follows_same m w f t
-went_follows b m w (Comes u p rest) looked may f t =
-    either_follows m (is_after_limit m u.records p) w TimeLimit (settled (event b m p rest u)) (follows_same m w f t) (event_follows b m p rest w u looked may f)
+went_follows : (b : Behaviour) (m : Answers) (w : World) (up : Upcoming) → HasLooked w (beside up) → ComesWell m w.clock w.pending up → IsOrderly w → IsInTime m w → IsComplete w → Follows m w (world_at (went b m w up))
+went_follows b m w (Nothing u) looked may f t all = follows_same m w f t
+went_follows b m w (Comes u p rest) looked may f t all =
+    either_follows m (is_after_limit m u.records p) w TimeLimit (settled (event b m p rest u)) (follows_same m w f t) (event_follows b m p rest w u looked may f all)
+
+-- in a run that goes on all simple modules stand
+abbrev IfComplete : Stage → Type 0
+IfComplete (Running w) = IsComplete w
+IfComplete (Over w outcome) = Unit {0}
 
 -- one turn of a run
-next_follows : (b : Behaviour) (m : Answers) (s : Stage) → IsOrderly (world_at s) → IsInTime m (world_at s) → Follows m (world_at s) (world_at (next_stage b m s))
-next_follows b m (Running w) f t =
-    either_follows m w.ended w Ended (went b m w (upcoming m w)) (follows_same m w f t) (went_follows b m w (upcoming m w) (upcoming_looks m w) (upcoming_well m w f.order f.due t) f t)
-next_follows b m (Over w outcome) f t = follows_same m w f t
+next_follows : (b : Behaviour) (m : Answers) (s : Stage) → IsOrderly (world_at s) → IsInTime m (world_at s) → IfComplete s → Follows m (world_at s) (world_at (next_stage b m s))
+next_follows b m (Running w) f t all =
+    either_follows m w.ended w Ended (went b m w (upcoming m w)) (follows_same m w f t) (went_follows b m w (upcoming m w) (upcoming_looks m w) (upcoming_well m w f.order f.due t) f t all)
+next_follows b m (Over w outcome) f t all = follows_same m w f t
 
 -- what holds in every world of a run
 record IsSound (m : Answers) (w : World) : Type 0 where
@@ -514,13 +544,31 @@ record IsSound (m : Answers) (w : World) : Type 0 where
   in_time : IsInTime m w
 
 -- initialization, where the flow goes on
-sound_then : (b : Behaviour) (m : Answers) (fl : Flow) → IsQuiet (in_flow fl) → IsSound m (in_flow (fl >>= initialize_all b m))
-sound_then b m (On w) q =
-    let g = initialize_all_leads b m w (orderly_none w q.0) in
+sound_then : (b : Behaviour) (m : Answers) (fl : Flow) → IsQuiet (in_flow fl) → OnlyOn IsReady fl → IsSound m (in_flow (fl >>= initialize_all b m))
+sound_then b m (On w) q r =
+    let g = initialize_all_leads b m w (orderly_none w q.0) r.parts in
     let v : World = in_flow (initialize_all b m w) in
     record { orderly = g.orderly; in_time = subst (λ (time : ℕ). IsAhead time v.delivered m.injections) (sym (g.clock ∙ q.2)) (ahead_at_zero v.delivered m.injections) }
-sound_then b m (Stopped w) q = record { orderly = orderly_none w q.0; in_time = subst (λ (time : ℕ). IsAhead time w.delivered m.injections) (sym q.2) (ahead_at_zero w.delivered m.injections) }
-sound_then b m (Broken w path fault) q = record { orderly = orderly_none w q.0; in_time = subst (λ (time : ℕ). IsAhead time w.delivered m.injections) (sym q.2) (ahead_at_zero w.delivered m.injections) }
+sound_then b m (Stopped w) q r = record { orderly = orderly_none w q.0; in_time = subst (λ (time : ℕ). IsAhead time w.delivered m.injections) (sym q.2) (ahead_at_zero w.delivered m.injections) }
+sound_then b m (Broken w path fault) q r = record { orderly = orderly_none w q.0; in_time = subst (λ (time : ℕ). IsAhead time w.delivered m.injections) (sym q.2) (ahead_at_zero w.delivered m.injections) }
+
+-- the end of an event leaves what stands
+settled_complete : (fl : Flow) → IsComplete (in_flow fl) → IfComplete (settled fl)
+settled_complete (On w) all = all
+settled_complete (Stopped w) all = all
+settled_complete (Broken w path fault) all = tt
+
+complete_then : (b : Behaviour) (m : Answers) (fl : Flow) → IsQuiet (in_flow fl) → OnlyOn IsReady fl → IfComplete (settled (fl >>= initialize_all b m))
+complete_then b m (On w) q r =
+    let g = initialize_all_leads b m w (orderly_none w q.0) r.parts in
+    settled_complete (initialize_all b m w) (complete_on (with_started w.live w) (in_flow (initialize_all b m w)) g r.parts)
+complete_then b m (Stopped w) q r = absurd r
+complete_then b m (Broken w path fault) q r = tt
+
+complete_next : (m : Answers) (s t : Stage) → Follows m (world_at s) (world_at t) → ((w : World) (outcome : Outcome) → s ≡ Over w outcome → IfComplete t) → IfComplete s → IfComplete t
+complete_next m (Running v) (Running w) g k all = g.same ∙ (all ∙ ap (parts_from 1) (sym g.records))
+complete_next m (Running v) (Over w outcome) g k all = tt
+complete_next m (Over v outcome) t g k all = k v outcome refl
 
 -- ---- emissions
 
@@ -565,23 +613,31 @@ told_none : (w : World) → w.emissions ≡ [] → ToldIn w
 told_none w e = record { past = rw e tt; turn = rw e tt }
 
 -- initialization, where the flow goes on
-told_then : (b : Behaviour) (m : Answers) (fl : Flow) → IsOrderly (in_flow fl) → ToldIn (in_flow fl) → ToldIn (in_flow (fl >>= initialize_all b m))
-told_then b m (On w) f h =
+told_then : (b : Behaviour) (m : Answers) (fl : Flow) → IsOrderly (in_flow fl) → OnlyOn IsReady fl → ToldIn (in_flow fl) → ToldIn (in_flow (fl >>= initialize_all b m))
+told_then b m (On w) f r h =
     let v : World = in_flow (initialize_all b m w) in
-    let g = initialize_all_leads b m w f in
+    let g = initialize_all_leads b m w f r.parts in
     subst (AreTold v.count v.clock) g.emissions.1 (told_more w.count v.count w.clock v.clock w.emissions g.emissions.0 (omega (arith, g.count)) (omega (arith, g.clock)) h (rw (g.count, g.clock) g.present))
-told_then b m (Stopped w) f h = h
-told_then b m (Broken w path fault) f h = h
+told_then b m (Stopped w) f r h = h
+told_then b m (Broken w path fault) f r h = h
 
 -- ---- every world
 
+-- what holds at each stage of a run
+record IsSoundAt (m : Answers) (s : Stage) : Type 0 where
+  orderly : IsOrderly (world_at s)
+  in_time : IsInTime m (world_at s)
+  complete : IfComplete s
+
 -- every world of a run is sound
-sound_after : (b : Behaviour) (m : Answers) (n : ℕ) → IsSound m (world_at (after b m n))
-sound_after b m zero = subst (IsSound m) (sym (settled_at (ready b m >>= initialize_all b m))) (sound_then b m (ready b m) (ready_none b m))
+sound_after : (b : Behaviour) (m : Answers) (n : ℕ) → IsSoundAt m (after b m n)
+sound_after b m zero =
+    let f : IsSound m (world_at (after b m zero)) = subst (IsSound m) (sym (settled_at (ready b m >>= initialize_all b m))) (sound_then b m (ready b m) (ready_none b m) (ready_ready b m)) in
+    record { orderly = f.orderly; in_time = f.in_time; complete = complete_then b m (ready b m) (ready_none b m) (ready_ready b m) }
 sound_after b m (suc n) =
     let f = sound_after b m n in
-    let g = next_follows b m (after b m n) f.orderly f.in_time in
-    record { orderly = g.orderly; in_time = g.in_time }
+    let g = next_follows b m (after b m n) f.orderly f.in_time f.complete in
+    record { orderly = g.orderly; in_time = g.in_time; complete = complete_next m (after b m n) (after b m (suc n)) g (λ w outcome e. rw e tt) f.complete }
 
 -- every world of a run is orderly
 pub orderly_after : (b : Behaviour) (m : Answers) (n : ℕ) → IsOrderly (world_at (after b m n))
@@ -593,13 +649,13 @@ in_time_after b m n = (sound_after b m n).in_time
 
 -- from each world of a run to the next
 pub after_follows : (b : Behaviour) (m : Answers) (n : ℕ) → Follows m (world_at (after b m n)) (world_at (after b m (suc n)))
-after_follows b m n = let f = sound_after b m n in next_follows b m (after b m n) f.orderly f.in_time
+after_follows b m n = let f = sound_after b m n in next_follows b m (after b m n) f.orderly f.in_time f.complete
 
 -- and its emissions are in their turn
 told_after : (b : Behaviour) (m : Answers) (n : ℕ) → ToldIn (world_at (after b m n))
 told_after b m zero =
     let quiet = ready_none b m in
-    subst ToldIn (sym (settled_at (ready b m >>= initialize_all b m))) (told_then b m (ready b m) (orderly_none (in_flow (ready b m)) quiet.0) (told_none (in_flow (ready b m)) quiet.1))
+    subst ToldIn (sym (settled_at (ready b m >>= initialize_all b m))) (told_then b m (ready b m) (orderly_none (in_flow (ready b m)) quiet.0) (ready_ready b m) (told_none (in_flow (ready b m)) quiet.1))
 told_after b m (suc n) =
     let u : World = world_at (after b m n) in
     let v : World = world_at (after b m (suc n)) in
@@ -607,16 +663,16 @@ told_after b m (suc n) =
     subst (AreTold v.count v.clock) g.emissions.1 (told_more u.count v.count u.clock v.clock u.emissions g.emissions.0 g.count g.clock (told_after b m n) g.present)
 
 -- initialization finishes no module
-unfinished_then : (b : Behaviour) (m : Answers) (fl : Flow) → IsOrderly (in_flow fl) → (in_flow fl).finished ≡ [] → (in_flow (fl >>= initialize_all b m)).finished ≡ []
-unfinished_then b m (On w) f h = (initialize_all_leads b m w f).finished ∙ h
-unfinished_then b m (Stopped w) f h = h
-unfinished_then b m (Broken w path fault) f h = h
+unfinished_then : (b : Behaviour) (m : Answers) (fl : Flow) → IsOrderly (in_flow fl) → OnlyOn IsReady fl → (in_flow fl).finished ≡ [] → (in_flow (fl >>= initialize_all b m)).finished ≡ []
+unfinished_then b m (On w) f r h = (initialize_all_leads b m w f r.parts).finished ∙ h
+unfinished_then b m (Stopped w) f r h = h
+unfinished_then b m (Broken w path fault) f r h = h
 
 -- before its end no module of a run is finished
 pub finished_after : (b : Behaviour) (m : Answers) (n : ℕ) → (world_at (after b m n)).finished ≡ []
 finished_after b m zero =
     let quiet = ready_none b m in
-    ap (λ (w : World). w.finished) (settled_at (ready b m >>= initialize_all b m)) ∙ unfinished_then b m (ready b m) (orderly_none (in_flow (ready b m)) quiet.0) quiet.3
+    ap (λ (w : World). w.finished) (settled_at (ready b m >>= initialize_all b m)) ∙ unfinished_then b m (ready b m) (orderly_none (in_flow (ready b m)) quiet.0) (ready_ready b m) quiet.3
 finished_after b m (suc n) = (after_follows b m n).finished ∙ finished_after b m n
 
 -- in each world of a run emissions stand in the order of events

@@ -1,6 +1,6 @@
 -- A run takes nothing from its model but answers to the questions that it notes: models that answer them alike have the
 -- same run.
-use Rattle.std.proofs.Common.{◌≡◌, ℕ, zero, suc, ◌+◌, ◌≤◌, ◌<◌, Bool, true, false, List, [], ◌∷◌, ◌++◌, ◌||◌, Option, Some, None, refl, sym, ap, ◌∙◌, arith, subst, append_assoc, append-nil, length, slice_get, if◌then◌else◌, nat_lt, ⊎_elim}
+use Rattle.std.proofs.Common.{◌≡◌, ℕ, zero, suc, ◌+◌, ◌≤◌, ◌<◌, Bool, true, false, List, [], ◌∷◌, ◌++◌, ◌||◌, Option, Some, None, Result, Ok, Err, refl, sym, ap, ◌∙◌, arith, subst, append_assoc, append-nil, length, slice_get, if◌then◌else◌, nat_lt, ⊎_elim}
 use Rattle.std.proofs.Math.Nat.{eq-or-lt_of_le}
 use Rattle.module_api.specs.Behaviour.{Behaviour, Replied}
 use Rattle.module_api.specs.Laws.{AgreesOn, IsLawful}
@@ -13,14 +13,31 @@ use Rattle.run_questions.specs.declared.answer.Answer.TheVariants as answer
 use Rattle.run_questions.specs.declared.answer.Asked.{Asked}
 use Rattle.run_questions.specs.declared.answer.Built.{Built}
 use Rattle.run_questions.specs.declared.answer.Question.{Question}
-use Rattle.run_questions.specs.declared.answer.Question.TheVariants.{Root, Build, BeyondLimit, InjectionBefore}
+use Rattle.run_questions.specs.declared.answer.Question.TheVariants.{Root, Build, GateSize, Hop, HopBack, BeyondLimit, InjectionBefore}
 use Rattle.injection_order.specs.declared.injection.Injection.{Injection}
 use Rattle.run_questions.specs.Answers.{Answers, answer_of, gates_of, parameters_of}
 use Rattle.run_questions.specs.declared.record.Record.{Record}
 use Rattle.run_questions.specs.Questions.{same_question}
 use Rattle.run_questions.proofs.AnswerLemmas.{AreNested, about, answer_more, same_gate, same_value}
 use Rattle.run_questions.proofs.QuestionLemmas.{same_is}
+use Rattle.channels.specs.declared.travels.ChannelFault.{ChannelFault}
+use Rattle.channels.specs.declared.travels.Travel.{Travel}
+use Rattle.channels.specs.declared.travels.Travel.TheVariants.{Arrival, Lost}
+use Rattle.channels.specs.Travel.{travel}
+use Rattle.sim_time.specs.Time.{time_sum}
+use Rattle.module_api.specs.declared.message.Outgoing.{Outgoing}
 use Rattle.module_api.specs.declared.reply.Action.{Action}
+use Rattle.module_api.specs.declared.reply.Action.TheVariants.{Emit, RecordScalar, Send, SendDelayed, SendDirect, ScheduleAt, ScheduleAfter, Cancel, Fail}
+use Rattle.module_api.specs.declared.reply.Flight.{Flight}
+use Rattle.module_api.specs.declared.reply.GatePlace.{GatePlace}
+use Rattle.module_api.specs.declared.reply.OwnGate.{OwnGate}
+use Rattle.module_api.specs.Actions.{has_large_payload}
+use Rattle.run_questions.proofs.HopLemmas.{neighbour_within}
+use Rattle.run_semantics.specs.declared.routes.NextHop.{NextHop}
+use Rattle.run_semantics.specs.declared.routes.PassedHop.{PassedHop}
+use Rattle.run_semantics.specs.declared.routes.PlacedGate.{PlacedGate}
+use Rattle.run_semantics.specs.Routes.{arriving, busy_of, channels_of, hop_by, is_connected, is_in_gate, is_out_gate, is_simple, module_at, transmission_gate, transmitting}
+use Rattle.run_semantics.proofs.Sending.{LeadsTo, hop_leads, module_within}
 use Rattle.run_semantics.specs.declared.occasions.Occasion.{Occasion}
 use Rattle.run_semantics.specs.declared.occasions.Occasion.TheVariants as occasion
 use Rattle.run_semantics.specs.declared.outcome.Fault.{Fault as FaultValue}
@@ -32,17 +49,17 @@ use Rattle.run_semantics.specs.declared.traces.Instance.{Instance}
 use Rattle.run_semantics.specs.Agreement.{Agrees, AgreesUpTo, tried, questions_of}
 use Rattle.run_semantics.specs.Laws.{Each, GoesOn}
 use Rattle.run_semantics.specs.World.{World, empty, asked, asked_next, is_asked, noted}
-use Rattle.run_semantics.specs.Perform.{Flow, On, Stopped, Broken, ◌>>=◌, act, act_all, answered, asking, broken, ask_all, for_each, is_allowed, question_of, acted, first_fault, fault_of_read, read_fault, unless_fault}
+use Rattle.run_semantics.specs.Perform.{Flow, On, Stopped, Broken, ◌>>=◌, perform, act, act_all, answered, next_hop, past_last, with_hop, after_hop, chain, most_hops, travelled, sent_over, sent_through, sent, entering, flight_end, entered, sent_into, sent_to, sent_direct, asking, broken, ask_all, for_each, is_allowed, question_of, acted, first_fault, fault_of_read, read_fault, unless_fault}
 use Rattle.run_semantics.specs.Event.{call_of, instance_in, changed, replied, called, call_module, counted, begun, event, message_of}
 use Rattle.run_semantics.specs.Subtree.{outer_first}
 use Rattle.run_semantics.specs.Run.{rooted, room_in, unless_many, created, inside_of, compounds_from, built, set_up, most_nested, root_asked, prepared, place_parts, ready, stages_in, most_stages, initialize, one_stage, stages_from, started, initialize_all, with_started, Stage, Running, Over, world_at, settled, start, says_beyond, is_after_limit, went, next_stage, after, IsReached}
 use Rattle.run_semantics.specs.Upcoming.{first_due, delivered, target_of, Upcoming, Comes, Nothing, aimed, chosen, upcoming_in, upcoming}
 use Rattle.run_semantics.proofs.Looking.{beside, HasLooked, looked_same, looked_count, looked_joined, looked_questions, chosen_looks, coming_looks, upcoming_looks, upcoming_tried, first_asked, upcoming_asks}
 use Rattle.run_semantics.proofs.Looks.{upcoming_more}
-use Rattle.run_semantics.proofs.Sound.{in_flow}
+use Rattle.run_semantics.proofs.Flows.{in_flow}
 use Rattle.run_semantics.proofs.Counts.{RunsOn, runs_on}
 use Rattle.run_semantics.proofs.Ends.{over_stays}
-use Rattle.run_semantics.proofs.Growth.{AllOfEvent, AllAbout, AllOfEvent-append, AllAbout-append, AllAbout-more, Fits, IsGrown, grown_same, grown_on, fits_empty, longer, rooted_grows, created_grows, then_grows, asked_grows, timed_grows, asked_read_grows, ask_all_grows, act_grows, answered_grows, fits_changed, replied_grows, within_of_found, call_grows, place_parts_grows, started_grows, initialize_all_grows}
+use Rattle.run_semantics.proofs.Growth.{AllOfEvent, AllAbout, AllOfEvent-append, AllAbout-append, AllAbout-more, Fits, IsGrown, grown_same, grown_on, fits_empty, longer, rooted_grows, created_grows, then_grows, asked_grows, timed_grows, grown_beside, perform_grows, asked_read_grows, ask_all_grows, answered_grows, fits_changed, replied_grows, within_of_found, call_grows, place_parts_grows, started_grows, initialize_all_grows}
 use Rattle.run_semantics.proofs.Setting.{AreUpTo, compounds_within, length_created}
 
 -- ---- agreement on fewer questions
@@ -190,27 +207,141 @@ shown_alike m n id p w [] h = tt
 shown_alike m n id p w (read.Parameter name ∷ rs) h = (same_value m n w.records id name h.0, shown_alike m n id p w rs h.1)
 shown_alike m n id p w (read.Gate name ∷ rs) h = (same_gate m n w.records id name h.0, shown_alike m n id p w rs h.1)
 
--- an action is the same: a deed asks nothing
-act_same : (b : Behaviour) (m n : Answers) (o : Occasion) (id : ℕ) (action : Action) (w : World) → Fits w → DoesSame m n w (act b m o id action w) (act b n o id action w)
-act_same b m n o id action w f = does_itself m n w (act b m o id action w) (act_grows b m o id action w f)
+-- where so many records are, they are behind a part too
+if_longer : (k : ℕ) (w : World) (fl : Flow) → k ≤ length w.records → IsGrown w (in_flow fl) → IfOn (λ v. k ≤ length v.records) fl
+if_longer k w (On v) l g = omega (arith, l, longer w v g)
+if_longer k w (Stopped v) l g = tt
+if_longer k w (Broken v path f) l g = tt
+
+-- ---- sending
+
+-- what goes on with a hop does the same, whatever the hop
+abbrev GoesOnAlike : Answers → Answers → (Option NextHop → World → Flow) → (Option NextHop → World → Flow) → Type 0
+GoesOnAlike m n k l = (o : Option NextHop) (v : World) → Fits v → LeadsTo (λ id. id ≤ length v.records) o → DoesSame m n v (k o v) (l o v)
+
+next_hop_same : (m n : Answers) (g : PlacedGate) (k l : Option NextHop → World → Flow) (w : World) → Fits w → g.id ≤ length w.records → GoesOnAlike m n k l → DoesSame m n w (next_hop m g k w) (next_hop n g l w)
+next_hop_same m n g k l w f within h =
+    let q : Question = Hop g.id g.name g.index in
+    asking_same m n q (λ a v. k (hop_by v.records g.id a) v) (λ a v. l (hop_by v.records g.id a) v) w f within
+    (λ a fits. h (hop_by w.records g.id a) (asked q w) fits (hop_leads (λ id. id ≤ length w.records) w.records g.id a (λ id next e. neighbour_within w.records g.id id next f.nested within e)))
+
+past_last_same : (m n : Answers) (id : ℕ) → GoesOnAlike m n (past_last id) (past_last id)
+past_last_same m n id None v f l = does_itself m n v (past_last id None v) (grown_same v f)
+past_last_same m n id (Some h) v f l = does_itself m n v (past_last id (Some h) v) (grown_same v f)
+
+-- what is done at the end of a chain does the same
+abbrev ReachesAlike : Answers → Answers → (List PassedHop → PlacedGate → World → Flow) → (List PassedHop → PlacedGate → World → Flow) → Type 0
+ReachesAlike m n r s = (hops : List PassedHop) (end : PlacedGate) (v : World) → Fits v → DoesSame m n v (r hops end v) (s hops end v)
+
+-- so does the chain
+chain_same : (m n : Answers) (id : ℕ) (r s : List PassedHop → PlacedGate → World → Flow) → ReachesAlike m n r s → (left : ℕ) (g : PlacedGate) (passed : List PassedHop) (w : World) → Fits w → g.id ≤ length w.records → DoesSame m n w (chain m id r left g passed w) (chain n id s left g passed w)
+chain_same m n id r s h zero g passed w f within = next_hop_same m n g (past_last id) (past_last id) w f within (past_last_same m n id)
+chain_same m n id r s h (suc left) g passed w f within =
+    next_hop_same m n g (after_hop id (chain m id r left) r g passed) (after_hop id (chain n id s left) s g passed) w f within (goes_on (chain_same m n id r s h left))
+  where
+    goes_on : ((g : PlacedGate) (passed : List PassedHop) (v : World) → Fits v → g.id ≤ length v.records → DoesSame m n v (chain m id r left g passed v) (chain n id s left g passed v))
+        → GoesOnAlike m n (after_hop id (chain m id r left) r g passed) (after_hop id (chain n id s left) s g passed)
+    goes_on further None v fits l = does_itself m n v _ (grown_same v fits)
+    goes_on further (Some x) v fits l =
+        either_does m n v (is_simple v.records x.to.id) _ _ _ _ (h (with_hop passed g x) x.to v fits) (further x.to (with_hop passed g x) v fits l)
+
+transmitting_grows : (g : Option PlacedGate) (until : Option ℕ) (w : World) → Fits w → IsGrown w (transmitting g until w)
+transmitting_grows (Some g) (Some until) w f = grown_beside w _ f refl refl refl refl
+transmitting_grows (Some g) None w f = grown_same w f
+transmitting_grows None until w f = grown_same w f
+
+travelled_grows : (id : ℕ) (message : Outgoing) (from : Option PlacedGate) (end : PlacedGate) (w : World) (t : Result Travel ChannelFault) → Fits w → IsGrown w (in_flow (travelled id message from end w t))
+travelled_grows id message from end w (Err e) f = grown_same w f
+travelled_grows id message from end w (Ok (Lost until)) f = transmitting_grows from until w f
+travelled_grows id message from end w (Ok (Arrival time until)) f =
+    let g = transmitting_grows from until w f in
+    grown_on g (grown_beside (transmitting from until w) _ g.fits refl refl refl refl)
+
+sent_over_same : (m n : Answers) (id : ℕ) (message : Outgoing) (departure : Option ℕ) → ReachesAlike m n (sent_over id message departure) (sent_over id message departure)
+sent_over_same m n id message None hops end v f = does_itself m n v (sent_over id message None hops end v) (grown_same v f)
+sent_over_same m n id message (Some departure) hops end v f =
+    does_itself m n v (sent_over id message (Some departure) hops end v) (travelled_grows id message (transmission_gate hops) end v (travel (channels_of hops) departure message.bits (busy_of (transmission_gate hops) v.transmissions)) f)
+
+-- a message that is sent through a gate
+sent_same : (m n : Answers) (id : ℕ) (gate : OwnGate) (message : Outgoing) (departure : Option ℕ) (w : World) → Fits w → id ≤ length w.records → DoesSame m n w (sent m id gate message departure w) (sent n id gate message departure w)
+sent_same m n id gate message departure w f l =
+    let g : PlacedGate = record { id = id; name = gate.name; index = gate.index } in
+    let q : Question = GateSize id gate.name in
+    let v : World = asked q w in
+    asking_same m n q (sent_through m id g message departure) (sent_through n id g message departure) w f l
+    (λ a fits. either_does m n v (is_out_gate a gate.index) _ _ (broken id fault.NoGate v) (broken id fault.NoGate v)
+    (chain_same m n id (sent_over id message departure) (sent_over id message departure) (sent_over_same m n id message departure) most_hops g [] v fits l)
+    (does_itself m n v (broken id fault.NoGate v) (grown_same v fits)))
+
+entering_same : (m n : Answers) (id : ℕ) (message : Outgoing) (g : PlacedGate) (arrival : Option ℕ) (w : World) → Fits w → g.id ≤ length w.records → DoesSame m n w (entering m id message g arrival w) (entering n id message g arrival w)
+entering_same m n id message g None w f l = does_itself m n w (broken id fault.TimeOverflow w) (grown_same w f)
+entering_same m n id message g (Some time) w f l =
+    either_does m n w (is_simple w.records g.id) (On (arriving g message time w)) (On (arriving g message time w)) _ _
+    (does_itself m n w (On (arriving g message time w)) (grown_beside w _ f refl refl refl refl))
+    (chain_same m n id (sent_over id message (Some time)) (sent_over id message (Some time)) (sent_over_same m n id message (Some time)) most_hops g [] w f l)
+
+entered_same : (m n : Answers) (id : ℕ) (message : Outgoing) (g : PlacedGate) (flight : Flight) (a : Answer) (w : World) → Fits w → g.id ≤ length w.records → DoesSame m n w (entered m id g message flight a w) (entered n id g message flight a w)
+entered_same m n id message g flight a w f l =
+    either_does m n w (is_connected a) (broken id fault.AlreadyConnected w) (broken id fault.AlreadyConnected w) _ _
+    (does_itself m n w (broken id fault.AlreadyConnected w) (grown_same w f)) (entering_same m n id message g (flight_end w.clock flight) w f l)
+
+into_same : (m n : Answers) (id : ℕ) (message : Outgoing) (g : PlacedGate) (flight : Flight) (a : Answer) (w : World) → Fits w → g.id ≤ length w.records → DoesSame m n w (sent_into m id g message flight a w) (sent_into n id g message flight a w)
+into_same m n id message g flight a w f l =
+    let q : Question = HopBack g.id g.name g.index in
+    either_does m n w (is_in_gate a g.index) _ _ (broken id fault.NoGate w) (broken id fault.NoGate w)
+    (asking_same m n q (entered m id g message flight) (entered n id g message flight) w f l (λ b fits. entered_same m n id message g flight b (asked q w) fits l))
+    (does_itself m n w (broken id fault.NoGate w) (grown_same w f))
+
+to_same : (m n : Answers) (id : ℕ) (place : GatePlace) (message : Outgoing) (flight : Flight) (w : World) (found : Option ℕ) → module_at place.path w ≡ found → Fits w → DoesSame m n w (sent_to m id place message flight w found) (sent_to n id place message flight w found)
+to_same m n id place message flight w None e f = does_itself m n w (broken id fault.NoModule w) (grown_same w f)
+to_same m n id place message flight w (Some target) e f =
+    let g : PlacedGate = record { id = target; name = place.name; index = place.index } in
+    let q : Question = GateSize target place.name in
+    let l = module_within place.path w target e in
+    asking_same m n q (sent_into m id g message flight) (sent_into n id g message flight) w f l (λ a fits. into_same m n id message g flight a (asked q w) fits l)
+
+-- a message that is sent directly
+direct_same : (m n : Answers) (id : ℕ) (place : GatePlace) (message : Outgoing) (flight : Flight) (w : World) → Fits w → DoesSame m n w (sent_direct m id place message flight w) (sent_direct n id place message flight w)
+direct_same m n id place message flight w f = to_same m n id place message flight w (module_at place.path w) refl f
+
+-- ---- actions: one line for each
+
+perform_same : (b : Behaviour) (m n : Answers) (id : ℕ) (action : Action) (w : World) → Fits w → id ≤ length w.records → DoesSame m n w (perform b m id action w) (perform b n id action w)
+perform_same b m n id (Emit signal value) w f l = does_itself m n w _ (perform_grows b m id (Emit signal value) w f l)
+perform_same b m n id (RecordScalar name value) w f l = does_itself m n w _ (perform_grows b m id (RecordScalar name value) w f l)
+perform_same b m n id (Send gate message) w f l = sent_same m n id gate message (Some w.clock) w f l
+perform_same b m n id (SendDelayed gate message delay) w f l = sent_same m n id gate message (time_sum w.clock delay) w f l
+perform_same b m n id (SendDirect place message flight) w f l = direct_same m n id place message flight w f
+perform_same b m n id (ScheduleAt a) w f l = does_itself m n w _ (perform_grows b m id (ScheduleAt a) w f l)
+perform_same b m n id (ScheduleAfter s) w f l = does_itself m n w _ (perform_grows b m id (ScheduleAfter s) w f l)
+perform_same b m n id (Cancel timer) w f l = does_itself m n w _ (perform_grows b m id (Cancel timer) w f l)
+perform_same b m n id (Fail text) w f l = does_itself m n w _ (perform_grows b m id (Fail text) w f l)
+
+act_same : (b : Behaviour) (m n : Answers) (o : Occasion) (id : ℕ) (action : Action) (w : World) → Fits w → id ≤ length w.records → DoesSame m n w (act b m o id action w) (act b n o id action w)
+act_same b m n o id action w f l =
+    let large : Flow = broken id fault.PayloadTooLarge w in
+    let not_now : Flow = broken id fault.NotInFinish w in
+    either_does m n w (has_large_payload action) large large _ _ (does_itself m n w large (grown_same w f))
+    (either_does m n w (is_allowed o action) _ _ not_now not_now (perform_same b m n id action w f l) (does_itself m n w not_now (grown_same w f)))
 
 -- so are all actions of a reply
-act_all_same : (b : Behaviour) (m n : Answers) (o : Occasion) (id : ℕ) (actions : List Action) (w : World) → Fits w → DoesSame m n w (act_all b m o id actions w) (act_all b n o id actions w)
-act_all_same b m n o id [] w f = does_itself m n w (On w) (grown_same w f)
-act_all_same b m n o id (action ∷ actions) w f =
-    does_then m n w (act b m o id action w) (act b n o id action w) (for_each (act b m o id) actions) (for_each (act b n o id) actions) (act_same b m n o id action w f) (act_all_same b m n o id actions)
+act_all_same : (b : Behaviour) (m n : Answers) (o : Occasion) (id : ℕ) (actions : List Action) (w : World) → Fits w → id ≤ length w.records → DoesSame m n w (act_all b m o id actions w) (act_all b n o id actions w)
+act_all_same b m n o id [] w f l = does_itself m n w (On w) (grown_same w f)
+act_all_same b m n o id (action ∷ actions) w f l =
+    let d = act_same b m n o id action w f l in
+    does_then_where m n (λ v. id ≤ length v.records) w (act b m o id action w) (act b n o id action w) (for_each (act b m o id) actions) (for_each (act b n o id) actions) d (if_longer id w (act b m o id action w) l d.grows) (act_all_same b m n o id actions)
 
 -- unless they are too many
-acted_same : (b : Behaviour) (m n : Answers) (o : Occasion) (id : ℕ) (actions : List Action) (w : World) → Fits w → DoesSame m n w (acted b m o id actions w) (acted b n o id actions w)
-acted_same b m n o id actions w f =
+acted_same : (b : Behaviour) (m n : Answers) (o : Occasion) (id : ℕ) (actions : List Action) (w : World) → Fits w → id ≤ length w.records → DoesSame m n w (acted b m o id actions w) (acted b n o id actions w)
+acted_same b m n o id actions w f l =
     let many : Flow = broken id fault.TooManyActions w in
-    either_does m n w (nat_lt 1000 (length actions)) many many _ _ (does_itself m n w many (grown_same w f)) (act_all_same b m n o id actions w f)
+    either_does m n w (nat_lt 1000 (length actions)) many many _ _ (does_itself m n w many (grown_same w f)) (act_all_same b m n o id actions w f l)
 
 -- unless a read has a fault
-unless_same : (b : Behaviour) (m n : Answers) (o : Occasion) (id : ℕ) (found : Option FaultValue) (actions : List Action) (w : World) → Fits w
+unless_same : (b : Behaviour) (m n : Answers) (o : Occasion) (id : ℕ) (found : Option FaultValue) (actions : List Action) (w : World) → Fits w → id ≤ length w.records
     → DoesSame m n w (unless_fault id found (acted b m o id actions) w) (unless_fault id found (acted b n o id actions) w)
-unless_same b m n o id (Some e) actions w f = does_itself m n w (broken id e w) (grown_same w f)
-unless_same b m n o id None actions w f = acted_same b m n o id actions w f
+unless_same b m n o id (Some e) actions w f l = does_itself m n w (broken id e w) (grown_same w f)
+unless_same b m n o id None actions w f l = acted_same b m n o id actions w f l
 
 -- a call has the same reply, since the law of reads holds, and the same follows
 called_same : (b : Behaviour) → IsLawful b → (m n : Answers) (id : ℕ) (p : Prompt) (w : World) (found : Option Instance) → Fits w → instance_in id w.modules ≡ found
@@ -224,7 +355,8 @@ called_same b law m n id p w (Some i) f e =
     let asks = ask_all_grows id r.reply.reads v fits l in
     let u : World = ask_all id r.reply.reads v in
     let found = read_fault m w.records id r.reply.reads in
-    let does = unless_same b m n occasion.Event id found r.reply.actions u asks.fits in
+    let more = longer v u asks in
+    let does = unless_same b m n occasion.Event id found r.reply.actions u asks.fits (omega (arith, more, l)) in
     record {
       grows = replied_grows (answered b m occasion.Event id) id r w f (λ u g same. answered_grows b m id r.reply u g (omega (arith, l, ap (λ (rs : List Record). length rs) same)));
       same = λ h.
@@ -261,12 +393,6 @@ rooted_on (answer.Fault path f) = tt
 rooted_on (answer.Beyond beyond) = tt
 rooted_on (answer.Injection next) = tt
 rooted_on answer.Absent = tt
-
--- where so many records are, they are behind a part too
-if_longer : (k : ℕ) (w : World) (fl : Flow) → k ≤ length w.records → IsGrown w (in_flow fl) → IfOn (λ v. k ≤ length v.records) fl
-if_longer k w (On v) l g = omega (arith, l, longer w v g)
-if_longer k w (Stopped v) l g = tt
-if_longer k w (Broken v path f) l g = tt
 
 -- some modules, one after another, each of which is the same
 each_same : (m n : Answers) (part other : ℕ → World → Flow) (k : ℕ) (ids : List ℕ) (w : World) → ((id : ℕ) (v : World) → Fits v → id ≤ length v.records → DoesSame m n v (part id v) (other id v)) → AreUpTo k ids → Fits w → k ≤ length w.records

@@ -1,4 +1,5 @@
 -- The worlds of a run have room for more: an action inserts one event at most.
+pub use Rattle.run_semantics.proofs.Flows.{in_flow, in_flow-of}
 use Rattle.std.proofs.Common.{◌≡◌, ℕ, suc, ◌+◌, ◌≤◌, Bool, true, false, List, [], ◌∷◌, Option, Some, None, refl, sym, ◌∙◌, ap, arith, subst, length, nat_lt, if◌then◌else◌, ℤ}
 use Rattle.std.proofs.lemmas.Bool.Decides.{nat_tests}
 use Rattle.sim_time.specs.Time.{time_sum}
@@ -6,7 +7,9 @@ use Rattle.module_api.specs.Behaviour.{Behaviour, Replied}
 use Rattle.module_api.specs.declared.call.Prompt.{Prompt}
 use Rattle.module_api.specs.declared.reply.Action.{Action}
 use Rattle.module_api.specs.Names.{is_scalar_name}
-use Rattle.module_api.specs.declared.reply.Action.TheVariants.{Emit, RecordScalar, ScheduleAt, ScheduleAfter, Cancel, Fail}
+use Rattle.module_api.specs.declared.reply.Action.TheVariants.{Emit, RecordScalar, Send, SendDelayed, SendDirect, ScheduleAt, ScheduleAfter, Cancel, Fail}
+use Rattle.module_api.specs.declared.message.Outgoing.{Outgoing}
+use Rattle.module_api.specs.Actions.{has_large_payload}
 use Rattle.module_api.specs.declared.reply.Read.{Read}
 use Rattle.module_api.specs.declared.reply.Reply.{Reply}
 use Rattle.module_api.specs.declared.reply.Appointment.{Appointment}
@@ -16,23 +19,12 @@ use Rattle.run_semantics.specs.declared.occasions.Occasion.{Occasion}
 use Rattle.run_semantics.specs.declared.occasions.Occasion.TheVariants as occasion
 use Rattle.run_semantics.specs.declared.outcome.Fault.{Fault}
 use Rattle.run_semantics.specs.declared.outcome.Turn.{Turn}
-use Rattle.run_semantics.specs.declared.outcome.Turn.TheVariants.{GoOn, Stop, Break}
 use Rattle.run_semantics.specs.declared.traces.Instance.{Instance}
 use Rattle.run_semantics.specs.World.{World, asked}
 use Rattle.event_set.specs.Timers.{has_timer}
-use Rattle.run_semantics.specs.Perform.{Flow, flow_of, On, Stopped, Broken, ◌>>=◌, for_each, scheduled_at, scheduled, appointed, deed, is_allowed, act, act_all, ask_all, ask_noted, question_of, acted, read_fault, unless_fault, answered}
+use Rattle.run_semantics.specs.Perform.{Flow, flow_of, On, Stopped, Broken, ◌>>=◌, for_each, scheduled_at, scheduled, appointed, deed, is_allowed, perform, act, act_all, ask_all, ask_noted, question_of, acted, read_fault, unless_fault, answered}
 use Rattle.run_semantics.specs.Event.{call_of, instance_in, changed, called, call_at, call_module}
-
--- the world of a flow
-abbrev pub in_flow : Flow → World
-in_flow (On w) = w
-in_flow (Stopped w) = w
-in_flow (Broken w path f) = w
-
-pub in_flow-of : (turn : Turn) (w : World) → in_flow (flow_of turn w) ≡ w
-in_flow-of GoOn w = refl
-in_flow-of Stop w = refl
-in_flow-of (Break path f) w = refl
+use Rattle.run_semantics.proofs.Sending.{LastsSending, sends, sends_delayed, sends_direct}
 
 -- from the first world to the second: so many insertions at most, and no event more
 pub record Keeps (n : ℕ) (old new : World) : Type 0 where
@@ -78,9 +70,36 @@ deed_keeps id (ScheduleAt a) w = appointed_keeps id a w
 deed_keeps id (ScheduleAfter s) w = scheduled_keeps id s w (time_sum w.clock s.delay)
 deed_keeps id (Cancel timer) w = record { count = refl; next = omega arith }
 deed_keeps id (Fail text) w = keeps_same 1 w
+deed_keeps id (Send gate message) w = keeps_same 1 w
+deed_keeps id (SendDelayed gate message delay) w = keeps_same 1 w
+deed_keeps id (SendDirect place message flight) w = keeps_same 1 w
+
+-- a sending inserts one event at most, at its end
+keeps_last : (message : Outgoing) (u : World) → LastsSending message (λ id rs. Unit {0}) (Keeps 0 u) (Keeps 1 u)
+keeps_last message u = record {
+  weaker = λ w p. let l = p.next in record { count = p.count; next = omega (arith, l) };
+  created = λ w id p e. tt;
+  next = λ w id k n p e f. tt;
+  asked = λ q w p e. record { count = p.count; next = p.next };
+  transmitted = λ ts w p. record { count = p.count; next = p.next };
+  arrived = λ g time w p c e. let l = p.next in record { count = p.count; next = omega (arith, l) };
+}
+
+pub perform_keeps : (b : Behaviour) (m : Answers) (id : ℕ) (action : Action) (w : World) → Keeps 1 w (in_flow (perform b m id action w))
+perform_keeps b m id (Emit signal value) w = deed_keeps id (Emit signal value) w
+perform_keeps b m id (RecordScalar name value) w = deed_keeps id (RecordScalar name value) w
+perform_keeps b m id (Send gate message) w = sends message _ (Keeps 0 w) (Keeps 1 w) (keeps_last message w) m id gate w (keeps_same 0 w) tt
+perform_keeps b m id (SendDelayed gate message delay) w = sends_delayed message _ (Keeps 0 w) (Keeps 1 w) (keeps_last message w) m id gate delay w (keeps_same 0 w) tt
+perform_keeps b m id (SendDirect place message flight) w = sends_direct message _ (Keeps 0 w) (Keeps 1 w) (keeps_last message w) m id place flight w (keeps_same 0 w)
+perform_keeps b m id (ScheduleAt a) w = deed_keeps id (ScheduleAt a) w
+perform_keeps b m id (ScheduleAfter s) w = deed_keeps id (ScheduleAfter s) w
+perform_keeps b m id (Cancel timer) w = deed_keeps id (Cancel timer) w
+perform_keeps b m id (Fail text) w = deed_keeps id (Fail text) w
 
 pub act_keeps : (b : Behaviour) (m : Answers) (o : Occasion) (id : ℕ) (action : Action) (w : World) → Keeps 1 w (in_flow (act b m o id action w))
-act_keeps b m o id action w = either_keeps 1 (is_allowed o action) _ _ w (deed_keeps id action w) (λ e. keeps_same 1 w)
+act_keeps b m o id action w =
+    either_keeps 1 (has_large_payload action) _ _ w (keeps_same 1 w)
+    (λ e. either_keeps 1 (is_allowed o action) _ _ w (perform_keeps b m id action w) (λ f. keeps_same 1 w))
 
 act_all_keeps : (b : Behaviour) (m : Answers) (o : Occasion) (id : ℕ) (actions : List Action) (w : World) → Keeps (length actions) w (in_flow (act_all b m o id actions w))
 act_all_keeps b m o id [] w = keeps_same 0 w

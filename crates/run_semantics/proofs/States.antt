@@ -6,7 +6,9 @@ use Rattle.module_api.specs.Laws.{IsLawful}
 use Rattle.module_api.specs.declared.call.Prompt.{Prompt}
 use Rattle.module_api.specs.declared.call.Prompt.TheVariants as prompt
 use Rattle.module_api.specs.declared.reply.Action.{Action}
-use Rattle.module_api.specs.declared.reply.Action.TheVariants.{Emit, RecordScalar, ScheduleAt, ScheduleAfter, Cancel, Fail}
+use Rattle.module_api.specs.declared.reply.Action.TheVariants.{Emit, RecordScalar, Send, SendDelayed, SendDirect, ScheduleAt, ScheduleAfter, Cancel, Fail}
+use Rattle.module_api.specs.declared.message.Outgoing.{Outgoing}
+use Rattle.module_api.specs.Actions.{has_large_payload}
 use Rattle.module_api.specs.declared.reply.Read.{Read}
 use Rattle.module_api.specs.declared.reply.Reply.{Reply}
 use Rattle.module_api.specs.declared.reply.Appointment.{Appointment}
@@ -24,7 +26,7 @@ use Rattle.run_semantics.specs.declared.outcome.Outcome.{Outcome}
 use Rattle.run_semantics.specs.declared.outcome.Outcome.TheVariants.{Ended, TimeLimit}
 use Rattle.run_semantics.specs.declared.traces.Instance.{Instance}
 use Rattle.run_semantics.specs.World.{World, asked}
-use Rattle.run_semantics.specs.Perform.{Flow, On, Stopped, Broken, ◌>>=◌, broken, for_each, scheduled_at, scheduled, appointed, deed, is_allowed, act, act_all, ask_all, question_of, acted, read_fault, unless_fault, answered}
+use Rattle.run_semantics.specs.Perform.{Flow, On, Stopped, Broken, ◌>>=◌, broken, for_each, scheduled_at, scheduled, appointed, deed, is_allowed, perform, act, act_all, ask_all, question_of, acted, read_fault, unless_fault, answered}
 use Rattle.run_semantics.specs.Event.{call_of, instance_in, with_state, changed, called, call_module, begun, event, message_of}
 use Rattle.run_semantics.specs.Run.{prepared, Part, parts_of, placed, place, place_all, place_parts, ready, stages_in, most_stages, initialize, one_stage, stages_from, started, initialize_all, with_started, Stage, Running, Over, world_at, settled, is_after_limit, went, next_stage, after}
 use Rattle.run_semantics.specs.Laws.{Each, AreStates}
@@ -32,7 +34,8 @@ use Rattle.run_semantics.specs.Subtree.{outer_first}
 use Rattle.run_semantics.specs.Upcoming.{Upcoming, Comes, Nothing, upcoming}
 use Rattle.run_semantics.proofs.Looking.{beside, HasLooked, upcoming_looks}
 use Rattle.run_semantics.proofs.Setting.{IsLasting, stays_in, prepared_stays}
-use Rattle.run_semantics.proofs.Sound.{in_flow}
+use Rattle.run_semantics.proofs.Flows.{in_flow}
+use Rattle.run_semantics.proofs.Sending.{LastsSending, sends, sends_delayed, sends_direct}
 
 -- a module's kind is known, and its state is one of that kind
 record IsAtHome (b : Behaviour) (i : Instance) : Type 0 where
@@ -73,9 +76,33 @@ deed_in b id (ScheduleAt a) w h = appointed_in b id a w h
 deed_in b id (ScheduleAfter s) w h = scheduled_in b id s w (time_sum w.clock s.delay) h
 deed_in b id (Cancel timer) w h = h
 deed_in b id (Fail text) w h = h
+deed_in b id (Send gate message) w h = h
+deed_in b id (SendDelayed gate message delay) w h = h
+deed_in b id (SendDirect place message flight) w h = h
+
+sending_in : (b : Behaviour) (message : Outgoing) → LastsSending message (λ id rs. Unit {0}) (AllIn b) (AllIn b)
+sending_in b message = record {
+  weaker = λ w h. h;
+  created = λ w id h l. tt;
+  next = λ w id k n h l e. tt;
+  asked = λ q w h l. h;
+  transmitted = λ ts w h. h;
+  arrived = λ g time w h c e. h;
+}
+
+perform_in : (b : Behaviour) (m : Answers) (id : ℕ) (action : Action) (w : World) → AllIn b w → AllIn b (in_flow (perform b m id action w))
+perform_in b m id (Emit signal value) w h = deed_in b id (Emit signal value) w h
+perform_in b m id (RecordScalar name value) w h = deed_in b id (RecordScalar name value) w h
+perform_in b m id (Send gate message) w h = sends message _ (AllIn b) (AllIn b) (sending_in b message) m id gate w h tt
+perform_in b m id (SendDelayed gate message delay) w h = sends_delayed message _ (AllIn b) (AllIn b) (sending_in b message) m id gate delay w h tt
+perform_in b m id (SendDirect place message flight) w h = sends_direct message _ (AllIn b) (AllIn b) (sending_in b message) m id place flight w h
+perform_in b m id (ScheduleAt a) w h = deed_in b id (ScheduleAt a) w h
+perform_in b m id (ScheduleAfter s) w h = deed_in b id (ScheduleAfter s) w h
+perform_in b m id (Cancel timer) w h = deed_in b id (Cancel timer) w h
+perform_in b m id (Fail text) w h = deed_in b id (Fail text) w h
 
 act_in : (b : Behaviour) (m : Answers) (o : Occasion) (id : ℕ) (action : Action) (w : World) → AllIn b w → AllIn b (in_flow (act b m o id action w))
-act_in b m o id action w h = either_in b (is_allowed o action) _ _ (deed_in b id action w h) h
+act_in b m o id action w h = either_in b (has_large_payload action) _ _ h (either_in b (is_allowed o action) _ _ (perform_in b m id action w h) h)
 
 act_all_in : (b : Behaviour) (m : Answers) (o : Occasion) (id : ℕ) (actions : List Action) (w : World) → AllIn b w → AllIn b (in_flow (act_all b m o id actions w))
 act_all_in b m o id [] w h = h

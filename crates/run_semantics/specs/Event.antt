@@ -11,7 +11,7 @@ use Rattle.run_questions.specs.declared.answer.Question.TheVariants.{BeyondLimit
 use Rattle.run_questions.specs.Answers.{Answers, gates_of, parameters_of}
 use Rattle.run_questions.specs.Records.{path_of, record_at, index_of}
 use Rattle.event_set.specs.declared.pending.Happening.{Happening}
-use Rattle.event_set.specs.declared.pending.Happening.TheVariants.{Arrival, Timer}
+use Rattle.event_set.specs.declared.pending.Happening.TheVariants.{Arrival, Delivery, Timer}
 use Rattle.event_set.specs.declared.pending.Pending.{Pending}
 use Rattle.run_semantics.specs.declared.occasions.Occasion.{Occasion}
 use Rattle.run_semantics.specs.declared.occasions.Occasion.TheVariants as occasion
@@ -73,6 +73,7 @@ call_module b m id prompt w = call_at b m occasion.Event id prompt w
 abbrev pub message_by : ℤ → Happening → Message
 message_by priority (Timer timer kind) = record { kind = kind; priority = priority; bits = 0; payload = []; origin = origin.Timer timer }
 message_by priority (Arrival kind bits payload) = record { kind = kind; priority = priority; bits = bits; payload = payload; origin = origin.Outside }
+message_by priority (Delivery d) = record { kind = d.kind; priority = priority; bits = d.bits; payload = d.payload; origin = origin.Gate d.gate d.index }
 
 abbrev pub message_of : Pending → Message
 message_of p = message_by p.priority p.what

@@ -1,4 +1,5 @@
 pub mod World
+pub mod Routes
 pub mod Perform
 pub mod Event
 pub mod Subtree
@@ -8,3 +9,4 @@ pub mod Ending
 pub mod Agreement
 pub mod Laws
 pub mod Example
+pub mod Sends

@@ -1,8 +1,19 @@
 -- What a reply leads to.
-use Rattle.std.specs.Prelude.{ℕ, ℤ, ◌+◌, nat_lt, Bool, true, false, List, [], ◌∷◌, ◌++◌, Option, Some, None, if◌then◌else◌, length}
+use Rattle.std.specs.Prelude.{ℕ, ℤ, zero, suc, ◌+◌, nat_lt, Bool, true, false, List, [], ◌∷◌, ◌++◌, Option, Some, None, Result, Ok, Err, if◌then◌else◌, length}
+use Rattle.std.specs.Option.{option_and_then}
 use Rattle.sim_time.specs.Time.{time_sum}
+use Rattle.channels.specs.declared.travels.ChannelFault.{ChannelFault}
+use Rattle.channels.specs.declared.travels.ChannelFault.TheVariants as channel_fault_kind
+use Rattle.channels.specs.declared.travels.Travel.{Travel}
+use Rattle.channels.specs.declared.travels.Travel.TheVariants.{Arrival, Lost}
+use Rattle.channels.specs.Travel.{transmissions, travel}
 use Rattle.module_api.specs.declared.reply.Action.{Action}
-use Rattle.module_api.specs.declared.reply.Action.TheVariants.{Emit, RecordScalar, ScheduleAt, ScheduleAfter, Cancel, Fail}
+use Rattle.module_api.specs.declared.reply.Action.TheVariants.{Emit, RecordScalar, Send, SendDelayed, SendDirect, ScheduleAt, ScheduleAfter, Cancel, Fail}
+use Rattle.module_api.specs.declared.reply.Flight.{Flight}
+use Rattle.module_api.specs.declared.reply.GatePlace.{GatePlace}
+use Rattle.module_api.specs.declared.reply.OwnGate.{OwnGate}
+use Rattle.module_api.specs.declared.message.Outgoing.{Outgoing}
+use Rattle.module_api.specs.Actions.{has_large_payload}
 use Rattle.module_api.specs.declared.reply.Read.{Read}
 use Rattle.module_api.specs.declared.reply.Read.TheVariants as read
 use Rattle.module_api.specs.declared.reply.Reply.{Reply}
@@ -15,7 +26,7 @@ use Rattle.run_questions.specs.declared.answer.Answer.TheVariants as answer
 use Rattle.run_questions.specs.declared.answer.ModelFault.{ModelFault}
 use Rattle.run_questions.specs.declared.answer.ModelFault.TheVariants as model_fault_kind
 use Rattle.run_questions.specs.declared.answer.Question.{Question}
-use Rattle.run_questions.specs.declared.answer.Question.TheVariants.{Param, GateSize}
+use Rattle.run_questions.specs.declared.answer.Question.TheVariants.{Param, GateSize, Hop, HopBack}
 use Rattle.run_questions.specs.Answers.{Answers, answer_of}
 use Rattle.run_questions.specs.declared.record.Record.{Record}
 use Rattle.run_questions.specs.Records.{path_of}
@@ -28,6 +39,10 @@ use Rattle.run_semantics.specs.declared.outcome.Turn.TheVariants.{GoOn, Stop, Br
 use Rattle.event_set.specs.declared.pending.Happening.TheVariants.{Timer}
 use Rattle.event_set.specs.Order.{inserted}
 use Rattle.event_set.specs.Timers.{has_timer, without_timer}
+use Rattle.run_semantics.specs.declared.routes.NextHop.{NextHop}
+use Rattle.run_semantics.specs.declared.routes.PassedHop.{PassedHop}
+use Rattle.run_semantics.specs.declared.routes.PlacedGate.{PlacedGate}
+use Rattle.run_semantics.specs.Routes.{arriving, busy_of, channels_of, hop_by, is_connected, is_in_gate, is_out_gate, is_simple, module_at, transmission_gate, transmitting}
 use Rattle.run_semantics.specs.World.{World, asked}
 
 -- where an event stands: it goes on; the rest of it is discarded; or a fault, told with a path, has ended the run
@@ -116,6 +131,102 @@ deed id (ScheduleAt a) w = appointed id a w
 deed id (ScheduleAfter s) w = scheduled id s w (time_sum w.clock s.delay)
 deed id (Cancel timer) w = On (with_cancelled id timer w)
 deed id (Fail text) w = broken id (fault.ModuleFailed text) w
+-- what is sent asks of gates: it is no deed
+deed id (Send gate message) w = On w
+deed id (SendDelayed gate message delay) w = On w
+deed id (SendDirect place message flight) w = On w
+
+-- ---- sending: the module of that id sends, and its path is told with a fault
+
+-- the fault of a message on its channels
+abbrev pub channel_fault : ChannelFault → Fault
+channel_fault channel_fault_kind.Busy = fault.Busy
+channel_fault channel_fault_kind.TwoTransmissionChannels = fault.TwoTransmissionChannels
+channel_fault channel_fault_kind.TimeOverflow = fault.TimeOverflow
+
+-- THE NEXT HOP from a gate is asked
+abbrev pub next_hop : Answers → PlacedGate → (Option NextHop → World → Flow) → World → Flow
+next_hop m g next w = asking m (Hop g.id g.name g.index) (λ a v. next (hop_by v.records g.id a) v) w
+
+-- no more hops are allowed
+abbrev pub past_last : ℕ → Option NextHop → World → Flow
+past_last id None w = broken id fault.NotConnected w
+past_last id (Some h) w = broken id fault.TooManyHops w
+
+-- the hops that were passed, with the one from that gate
+abbrev pub with_hop : List PassedHop → PlacedGate → NextHop → List PassedHop
+with_hop passed g h = passed ++ record { from = g; channel = h.channel } ∷ []
+
+-- behind a hop: at a simple module the chain ends
+abbrev pub after_hop : ℕ → (PlacedGate → List PassedHop → World → Flow) → (List PassedHop → PlacedGate → World → Flow) → PlacedGate → List PassedHop → Option NextHop → World → Flow
+after_hop id further reached g passed None w = broken id fault.NotConnected w
+after_hop id further reached g passed (Some h) w =
+    if is_simple w.records h.to.id then reached (with_hop passed g h) h.to w else further h.to (with_hop passed g h) w
+
+-- THE CHAIN OF HOPS from a gate to a simple module, of at most so many hops more, and what is done where it is reached. Where no hop more is allowed it is asked for one
+-- still: so it is known whether there are too many, or none.
+abbrev pub chain : Answers → ℕ → (List PassedHop → PlacedGate → World → Flow) → ℕ → PlacedGate → List PassedHop → World → Flow
+chain m id reached zero g passed w = next_hop m g (past_last id) w
+chain m id reached (suc left) g passed w = next_hop m g (after_hop id (chain m id reached left) reached g passed) w
+
+-- how many hops a chain has at most
+unfoldable pub most_hops : ℕ
+most_hops = 1000
+
+-- what becomes of a message on its way: the transmission, where there was one, is now the last one of its gate, and the arrival is one of the events to come
+abbrev pub completed : Outgoing → Option PlacedGate → PlacedGate → World → Travel → World
+completed message from end w (Lost until) = transmitting from until w
+completed message from end w (Arrival time until) = arriving end message time (transmitting from until w)
+
+abbrev pub travelled : ℕ → Outgoing → Option PlacedGate → PlacedGate → World → Result Travel ChannelFault → Flow
+travelled id message from end w (Err f) = broken id (channel_fault f) w
+travelled id message from end w (Ok found) = On (completed message from end w found)
+
+-- a message departs over these hops, where its departure is a time
+abbrev pub sent_over : ℕ → Outgoing → Option ℕ → List PassedHop → PlacedGate → World → Flow
+sent_over id message (Some departure) hops end w =
+    travelled id message (transmission_gate hops) end w (travel (channels_of hops) departure message.bits (busy_of (transmission_gate hops) w.transmissions))
+sent_over id message None hops end w =
+    broken id (if nat_lt 1 (transmissions (channels_of hops)) then fault.TwoTransmissionChannels else fault.TimeOverflow) w
+
+-- a gate was asked about: a message goes out through it, if it is there and of that direction
+abbrev pub sent_through : Answers → ℕ → PlacedGate → Outgoing → Option ℕ → Answer → World → Flow
+sent_through m id g message departure a w =
+    if is_out_gate a g.index then chain m id (sent_over id message departure) most_hops g [] w else broken id fault.NoGate w
+
+-- A MESSAGE IS SENT through a gate of the module's own (OMNeT++ Simulation Manual, "Sending Messages")
+abbrev pub sent : Answers → ℕ → OwnGate → Outgoing → Option ℕ → World → Flow
+sent m id gate message departure w =
+    asking m (GateSize id gate.name) (sent_through m id (record { id = id; name = gate.name; index = gate.index }) message departure) w
+
+-- a message is at a gate at that time: it arrives, or goes on inside of a compound module
+abbrev pub entering : Answers → ℕ → Outgoing → PlacedGate → Option ℕ → World → Flow
+entering m id message g None w = broken id fault.TimeOverflow w
+entering m id message g (Some time) w =
+    if is_simple w.records g.id then On (arriving g message time w) else chain m id (sent_over id message (Some time)) most_hops g [] w
+
+-- when a message that goes directly to a gate is there
+abbrev pub flight_end : ℕ → Flight → Option ℕ
+flight_end clock flight = option_and_then (λ time. time_sum time flight.duration) (time_sum clock flight.delay)
+
+-- it was asked what is connected to the gate from outside: nothing may be
+abbrev pub entered : Answers → ℕ → PlacedGate → Outgoing → Flight → Answer → World → Flow
+entered m id g message flight a w =
+    if is_connected a then broken id fault.AlreadyConnected w else entering m id message g (flight_end w.clock flight) w
+
+-- a gate was asked about: a message comes in through it, if it is there and of that direction
+abbrev pub sent_into : Answers → ℕ → PlacedGate → Outgoing → Flight → Answer → World → Flow
+sent_into m id g message flight a w =
+    if is_in_gate a g.index then asking m (HopBack g.id g.name g.index) (entered m id g message flight) w else broken id fault.NoGate w
+
+abbrev pub sent_to : Answers → ℕ → GatePlace → Outgoing → Flight → World → Option ℕ → Flow
+sent_to m id place message flight w None = broken id fault.NoModule w
+sent_to m id place message flight w (Some target) =
+    asking m (GateSize target place.name) (sent_into m id (record { id = target; name = place.name; index = place.index }) message flight) w
+
+-- A MESSAGE IS SENT DIRECTLY to a gate of a module (OMNeT++ Simulation Manual, "Direct Message Sending")
+abbrev pub sent_direct : Answers → ℕ → GatePlace → Outgoing → Flight → World → Flow
+sent_direct m id place message flight w = sent_to m id place message flight w (module_at place.path w)
 
 -- ---- reads
 
@@ -170,12 +281,23 @@ read_fault m records id (r ∷ rs) =
 
 -- ONE ACTION of the module of that id, in a catalogue and with what its model answers
 abbrev pub perform : Behaviour → Answers → ℕ → Action → World → Flow
-perform b m id action w = deed id action w
+perform b m id (Emit signal value) w = deed id (Emit signal value) w
+perform b m id (RecordScalar name value) w = deed id (RecordScalar name value) w
+perform b m id (Send gate message) w = sent m id gate message (Some w.clock) w
+perform b m id (SendDelayed gate message delay) w = sent m id gate message (time_sum w.clock delay) w
+perform b m id (SendDirect place message flight) w = sent_direct m id place message flight w
+perform b m id (ScheduleAt a) w = deed id (ScheduleAt a) w
+perform b m id (ScheduleAfter s) w = deed id (ScheduleAfter s) w
+perform b m id (Cancel timer) w = deed id (Cancel timer) w
+perform b m id (Fail text) w = deed id (Fail text) w
 
 -- whether an action is for a reply to the end
 abbrev pub is_last_action : Action → Bool
 is_last_action (Emit signal value) = true
 is_last_action (RecordScalar name value) = true
+is_last_action (Send gate message) = false
+is_last_action (SendDelayed gate message delay) = false
+is_last_action (SendDirect place message flight) = false
 is_last_action (ScheduleAt a) = false
 is_last_action (ScheduleAfter s) = false
 is_last_action (Cancel timer) = true
@@ -186,9 +308,11 @@ abbrev pub is_allowed : Occasion → Action → Bool
 is_allowed occasion.Event action = true
 is_allowed occasion.End action = is_last_action action
 
--- an action of a reply, where it may have that
+-- an action of a reply, where it may have that. A payload that is too large is told before any other fault.
 abbrev pub act : Behaviour → Answers → Occasion → ℕ → Action → World → Flow
-act b m o id action w = if is_allowed o action then perform b m id action w else broken id fault.NotInFinish w
+act b m o id action w =
+    if has_large_payload action then broken id fault.PayloadTooLarge w
+    else (if is_allowed o action then perform b m id action w else broken id fault.NotInFinish w)
 
 -- its actions, in order
 abbrev pub act_all : Behaviour → Answers → Occasion → ℕ → List Action → World → Flow

@@ -7,6 +7,7 @@ use Rattle.injection_order.specs.declared.injection.Turn.{Turn}
 use Rattle.run_questions.specs.declared.record.Record.{Record}
 use Rattle.run_questions.specs.Questions.{same_question}
 use Rattle.event_set.specs.declared.pending.Pending.{Pending}
+use Rattle.run_semantics.specs.declared.routes.Transmission.{Transmission}
 use Rattle.run_semantics.specs.declared.traces.Emission.{Emission}
 use Rattle.run_semantics.specs.declared.traces.Instance.{Instance}
 use Rattle.run_semantics.specs.declared.traces.Scalar.{Scalar}
@@ -14,8 +15,8 @@ use Rattle.run_semantics.specs.declared.traces.Scalar.{Scalar}
 -- A world: the clock; how many events were executed; the records of the modules that were created, and the ids of those
 -- that live; the simple modules with their states, by rising id; the ids of the modules that were started, and of those
 -- that were finished; the events to come, in order, and the number of the next one that is inserted; whether the end was
--- asked for; which injection was delivered last, and with it all that go before it; what was emitted; the scalars that modules
--- recorded; what was asked of the model, each question with the first event that asked it.
+-- asked for; which injection was delivered last, and with it all that go before it; the last transmission that began at each gate; what was emitted;
+-- the scalars that modules recorded; what was asked of the model, each question with the first event that asked it.
 pub record World : Type 0 where
   pub clock : ℕ
   pub count : ℕ
@@ -28,6 +29,7 @@ pub record World : Type 0 where
   pub next : ℕ
   pub ended : Bool
   pub delivered : Option Turn
+  pub transmissions : List Transmission
   pub emissions : List Emission
   pub scalars : List Scalar
   pub questions : List Asked
@@ -46,6 +48,7 @@ empty = record {
   next = 0;
   ended = false;
   delivered = None;
+  transmissions = [];
   emissions = [];
   scalars = [];
   questions = [];

@@ -11,6 +11,7 @@ ghost use Rattle.run_semantics.specs.Agreement.{Agrees, AgreesUpTo, questions_of
 ghost use Rattle.run_semantics.specs.Ending.{ending};
 ghost use Rattle.run_semantics.specs.Event.{instance_in};
 ghost use Rattle.run_semantics.specs.Example.{ExampleNests};
+ghost use Rattle.run_semantics.specs.Sends.{ExampleSends};
 ghost use Rattle.run_semantics.specs.Laws.{Each, AreInOrder, AreInTurn, HaveOwnNumbers, HasGrown, GoesOn, CanBeCalled, HasEnded, AreFrom, AreStates, IsBounded, gone_on, noted_all};
 ghost use Rattle.run_semantics.specs.Upcoming.{Nothing, upcoming};
 ghost use Rattle.run_semantics.specs.World.{World};
@@ -207,4 +208,10 @@ pub fn noting_once_is_enough()
 /// A network with compound modules, worked by hand: its setup, and the orders of its calls and of its end.
 pub fn nested_example()
     ensures { ExampleNests }
+{}
+
+/// Messages that are sent in a network of two modules, one of them inside of a compound module, worked by hand: over channels, at a busy one, to
+/// nobody, and directly.
+pub fn sending_example()
+    ensures { (b : Behaviour) → ExampleSends b }
 {}

@@ -4,5 +4,6 @@
 pub mod laws;
 pub mod occasions;
 pub mod outcome;
+pub mod routes;
 pub mod signals;
 pub mod traces;

@@ -32,7 +32,11 @@ fn is_last_action(action: &Action) -> bool
         Action::Cancel(_) | Action::Emit(_, _) | Action::RecordScalar(_, _) | Action::Fail(_) => {
             true
         }
-        Action::ScheduleAt(_) | Action::ScheduleAfter(_) => false,
+        Action::Send(_, _)
+        | Action::SendDelayed(_, _, _)
+        | Action::SendDirect(_, _, _)
+        | Action::ScheduleAt(_)
+        | Action::ScheduleAfter(_) => false,
     }
 }
 

@@ -1,9 +1,10 @@
 //! How a run ends.
 
 ghost use Rattle.std.specs.Prelude.{◌≡◌, IfOk};
-ghost use Rattle.run_semantics.specs.Perform.{model_fault};
+ghost use Rattle.run_semantics.specs.Perform.{channel_fault, model_fault};
 ghost use Rattle.run_semantics.specs.Run.{is_fault};
 
+use channels::travels::ChannelFault;
 use run_questions::answer::ModelFault;
 use sim_values::text::Text;
 use std::alloc::{AllocError, Global};
@@ -28,7 +29,7 @@ pub enum Fault {
     Mismatch,
     /// A gate's index is out of range, no gate is free, or the size of a gate vector is outside 0 to 65,536.
     GateSize,
-    /// A gate is used by two connections.
+    /// A gate is used by two connections, or a message is sent directly to one that is connected.
     AlreadyConnected,
     /// A gate that has to be connected isn't.
     Unconnected,
@@ -42,8 +43,9 @@ pub enum Fault {
     UnknownClass,
     /// A reply read a parameter that the module doesn't have.
     NoParameter,
-    /// A reply read a gate that the module doesn't have; or a connection names a submodule or a gate that isn't there, or a gate of
-    /// another direction, or one by an index that is no vector, or a vector without one.
+    /// A reply read a gate that the module doesn't have, or sends a message through one that isn't there or has another direction; or a
+    /// connection names a submodule or a gate that isn't there, or a gate of another direction, or one by an index that is no vector, or
+    /// a vector without one.
     NoGate,
     /// A reply has more than 1,000 actions.
     TooManyActions,
@@ -53,6 +55,18 @@ pub enum Fault {
     BadName,
     /// A time is above the greatest time.
     TimeOverflow,
+    /// A message's gate leads to no module that could receive it.
+    NotConnected,
+    /// A message would take more than 1,000 hops.
+    TooManyHops,
+    /// More than one channel of a message's way models how long a transmission takes.
+    TwoTransmissionChannels,
+    /// An earlier transmission goes on as a message reaches the channel.
+    Busy,
+    /// No module has that path.
+    NoModule,
+    /// A payload has more than 4,096 bytes.
+    PayloadTooLarge,
     /// A timer is to be set at a time before now.
     Past,
     /// The timer is pending already.
@@ -108,6 +122,17 @@ pub fn fault_of(fault: ModelFault) -> Fault
     }
 }
 
+/// The fault of a message on its channels.
+pub fn fault_on_way(fault: ChannelFault) -> Fault
+    ensures { result ≡ channel_fault fault }
+{
+    match fault {
+        ChannelFault::Busy => Fault::Busy,
+        ChannelFault::TwoTransmissionChannels => Fault::TwoTransmissionChannels,
+        ChannelFault::TimeOverflow => Fault::TimeOverflow,
+    }
+}
+
 impl Fault {
     /// An equal fault.
     pub fn copy(&self, alloc: Global) -> Result<Fault, AllocError>
@@ -134,6 +159,12 @@ impl Fault {
             Fault::NotInFinish => Fault::NotInFinish,
             Fault::BadName => Fault::BadName,
             Fault::TimeOverflow => Fault::TimeOverflow,
+            Fault::NotConnected => Fault::NotConnected,
+            Fault::TooManyHops => Fault::TooManyHops,
+            Fault::TwoTransmissionChannels => Fault::TwoTransmissionChannels,
+            Fault::Busy => Fault::Busy,
+            Fault::NoModule => Fault::NoModule,
+            Fault::PayloadTooLarge => Fault::PayloadTooLarge,
             Fault::Past => Fault::Past,
             Fault::AlreadyScheduled => Fault::AlreadyScheduled,
             Fault::ModuleFailed(text) => Fault::ModuleFailed(text.copy(alloc)?),

@@ -1,0 +1,172 @@
+-- Ways of messages through gates (OMNeT++ Simulation Manual, "Gates" and "Connections").
+use Rattle.std.specs.Prelude.{ℕ, ◌+◌, suc, ◌==◌, nat_lt, Bool, true, false, ◌&&◌, bytes_eq, is_some, List, [], ◌∷◌, ◌++◌, Option, Some, None, map, slice_set, if◌then◌else◌}
+use Rattle.std.specs.List.{list_any}
+use Rattle.channels.specs.Travel.{is_transmission}
+use Rattle.module_api.specs.declared.call.Direction.{Direction}
+use Rattle.module_api.specs.declared.call.Direction.TheVariants.{Input, Output, Inout}
+use Rattle.module_api.specs.declared.message.Outgoing.{Outgoing}
+use Rattle.event_set.specs.declared.pending.Happening.{Happening}
+use Rattle.event_set.specs.declared.pending.Happening.TheVariants.{Delivery}
+use Rattle.event_set.specs.declared.pending.Pending.{Pending}
+use Rattle.event_set.specs.Order.{inserted}
+use Rattle.run_questions.specs.declared.answer.Answer.{Answer}
+use Rattle.run_questions.specs.declared.answer.Answer.TheVariants as answer
+use Rattle.run_questions.specs.declared.answer.Channel.{Channel}
+use Rattle.run_questions.specs.declared.answer.NextGate.{NextGate}
+use Rattle.run_questions.specs.declared.record.Record.{Record}
+use Rattle.run_questions.specs.Hops.{neighbour_id}
+use Rattle.run_questions.specs.Records.{path_of, record_at}
+use Rattle.run_semantics.specs.declared.routes.NextHop.{NextHop}
+use Rattle.run_semantics.specs.declared.routes.PassedHop.{PassedHop}
+use Rattle.run_semantics.specs.declared.routes.PlacedGate.{PlacedGate}
+use Rattle.run_semantics.specs.declared.routes.Transmission.{Transmission}
+use Rattle.run_semantics.specs.World.{World}
+
+-- ---- gates
+
+abbrev pub is_output : Direction → Bool
+is_output Input = false
+is_output Output = true
+is_output Inout = false
+
+-- whether the answer is of a gate, or a half of one, through which messages go out, and which has that index
+abbrev pub is_out_gate : Answer → ℕ → Bool
+is_out_gate (answer.Gate g) index = is_output g.direction && nat_lt index g.size
+is_out_gate (answer.Root name) index = false
+is_out_gate (answer.Inside bs) index = false
+is_out_gate (answer.Value v) index = false
+is_out_gate (answer.Next next) index = false
+is_out_gate (answer.Fault path f) index = false
+is_out_gate (answer.Beyond beyond) index = false
+is_out_gate (answer.Injection i) index = false
+is_out_gate answer.Absent index = false
+
+abbrev pub is_input : Direction → Bool
+is_input Input = true
+is_input Output = false
+is_input Inout = false
+
+-- the same, of a gate through which messages come in
+abbrev pub is_in_gate : Answer → ℕ → Bool
+is_in_gate (answer.Gate g) index = is_input g.direction && nat_lt index g.size
+is_in_gate (answer.Root name) index = false
+is_in_gate (answer.Inside bs) index = false
+is_in_gate (answer.Value v) index = false
+is_in_gate (answer.Next next) index = false
+is_in_gate (answer.Fault path f) index = false
+is_in_gate (answer.Beyond beyond) index = false
+is_in_gate (answer.Injection i) index = false
+is_in_gate answer.Absent index = false
+
+-- whether the answer is that something is connected
+abbrev pub is_connected : Answer → Bool
+is_connected (answer.Next next) = is_some next
+is_connected (answer.Root name) = false
+is_connected (answer.Inside bs) = false
+is_connected (answer.Value v) = false
+is_connected (answer.Gate g) = false
+is_connected (answer.Fault path f) = false
+is_connected (answer.Beyond beyond) = false
+is_connected (answer.Injection i) = false
+is_connected answer.Absent = false
+
+-- whether the module of that id lives, and has that path
+abbrev pub is_at : List ℕ → World → ℕ → Bool
+is_at path w id = bytes_eq (path_of w.records id) path && list_any (λ n. n == id) w.live
+
+abbrev pub first_from : (ℕ → Bool) → ℕ → List Record → Option ℕ
+first_from is_wanted id [] = None
+first_from is_wanted id (r ∷ rs) = if is_wanted id then Some id else first_from is_wanted (suc id) rs
+
+-- the module of that path that lives, where there is one
+abbrev pub module_at : List ℕ → World → Option ℕ
+module_at path w = first_from (is_at path w) 1 w.records
+
+-- ---- hops
+
+abbrev pub has_class : Option Record → Bool
+has_class None = false
+has_class (Some r) = is_some r.class
+
+-- whether the module of that id is a simple one
+abbrev pub is_simple : List Record → ℕ → Bool
+is_simple records id = has_class (record_at records id)
+
+abbrev pub next_by : NextGate → Option ℕ → Option NextHop
+next_by next None = None
+next_by next (Some id) = Some (record { to = record { id = id; name = next.gate; index = next.index }; channel = next.channel })
+
+abbrev pub leading_to : List Record → ℕ → Option NextGate → Option NextHop
+leading_to records id None = None
+leading_to records id (Some next) = next_by next (neighbour_id records id next.neighbour)
+
+-- where a hop from a gate of the module of that id leads, as was answered
+abbrev pub hop_by : List Record → ℕ → Answer → Option NextHop
+hop_by records id (answer.Next next) = leading_to records id next
+hop_by records id (answer.Root name) = None
+hop_by records id (answer.Inside bs) = None
+hop_by records id (answer.Value v) = None
+hop_by records id (answer.Gate g) = None
+hop_by records id (answer.Fault path f) = None
+hop_by records id (answer.Beyond beyond) = None
+hop_by records id (answer.Injection i) = None
+hop_by records id answer.Absent = None
+
+-- the channels on the way
+abbrev pub channels_of : List PassedHop → List Channel
+channels_of hops = map (λ (h : PassedHop). h.channel) hops
+
+-- the gate where the transmission of a message begins, where there is one
+abbrev pub transmission_gate : List PassedHop → Option PlacedGate
+transmission_gate [] = None
+transmission_gate (h ∷ hs) = if is_transmission h.channel then Some h.from else transmission_gate hs
+
+-- ---- transmissions
+
+abbrev pub is_gate : PlacedGate → PlacedGate → Bool
+is_gate a b = (a.id == b.id) && ((a.index == b.index) && bytes_eq a.name b.name)
+
+-- when the last transmission that began at a gate ends
+abbrev pub busy_at : PlacedGate → List Transmission → Option ℕ
+busy_at g [] = None
+busy_at g (t ∷ ts) = if is_gate t.gate g then Some t.end else busy_at g ts
+
+abbrev pub busy_of : Option PlacedGate → List Transmission → Option ℕ
+busy_of None ts = None
+busy_of (Some g) ts = busy_at g ts
+
+abbrev pub place_from : ℕ → PlacedGate → List Transmission → Option ℕ
+place_from n g [] = None
+place_from n g (t ∷ ts) = if is_gate t.gate g then Some n else place_from (suc n) g ts
+
+-- which of these transmissions began at a gate
+abbrev pub place_of : PlacedGate → List Transmission → Option ℕ
+place_of g ts = place_from 0 g ts
+
+abbrev pub put_at : Option ℕ → Transmission → List Transmission → List Transmission
+put_at None t ts = ts ++ t ∷ []
+put_at (Some place) t ts = slice_set ts place t
+
+-- with this transmission in the place of the last one at its gate
+abbrev pub with_transmission : Transmission → List Transmission → List Transmission
+with_transmission t ts = put_at (place_of t.gate ts) t ts
+
+-- a transmission that began at that gate ends then, where there is one
+abbrev pub transmitting : Option PlacedGate → Option ℕ → World → World
+transmitting (Some g) (Some end) w = record w { transmissions = with_transmission (record { gate = g; end = end }) w.transmissions }
+transmitting (Some g) None w = w
+transmitting None end w = w
+
+-- ---- arrivals
+
+-- the message as it is known at the gate at which it arrives
+abbrev pub delivery_at : PlacedGate → Outgoing → Happening
+delivery_at g message = Delivery (record { kind = message.kind; bits = message.bits; payload = message.payload; gate = g.name; index = g.index })
+
+-- the event that a message becomes as it arrives at a gate at that time, with the message's own priority
+abbrev pub arriving_at : PlacedGate → Outgoing → ℕ → ℕ → Pending
+arriving_at g message time number = record { time = time; priority = message.priority; number = number; id = g.id; what = delivery_at g message }
+
+-- a message is to arrive at a gate at that time
+abbrev pub arriving : PlacedGate → Outgoing → ℕ → World → World
+arriving g message time w = record w { pending = inserted (arriving_at g message time w.next) w.pending; next = w.next + 1 }

@@ -1,0 +1,244 @@
+//! Ways of messages through gates.
+
+ghost use Rattle.std.specs.Prelude.{◌≡◌, ◌<◌, ◌^◌, IfOk, IfSome, length};
+ghost use Rattle.run_questions.specs.Hops.{neighbour_id};
+ghost use Rattle.run_semantics.specs.Routes.{is_output, is_out_gate, is_input, is_in_gate, is_connected, is_simple, hop_by, next_by, is_gate, place_of, busy_at, busy_of, channels_of, transmission_gate};
+
+use channels::is_transmission;
+use module_api::call::Direction;
+use run_questions::answer::{Answer, Channel, NextGate};
+use run_questions::hops::neighbour_id;
+use run_questions::record::{Record, record_at};
+use sim_time::SimTime;
+use sim_values::text::Text;
+use sqlite_items::Items;
+use std::alloc::{AllocError, Global};
+
+/// A gate of a module that was created.
+#[derive(Drop)]
+pub struct PlacedGate {
+    pub id: u32,
+    /// The gate's name; that of a half has its mark, as `port$o`.
+    pub name: Text,
+    /// Its place in its vector, 0 of a scalar gate.
+    pub index: u32,
+}
+
+/// A hop that a message takes: the gate that it leaves, and the channel on the way to the next one.
+#[derive(Drop)]
+pub struct PassedHop {
+    pub from: PlacedGate,
+    pub channel: Channel,
+}
+
+/// Where a hop leads, and the channel on the way.
+#[derive(Drop)]
+pub struct NextHop {
+    pub to: PlacedGate,
+    pub channel: Channel,
+}
+
+/// The last transmission that began at a gate.
+#[derive(Drop)]
+pub struct Transmission {
+    pub gate: PlacedGate,
+    /// When it ends.
+    pub end: SimTime,
+}
+
+impl PlacedGate {
+    /// An equal one.
+    pub fn copy(&self, alloc: Global) -> Result<PlacedGate, AllocError>
+        ensures { IfOk result (λ copy. copy ≡ self.now) }
+    {
+        Ok(PlacedGate {
+            id: self.id,
+            name: self.name.copy(alloc)?,
+            index: self.index,
+        })
+    }
+}
+
+impl Transmission {
+    /// An equal one.
+    pub fn copy(&self, alloc: Global) -> Result<Transmission, AllocError>
+        ensures { IfOk result (λ copy. copy ≡ self.now) }
+    {
+        Ok(Transmission {
+            gate: self.gate.copy(alloc)?,
+            end: self.end,
+        })
+    }
+}
+
+/// Equal transmissions, in their order.
+pub fn copy_transmissions(
+    alloc: Global,
+    transmissions: &[Transmission],
+) -> Result<Items<Transmission>, AllocError>
+    ensures { IfOk result (λ copies. copies ≡ transmissions.now) }
+{
+    let mut copies = Items::new(alloc);
+    for transmission in transmissions {
+        copies.push(transmission.copy(alloc)?)?;
+    }
+    Ok(copies)
+}
+
+/// Whether messages go out through a gate of that direction.
+fn is_output(direction: Direction) -> bool
+    ensures { result ≡ is_output direction }
+{
+    match direction {
+        Direction::Output => true,
+        Direction::Input | Direction::Inout => false,
+    }
+}
+
+/// Whether the answer is of a gate, or a half of one, through which messages go out, and which has that index.
+pub fn is_out_gate(answer: &Answer, index: u32) -> bool
+    ensures { result ≡ is_out_gate answer.now index }
+{
+    match answer {
+        Answer::Gate(gate) => is_output(gate.direction) && index < gate.size,
+        _ => false,
+    }
+}
+
+/// Whether messages come in through a gate of that direction.
+fn is_input(direction: Direction) -> bool
+    ensures { result ≡ is_input direction }
+{
+    match direction {
+        Direction::Input => true,
+        Direction::Output | Direction::Inout => false,
+    }
+}
+
+/// Whether the answer is of a gate, or a half of one, through which messages come in, and which has that index.
+pub fn is_in_gate(answer: &Answer, index: u32) -> bool
+    ensures { result ≡ is_in_gate answer.now index }
+{
+    match answer {
+        Answer::Gate(gate) => is_input(gate.direction) && index < gate.size,
+        _ => false,
+    }
+}
+
+/// Whether the answer is that something is connected.
+pub fn is_connected(answer: &Answer) -> bool
+    ensures { result ≡ is_connected answer.now }
+{
+    match answer {
+        Answer::Next(next) => next.is_some(),
+        _ => false,
+    }
+}
+
+/// Whether the module of that id is a simple one.
+pub fn is_simple(records: &[Record], id: u32) -> bool
+    ensures { result ≡ is_simple records.now id }
+{
+    match record_at(records, id) {
+        Some(record) => record.class.is_some(),
+        None => false,
+    }
+}
+
+/// Where a hop from a gate of the module of that id leads, as was answered.
+pub fn hop_by(records: &[Record], id: u32, answer: Answer) -> Option<NextHop>
+    requires { length records.now < 2 ^ 32 }
+    ensures { result ≡ hop_by records.now id answer }
+{
+    match answer {
+        Answer::Next(Some(next)) => leading_to(records, id, next),
+        _ => None,
+    }
+}
+
+/// The gate of that module that is named, where the module is there.
+fn leading_to(records: &[Record], id: u32, next: NextGate) -> Option<NextHop>
+    requires { length records.now < 2 ^ 32 }
+    ensures { result ≡ next_by next (neighbour_id records.now id next.neighbour) }
+{
+    let NextGate {
+        neighbour,
+        gate,
+        index,
+        channel,
+    } = next;
+    let to = PlacedGate {
+        id: neighbour_id(records, id, &neighbour)?,
+        name: gate,
+        index,
+    };
+    Some(NextHop { to, channel })
+}
+
+/// Whether both are the same gate.
+fn is_gate(a: &PlacedGate, b: &PlacedGate) -> bool
+    ensures { result ≡ is_gate a.now b.now }
+{
+    a.id == b.id && (a.index == b.index && a.name.is(b.name.as_bytes()))
+}
+
+/// Which of these transmissions began at a gate.
+pub fn place_of(gate: &PlacedGate, transmissions: &[Transmission]) -> Option<usize>
+    ensures place { result ≡ place_of gate.now transmissions.now }
+    ensures within { IfSome result (λ place. place < length transmissions.now) }
+{
+    for (position, transmission) in transmissions.iter().enumerate() {
+        if is_gate(&transmission.gate, gate) {
+            return Some(position);
+        }
+    }
+    None
+}
+
+/// When the last transmission that began at a gate ends, where there was one.
+fn busy_at(gate: &PlacedGate, transmissions: &[Transmission]) -> Option<SimTime>
+    ensures { result ≡ busy_at gate.now transmissions.now }
+{
+    for transmission in transmissions {
+        if is_gate(&transmission.gate, gate) {
+            return Some(transmission.end);
+        }
+    }
+    None
+}
+
+/// The same, of a gate if there is one.
+pub fn busy_of(gate: &Option<PlacedGate>, transmissions: &[Transmission]) -> Option<SimTime>
+    ensures { result ≡ busy_of gate.now transmissions.now }
+{
+    match gate {
+        Some(gate) => busy_at(gate, transmissions),
+        None => None,
+    }
+}
+
+/// The channels on the way.
+pub fn channels_of(alloc: Global, hops: &[PassedHop]) -> Result<Items<Channel>, AllocError>
+    ensures { IfOk result (λ channels. channels ≡ channels_of hops.now) }
+{
+    let mut channels = Items::new(alloc);
+    for hop in hops {
+        channels.push(hop.channel)?;
+    }
+    Ok(channels)
+}
+
+/// The gate where the transmission of a message begins, where there is one.
+pub fn transmission_gate(
+    alloc: Global,
+    hops: &[PassedHop],
+) -> Result<Option<PlacedGate>, AllocError>
+    ensures { IfOk result (λ gate. gate ≡ transmission_gate hops.now) }
+{
+    for hop in hops {
+        if is_transmission(&hop.channel) {
+            return Ok(Some(hop.from.copy(alloc)?));
+        }
+    }
+    Ok(None)
+}
