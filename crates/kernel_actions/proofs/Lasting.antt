@@ -5,7 +5,7 @@ use Rattle.std.proofs.Math.Seq.{drop-cons}
 use Rattle.sim_values.specs.declared.NoMemory.{NoMemory}
 use Rattle.sim_time.specs.Time.{time_sum}
 use Rattle.module_api.specs.declared.reply.Action.{Action}
-use Rattle.module_api.specs.declared.reply.Action.TheVariants.{Emit, RecordScalar, ScheduleAt, ScheduleAfter, Cancel, Fail}
+use Rattle.module_api.specs.declared.reply.Action.TheVariants.{Emit, RecordScalar, Send, SendDelayed, SendDirect, ScheduleAt, ScheduleAfter, Cancel, Fail}
 use Rattle.module_api.specs.declared.reply.Appointment.{Appointment}
 use Rattle.module_api.specs.declared.reply.Schedule.{Schedule}
 use Rattle.module_api.specs.Names.{is_scalar_name}
@@ -93,6 +93,9 @@ deed_grows id (Cancel timer) w = record {
   questions = on_same w.questions;
 }
 deed_grows id (Fail text) w = growth_same w
+deed_grows id (Send gate message) w = growth_same w
+deed_grows id (SendDelayed gate message delay) w = growth_same w
+deed_grows id (SendDirect place message flight) w = growth_same w
 
 -- what a flow leaves, by what the code says of it
 pub flow_grows : (turn : Turn) (w v : World) (fl : Flow) → IsGrownFrom w (in_flow fl) → flow_of turn v ≡ fl → IsGrownFrom w v

@@ -26,6 +26,7 @@ position_of w = record {
   coming = record { list = w.pending; next = w.next };
   ended = w.ended;
   delivered = w.delivered;
+  transmissions = w.transmissions;
   modules = w.modules;
 }
 
@@ -38,6 +39,7 @@ world_with p w = record w {
   next = p.coming.next;
   ended = p.ended;
   delivered = p.delivered;
+  transmissions = p.transmissions;
 }
 
 -- with the lists cut that only grow

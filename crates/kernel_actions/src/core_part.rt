@@ -5,6 +5,7 @@ ghost use Rattle.run_questions.specs.Questions.{is_of_modules};
 ghost use Rattle.question_log.specs.Entries.{noted_in};
 ghost use Rattle.run_semantics.specs.World.{empty, asked, timed};
 ghost use Rattle.run_semantics.specs.Perform.{flow_of, deed, scheduled_at, ask_all, ask_noted, question_of, broken};
+ghost use Rattle.run_semantics.specs.Routes.{arriving, is_at, module_at, transmitting};
 ghost use Rattle.run_semantics.specs.Ending.{with_finished};
 ghost use Rattle.kernel_actions.specs.Upcoming.{asked_in, first_is_beyond, looked, with_injection_asked, upcoming_of, Begins};
 ghost use Rattle.run_semantics.specs.Upcoming.{Comes, first_due, first_of};
@@ -15,13 +16,15 @@ ghost use Rattle.run_semantics.specs.Ending.{to_finish};
 ghost use Rattle.run_semantics.specs.Subtree.{outer_first};
 ghost use Rattle.kernel_actions.specs.Positions.{lengths_of, position_of, cut_to, core_back, IsGrownFrom};
 
-use crate::classes::copy_class;
+use crate::classes::{copy_class, is_among};
+use crate::events::delivery_at;
 use crate::looks::{Look, LookedAt, Next};
 use crate::position::{Lengths, Position};
 use crate::reads::question_of;
 use event_set::pending::{Happening, Pending};
 use event_set::set::EventSet;
 use injection_order::injection::{Due, Injection, Turn as InjectionTurn, injection_before};
+use module_api::message::Outgoing;
 use module_api::names::is_scalar_name;
 use module_api::reply::{Action, Appointment, Read, Schedule};
 use question_log::cutting::cut_items;
@@ -31,6 +34,7 @@ use run_questions::answer::{Answer, Built, Question, is_beyond};
 use run_questions::record::{Record, path_of, submodule_path};
 use run_semantics::occasions::{Occasion, is_noted};
 use run_semantics::outcome::{Fault, Outcome, Turn, fault_of};
+use run_semantics::routes::{PlacedGate, Transmission, copy_transmissions, place_of};
 use run_semantics::signals::SignalNames;
 use run_semantics::traces::{Emission, Instance, Scalar};
 use sim_time::SimTime;
@@ -58,6 +62,7 @@ pub struct Core {
     pending: EventSet,
     ended: bool,
     delivered: Option<InjectionTurn>,
+    transmissions: Items<Transmission>,
     emissions: Items<Emission>,
     /// Names of signals that emissions share.
     names: SignalNames,
@@ -78,6 +83,7 @@ impl Drop for Core {
             pending: _,
             ended: _,
             delivered: _,
+            transmissions: _,
             emissions: _,
             names: _,
             scalars: _,
@@ -104,6 +110,7 @@ impl Model for Core {
       next = k.pending.next;
       ended = k.ended;
       delivered = k.delivered;
+      transmissions = k.transmissions;
       emissions = k.emissions;
       scalars = k.scalars;
       questions = k.questions;
@@ -128,6 +135,7 @@ impl Core {
             pending: EventSet::new(alloc),
             ended: false,
             delivered: None,
+            transmissions: Items::new(alloc),
             emissions: Items::new(alloc),
             names: SignalNames::new(alloc),
             scalars: Items::new(alloc),
@@ -315,7 +323,85 @@ impl Core {
                 let text = text.copy(alloc)?;
                 self.broken(alloc, id, Fault::ModuleFailed(text))
             }
+            // What is sent asks of gates: it is no deed.
+            Action::Send(_, _) | Action::SendDelayed(_, _, _) | Action::SendDirect(_, _, _) => {
+                Ok(Turn::GoOn)
+            }
         }
+    }
+
+    // ---- messages under way
+
+    /// The last transmission that began at each gate.
+    pub fn transmissions(&self) -> &[Transmission]
+        ensures { result.now ≡ self.now.transmissions }
+    {
+        self.transmissions.as_slice()
+    }
+
+    /// Notes when the transmission that began at a gate ends, where there is one.
+    pub fn transmit(
+        &mut self,
+        alloc: Global,
+        gate: &Option<PlacedGate>,
+        until: &Option<SimTime>,
+    ) -> Result<(), NoMemory>
+        ensures done { OnOk result (self.new ≡ transmitting gate.now until.now self.old) }
+        ensures err { OnErr result (self.new ≡ self.old) }
+    {
+        if let (Some(gate), Some(end)) = (gate, until) {
+            let gate = gate.copy(alloc)?;
+            let place = place_of(&gate, self.transmissions.as_slice());
+            let transmission = Transmission { gate, end: *end };
+            match place {
+                Some(place) => self.transmissions.set(place, transmission),
+                None => self.transmissions.push(transmission)?,
+            }
+        }
+        Ok(())
+    }
+
+    /// A message is to arrive at a gate at that time.
+    pub fn arrive(
+        &mut self,
+        alloc: Global,
+        gate: &PlacedGate,
+        message: &Outgoing,
+        time: SimTime,
+    ) -> Result<(), NoMemory>
+        requires { self.old.next + 1 < 2 ^ 128 }
+        ensures done { OnOk result (self.new ≡ arriving gate.now message.now time self.old) }
+        ensures err { OnErr result (self.new ≡ self.old) }
+    {
+        let delivery = delivery_at(alloc, gate, message)?;
+        self.pending.insert(
+            time,
+            message.priority,
+            gate.id,
+            Happening::Delivery(delivery),
+        )
+    }
+
+    /// Whether the module of that id lives, and has that path.
+    fn is_at(&self, alloc: Global, path: &[u8], id: u32) -> Result<bool, NoMemory>
+        ensures { IfOk result (λ found. found ≡ is_at path.now self.now id) }
+    {
+        let found = path_of(alloc, self.records.as_slice(), id)?;
+        Ok(found.is(path) && is_among(self.live.as_slice(), id))
+    }
+
+    /// The module of that path that lives, where there is one.
+    pub fn module_at(&self, alloc: Global, path: &[u8]) -> Result<Option<u32>, NoMemory>
+        ensures { IfOk result (λ found. found ≡ module_at path.now self.now) }
+    {
+        for (index, record) in self.records.as_slice().iter().enumerate() {
+            let _parent = record.parent;
+            let id = index as u32 + 1;
+            if self.is_at(alloc, path, id)? {
+                return Ok(Some(id));
+            }
+        }
+        Ok(None)
     }
 
     // ---- reads
@@ -688,6 +774,7 @@ impl Core {
             coming,
             ended: self.ended,
             delivered: self.delivered,
+            transmissions: copy_transmissions(alloc, self.transmissions.as_slice())?,
             modules,
         })
     }
@@ -705,9 +792,15 @@ impl Core {
         self.questions.cut(lengths.questions);
     }
 
-    /// Goes back to a position, which has these events to come.
-    pub fn go_back(&mut self, position: &Position, coming: EventSet)
-        requires { coming ≡ position.now.coming }
+    /// Goes back to a position, which has these events to come and these transmissions.
+    pub fn go_back(
+        &mut self,
+        position: &Position,
+        coming: EventSet,
+        transmissions: Items<Transmission>,
+    )
+        requires events { coming ≡ position.now.coming }
+        requires transmissions { transmissions ≡ position.now.transmissions }
         ensures { self.new ≡ core_back position.now self.old }
     {
         self.cut_to(position.lengths);
@@ -716,5 +809,6 @@ impl Core {
         self.pending = coming;
         self.ended = position.ended;
         self.delivered = position.delivered;
+        self.transmissions = transmissions;
     }
 }

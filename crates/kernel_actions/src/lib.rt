@@ -8,3 +8,4 @@ pub mod laws;
 pub mod looks;
 pub mod position;
 pub mod reads;
+pub mod sending;

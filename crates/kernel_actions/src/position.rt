@@ -4,6 +4,7 @@ ghost use Rattle.std.specs.Prelude.{◌≡◌};
 
 use event_set::set::EventSet;
 use injection_order::injection::Turn as InjectionTurn;
+use run_semantics::routes::Transmission;
 use run_semantics::traces::Instance;
 use sim_time::SimTime;
 use sqlite_items::Items;
@@ -32,6 +33,8 @@ pub struct Position {
     pub ended: bool,
     /// Which injection was delivered last.
     pub delivered: Option<InjectionTurn>,
+    /// The last transmission that began at each gate.
+    pub transmissions: Items<Transmission>,
     /// The modules that have boxes, by rising id, with the states of the boxes.
     pub modules: Items<Instance>,
 }
@@ -46,6 +49,7 @@ impl Drop for Position {
             coming: _,
             ended: _,
             delivered: _,
+            transmissions: _,
             modules: _,
         } = self;
     }
