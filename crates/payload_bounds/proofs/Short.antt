@@ -1,5 +1,6 @@
 -- At each moment of a run the messages of the events to come are short.
 use Rattle.std.proofs.Common.{◌≡◌, inl, inr, ℕ, zero, suc, nat_lt, Bool, true, false, List, [], ◌∷◌, Option, Some, None, length, refl, sym, subst, arith, if◌then◌else◌, ℤ}
+use Rattle.std.proofs.lemmas.Bool.Decides.{nat_tests}
 use Rattle.sim_time.specs.Time.{time_sum}
 use Rattle.event_set.specs.Timers.{has_timer}
 use Rattle.event_set.specs.declared.pending.Happening.TheVariants.{Timer}
@@ -15,7 +16,9 @@ use Rattle.module_api.specs.Names.{is_scalar_name}
 use Rattle.module_api.specs.declared.call.Prompt.{Prompt}
 use Rattle.module_api.specs.declared.call.Prompt.TheVariants as prompt
 use Rattle.module_api.specs.declared.reply.Action.{Action}
-use Rattle.module_api.specs.declared.reply.Action.TheVariants.{Emit, RecordScalar, ScheduleAt, ScheduleAfter, Cancel, Fail}
+use Rattle.module_api.specs.declared.reply.Action.TheVariants.{Emit, RecordScalar, Send, SendDelayed, SendDirect, ScheduleAt, ScheduleAfter, Cancel, Fail}
+use Rattle.module_api.specs.declared.message.Outgoing.{Outgoing}
+use Rattle.module_api.specs.Actions.{has_large_payload, is_large}
 use Rattle.module_api.specs.declared.reply.Read.{Read}
 use Rattle.module_api.specs.declared.reply.Reply.{Reply}
 use Rattle.module_api.specs.declared.reply.Appointment.{Appointment}
@@ -29,13 +32,15 @@ use Rattle.run_semantics.specs.declared.outcome.Fault.{Fault}
 use Rattle.run_semantics.specs.declared.outcome.Outcome.TheVariants.{Ended, TimeLimit}
 use Rattle.run_semantics.specs.declared.traces.Instance.{Instance}
 use Rattle.run_semantics.specs.Event.{call_of, changed, called, call_module, begun, event, instance_in, message_of}
-use Rattle.run_semantics.specs.Perform.{Flow, On, Stopped, Broken, ◌>>=◌, with_scalar, for_each, scheduled_at, scheduled, appointed, deed, is_allowed, act, act_all, ask_all, ask_noted, question_of, acted, read_fault, unless_fault, answered}
+use Rattle.run_semantics.specs.Perform.{Flow, On, Stopped, Broken, ◌>>=◌, with_scalar, for_each, scheduled_at, scheduled, appointed, deed, is_allowed, perform, act, act_all, ask_all, ask_noted, question_of, acted, read_fault, unless_fault, answered}
 use Rattle.run_semantics.specs.Run.{ready, stages_in, most_stages, initialize, one_stage, stages_from, initialize_all, with_started, Stage, Running, Over, world_at, settled, is_after_limit, went, next_stage, after}
 use Rattle.run_semantics.specs.Subtree.{outer_first}
 use Rattle.run_semantics.specs.Upcoming.{first_due, delivered, target_of, Upcoming, Comes, Nothing, first_of, aimed, chosen, upcoming_in, upcoming}
 use Rattle.run_semantics.specs.World.{World, asked, asked_next}
 use Rattle.run_semantics.proofs.Orderly.{ready_none}
-use Rattle.run_semantics.proofs.Sound.{in_flow}
+use Rattle.run_semantics.proofs.Flows.{in_flow, either_way}
+use Rattle.run_semantics.proofs.Sending.{LastsSending, sends, sends_delayed, sends_direct}
+use Rattle.run_semantics.specs.Routes.{arriving_at}
 use Rattle.payload_bounds.specs.Bounds.{AreShort, BringShort, IsShort}
 
 abbrev Short : World → Type 0
@@ -71,9 +76,39 @@ deed_short id (ScheduleAt a) w h = appointed_short id a w h
 deed_short id (ScheduleAfter s) w h = scheduled_short id s w (time_sum w.clock s.delay) h
 deed_short id (Cancel timer) w h = each_without (λ (p : Pending). IsShort (message_of p).payload) id timer w.pending h
 deed_short id (Fail text) w h = h
+deed_short id (Send gate message) w h = h
+deed_short id (SendDelayed gate message delay) w h = h
+deed_short id (SendDirect place message flight) w h = h
+
+-- a message with a short payload is sent
+short_last : (message : Outgoing) → IsShort message.payload → LastsSending message (λ id rs. Unit {0}) Short Short
+short_last message k = record {
+  weaker = λ w h. h;
+  created = λ w id h l. tt;
+  next = λ w id n neighbour h l e. tt;
+  asked = λ q w h l. h;
+  transmitted = λ ts w h. h;
+  arrived = λ g time w h c e. each_inserted (λ (p : Pending). IsShort (message_of p).payload) (arriving_at g message time w.next) w.pending k h;
+}
+
+-- where it is not too large it is short
+not_large : (message : Outgoing) → is_large message ≡ false → IsShort message.payload
+not_large message e = grind (arith, nat_tests)
+
+perform_short : (b : Behaviour) (m : Answers) (id : ℕ) (action : Action) (w : World) → has_large_payload action ≡ false → Short w → Short (in_flow (perform b m id action w))
+perform_short b m id (Emit signal value) w e h = deed_short id (Emit signal value) w h
+perform_short b m id (RecordScalar name value) w e h = deed_short id (RecordScalar name value) w h
+perform_short b m id (Send gate message) w e h = sends message _ Short Short (short_last message (not_large message e)) m id gate w h tt
+perform_short b m id (SendDelayed gate message delay) w e h = sends_delayed message _ Short Short (short_last message (not_large message e)) m id gate delay w h tt
+perform_short b m id (SendDirect place message flight) w e h = sends_direct message _ Short Short (short_last message (not_large message e)) m id place flight w h
+perform_short b m id (ScheduleAt a) w e h = deed_short id (ScheduleAt a) w h
+perform_short b m id (ScheduleAfter s) w e h = deed_short id (ScheduleAfter s) w h
+perform_short b m id (Cancel timer) w e h = deed_short id (Cancel timer) w h
+perform_short b m id (Fail text) w e h = deed_short id (Fail text) w h
 
 act_short : (b : Behaviour) (m : Answers) (o : Occasion) (id : ℕ) (action : Action) (w : World) → Short w → Short (in_flow (act b m o id action w))
-act_short b m o id action w h = either_short (is_allowed o action) (deed id action w) _ (deed_short id action w h) h
+act_short b m o id action w h =
+    either_way Short (has_large_payload action) _ _ (λ e. h) (λ e. either_short (is_allowed o action) (perform b m id action w) _ (perform_short b m id action w e h) h)
 
 act_all_short : (b : Behaviour) (m : Answers) (o : Occasion) (id : ℕ) (actions : List Action) (w : World) → Short w → Short (in_flow (act_all b m o id actions w))
 act_all_short b m o id [] w h = h
