@@ -1,11 +1,10 @@
 -- Deeds and questions neither read nor change modules.
-use Rattle.std.proofs.Common.{◌≡◌, ℕ, List, [], ◌∷◌, refl, sym, ap, ◌∙◌, Bool, true, false, Option, Some, None, length, nat_lt, if◌then◌else◌, ℤ}
+use Rattle.std.proofs.Common.{◌≡◌, ℕ, List, [], ◌∷◌, refl, sym, ap, ◌∙◌, Bool, true, false, Option, Some, None, nat_lt, if◌then◌else◌, ℤ}
 use Rattle.sim_time.specs.Time.{time_sum}
 use Rattle.module_api.specs.declared.reply.Action.{Action}
 use Rattle.module_api.specs.Names.{is_scalar_name}
-use Rattle.module_api.specs.declared.reply.Action.TheVariants.{Emit, RecordScalar, ScheduleAt, ScheduleAfter, Cancel, Fail}
+use Rattle.module_api.specs.declared.reply.Action.TheVariants.{Emit, RecordScalar, Send, SendDelayed, SendDirect, ScheduleAt, ScheduleAfter, Cancel, Fail}
 use Rattle.module_api.specs.declared.reply.Read.{Read}
-use Rattle.module_api.specs.declared.reply.Reply.{Reply}
 use Rattle.module_api.specs.declared.reply.Appointment.{Appointment}
 use Rattle.module_api.specs.declared.reply.Schedule.{Schedule}
 use Rattle.run_questions.specs.Answers.{Answers}
@@ -17,7 +16,7 @@ use Rattle.run_semantics.specs.declared.outcome.Turn.TheVariants.{GoOn, Stop, Br
 use Rattle.run_semantics.specs.declared.traces.Instance.{Instance}
 use Rattle.run_semantics.specs.World.{World, asked}
 use Rattle.event_set.specs.Timers.{has_timer}
-use Rattle.run_semantics.specs.Perform.{Flow, On, Stopped, Broken, ◌>>=◌, flow_of, scheduled_at, scheduled, appointed, deed, ask_all, ask_noted, question_of, broken}
+use Rattle.run_semantics.specs.Perform.{Flow, On, Stopped, Broken, flow_of, scheduled_at, scheduled, appointed, deed, ask_all, ask_noted, question_of, broken}
 use Rattle.run_semantics.specs.Run.{prepared}
 use Rattle.run_semantics.proofs.Setting.{IsLasting, Stays, prepared_stays}
 
@@ -35,7 +34,7 @@ flow_of_with ms GoOn w = refl
 flow_of_with ms Stop w = refl
 flow_of_with ms (Break path f) w = refl
 
-either_apart : (ms : List Instance) (c : Bool) (f g h k : Flow) → f ≡ flow_with ms h → g ≡ flow_with ms k → (if c then f else g) ≡ flow_with ms (if c then h else k)
+pub either_apart : (ms : List Instance) (c : Bool) (f g h k : Flow) → f ≡ flow_with ms h → g ≡ flow_with ms k → (if c then f else g) ≡ flow_with ms (if c then h else k)
 either_apart ms true f g h k e d = e
 either_apart ms false f g h k e d = d
 
@@ -58,6 +57,9 @@ deed_apart ms id (ScheduleAt a) w = appointed_apart ms id a w
 deed_apart ms id (ScheduleAfter s) w = scheduled_apart ms id s w (time_sum w.clock s.delay)
 deed_apart ms id (Cancel timer) w = refl
 deed_apart ms id (Fail text) w = refl
+deed_apart ms id (Send gate message) w = refl
+deed_apart ms id (SendDelayed gate message delay) w = refl
+deed_apart ms id (SendDirect place message flight) w = refl
 
 -- ---- what the code of a core does to the world with these modules
 

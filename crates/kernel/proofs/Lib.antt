@@ -8,3 +8,4 @@ pub mod Targets
 pub mod Upcoming
 pub mod Shown
 mod Following
+pub mod Sendings

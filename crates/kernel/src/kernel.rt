@@ -27,6 +27,7 @@ use kernel_actions::core_part::Core;
 use kernel_actions::events::{arrival, message_of};
 use kernel_actions::looks::{Look, Next};
 use kernel_actions::position::Position;
+use kernel_sending::sending::{send, send_direct};
 use model_answers::plain::PlainAnswers;
 use module_api::call::{Call, Prompt};
 use module_api::catalogue::Catalogue;
@@ -37,6 +38,7 @@ use question_log::entry::Entry;
 use run_questions::record::{Record, path_of};
 use run_semantics::occasions::{Occasion, is_allowed};
 use run_semantics::outcome::{Fault, Outcome, Turn};
+use run_semantics::routes::copy_transmissions;
 use run_semantics::traces::{Emission, Instance, Scalar};
 use saved_boxes::boxes_saved::{load_one, save_all};
 use shown_modules::{Shown, ShownModules, lasts};
@@ -236,8 +238,21 @@ impl<C: Catalogue> Kernel<C> {
             ≡ perform C.behaviour (answers_of model.now) id action.now (world_in SimpleModule-box self.old)) }
         ensures grown { IsGrownFrom self.old.core self.new.core }
     {
-        let _model = model;
-        self.core.deed(alloc, id, action)
+        let core = &mut self.core;
+        match action {
+            Action::Send(gate, message) => {
+                let departure = Some(core.clock());
+                send(core, alloc, model, id, gate, message, &departure)
+            }
+            Action::SendDelayed(gate, message, delay) => {
+                let departure = core.clock().checked_add(*delay).ok();
+                send(core, alloc, model, id, gate, message, &departure)
+            }
+            Action::SendDirect(place, message, flight) => {
+                send_direct(core, alloc, model, id, place, message, flight)
+            }
+            _ => core.deed(alloc, id, action),
+        }
     }
 
     /// An action of a reply, where it may have that.
@@ -256,6 +271,9 @@ impl<C: Catalogue> Kernel<C> {
             ≡ act C.behaviour (answers_of model.now) occasion id action.now (world_in SimpleModule-box self.old)) }
         ensures grown { IsGrownFrom self.old.core self.new.core }
     {
+        if action.has_large_payload() {
+            return self.core.broken(alloc, id, Fault::PayloadTooLarge);
+        }
         if !is_allowed(occasion, action) {
             return self.core.broken(alloc, id, Fault::NotInFinish);
         }
@@ -803,8 +821,9 @@ impl<C: Catalogue> Kernel<C> {
             ≡ world_back position.now (world_in SimpleModule-box self.old) }
     {
         let coming = position.coming.copy(alloc)?;
+        let transmissions = copy_transmissions(alloc, position.transmissions.as_slice())?;
         self.load_all(alloc, position.modules.as_slice())?;
-        self.core.go_back(position, coming);
+        self.core.go_back(position, coming, transmissions);
         Ok(())
     }
 

@@ -1,0 +1,4 @@
+//! Messages that modules send.
+#![tactic(auto)]
+
+pub mod sending;
