@@ -362,13 +362,13 @@ fn tell_declared(told: &mut Explanation, of: &TypeDeclaration) {
     tell_parameters(told, of);
 }
 
-/// Says that a simple module reads a gate that its type doesn't declare.
+/// Says that a simple module reads a gate that its type doesn't declare, or sends through one by which nothing leaves.
 fn tell_gates(told: &mut Explanation, of: &TypeDeclaration) {
     told.say("the class ");
     told.say_name(class_of(of));
     told.say(" reads a gate that the type ");
     told.say_name(of.name.as_bytes());
-    told.say(" doesn't declare");
+    told.say(" doesn't declare, or sends a message through one that isn't there or only receives");
 }
 
 /// Whether a fault of that name is one of a module of that type when it is called, and not of its inside.
@@ -388,6 +388,24 @@ fn tell_classes(told: &mut Explanation, of: &TypeDeclaration, classes: &[&[u8]])
     told.say_list(classes);
 }
 
+/// What is behind a fault of that name, where it is one of a message that a simple module sends.
+fn why_not_sent(name: &str) -> Option<&'static str> {
+    Some(match name {
+        "NotConnected" =>
+            "the connections of the gate through which it sends lead to no simple module",
+        "TooManyHops" =>
+            "a message would pass more than 1,000 connections: they lead round in a circle",
+        "TwoTransmissionChannels" =>
+            "more than one channel on the way of its message has a datarate",
+        "Busy" =>
+            "its message reaches a channel before the transmission of an earlier one has ended: a higher datarate, shorter messages or longer gaps",
+        "AlreadyConnected" => "it sends directly to a gate to which something is connected",
+        "NoModule" => "it sends directly to a path at which there is no module",
+        "PayloadTooLarge" => "a message that it sends has more than 4,096 bytes",
+        _ => return None,
+    })
+}
+
 /// Says what is behind a fault of that name, of a module of that type and path, which is none of a parameter.
 fn tell_other(
     told: &mut Explanation,
@@ -395,6 +413,13 @@ fn tell_other(
     of: &TypeDeclaration,
     classes: &[&[u8]],
 ) {
+    if of.kind == TypeKind::Simple {
+        if let Some(why) = why_not_sent(fault.name) {
+            told.say(fault.path);
+            told.say(": ");
+            return told.say(why);
+        }
+    }
     if !is_of_call(fault.name, of) {
         return tell_inside(told, fault.path, fault.name);
     }

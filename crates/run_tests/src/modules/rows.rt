@@ -87,6 +87,18 @@ fn add_action(text: &mut String, action: &Action) -> Result<(), AllocError> {
     match action {
         Action::Emit(signal, value) => write!(text, " {}={value}", written(signal)),
         Action::RecordScalar(name, value) => write!(text, " {}:={value}", written(name)),
+        Action::Send(gate, message) => {
+            let (name, index, bits) = (written(&gate.name), gate.index, message.bits);
+            write!(text, " send {name}[{index}] {bits}")
+        }
+        Action::SendDelayed(gate, message, delay) => {
+            let (name, index, bits) = (written(&gate.name), gate.index, message.bits);
+            write!(text, " send {name}[{index}] {bits}+{}", delay.ps())
+        }
+        Action::SendDirect(place, message, _) => {
+            let (path, name, bits) = (written(&place.path), written(&place.name), message.bits);
+            write!(text, " send {path}.{name}[{}] {bits}", place.index)
+        }
         Action::ScheduleAfter(set) => {
             let (timer, delay, priority) = (set.timer, set.delay.ps(), set.priority);
             write!(text, " timer{timer}+{delay}/{priority}")
