@@ -4,6 +4,8 @@ pub mod Looking
 pub mod LookingLaws
 pub mod Cues
 pub mod Replies
+pub mod Bytes
+pub mod ByteLaws
 pub mod Scripts
 pub mod ScriptLaws
 pub mod Numbers

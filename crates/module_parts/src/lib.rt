@@ -2,6 +2,7 @@
 //! box round each module that is written so.
 #![tactic(auto)]
 
+pub mod bytes;
 pub mod cues;
 pub mod found;
 pub mod laws;

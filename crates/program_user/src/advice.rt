@@ -10,7 +10,7 @@ use program_streams::output::advise;
 use text_explanations::sources::Sources;
 
 /// The classes that the program has modules of.
-const CLASSES: [&[u8]; 2] = [b"Tick", b"Sink"];
+const CLASSES: [&[u8]; 5] = [b"Tick", b"Source", b"Queue", b"Sink", b"Router"];
 
 /// Warns of lines of the ini text that have no effect.
 pub fn warn<R: Eprint + AllocGlobal>(rt: &R, sources: &Sources<'_>) -> Result<(), Stop>

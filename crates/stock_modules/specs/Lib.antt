@@ -1,7 +1,14 @@
 pub mod Arrivals
-pub mod Sink
 pub mod Tick
 pub mod TickLaws
+pub mod Source
+pub mod SourceLaws
+pub mod Held
+pub mod HeldLaws
+pub mod Queue
+pub mod QueueLaws
+pub mod Sink
+pub mod Router
 pub mod Stock
 pub mod StockLaws
 pub mod Modules

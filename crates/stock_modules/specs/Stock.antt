@@ -2,12 +2,17 @@
 use Rattle.std.specs.Prelude.{List, [], ◌∷◌, codes}
 use Rattle.module_api.specs.Behaviour.{Behaviour}
 use Rattle.module_parts.specs.Catalogues.{Entry, entry, catalogue}
-use Rattle.stock_modules.specs.Sink.{sink_script}
 use Rattle.stock_modules.specs.Tick.{tick_script}
+use Rattle.stock_modules.specs.Source.{source_script}
+use Rattle.stock_modules.specs.Queue.{queue_script}
+use Rattle.stock_modules.specs.Sink.{sink_script}
+use Rattle.stock_modules.specs.Router.{router_script}
 
 abbrev pub entries : List Entry
-entries = entry (codes "Tick") tick_script ∷ entry (codes "Sink") sink_script ∷ []
+entries =
+    entry (codes "Tick") tick_script ∷ entry (codes "Source") source_script ∷ entry (codes "Queue") queue_script
+    ∷ entry (codes "Sink") sink_script ∷ entry (codes "Router") router_script ∷ []
 
--- these two, and no other
+-- these five, and no other
 unfoldable pub stock : Behaviour
 stock = catalogue entries

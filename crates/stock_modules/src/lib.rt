@@ -2,7 +2,11 @@
 #![tactic(auto)]
 
 pub mod arrivals;
+pub mod held;
 pub mod modules;
+pub mod queue;
+pub mod router;
 pub mod sink;
+pub mod source;
 pub mod stock;
 pub mod tick;
