@@ -376,7 +376,7 @@ pub fn submodules<'m>(
 }
 
 /// A size of 0 to 65,536.
-fn size(value: &Value) -> Result<u32, Stop>
+pub fn size(value: &Value) -> Result<u32, Stop>
     ensures tells { Tells result (sized_by value.now) }
     ensures small { IfOk result (λ n. n ≤ 65536) }
 {
@@ -393,7 +393,7 @@ fn size(value: &Value) -> Result<u32, Stop>
 }
 
 /// The number of a type.
-fn number(value: &Value) -> Result<usize, Stop>
+pub fn number(value: &Value) -> Result<usize, Stop>
     ensures { Tells result (numbered_by value.now) }
 {
     match value {
