@@ -1,0 +1,7 @@
+pub mod Runs
+pub mod Scenes
+pub mod Posing
+pub mod Found
+pub mod Going
+pub mod Weights
+pub mod Same

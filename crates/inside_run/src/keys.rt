@@ -1,0 +1,319 @@
+//! What each key asks of a module whose type is known.
+
+ghost use Rattle.std.specs.Prelude.{◌≡◌, ◌+◌, ◌<◌, ◌^◌, pos, IfOk, IfSome, Some, slice_get};
+ghost use Rattle.std.specs.Option.{option_copied};
+ghost use Rattle.inside_parts.specs.Gates as type_gates;
+ghost use Rattle.ned_types.specs.Flat.{submodule_named};
+ghost use Rattle.sim_values.specs.declared.value.Value.TheVariants as value_as;
+ghost use Rattle.inside_keys.specs.Given.{condition_posed, gate_size_posed, has_vector, parameter_posed, vector_size_posed};
+ghost use Rattle.inside_keys.specs.Settings.{Setting, declarer, declarer_of};
+ghost use Rattle.inside_keys.specs.Values as values;
+ghost use Rattle.inside_run.specs.Going as going;
+ghost use Rattle.inside_run.specs.Going.{Moves, bodied};
+ghost use Rattle.inside_run.specs.Scenes.{standing_by};
+ghost use Rattle.inside_run.specs.Weights.{Costs, around_weight, body_weight, posed_weight, typed_weight};
+
+use crate::channels::{begin_carrier, begin_channel};
+use crate::inside::begin_inside;
+use crate::posed::{begin_posed, condition, gate_size, parameter, vector_size};
+use crate::progress::{Moved, Progress, Reading};
+use crate::reading::read;
+use crate::scene::{Scene, Stands};
+use inside_keys::found::Found;
+use inside_keys::key::{Module, What};
+use inside_parts::fault::{Fault, Stop};
+use inside_parts::gates::{TypeGates, gates_of};
+use ned_trees::declarations::{Submodule, TypeDeclaration};
+use ned_types::flat::submodule_named;
+use sim_values::NoMemory;
+use sim_values::text::Text;
+use sim_values::value::Value;
+use std::alloc::Global;
+
+/// Whether one of these gates is a vector of that name.
+fn has_vector(gates: &TypeGates, name: &Text) -> bool
+    ensures { result ≡ has_vector gates.now name.now }
+{
+    match gates.names.position(name) {
+        Some(place) => match gates.gates.get(place) {
+            Some(gate) => gate.kind.is_vector,
+            None => false,
+        },
+        None => false,
+    }
+}
+
+/// Whether a type has a gate vector of that name.
+fn is_gate_vector(alloc: Global, declared: &TypeDeclaration, name: &Text) -> Result<bool, NoMemory>
+    ensures { IfOk result (λ found. found ≡ has_vector (type_gates.gates_of declared.now.gates) name.now) }
+{
+    let gates = gates_of(alloc, declared.gates.as_slice())?;
+    Ok(has_vector(&gates, name))
+}
+
+/// The module whose type declares what stands there.
+fn declarer_of(stands: &Stands) -> Option<&Module>
+    ensures { option_copied result ≡ declarer_of (standing_by stands.now) }
+{
+    if stands.is_declared {
+        stands.around.as_ref()
+    } else {
+        None
+    }
+}
+
+/// A declared size: a vector whose size is given nowhere has none.
+fn declared_size<'m, S: Scene>(
+    alloc: Global,
+    scene: &'m S,
+    site: &Module,
+    name: &Text,
+    declared: &'m TypeDeclaration,
+    submodule: Option<&'m Submodule>,
+) -> Result<Moved<'m>, Stop>
+    ensures moves { Moves (S.setting scene.now) result (values.sized_or_open (S.setting scene.now) (gate_size_posed (S.setting scene.now) site.now declared.now (values.body_by (option_copied submodule.entry)) name.now)) }
+    ensures costs { Costs (S.setting scene.now) (posed_weight (gate_size_posed (S.setting scene.now) site.now declared.now (values.body_by (option_copied submodule.entry)) name.now)) result }
+{
+    match gate_size(alloc, scene, site, name, declared, submodule)? {
+        Some(posed) => begin_posed(alloc, Some(posed)),
+        None => Ok(Moved::Done(Found::Value(Value::Whole(0)))),
+    }
+}
+
+/// The declared size of a gate of a module of that type, which that submodule declares.
+fn declared_gate<'m, S: Scene>(
+    alloc: Global,
+    scene: &'m S,
+    site: &Module,
+    name: &Text,
+    declared: &'m TypeDeclaration,
+    submodule: Option<&'m Submodule>,
+) -> Result<Moved<'m>, Stop>
+    ensures moves { Moves (S.setting scene.now) result (values.declared_asking (S.setting scene.now) site.now declared.now name.now (values.body_by (option_copied submodule.entry))) }
+    ensures costs { Costs (S.setting scene.now) (posed_weight (gate_size_posed (S.setting scene.now) site.now declared.now (values.body_by (option_copied submodule.entry)) name.now)) result }
+{
+    if !is_gate_vector(alloc, declared, name)? {
+        return Err(Stop::Fault(Fault::NoGate));
+    }
+    declared_size(alloc, scene, site, name, declared, submodule)
+}
+
+/// A parameter of a module of that type, which that submodule declares.
+fn parameter_of<'m, S: Scene>(
+    alloc: Global,
+    scene: &'m S,
+    site: &Module,
+    name: &Text,
+    declared: &'m TypeDeclaration,
+    submodule: Option<&'m Submodule>,
+) -> Result<Moved<'m>, Stop>
+    ensures moves { Moves (S.setting scene.now) result (values.posed_asking (parameter_posed (S.setting scene.now) site.now declared.now (values.body_by (option_copied submodule.entry)) name.now)) }
+    ensures costs { Costs (S.setting scene.now) (posed_weight (parameter_posed (S.setting scene.now) site.now declared.now (values.body_by (option_copied submodule.entry)) name.now)) result }
+{
+    let posed = parameter(alloc, scene, site, name, declared, submodule)?;
+    begin_posed(alloc, posed)
+}
+
+/// A parameter or a declared size of a module of that type, which that submodule declares.
+pub fn with_body<'m, S: Scene>(
+    alloc: Global,
+    scene: &'m S,
+    site: &Module,
+    what: &What,
+    declared: &'m TypeDeclaration,
+    submodule: Option<&'m Submodule>,
+) -> Result<Moved<'m>, Stop>
+    ensures moves { Moves (S.setting scene.now) result (bodied (S.setting scene.now) site.now what.now declared.now (values.body_by (option_copied submodule.entry))) }
+    ensures costs { Costs (S.setting scene.now) (body_weight (S.setting scene.now) site.now what.now declared.now (values.body_by (option_copied submodule.entry))) result }
+{
+    match what {
+        What::Param(name) => parameter_of(alloc, scene, site, name, declared, submodule),
+        What::Declared(name) => declared_gate(alloc, scene, site, name, declared, submodule),
+        _ => Err(Stop::Fault(Fault::Unassigned)),
+    }
+}
+
+/// A parameter or a declared size of a module of that type: what its body says is found first.
+fn begin_with_body<'m, S: Scene>(
+    alloc: Global,
+    scene: &'m S,
+    site: Module,
+    what: What,
+    declared: &'m TypeDeclaration,
+) -> Result<Moved<'m>, Stop>
+    ensures moves { Moves (S.setting scene.now) result (values.body_then (S.setting scene.now) site (bodied (S.setting scene.now) site what declared.now)) }
+    ensures costs { Costs (S.setting scene.now) (1 + body_weight (S.setting scene.now) site what declared.now values.no_body
+        + around_weight (S.setting scene.now) site what declared.now ((S.setting scene.now).stands site).name) result }
+{
+    let stands = scene.standing(alloc, &site)?;
+    match declarer_of(&stands) {
+        Some(around) => {
+            let key = around.key(alloc, What::Type)?;
+            let name = stands.name.copy(alloc)?;
+            Ok(Moved::Asks(key, Progress::BodyAround(site, what, declared, name)))
+        }
+        None => with_body(alloc, scene, &site, &what, declared, None),
+    }
+}
+
+/// The finished size of a gate: it is read off the inside of the module around, where there is one.
+fn finished_size<'m, S: Scene>(
+    alloc: Global,
+    scene: &'m S,
+    site: &Module,
+    gate: Text,
+) -> Result<Moved<'m>, Stop>
+    ensures moves { Moves (S.setting scene.now) result (values.gate_size (S.setting scene.now) site.now gate (declarer (S.setting scene.now) site.now)) }
+    ensures costs { Costs (S.setting scene.now) 2 result }
+{
+    let stands = scene.standing(alloc, site)?;
+    match declarer_of(&stands) {
+        Some(around) => {
+            let key = around.key(alloc, What::Type)?;
+            let around = around.copy(alloc)?;
+            Ok(Moved::Asks(key, Progress::InsideAround(around, stands, gate)))
+        }
+        None => {
+            let key = site.key(alloc, What::Declared(gate))?;
+            Ok(Moved::Asks(key, Progress::Same))
+        }
+    }
+}
+
+/// `sizeof`: a gate vector of the module goes before a submodule vector.
+fn size_of<'m>(
+    alloc: Global,
+    site: Module,
+    name: Text,
+    declared: &TypeDeclaration,
+) -> Result<Moved<'m>, Stop>
+    ensures moves { (s : Setting) → Moves s result (values.size_of s site name declared.now) }
+    ensures costs { (s : Setting) → Costs s 3 result }
+{
+    if is_gate_vector(alloc, declared, &name)? {
+        let key = site.key(alloc, What::GateSize(name))?;
+        return Ok(Moved::Asks(key, Progress::Same));
+    }
+    let submodule = submodule_named(name.as_bytes(), declared.submodules.as_slice());
+    read(alloc, site, Reading::Size, submodule)
+}
+
+/// The number of a type, if there is one.
+pub fn numbered<'m>(number: Option<usize>) -> Result<Moved<'m>, Stop>
+    requires { IfSome number (λ n. n < 2 ^ 63) }
+    ensures moves { (s : Setting) → Moves s result (values.numbered s number) }
+    ensures costs { (s : Setting) → Costs s 0 result }
+{
+    match number {
+        Some(number) => Ok(Moved::Done(Found::Value(Value::Whole(number as i64)))),
+        None => Err(Stop::Fault(Fault::UnknownType)),
+    }
+}
+
+/// The type of a module: its nesting comes first.
+pub fn begin_type<'m, S: Scene>(
+    alloc: Global,
+    scene: &'m S,
+    site: &Module,
+) -> Result<Moved<'m>, Stop>
+    ensures { Moves (S.setting scene.now) result (values.type_asking (S.setting scene.now) site.now) }
+{
+    let stands = scene.standing(alloc, site)?;
+    match declarer_of(&stands) {
+        Some(around) => {
+            if scene.is_too_deep(site) {
+                return Err(Stop::Fault(Fault::TooDeep));
+            }
+            let key = around.key(alloc, What::Type)?;
+            let name = stands.name.copy(alloc)?;
+            let (site, around) = (site.copy(alloc)?, around.copy(alloc)?);
+            Ok(Moved::Asks(key, Progress::TypeAround(site, around, name)))
+        }
+        None => numbered(scene.root(site)),
+    }
+}
+
+/// The condition of a submodule that the type declares.
+fn begin_condition<'m, S: Scene>(
+    alloc: Global,
+    scene: &S,
+    site: &Module,
+    name: &Text,
+    declared: &'m TypeDeclaration,
+) -> Result<Moved<'m>, Stop>
+    ensures moves { Moves (S.setting scene.now) result (values.posed_asking (condition_posed (S.setting scene.now) site.now declared.now name.now)) }
+    ensures costs { Costs (S.setting scene.now) (posed_weight (condition_posed (S.setting scene.now) site.now declared.now name.now)) result }
+{
+    let submodule = submodule_named(name.as_bytes(), declared.submodules.as_slice());
+    let posed = condition(alloc, scene, site, submodule)?;
+    begin_posed(alloc, posed)
+}
+
+/// The number of elements of a vector of submodules that the type declares.
+fn begin_vector_size<'m, S: Scene>(
+    alloc: Global,
+    scene: &S,
+    site: &Module,
+    name: &Text,
+    declared: &'m TypeDeclaration,
+) -> Result<Moved<'m>, Stop>
+    ensures moves { Moves (S.setting scene.now) result (values.posed_asking (vector_size_posed (S.setting scene.now) site.now declared.now name.now)) }
+    ensures costs { Costs (S.setting scene.now) (posed_weight (vector_size_posed (S.setting scene.now) site.now declared.now name.now)) result }
+{
+    let submodule = submodule_named(name.as_bytes(), declared.submodules.as_slice());
+    let posed = vector_size(alloc, scene, site, submodule)?;
+    begin_posed(alloc, posed)
+}
+
+/// Begins to read of a submodule, where the type declares it.
+fn begin_reading<'m>(
+    alloc: Global,
+    site: Module,
+    reading: Reading,
+    name: &Text,
+    declared: &TypeDeclaration,
+) -> Result<Moved<'m>, Stop>
+    ensures moves { (s : Setting) → Moves s result (going.read site reading (submodule_named name.now declared.now.submodules)) }
+    ensures costs { (s : Setting) → Costs s 3 result }
+{
+    let submodule = submodule_named(name.as_bytes(), declared.submodules.as_slice());
+    read(alloc, site, reading, submodule)
+}
+
+/// Begins with something of a module of that type, which has that number; this is the number as a value.
+pub fn asked_in<'m, S: Scene>(
+    alloc: Global,
+    scene: &'m S,
+    site: Module,
+    what: What,
+    number: usize,
+    declared: &'m TypeDeclaration,
+    value: &Value,
+) -> Result<Moved<'m>, Stop>
+    requires there { slice_get (S.setting scene.now).types number ≡ Some declared.now }
+    requires same { value.now ≡ value_as.Whole (pos number) }
+    ensures moves { Moves (S.setting scene.now) result (values.asking_in (S.setting scene.now) site what number declared.now) }
+    ensures costs { Costs (S.setting scene.now) (typed_weight (S.setting scene.now) site what declared.now) result }
+{
+    match what {
+        What::Param(x) => begin_with_body(alloc, scene, site, What::Param(x), declared),
+        What::Condition(sub) => begin_condition(alloc, scene, &site, &sub, declared),
+        What::VectorSize(sub) => begin_vector_size(alloc, scene, &site, &sub, declared),
+        What::Declared(g) => begin_with_body(alloc, scene, site, What::Declared(g), declared),
+        What::GateSize(g) => finished_size(alloc, scene, &site, g),
+        What::Sizeof(g) => size_of(alloc, site, g, declared),
+        What::Exists(sub) => begin_reading(alloc, site, Reading::Exists, &sub, declared),
+        What::ExistsAt(sub, index) => {
+            begin_reading(alloc, site, Reading::ExistsAt(index), &sub, declared)
+        }
+        What::Member(sub, x) => begin_reading(alloc, site, Reading::Member(x), &sub, declared),
+        What::Element(sub, index, x) => {
+            begin_reading(alloc, site, Reading::Element(index, x), &sub, declared)
+        }
+        What::Channel(channel, x) => begin_channel(alloc, scene, &site, &channel, &x, declared),
+        What::Carrier(channel) => begin_carrier(alloc, scene, site, channel, declared),
+        What::Joined => begin_inside(alloc, scene, site, false, number, declared),
+        What::Inside => begin_inside(alloc, scene, site, true, number, declared),
+        What::Type => Ok(Moved::Done(Found::Value(value.copy(alloc)?))),
+    }
+}

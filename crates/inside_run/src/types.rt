@@ -1,0 +1,344 @@
+//! Types that values choose.
+
+ghost use Rattle.std.specs.Prelude.{◌≡◌, ◌+◌, ◌<◌, ◌^◌, ◌++◌, ◌∷◌, ◌&&◌, [], IfOk, IfSome, codes, not, slice_get};
+ghost use Rattle.std.specs.List.{list_any};
+ghost use Rattle.inside_parts.specs.Names.{is_one};
+ghost use Rattle.ned_types.specs.Types.{gives_fixed, is_fixed_in, is_kind_of_modules, is_refixed};
+ghost use Rattle.std.specs.Option.{option_copied};
+ghost use Rattle.parameter_values.specs.Scenes.{maybe_written};
+ghost use Rattle.param_eval.specs.Evaluating as evaluating;
+ghost use Rattle.inside_keys.specs.Asked.{valued_then};
+ghost use Rattle.inside_keys.specs.Places.{meant_under};
+ghost use Rattle.inside_keys.specs.Settings.{Setting};
+ghost use Rattle.inside_keys.specs.Values as values;
+ghost use Rattle.inside_keys.specs.declared.found.Found.TheVariants as found_as;
+ghost use Rattle.inside_run.specs.Going.{Moves, goes_on};
+ghost use Rattle.inside_run.specs.Weights.{Costs, choice_weight, chosen_weight, written_weight};
+ghost use Rattle.inside_run.specs.declared.progress.Progress.TheVariants as waits;
+
+use crate::keys::numbered;
+use crate::posed::{chosen, given_in, place_in};
+use crate::progress::{Choosing, Moved, Progress};
+use crate::reach::{Reached, reach};
+use crate::scene::Scene;
+use crate::variables::NoVariables;
+use ini_texts::speaks::last_name;
+use inside_keys::key::Module;
+use inside_keys::place::{Place, Section};
+use inside_parts::fault::{Fault, Stop};
+use ned_trees::declarations::{
+    ParametricType, SectionLine, Submodule, SubmoduleBody, SubmoduleType, TypeDeclaration, TypeKind,
+};
+use ned_types::given::{fixes, name_in, value_in};
+use param_eval::evaluation::{Evaluation, Turn};
+use parameter_values::scene::{Section as WrittenSection, Written};
+use sim_values::NoMemory;
+use sim_values::text::Text;
+use sim_values::value::Value;
+use std::alloc::Global;
+
+/// Whether it is a kind of types of modules.
+fn is_of_modules(kind: TypeKind) -> bool
+    ensures { result ≡ is_kind_of_modules kind }
+{
+    matches!(
+        kind,
+        TypeKind::Simple | TypeKind::Module | TypeKind::Network
+    )
+}
+
+// ---- what a value names
+
+/// The full name of a type within another.
+fn inner_name(alloc: Global, declared: &TypeDeclaration, name: &[u8]) -> Result<Text, NoMemory>
+    ensures { IfOk result (λ full. full ≡ declared.now.name ++ 46 ∷ name.now) }
+{
+    let mut full = Vec::from_slice(alloc, declared.name.as_bytes())?;
+    full.push(b'.')?;
+    full.extend_from_slice(name)?;
+    Ok(Text::from_vec(full))
+}
+
+/// Which type a name means in the text of a type.
+fn type_meant<S: Scene>(
+    alloc: Global,
+    scene: &S,
+    declared: &TypeDeclaration,
+    name: &Text,
+) -> Result<Option<usize>, NoMemory>
+    ensures same { IfOk result (λ number. number ≡ values.type_meant (S.setting scene.now) declared.now name.now) }
+    ensures small { IfOk result (λ number. IfSome number (λ n. n < 2 ^ 63)) }
+{
+    let last = last_name(name.as_bytes());
+    let full = inner_name(alloc, declared, last)?;
+    if let Some(number) = scene.type_number(&full) {
+        return Ok(Some(number));
+    }
+    let last = Text::from_bytes(alloc, last)?;
+    Ok(scene.type_number(&last))
+}
+
+/// Whether a line gives a value to a parameter that has a fixed one in these lines.
+fn is_refixed(lines: &[SectionLine], line: &SectionLine) -> bool
+    ensures { result ≡ is_refixed lines.now line.now }
+{
+    value_in(line).is_some() && is_fixed_in(name_in(line), lines)
+}
+
+/// Whether these lines give the parameter of that name a fixed value.
+fn is_fixed_in(name: &[u8], lines: &[SectionLine]) -> bool
+    ensures { result ≡ is_fixed_in name.now lines.now }
+{
+    lines.iter().any(|line| gives_fixed(name, line))
+}
+
+/// Whether the line gives the parameter of that name a fixed value.
+fn gives_fixed(name: &[u8], line: &SectionLine) -> bool
+    ensures { result ≡ gives_fixed name.now line.now }
+{
+    fixes(line) && name_in(line) == name
+}
+
+/// Whether the body of a submodule gives a value to a parameter that has a fixed one in these lines.
+fn sets_fixed(lines: &[SectionLine], body: &SubmoduleBody) -> bool
+    ensures { result ≡ list_any (λ l. is_refixed lines.now l) body.now.lines }
+{
+    body.lines
+        .as_slice()
+        .iter()
+        .any(|line| is_refixed(lines, line))
+}
+
+/// Whether one of these names is that one.
+fn is_one(name: &Text, names: &[Text]) -> bool
+    ensures { result ≡ is_one name.now names.now }
+{
+    names.iter().any(|other| other.is(name.as_bytes()))
+}
+
+/// Whether a type may stand behind `like`.
+fn keeps(parametric: &ParametricType, body: &SubmoduleBody, declared: &TypeDeclaration) -> bool
+    ensures { result ≡ (is_kind_of_modules declared.now.kind && (is_one parametric.now.interface declared.now.interfaces
+        && not (list_any (λ l. is_refixed declared.now.lines l) body.now.lines))) }
+{
+    is_of_modules(declared.kind)
+        && (is_one(&parametric.interface, declared.interfaces.as_slice())
+            && !sets_fixed(declared.lines.as_slice(), body))
+}
+
+/// The type of that number, where it may stand there.
+fn kept_type<'m>(
+    parametric: &ParametricType,
+    body: &SubmoduleBody,
+    number: usize,
+    declared: Option<&TypeDeclaration>,
+) -> Result<Moved<'m>, Stop>
+    requires { number < 2 ^ 63 }
+    ensures moves { (s : Setting) → Moves s result (values.kept_type s parametric.now body.now number (option_copied declared.entry)) }
+    ensures costs { (s : Setting) → Costs s 0 result }
+{
+    match declared {
+        Some(declared) => {
+            if keeps(parametric, body, declared) {
+                numbered(Some(number))
+            } else {
+                Err(Stop::Fault(Fault::Interface))
+            }
+        }
+        None => Err(Stop::Fault(Fault::UnknownType)),
+    }
+}
+
+/// The type of that number, if there is one.
+fn type_at<S: Scene>(scene: &S, number: usize) -> Option<&TypeDeclaration>
+    ensures { option_copied result ≡ slice_get (S.setting scene.now).types number }
+{
+    scene.types().get(number)
+}
+
+/// The type that a name means, where it may stand there.
+fn named_type<'m, S: Scene>(
+    alloc: Global,
+    scene: &S,
+    declared: &TypeDeclaration,
+    parametric: &ParametricType,
+    body: &SubmoduleBody,
+    name: &Text,
+) -> Result<Moved<'m>, Stop>
+    ensures moves { Moves (S.setting scene.now) result (values.type_found (S.setting scene.now) parametric.now body.now (values.type_meant (S.setting scene.now) declared.now name.now)) }
+    ensures costs { Costs (S.setting scene.now) 0 result }
+{
+    match type_meant(alloc, scene, declared, name)? {
+        Some(number) => kept_type(parametric, body, number, type_at(scene, number)),
+        None => Err(Stop::Fault(Fault::UnknownType)),
+    }
+}
+
+/// The type that a value names.
+fn told<'m, S: Scene>(
+    alloc: Global,
+    scene: &S,
+    declared: &TypeDeclaration,
+    parametric: &ParametricType,
+    body: &SubmoduleBody,
+    value: Value,
+) -> Result<Moved<'m>, Stop>
+    ensures moves { Moves (S.setting scene.now) result (values.type_told (S.setting scene.now) declared.now parametric.now body.now value) }
+    ensures costs { Costs (S.setting scene.now) 0 result }
+{
+    match value {
+        Value::Text(name) => named_type(alloc, scene, declared, parametric, body, &name),
+        _ => Err(Stop::Fault(Fault::Mismatch)),
+    }
+}
+
+// ---- the expression
+
+/// Goes on with an expression that names a type until it needs a value, or has its own.
+fn choose<'m, S: Scene>(
+    alloc: Global,
+    scene: &'m S,
+    place: Place,
+    declared: &'m TypeDeclaration,
+    parametric: &'m ParametricType,
+    body: &'m SubmoduleBody,
+    evaluation: Evaluation<'m>,
+    turn: Turn<'m>,
+) -> Result<Moved<'m>, Stop>
+    ensures moves { Moves (S.setting scene.now) result (valued_then (meant_under [] place) (evaluating.came_to evaluation.entry turn.entry) (values.type_told (S.setting scene.now) declared.now parametric.now body.now)) }
+    ensures costs { Costs (S.setting scene.now) (evaluating.asks turn.entry + evaluating.left evaluation.entry) result }
+{
+    let mut evaluation = evaluation;
+    match reach(alloc, &place, &NoVariables, &mut evaluation, turn) {
+        Ok(Reached::Value(value)) => told(alloc, scene, declared, parametric, body, value),
+        Ok(Reached::Key(key)) => {
+            let choosing = Choosing {
+                evaluation,
+                place,
+                declared,
+                parametric,
+                body,
+            };
+            Ok(Moved::Asks(key, Progress::Chosen(choosing)))
+        }
+        Err(stop) => Err(stop),
+    }
+}
+
+/// Goes on with the value of what the expression names.
+pub fn go_on_chosen<'m, S: Scene>(
+    alloc: Global,
+    scene: &'m S,
+    choosing: Choosing<'m>,
+    value: &Value,
+) -> Result<Moved<'m>, Stop>
+    ensures moves { Moves (S.setting scene.now) result (goes_on (S.setting scene.now) (waits.Chosen choosing.entry) (found_as.Value value.now)) }
+    ensures costs { Costs (S.setting scene.now) (evaluating.left choosing.entry.evaluation) result }
+{
+    let Choosing {
+        mut evaluation,
+        place,
+        declared,
+        parametric,
+        body,
+    } = choosing;
+    let turn = evaluation.go_on(alloc, value.copy(alloc)?)?;
+    choose(
+        alloc, scene, place, declared, parametric, body, evaluation, turn,
+    )
+}
+
+/// The full path of an entry that names a submodule's type.
+fn type_path(alloc: Global, site: &Module) -> Result<Text, NoMemory>
+    ensures { IfOk result (λ path. path ≡ site.now.path ++ codes ".typename") }
+{
+    let mut path = Vec::from_slice(alloc, site.path.as_bytes())?;
+    path.extend_from_slice(b".typename")?;
+    Ok(Text::from_vec(path))
+}
+
+/// What names the type of a submodule.
+fn written<'m, S: Scene>(
+    alloc: Global,
+    scene: &'m S,
+    site: &Module,
+    parametric: &'m ParametricType,
+) -> Result<Option<Written<'m>>, NoMemory>
+    ensures { IfOk result (λ found. maybe_written found ≡ values.type_written (S.setting scene.now) site.now parametric.now) }
+{
+    let path = type_path(alloc, site)?;
+    let entry = scene.entry(alloc, path.as_bytes())?;
+    Ok(chosen(
+        given_in(WrittenSection::OfType, parametric.given.as_ref()),
+        entry,
+    ))
+}
+
+/// Begins with what names the type of a submodule of the module around.
+fn begin_chosen<'m, S: Scene>(
+    alloc: Global,
+    scene: &'m S,
+    site: &Module,
+    around: &Module,
+    declared: &'m TypeDeclaration,
+    parametric: &'m ParametricType,
+    body: &'m SubmoduleBody,
+) -> Result<Moved<'m>, Stop>
+    ensures moves { Moves (S.setting scene.now) result (values.type_chosen (S.setting scene.now) site.now around.now declared.now parametric.now body.now) }
+    ensures costs { Costs (S.setting scene.now) (written_weight (values.type_written (S.setting scene.now) site.now parametric.now)) result }
+{
+    let Some(written) = written(alloc, scene, site, parametric)? else {
+        return Err(Stop::Fault(Fault::Unassigned));
+    };
+    let place = place_in(alloc, scene, around, Section::OfInside)?;
+    let (evaluation, turn) = Evaluation::start(alloc, written.expression)?;
+    choose(
+        alloc, scene, place, declared, parametric, body, evaluation, turn,
+    )
+}
+
+/// The type of a submodule of that type's, of the module around.
+fn type_by<'m, S: Scene>(
+    alloc: Global,
+    scene: &'m S,
+    site: &Module,
+    around: &Module,
+    declared: &'m TypeDeclaration,
+    submodule: &'m Submodule,
+) -> Result<Moved<'m>, Stop>
+    ensures moves { Moves (S.setting scene.now) result (values.type_by (S.setting scene.now) site.now around.now declared.now submodule.now.body submodule.now.submodule_type) }
+    ensures costs { Costs (S.setting scene.now) (choice_weight (S.setting scene.now) site.now submodule.now.submodule_type) result }
+{
+    match &submodule.submodule_type {
+        SubmoduleType::Named(name) => numbered(scene.type_number(name)),
+        SubmoduleType::Like(parametric) => {
+            begin_chosen(
+                alloc,
+                scene,
+                site,
+                around,
+                declared,
+                parametric,
+                &submodule.body,
+            )
+        }
+    }
+}
+
+/// The type of a submodule of the module around, if it is declared.
+pub fn type_in<'m, S: Scene>(
+    alloc: Global,
+    scene: &'m S,
+    site: &Module,
+    around: &Module,
+    declared: &'m TypeDeclaration,
+    submodule: Option<&'m Submodule>,
+) -> Result<Moved<'m>, Stop>
+    ensures moves { Moves (S.setting scene.now) result (values.type_in (S.setting scene.now) site.now around.now declared.now (option_copied submodule.entry)) }
+    ensures costs { Costs (S.setting scene.now) (chosen_weight (S.setting scene.now) site.now (option_copied submodule.entry)) result }
+{
+    match submodule {
+        Some(submodule) => type_by(alloc, scene, site, around, declared, submodule),
+        None => Err(Stop::Fault(Fault::UnknownType)),
+    }
+}

@@ -1,0 +1,57 @@
+//! Values of keys.
+
+ghost use Rattle.std.specs.Prelude.{◌≡◌, ◌+◌, [], Ok, Some, IfOk, IfSome, OnOk, length};
+ghost use Rattle.answer_engine.specs.Tables.{IsKept, Begins, found_in};
+ghost use Rattle.answer_engine.specs.Working.{AreBegunOnce};
+ghost use Rattle.inside_keys.specs.Values.{rules_of, value_at};
+
+use crate::asker::Keys;
+use crate::scene::Scene;
+use answer_engine::engine;
+use answer_engine::table::Table;
+use inside_keys::found::Found;
+use inside_keys::key::Key;
+use inside_parts::fault::Fault;
+use sim_values::NoMemory;
+use std::alloc::Global;
+
+/// A table of which nothing is known. It may be kept, whatever the model.
+pub fn empty_table<S: Scene>(alloc: Global, _scene: &S) -> Table<Key, Found>
+    ensures entries { result.entries ≡ [] }
+    ensures begun { result.begun ≡ 0 }
+    ensures kept { IsKept (rules_of (S.setting _scene.now)) result.entries }
+{
+    engine::empty_table(alloc, &Keys { scene: _scene })
+}
+
+/// The value of a key, as its place in the table, or its fault. The table, of which nothing is asked but that it knows
+/// values of this model, has what it had, and behind that the values that were found on the way; also after a fault, and
+/// after want of memory.
+pub fn value_of<S: Scene>(
+    alloc: Global,
+    scene: &S,
+    table: &mut Table<Key, Found>,
+    key: Key,
+) -> Result<Result<usize, Fault>, NoMemory>
+    requires { IsKept (rules_of (S.setting scene.now)) table.old.entries }
+    ensures value { IfOk result (λ found. found_in table.new.entries found ≡ Some (value_at (S.setting scene.now) key)) }
+    ensures kept { IsKept (rules_of (S.setting scene.now)) table.new.entries }
+    ensures begins { Begins table.old.entries table.new.entries }
+    // Each key was evaluated once at most: where there is a value, those that were added.
+    ensures once { OnOk result (AreBegunOnce (rules_of (S.setting scene.now)) table.old.entries table.new.entries table.new.begun) }
+    ensures counted { IfOk result (λ found. OnOk found (table.new.begun + length table.old.entries ≡ length table.new.entries)) }
+{
+    engine::value_of(alloc, &Keys { scene }, table, key)
+}
+
+/// The place of the value of a key, where the table knows it. Nothing is evaluated.
+pub fn known<S: Scene>(_scene: &S, table: &Table<Key, Found>, key: &Key) -> Option<usize>
+    requires { IsKept (rules_of (S.setting _scene.now)) table.now.entries }
+    ensures { IfSome result (λ place. found_in table.now.entries (Ok place) ≡ Some (value_at (S.setting _scene.now) key.now)) }
+{
+    let _len = table.len();
+    if let Some((place, _)) = table.find(key) {
+        return Some(place);
+    }
+    None
+}
