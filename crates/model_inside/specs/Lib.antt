@@ -1,0 +1,4 @@
+pub mod Told
+pub mod Built
+pub mod Sized
+pub mod Hops

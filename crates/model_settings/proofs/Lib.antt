@@ -1,0 +1,2 @@
+mod Once
+mod Paths
