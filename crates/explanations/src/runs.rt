@@ -5,16 +5,17 @@ use crate::reading::read_types;
 use ini_entries::constants::is_constant;
 use ini_texts::entries::value_for;
 use ini_texts::entry::EntryValue;
-use model_answers::parameters::lone_value;
-use model_answers::scene::{Placed, Told};
+use ini_texts::speaks::last_name;
+use model_answers::plain::PlainAnswers;
+use model_settings::standings::{before_last, name_in};
 use model_texts::begin::model_of;
 use models::model::Model;
 use ned_trees::declarations::{
-    Declaration, ParameterValue, ParameterWord, SectionLine, TypeDeclaration, TypeKind,
+    Declaration, ParameterValue, ParameterWord, SectionLine, Submodule, TypeDeclaration, TypeKind,
 };
 use ned_trees::expressions::Expression;
-use ned_types::flat::{class_of, last_value, submodule_named, type_name};
-use run_questions::answer::ModelFault;
+use ned_types::flat::{class_of, last_value, submodule_named};
+use run_questions::answer::{Answer, ModelFault};
 use run_questions::record::path_under;
 use sim_values::NoMemory;
 use sim_values::value::Dimension;
@@ -41,39 +42,72 @@ fn told_fault(answer: &str) -> Option<ToldFault<'_>> {
     Some(ToldFault { path, name })
 }
 
-/// A module, with its type and the name of the network.
+/// A submodule as it is declared, with the type that declares it.
 #[derive(Clone, Copy)]
-struct Found<'a> {
-    placed: Placed<'a>,
-    of: &'a TypeDeclaration,
-    network: &'a [u8],
+struct Declared<'a> {
+    around: &'a TypeDeclaration,
+    submodule: &'a Submodule,
 }
 
-/// The module of that path: the network, or a submodule of it.
-fn found_at<'a>(model: &'a Model, path: &'a str) -> Option<Found<'a>> {
-    let network = model.network()?;
-    let Some((root, name)) = path.split_once('.') else {
-        return Some(Found {
-            placed: Placed::of_network(model, path.as_bytes(), network),
-            of: network,
-            network: network.name.as_bytes(),
-        });
+/// A module of a model that answers: its path, its type, and its declaration, which the network has none of.
+#[derive(Clone, Copy)]
+struct Found<'a> {
+    answers: &'a PlainAnswers<'a>,
+    path: &'a [u8],
+    of: &'a TypeDeclaration,
+    declared: Option<Declared<'a>>,
+}
+
+/// The declaration of the module of that path.
+fn declared_at<'a>(
+    alloc: Global,
+    answers: &'a PlainAnswers<'a>,
+    path: &[u8],
+) -> Result<Option<Declared<'a>>, NoMemory> {
+    let Some(above) = before_last(path) else {
+        return Ok(None);
     };
-    let submodule = submodule_named(name.as_bytes(), network.submodules.as_slice())?;
-    let of = model.types.find(type_name(submodule))?;
-    let around = Told::of_type(root.as_bytes(), network);
-    Some(Found {
-        placed: Placed::of_submodule(model, around, path.as_bytes(), submodule, of),
+    let Some(around) = answers.type_at_path(alloc, above)? else {
+        return Ok(None);
+    };
+    let name = name_in(last_name(path));
+    match submodule_named(name, around.submodules.as_slice()) {
+        Some(submodule) => Ok(Some(Declared { around, submodule })),
+        None => Ok(None),
+    }
+}
+
+/// The module of that path.
+fn found_at<'a>(
+    alloc: Global,
+    answers: &'a PlainAnswers<'a>,
+    path: &'a [u8],
+) -> Result<Option<Found<'a>>, NoMemory> {
+    let Some(of) = answers.type_at_path(alloc, path)? else {
+        return Ok(None);
+    };
+    let declared = declared_at(alloc, answers, path)?;
+    Ok(Some(Found {
+        answers,
+        path,
         of,
-        network: network.name.as_bytes(),
-    })
+        declared,
+    }))
+}
+
+/// What the body of a module says.
+fn body_of<'a>(it: &Found<'a>) -> &'a [SectionLine] {
+    match it.declared {
+        Some(declared) => declared.submodule.body.lines.as_slice(),
+        None => &[],
+    }
 }
 
 /// What the NED files give a parameter of that name of a module: its body goes before its type.
-fn given<'a>(placed: &Placed<'a>, name: &[u8]) -> Option<&'a ParameterValue> {
-    match last_value(name, placed.own.body) {
+fn given<'a>(it: &Found<'a>, name: &[u8]) -> Option<&'a ParameterValue> {
+    match last_value(name, body_of(it)) {
         Some(value) => Some(value),
-        None => last_value(name, placed.own.lines),
+        None => last_value(name, it.of.lines.as_slice()),
     }
 }
 
@@ -92,27 +126,29 @@ fn kind_of(declaration: &Declaration) -> &'static str {
 /// Whether the value of the parameter of that name has that fault.
 fn has_fault(
     alloc: Global,
-    placed: &Placed<'_>,
+    it: &Found<'_>,
     name: &[u8],
     fault: ModelFault,
 ) -> Result<bool, NoMemory> {
-    let value = lone_value(alloc, placed, name)?;
-    Ok(value.is_err_and(|found| found == fault))
+    match it.answers.value_at_path(alloc, it.path, name)? {
+        Answer::Fault(_, found) => Ok(found == fault),
+        _ => Ok(false),
+    }
 }
 
 /// The first parameter of a module whose value has that fault. One to which no NED text gives a value goes before those that may
 /// refer to it.
 fn blamed<'a>(
     alloc: Global,
-    placed: &Placed<'a>,
+    it: &Found<'a>,
     fault: ModelFault,
 ) -> Result<Option<&'a Declaration>, NoMemory> {
     let mut first = None;
-    for line in placed.own.lines {
+    for line in it.of.lines.as_slice() {
         if let SectionLine::Declaration(declaration) = line {
             let name = declaration.name.as_bytes();
-            if has_fault(alloc, placed, name, fault)? {
-                if given(placed, name).is_none() {
+            if has_fault(alloc, it, name, fault)? {
+                if given(it, name).is_none() {
                     return Ok(Some(declaration));
                 }
                 first = first.or(Some(declaration));
@@ -135,9 +171,9 @@ fn parameter_fault(name: &str) -> Option<ModelFault> {
 }
 
 /// Whether an entry of the ini text gives a value to the parameter of that name of a module.
-fn is_given_in_ini(alloc: Global, placed: &Placed<'_>, name: &[u8]) -> Result<bool, NoMemory> {
-    let full = path_under(alloc, placed.own.path, name)?;
-    let model = placed.model;
+fn is_given_in_ini(alloc: Global, it: &Found<'_>, name: &[u8]) -> Result<bool, NoMemory> {
+    let full = path_under(alloc, it.path, name)?;
+    let model = it.answers.model();
     let entry = value_for(model.ini.lines(), model.chain.as_slice(), full.as_bytes());
     Ok(matches!(entry, Some(EntryValue::Given(_))))
 }
@@ -145,13 +181,13 @@ fn is_given_in_ini(alloc: Global, placed: &Placed<'_>, name: &[u8]) -> Result<bo
 /// The value that a NED file gives a parameter of that name of a module, where no entry of the ini text goes before it.
 fn given_in_ned<'a>(
     alloc: Global,
-    placed: &Placed<'a>,
+    it: &Found<'a>,
     name: &[u8],
 ) -> Result<Option<&'a Expression>, NoMemory> {
-    match given(placed, name) {
+    match given(it, name) {
         Some(ParameterValue::Fixed(expression)) => Ok(Some(expression)),
         Some(ParameterValue::Default(expression)) => {
-            if is_given_in_ini(alloc, placed, name)? {
+            if is_given_in_ini(alloc, it, name)? {
                 return Ok(None);
             }
             Ok(Some(expression))
@@ -234,7 +270,7 @@ fn tell_wrong_in_ned(told: &mut Explanation, it: Faulty<'_>, expression: &Expres
             told,
             "",
             it,
-            "refers to something that has no value: in a type 'x' and 'this.x' are its own parameter x, in a body 'x' is the network's, and 'parent.x' is so in both; all else has none yet",
+            "refers to something that has no value: in a type 'x' and 'this.x' are its own parameter x, in a body 'x' is one of the module around it, and 'parent.x' is so in both; 'sub.x' is one of a submodule that is there",
         ),
         ModelFault::Circle => say_of_value(
             told,
@@ -266,25 +302,19 @@ fn tell_given(told: &mut Explanation, sources: &Sources<'_>, name: &[u8], of: Pa
 }
 
 /// Says where the NED files give a parameter of that name its value: `path:line: `.
-fn tell_place(
-    told: &mut Explanation,
-    sources: &Sources<'_>,
-    found: &Found<'_>,
-    path: &str,
-    name: &[u8],
-) {
-    if last_value(name, found.placed.own.body).is_none() {
+fn tell_place(told: &mut Explanation, sources: &Sources<'_>, it: &Found<'_>, name: &[u8]) {
+    if last_value(name, body_of(it)).is_none() {
         let of = Parameter {
             submodule: None,
             name,
         };
-        tell_given(told, sources, found.of.name.as_bytes(), of);
-    } else if let Some((_, own)) = path.split_once('.') {
+        tell_given(told, sources, it.of.name.as_bytes(), of);
+    } else if let Some(declared) = it.declared {
         let of = Parameter {
-            submodule: Some(own.as_bytes()),
+            submodule: Some(declared.submodule.name.as_bytes()),
             name,
         };
-        tell_given(told, sources, found.network, of);
+        tell_given(told, sources, declared.around.name.as_bytes(), of);
     }
 }
 
@@ -298,13 +328,7 @@ fn tell_faulty(
 ) {
     match given {
         Some(expression) => {
-            tell_place(
-                told,
-                sources,
-                it,
-                faulty.path,
-                faulty.declaration.name.as_bytes(),
-            );
+            tell_place(told, sources, it, faulty.declaration.name.as_bytes());
             tell_wrong_in_ned(told, faulty, expression);
         }
         None => {
@@ -324,10 +348,10 @@ fn tell_parameter(
     fault: ModelFault,
 ) -> Result<(), NoMemory> {
     let alloc = told.alloc();
-    let Some(declaration) = blamed(alloc, &it.placed, fault)? else {
+    let Some(declaration) = blamed(alloc, it, fault)? else {
         return Ok(());
     };
-    let given = given_in_ned(alloc, &it.placed, declaration.name.as_bytes())?;
+    let given = given_in_ned(alloc, it, declaration.name.as_bytes())?;
     let faulty = Faulty {
         path,
         declaration,
@@ -436,6 +460,25 @@ fn tell_other(
     }
 }
 
+/// Says what is behind a fault of a module that was found, if one was.
+fn tell_found(
+    told: &mut Explanation,
+    sources: &Sources<'_>,
+    found: Option<Found<'_>>,
+    fault: ToldFault<'_>,
+    classes: &[&[u8]],
+) -> Result<(), NoMemory> {
+    let Some(it) = found else {
+        tell_inside(told, fault.path, fault.name);
+        return Ok(());
+    };
+    match parameter_fault(fault.name) {
+        None => tell_other(told, fault, it.of, classes),
+        Some(found) => tell_parameter(told, sources, fault.path, &it, found)?,
+    }
+    Ok(())
+}
+
 /// Says what is behind a fault in a run of that model.
 fn tell_fault(
     told: &mut Explanation,
@@ -443,18 +486,10 @@ fn tell_fault(
     model: &Model,
     fault: ToldFault<'_>,
     classes: &[&[u8]],
-) {
-    let Some(it) = found_at(model, fault.path) else {
-        return tell_inside(told, fault.path, fault.name);
-    };
-    match parameter_fault(fault.name) {
-        None => tell_other(told, fault, it.of, classes),
-        Some(found) => {
-            if let Err(error) = tell_parameter(told, sources, fault.path, &it, found) {
-                told.refuse(error);
-            }
-        }
-    }
+) -> Result<(), NoMemory> {
+    let answers = PlainAnswers::new(told.alloc(), model)?;
+    let found = found_at(told.alloc(), &answers, fault.path.as_bytes())?;
+    tell_found(told, sources, found, fault, classes)
 }
 
 /// Says what is behind a fault in a run of the model that the files make, where they make one.
@@ -466,7 +501,11 @@ fn tell_run(
 ) {
     let config = sources.config.as_bytes();
     match model_of(told.alloc(), sources.texts, sources.ini, config) {
-        Ok(model) => tell_fault(told, sources, &model, fault, classes),
+        Ok(model) => {
+            if let Err(error) = tell_fault(told, sources, &model, fault, classes) {
+                told.refuse(error);
+            }
+        }
         Err(_) => {}
     }
 }

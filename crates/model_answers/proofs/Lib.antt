@@ -1,2 +1,3 @@
-pub mod Around
-pub mod Names
+mod Halves
+mod Names
+mod Placing

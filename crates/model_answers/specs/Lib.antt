@@ -1,5 +1,4 @@
-pub mod Scenes
-pub mod Sites
-pub mod Parameters
-pub mod Inside
+pub mod Keyed
+pub mod Insides
+pub mod Reading
 pub mod Answering

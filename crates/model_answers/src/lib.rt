@@ -1,9 +1,12 @@
 //! The answers of a model to what a run asks of it.
 #![tactic(auto)]
 
-pub mod answering;
-pub mod inside;
-pub mod laws;
-pub mod parameters;
+mod answering;
+mod gates;
+mod insides;
+mod kept;
+mod keyed;
+mod named;
 pub mod plain;
-pub mod scene;
+mod reading;
+mod seats;

@@ -1,13 +1,24 @@
 //! A model that answers.
 
 ghost use Rattle.std.specs.Prelude.{◌≡◌, IfOk};
-ghost use Rattle.model_answers.specs.Answering.{answers_of};
+ghost use Rattle.std.specs.Option.{option_copied};
+ghost use Rattle.model_answers.specs.Answering.{answers_of, type_at};
+ghost use Rattle.model_answers.specs.Keyed as keyed;
+ghost use Rattle.model_answers.specs.Reading.{IsRight};
+ghost use Rattle.model_settings.specs.Standings.{setting_of};
 ghost use Rattle.run_questions.specs.Answers.{answer_of, gates_of, parameters_of};
 
-use crate::answering::{answer, gates_of, parameters_of};
+use crate::answering::{answer, gates_of, parameters_of, type_at, type_of_path, value_of_path};
+use crate::kept::kept_values;
+use crate::reading::Sources;
+use answer_engine::table::Table;
 use injection_order::injection::Injection;
+use inside_keys::found::Found;
+use inside_keys::key::Key;
+use model_settings::setting::ModelSetting;
 use models::model::Model;
 use module_api::call::{Gate, Parameter};
+use ned_trees::declarations::TypeDeclaration;
 use run_questions::answer::{Answer, Question};
 use run_questions::record::Record;
 use sim_values::NoMemory;
@@ -15,20 +26,28 @@ use sqlite_items::Items;
 use std::alloc::Global;
 use std::marker;
 
-/// A model that answers, each time anew.
+/// A model that answers. Values that it found at its beginning are kept.
 pub struct PlainAnswers<'m> {
-    model: &'m Model,
+    setting: ModelSetting<'m>,
+    /// The insides of its compound modules, and what these rest on.
+    kept: Table<Key, Found>,
 }
 
 // Written out, so that a crate which drops one need not prove what that does.
 impl<'m> Drop for PlainAnswers<'m> {
     fn drop(self) {
-        let PlainAnswers { model: _ } = self;
+        let PlainAnswers {
+            setting: _,
+            kept: _,
+        } = self;
     }
 }
 
 // Contracts see the model that answers.
 impl<'m> marker::Model for PlainAnswers<'m> {
+    ghost use Rattle.answer_engine.specs.Tables.{IsKept};
+    ghost use Rattle.inside_keys.specs.Values.{rules_of};
+    ghost use Rattle.model_settings.specs.Standings.{setting_of};
     ghost use Rattle.models.specs.declared.model.Model.{Model};
     ghost use Rattle.models.specs.contracts.model.Model.{the_row};
 
@@ -36,7 +55,9 @@ impl<'m> marker::Model for PlainAnswers<'m> {
 
     ghost coded = { the_row.coded };
 
-    ghost view = { λ a. a.model.now };
+    ghost view = { λ a. a.setting };
+
+    ghost invariant = { λ a. IsKept (rules_of (setting_of a.setting)) a.kept.entries };
 }
 
 impl<'m> PlainAnswers<'m> {
@@ -44,15 +65,27 @@ impl<'m> PlainAnswers<'m> {
     pub fn new(alloc: Global, model: &'m Model) -> Result<PlainAnswers<'m>, NoMemory>
         ensures { IfOk result (λ answers. answers ≡ model.now) }
     {
-        let _alloc = alloc;
-        Ok(PlainAnswers { model })
+        let setting = ModelSetting::new(alloc, model)?;
+        let kept = kept_values(alloc, &setting)?;
+        Ok(PlainAnswers { setting, kept })
     }
 
     /// The model that answers.
     pub fn model(&self) -> &'m Model
         ensures { result.now ≡ self.now }
     {
-        self.model
+        self.setting.model()
+    }
+
+    /// The model, and what is kept.
+    fn sources(&self) -> Sources<'_>
+        ensures model { result.setting.now ≡ self.now }
+        ensures right { IsRight result }
+    {
+        Sources {
+            setting: &self.setting,
+            kept: &self.kept,
+        }
     }
 
     /// The answer to a question, with the modules of these records.
@@ -64,7 +97,7 @@ impl<'m> PlainAnswers<'m> {
     ) -> Result<Answer, NoMemory>
         ensures { IfOk result (λ found. found ≡ answer_of (answers_of self.now) records.now question.now) }
     {
-        answer(alloc, self.model, records, question)
+        answer(alloc, self.sources(), records, question)
     }
 
     /// All parameters of the module of that id and their values, in the order of their declaration.
@@ -76,7 +109,7 @@ impl<'m> PlainAnswers<'m> {
     ) -> Result<Items<Parameter>, NoMemory>
         ensures { IfOk result (λ parameters. parameters ≡ parameters_of (answers_of self.now) records.now id) }
     {
-        parameters_of(alloc, self.model, records, id)
+        parameters_of(alloc, self.sources(), records, id)
     }
 
     /// All gates of the module of that id, in the order of their declaration.
@@ -88,7 +121,37 @@ impl<'m> PlainAnswers<'m> {
     ) -> Result<Items<Gate>, NoMemory>
         ensures { IfOk result (λ gates. gates ≡ gates_of (answers_of self.now) records.now id) }
     {
-        Ok(gates_of(alloc, self.model, records, id))
+        gates_of(alloc, self.sources(), records, id)
+    }
+
+    /// The type of the module of that id.
+    pub fn type_at(
+        &self,
+        alloc: Global,
+        records: &[Record],
+        id: u32,
+    ) -> Result<Option<&TypeDeclaration>, NoMemory>
+        ensures { IfOk result (λ found. option_copied found ≡ type_at self.now records.now id) }
+    {
+        type_at(alloc, self.sources(), records, id)
+    }
+
+    /// The type of the module of that path.
+    pub fn type_at_path(
+        &self,
+        alloc: Global,
+        path: &[u8],
+    ) -> Result<Option<&TypeDeclaration>, NoMemory>
+        ensures { IfOk result (λ found. option_copied found ≡ keyed.type_of (setting_of self.now) path.now) }
+    {
+        type_of_path(alloc, self.sources(), path)
+    }
+
+    /// The value of a parameter of the module of that path, or its fault.
+    pub fn value_at_path(&self, alloc: Global, path: &[u8], name: &[u8]) -> Result<Answer, NoMemory>
+        ensures { IfOk result (λ found. found ≡ keyed.value_in (setting_of self.now) path.now name.now) }
+    {
+        value_of_path(alloc, self.sources(), path, name)
     }
 
     /// The time after which no event is executed, in picoseconds.
@@ -96,13 +159,13 @@ impl<'m> PlainAnswers<'m> {
     pub fn time_limit(&self) -> Option<u64>
         ensures { result ≡ (answers_of self.now).time_limit }
     {
-        self.model.time_limit()
+        self.model().time_limit()
     }
 
     /// The messages from outside, by rising number.
     pub fn injections(&self) -> &'m [Injection]
         ensures { result.now ≡ self.now.injections }
     {
-        self.model.injections.as_slice()
+        self.model().injections.as_slice()
     }
 }

@@ -2,10 +2,11 @@
 use Rattle.std.proofs.Common.{◌≡◌, ℕ, suc, ◌+◌, ◌==◌, Bool, true, false, ◌&&◌, ◌||◌, List, [], ◌∷◌, ◌++◌, Option, Some, None, ℤ, refl, sym, ap, ◌∙◌, length, map, if◌then◌else◌}
 use Rattle.std.proofs.lemmas.Bool.{false≢true}
 use Rattle.ini_texts.specs.declared.lines.Entry.{Entry}
-use Rattle.model_answers.specs.Answering.{lines_of}
+use Rattle.model_answers.specs.Keyed.{lines_of}
 use Rattle.models.specs.declared.model.Model.{Model}
 use Rattle.run_questions.specs.declared.record.Record.{Record}
-use Rattle.models.specs.Models.{entries_in, type_at}
+use Rattle.model_answers.specs.Answering.{type_at}
+use Rattle.models.specs.Models.{entries_in}
 use Rattle.run_questions.specs.Records.{path_of, record_at}
 use Rattle.ned_trees.specs.declared.declarations.Statistic.{Statistic}
 use Rattle.ned_types.specs.Flat.{statistics_of}

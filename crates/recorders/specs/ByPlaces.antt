@@ -2,8 +2,8 @@
 use Rattle.std.specs.Prelude.{ℕ, ◌==◌, List, [], ◌++◌, length, flat_map, if◌then◌else◌}
 use Rattle.models.specs.declared.model.Model.{Model}
 use Rattle.run_questions.specs.declared.record.Record.{Record}
-use Rattle.model_answers.specs.Answering.{lines_of}
-use Rattle.models.specs.Models.{type_at}
+use Rattle.model_answers.specs.Keyed.{lines_of}
+use Rattle.model_answers.specs.Answering.{type_at}
 use Rattle.ned_types.specs.Flat.{statistics_of}
 use Rattle.recorders.specs.declared.places.RunPlaces.{RunPlaces}
 use Rattle.recorders.specs.declared.scalar_line.ScalarLine.{ScalarLine}

@@ -15,6 +15,7 @@ use crate::selection::{records_scalar_named, result_name, selected_modes};
 use crate::statistics::{value_in, values_at};
 use crate::vectors::vector_of;
 use crate::wanted::{Output, is_wanted, wanted};
+use model_answers::plain::PlainAnswers;
 use models::model::Model;
 use ned_trees::declarations::Statistic;
 use ned_trees::modes::Mode;
@@ -51,7 +52,7 @@ fn push_line(
 fn push_recorded(
     found: &mut Items<ScalarLine>,
     alloc: Global,
-    member: &Member<'_>,
+    member: &Member<'_, '_>,
     scalar: &Scalar,
 ) -> Result<(), NoMemory>
     ensures { OnOk result (found.new ≡ found.old ++ recorded_line member.now.model.now member.now.records.now member.now.id scalar.now) }
@@ -63,7 +64,7 @@ fn push_recorded(
     push_line(
         found,
         alloc,
-        member.model,
+        member.model.model(),
         path.as_bytes(),
         scalar.name.as_bytes(),
         i128::from(scalar.value),
@@ -74,7 +75,7 @@ fn push_recorded(
 fn push_recorded_at(
     found: &mut Items<ScalarLine>,
     alloc: Global,
-    member: &Member<'_>,
+    member: &Member<'_, '_>,
     recorded: &[Scalar],
     place: usize,
 ) -> Result<(), NoMemory>
@@ -90,7 +91,7 @@ fn push_recorded_at(
 fn push_all_recorded(
     found: &mut Items<ScalarLine>,
     alloc: Global,
-    member: &Member<'_>,
+    member: &Member<'_, '_>,
     recorded: &[Scalar],
     places: &[usize],
 ) -> Result<(), NoMemory>
@@ -159,7 +160,7 @@ fn push_modes(
 fn push_statistic(
     found: &mut Items<ScalarLine>,
     alloc: Global,
-    member: &Member<'_>,
+    member: &Member<'_, '_>,
     statistic: &Statistic,
 ) -> Result<(), NoMemory>
     requires { member.now.heard.now ≡ heard_places member.now.records.now member.now.id member.now.emissions.now }
@@ -167,12 +168,12 @@ fn push_statistic(
 {
     let vector = vector_of(alloc, member.records, member.id, statistic)?;
     let path = vector.path.as_bytes();
-    let modes = selected_modes(alloc, member.model, path, statistic)?;
+    let modes = selected_modes(alloc, member.model.model(), path, statistic)?;
     let values = values_at(alloc, member.emissions, member.heard, &vector)?;
     push_modes(
         found,
         alloc,
-        member.model,
+        member.model.model(),
         path,
         statistic.name.as_bytes(),
         values.as_slice(),
@@ -184,7 +185,7 @@ fn push_statistic(
 fn push_statistics(
     found: &mut Items<ScalarLine>,
     alloc: Global,
-    member: &Member<'_>,
+    member: &Member<'_, '_>,
     statistics: &[Statistic],
 ) -> Result<(), NoMemory>
     requires { member.now.heard.now ≡ heard_places member.now.records.now member.now.id member.now.emissions.now }
@@ -200,7 +201,7 @@ fn push_statistics(
 fn push_type_lines(
     found: &mut Items<ScalarLine>,
     alloc: Global,
-    member: &Member<'_>,
+    member: &Member<'_, '_>,
 ) -> Result<(), NoMemory>
     requires { member.now.heard.now ≡ heard_places member.now.records.now member.now.id member.now.emissions.now }
     ensures { OnOk result (found.new ≡ found.old ++ lines_of_type member.now.model.now member.now.records.now member.now.emissions.now member.now.id) }
@@ -214,7 +215,7 @@ fn push_type_lines(
 fn push_statistics_at(
     found: &mut Items<ScalarLine>,
     alloc: Global,
-    member: &Member<'_>,
+    member: &Member<'_, '_>,
     places: &RunPlaces,
 ) -> Result<(), NoMemory>
     requires wanted { is_wanted places.now.wanted.items member.now.id ≡ wants Scalars member.now.model.now member.now.records.now member.now.id }
@@ -236,7 +237,7 @@ fn push_statistics_at(
 fn push_scalars_at(
     found: &mut Items<ScalarLine>,
     alloc: Global,
-    member: &Member<'_>,
+    member: &Member<'_, '_>,
     recorded: &[Scalar],
     places: &RunPlaces,
 ) -> Result<(), NoMemory>
@@ -249,13 +250,10 @@ fn push_scalars_at(
     push_statistics_at(found, alloc, member, places)
 }
 
-/// The scalars that a run records, with the modules of these records, of which these were finished,
-/// with what the modules recorded and these emissions: by rising id of the module, first what it
-/// recorded, then, if it was finished, what the options let be recorded of its type's statistics.
-/// See OMNeT++ Simulation Manual, "Result Recording".
-pub fn scalars(
+/// The scalars that a run of the model records that answers so.
+fn scalars_by(
     alloc: Global,
-    model: &Model,
+    model: &PlainAnswers<'_>,
     records: &[Record],
     finished: &[u32],
     recorded: &[Scalar],
@@ -279,4 +277,23 @@ pub fn scalars(
         push_scalars_at(&mut found, alloc, &member, recorded, &places)?;
     }
     Ok(found)
+}
+
+/// The scalars that a run records, with the modules of these records, of which these were finished,
+/// with what the modules recorded and these emissions: by rising id of the module, first what it
+/// recorded, then, if it was finished, what the options let be recorded of its type's statistics.
+/// See OMNeT++ Simulation Manual, "Result Recording".
+pub fn scalars(
+    alloc: Global,
+    model: &Model,
+    records: &[Record],
+    finished: &[u32],
+    recorded: &[Scalar],
+    emissions: &[Emission],
+) -> Result<Items<ScalarLine>, NoMemory>
+    requires few { length records.now < 2 ^ 32 }
+    ensures { IfOk result (λ found. found ≡ scalars_of model.now records.now finished.now recorded.now emissions.now) }
+{
+    let answers = PlainAnswers::new(alloc, model)?;
+    scalars_by(alloc, &answers, records, finished, recorded, emissions)
 }

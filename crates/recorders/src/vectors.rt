@@ -11,6 +11,7 @@ use crate::places::{heard_lists, places_at};
 use crate::selection::records_vector;
 use crate::vector_line::VectorLine;
 use crate::wanted::{Output, is_wanted, wanted};
+use model_answers::plain::PlainAnswers;
 use models::model::Model;
 use ned_trees::declarations::Statistic;
 use run_questions::record::{Record, path_of};
@@ -57,14 +58,19 @@ fn is_any_of(vector: &VectorLine, emissions: &[Emission], places: &[usize]) -> b
 fn push_vector(
     found: &mut Items<VectorLine>,
     alloc: Global,
-    member: &Member<'_>,
+    member: &Member<'_, '_>,
     statistic: &Statistic,
 ) -> Result<(), NoMemory>
     requires { member.now.heard.now ≡ heard_places member.now.records.now member.now.id member.now.emissions.now }
     ensures { OnOk result (found.new ≡ found.old ++ vectors_among member.now.model.now member.now.records.now member.now.emissions.now member.now.id (statistic.now ∷ [])) }
 {
     let vector = vector_of(alloc, member.records, member.id, statistic)?;
-    if !records_vector(alloc, member.model, vector.path.as_bytes(), statistic)? {
+    if !records_vector(
+        alloc,
+        member.model.model(),
+        vector.path.as_bytes(),
+        statistic,
+    )? {
         return Ok(());
     }
     if is_any_of(&vector, member.emissions, member.heard) {
@@ -77,7 +83,7 @@ fn push_vector(
 fn push_vectors(
     found: &mut Items<VectorLine>,
     alloc: Global,
-    member: &Member<'_>,
+    member: &Member<'_, '_>,
     statistics: &[Statistic],
 ) -> Result<(), NoMemory>
     requires { member.now.heard.now ≡ heard_places member.now.records.now member.now.id member.now.emissions.now }
@@ -93,7 +99,7 @@ fn push_vectors(
 fn push_vectors_at(
     found: &mut Items<VectorLine>,
     alloc: Global,
-    member: &Member<'_>,
+    member: &Member<'_, '_>,
 ) -> Result<(), NoMemory>
     requires { member.now.heard.now ≡ heard_places member.now.records.now member.now.id member.now.emissions.now }
     ensures { OnOk result (found.new ≡ found.old ++ vectors_at member.now.model.now member.now.records.now member.now.emissions.now member.now.id) }
@@ -106,7 +112,7 @@ fn push_vectors_at(
 fn push_wanted_vectors(
     found: &mut Items<VectorLine>,
     alloc: Global,
-    member: &Member<'_>,
+    member: &Member<'_, '_>,
     wanted: &[bool],
 ) -> Result<(), NoMemory>
     requires wanted { is_wanted wanted.now member.now.id ≡ wants Vector member.now.model.now member.now.records.now member.now.id }
@@ -119,12 +125,10 @@ fn push_wanted_vectors(
     push_vectors_at(found, alloc, member)
 }
 
-/// The vectors that a run records, with the modules of these records and these emissions: all that
-/// the options let be recorded and that hear at least one value, by rising id of the module, then in the order of its type's statistics.
-/// See OMNeT++ Simulation Manual, "Result Recording".
-pub fn vectors(
+/// The vectors that a run of the model records that answers so.
+fn vectors_by(
     alloc: Global,
-    model: &Model,
+    model: &PlainAnswers<'_>,
     records: &[Record],
     emissions: &[Emission],
 ) -> Result<Items<VectorLine>, NoMemory>
@@ -146,4 +150,20 @@ pub fn vectors(
         push_wanted_vectors(&mut found, alloc, &member, &wanted)?;
     }
     Ok(found)
+}
+
+/// The vectors that a run records, with the modules of these records and these emissions: all that
+/// the options let be recorded and that hear at least one value, by rising id of the module, then in the order of its type's statistics.
+/// See OMNeT++ Simulation Manual, "Result Recording".
+pub fn vectors(
+    alloc: Global,
+    model: &Model,
+    records: &[Record],
+    emissions: &[Emission],
+) -> Result<Items<VectorLine>, NoMemory>
+    requires few { length records.now < 2 ^ 32 }
+    ensures { IfOk result (λ found. found ≡ vectors_of model.now records.now emissions.now) }
+{
+    let answers = PlainAnswers::new(alloc, model)?;
+    vectors_by(alloc, &answers, records, emissions)
 }

@@ -5,6 +5,7 @@ ghost use Rattle.models.specs.Models.{entries_in};
 ghost use Rattle.recorders.specs.Wanted.{is_wanted, has_output, has_output_among, wants, AreWanted};
 
 use crate::selection::{records_scalars, records_vector};
+use model_answers::plain::PlainAnswers;
 use models::model::Model;
 use ned_trees::declarations::Statistic;
 use ned_types::flat::statistics_of;
@@ -59,25 +60,31 @@ fn has_output_among(
 fn wants(
     output: Output,
     alloc: Global,
-    model: &Model,
+    model: &PlainAnswers<'_>,
     records: &[Record],
     id: u32,
 ) -> Result<bool, NoMemory>
     ensures { IfOk result (λ on. on ≡ wants output model.now records.now id) }
 {
-    let Some(declared) = model.type_at(records, id) else {
+    let Some(declared) = model.type_at(alloc, records, id)? else {
         return Ok(false);
     };
     let path = path_of(alloc, records, id)?;
     let statistics = statistics_of(alloc, declared.lines.as_slice())?;
-    has_output_among(output, alloc, model, path.as_bytes(), statistics.as_slice())
+    has_output_among(
+        output,
+        alloc,
+        model.model(),
+        path.as_bytes(),
+        statistics.as_slice(),
+    )
 }
 
 /// For each id of a module whether the options let the files have it of one of its statistics.
 pub fn wanted(
     output: Output,
     alloc: Global,
-    model: &Model,
+    model: &PlainAnswers<'_>,
     records: &[Record],
 ) -> Result<Vec<bool>, NoMemory>
     requires { length records.now < 2 ^ 32 }

@@ -1,0 +1,149 @@
+//! What is inside of compound modules.
+
+ghost use Rattle.std.specs.Prelude.{◌≡◌, IfOk};
+ghost use Rattle.std.specs.Option.{option_copied};
+ghost use Rattle.answer_engine.specs.Tables.{IsKept};
+ghost use Rattle.inside_keys.specs.Settings.{type_gates};
+ghost use Rattle.inside_keys.specs.Unconnected.{unconnected};
+ghost use Rattle.inside_keys.specs.Values.{rules_of};
+ghost use Rattle.model_answers.specs.Insides as insides;
+ghost use Rattle.model_answers.specs.Keyed as keyed;
+ghost use Rattle.model_answers.specs.Reading.{settings_of, IsRight};
+
+use crate::keyed::type_of;
+use crate::reading::{Sources, module_of, own_table};
+use answer_engine::table::Table;
+use inside_keys::found::{Found, Inside};
+use inside_keys::key::{Key, Module};
+use inside_keys::unconnected::unconnected;
+use inside_parts::fault::Fault;
+use inside_parts::parts::Part;
+use inside_run::placed::placed;
+use inside_run::scene::Scene;
+use model_inside::built::{built_parts, name_of_part};
+use model_inside::told::told_as;
+use ned_trees::declarations::{Submodule, TypeDeclaration, TypeKind};
+use run_questions::answer::{Answer, ModelFault};
+use sim_values::NoMemory;
+use sim_values::text::Text;
+use std::alloc::Global;
+
+/// The path of a submodule among the parts of the module of that path, which declares these submodules.
+pub fn child_path(
+    alloc: Global,
+    path: &[u8],
+    lines: &[Submodule],
+    part: Part,
+) -> Result<Text, NoMemory>
+    ensures { IfOk result (λ found. found ≡ insides.child_path path.now lines.now part) }
+{
+    let name = Text::from_bytes(alloc, name_of_part(lines, part))?;
+    let site = module_of(alloc, path)?;
+    let Module { created: _, path } = site.child(alloc, &name, part.index)?;
+    Ok(path)
+}
+
+/// The path of a part of the module of that path: its own is that of the module itself.
+fn part_path(
+    alloc: Global,
+    path: &[u8],
+    lines: &[Submodule],
+    part: Option<&Part>,
+) -> Result<Text, NoMemory>
+    ensures { IfOk result (λ found. found ≡ insides.path_of_number path.now lines.now (option_copied part.entry)) }
+{
+    match part {
+        Some(part) if !part.is_own => child_path(alloc, path, lines, *part),
+        _ => Ok(Text::from_bytes(alloc, path)?),
+    }
+}
+
+/// The submodules of an inside, or the fault of its first part with a gate that has to be connected and isn't.
+fn connected_answer(
+    alloc: Global,
+    from: Sources<'_>,
+    path: &[u8],
+    declared: &TypeDeclaration,
+    inside: &Inside,
+) -> Result<Answer, NoMemory>
+    ensures { IfOk result (λ found. found ≡ insides.connected_answer (settings_of from.entry) path.now declared.now inside.now
+        (unconnected declared.now (type_gates (settings_of from.entry)) inside.now)) }
+{
+    let lines = declared.submodules.as_slice();
+    let parts = inside.parts.parts.as_slice();
+    match unconnected(alloc, declared, from.setting.gates(), inside)? {
+        Some(number) => {
+            let path = part_path(alloc, path, lines, parts.get(number))?;
+            Ok(Answer::Fault(path, ModelFault::Unconnected))
+        }
+        None => Ok(Answer::Inside(built_parts(alloc, from.setting.types(), lines, parts)?)),
+    }
+}
+
+/// What is answered of an inside that was found, or of its first fault.
+fn built_answer(
+    alloc: Global,
+    from: Sources<'_>,
+    path: &[u8],
+    declared: &TypeDeclaration,
+    found: Result<Found, (Text, Fault)>,
+) -> Result<Answer, NoMemory>
+    ensures { IfOk result (λ answer. answer ≡ insides.built_answer (settings_of from.entry) path.now declared.now found) }
+{
+    match found {
+        Ok(Found::Inside(inside)) => connected_answer(alloc, from, path, declared, &inside),
+        Ok(Found::Value(_)) | Ok(Found::Carrier(_)) => Ok(Answer::Absent),
+        Err((path, fault)) => Ok(Answer::Fault(path, told_as(fault))),
+    }
+}
+
+/// The inside of the module of that path, or its first fault with its path.
+#[tactic(auto, using(crate::proofs::Placing::found_at))]
+fn inside_found(
+    alloc: Global,
+    from: Sources<'_>,
+    own: &mut Table<Key, Found>,
+    path: &[u8],
+) -> Result<Result<Found, (Text, Fault)>, NoMemory>
+    requires { IsKept (rules_of (settings_of from)) own.old.entries }
+    ensures { IfOk result (λ found. found ≡ insides.inside_found (settings_of from.entry) path.now) }
+{
+    let site = module_of(alloc, path)?;
+    let stands = from.setting.standing(alloc, &site)?;
+    placed(alloc, from.setting, own, &site, stands.around.as_ref())
+}
+
+/// What is inside of the compound module of that path and type.
+fn built_in(
+    alloc: Global,
+    from: Sources<'_>,
+    own: &mut Table<Key, Found>,
+    path: &[u8],
+    declared: &TypeDeclaration,
+) -> Result<Answer, NoMemory>
+    requires { IsKept (rules_of (settings_of from)) own.old.entries }
+    ensures { IfOk result (λ answer. answer ≡ insides.built_answer (settings_of from.entry) path.now declared.now (insides.inside_found (settings_of from.entry) path.now)) }
+{
+    let found = inside_found(alloc, from, own, path)?;
+    built_answer(alloc, from, path, declared, found)
+}
+
+/// What is inside of the compound module of that path, or its first fault.
+pub fn inside_answer(alloc: Global, from: Sources<'_>, path: &[u8]) -> Result<Answer, NoMemory>
+    requires { IsRight from }
+    ensures { IfOk result (λ answer. answer ≡ insides.inside_answer (settings_of from.entry) path.now (keyed.type_of (settings_of from.entry) path.now)) }
+{
+    let mut own = own_table(alloc, from);
+    let Some(of_type) = type_of(alloc, from, &mut own, path)? else {
+        return Ok(Answer::Absent);
+    };
+    match of_type.declared.kind {
+        TypeKind::Network | TypeKind::Module => {
+            built_in(alloc, from, &mut own, path, of_type.declared)
+        }
+        TypeKind::Simple
+        | TypeKind::Channel
+        | TypeKind::ModuleInterface
+        | TypeKind::ChannelInterface => Ok(Answer::Absent),
+    }
+}

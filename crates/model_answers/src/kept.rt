@@ -1,0 +1,123 @@
+//! Values that are kept between answers: the insides of all compound modules, and what these rest on.
+
+ghost use Rattle.answer_engine.specs.Tables.{IsKept};
+ghost use Rattle.inside_keys.specs.Values.{rules_of};
+ghost use Rattle.model_settings.specs.Standings.{setting_of};
+ghost use Rattle.std.specs.Prelude.{IfOk};
+
+use crate::insides::child_path;
+use crate::reading::module_of;
+use answer_engine::table::Table;
+use inside_keys::found::Found;
+use inside_keys::key::{Key, What};
+use inside_parts::parts::Part;
+use inside_run::scene::Scene;
+use inside_run::values::{empty_table, value_of};
+use model_settings::setting::ModelSetting;
+use ned_trees::declarations::{TypeDeclaration, TypeKind};
+use sim_values::NoMemory;
+use sim_values::text::Text;
+use std::alloc::Global;
+
+/// How many insides are kept at most: as many as a run has modules.
+const MOST_INSIDES: u32 = 1_000_000;
+
+/// Whether a part is a compound module.
+fn is_compound(types: &[TypeDeclaration], part: Part) -> bool {
+    match types.get(part.of_type) {
+        Some(declared) => matches!(declared.kind, TypeKind::Module),
+        None => false,
+    }
+}
+
+/// Adds the paths of the compound modules among these parts, which are submodules of the module of that path and type.
+fn push_compounds(
+    pending: &mut Vec<Text>,
+    alloc: Global,
+    types: &[TypeDeclaration],
+    declared: &TypeDeclaration,
+    path: &[u8],
+    parts: &[Part],
+) -> Result<(), NoMemory> {
+    let lines = declared.submodules.as_slice();
+    for part in parts {
+        if is_compound(types, *part) {
+            pending.push(child_path(alloc, path, lines, *part)?)?;
+        }
+    }
+    Ok(())
+}
+
+/// Adds the paths of the compound modules in an inside, of which the first part is the module of that path itself.
+fn push_inner(
+    pending: &mut Vec<Text>,
+    alloc: Global,
+    types: &[TypeDeclaration],
+    path: &[u8],
+    parts: &[Part],
+) -> Result<(), NoMemory> {
+    let [own, submodules @ ..] = parts else {
+        return Ok(());
+    };
+    match types.get(own.of_type) {
+        Some(declared) => push_compounds(pending, alloc, types, declared, path, submodules),
+        None => Ok(()),
+    }
+}
+
+/// Keeps the inside of the module of that path, where it has one, and adds the paths of the compound modules in it.
+fn keep_inside(
+    alloc: Global,
+    setting: &ModelSetting<'_>,
+    kept: &mut Table<Key, Found>,
+    pending: &mut Vec<Text>,
+    path: &Text,
+) -> Result<(), NoMemory>
+    requires { IsKept (rules_of (setting_of setting.now)) kept.old.entries }
+    ensures { IsKept (rules_of (setting_of setting.now)) kept.new.entries }
+{
+    let site = module_of(alloc, path.as_bytes())?;
+    let what = What::Inside;
+    let Ok(place) = value_of(alloc, setting, kept, Key { site, what })? else {
+        return Ok(());
+    };
+    match kept.value(place) {
+        Some(Found::Inside(inside)) => {
+            let parts = inside.parts.parts.as_slice();
+            push_inner(pending, alloc, setting.types(), path.as_bytes(), parts)
+        }
+        _ => Ok(()),
+    }
+}
+
+/// Keeps the insides of the modules of these paths, and those of the compound modules in them.
+fn keep_all(
+    alloc: Global,
+    setting: &ModelSetting<'_>,
+    kept: &mut Table<Key, Found>,
+    pending: &mut Vec<Text>,
+) -> Result<(), NoMemory>
+    requires { IsKept (rules_of (setting_of setting.now)) kept.old.entries }
+    ensures { IsKept (rules_of (setting_of setting.now)) kept.new.entries }
+{
+    for _turn in 0..MOST_INSIDES {
+        let Some(path) = pending.pop() else {
+            return Ok(());
+        };
+        keep_inside(alloc, setting, kept, pending, &path)?;
+    }
+    Ok(())
+}
+
+/// The insides of the network and of all compound modules in it, and what these rest on.
+pub fn kept_values(alloc: Global, setting: &ModelSetting<'_>) -> Result<Table<Key, Found>, NoMemory>
+    ensures { IfOk result (λ kept. IsKept (rules_of (setting_of setting.now)) kept.entries) }
+{
+    let mut kept = empty_table(alloc, setting);
+    let mut pending = Vec::new(alloc);
+    if let Some(network) = setting.model().network() {
+        pending.push(network.name.copy(alloc)?)?;
+    }
+    keep_all(alloc, setting, &mut kept, &mut pending)?;
+    Ok(kept)
+}
