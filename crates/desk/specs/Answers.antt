@@ -73,7 +73,6 @@ abbrev pub refusal_name : BeginFault → List ℕ
 refusal_name refusal.TooLarge = codes "TooLarge"
 refusal_name (refusal.NedSyntax file line) = codes "NedSyntax"
 refusal_name (refusal.IniSyntax line reason) = codes "IniSyntax"
-refusal_name refusal.NotBuilt = codes "NotBuilt"
 refusal_name refusal.DuplicateType = codes "DuplicateType"
 refusal_name refusal.UnknownType = codes "UnknownType"
 refusal_name refusal.InheritanceCircle = codes "InheritanceCircle"
@@ -126,7 +125,6 @@ positions_text counts = codes "positions" ++ counts_text counts
 
 -- the name of what is wrong with types
 abbrev pub type_fault_name : TypeFault → List ℕ
-type_fault_name types.NotBuilt = codes "NotBuilt"
 type_fault_name types.DuplicateType = codes "DuplicateType"
 type_fault_name types.UnknownType = codes "UnknownType"
 type_fault_name types.InheritanceCircle = codes "InheritanceCircle"

@@ -132,7 +132,6 @@ fn refusal_name(fault: BeginFault) -> &'static [u8]
         BeginFault::TooLarge => b"TooLarge",
         BeginFault::NedSyntax(_, _) => b"NedSyntax",
         BeginFault::IniSyntax(_, _) => b"IniSyntax",
-        BeginFault::NotBuilt => b"NotBuilt",
         BeginFault::DuplicateType => b"DuplicateType",
         BeginFault::UnknownType => b"UnknownType",
         BeginFault::InheritanceCircle => b"InheritanceCircle",
@@ -286,7 +285,6 @@ fn type_fault_name(fault: TypeFault) -> &'static [u8]
     ensures { result.now ≡ type_fault_name fault }
 {
     match fault {
-        TypeFault::NotBuilt => b"NotBuilt",
         TypeFault::DuplicateType => b"DuplicateType",
         TypeFault::UnknownType => b"UnknownType",
         TypeFault::InheritanceCircle => b"InheritanceCircle",

@@ -69,8 +69,7 @@ fn tell_refusal(told: &mut Explanation, fault: BeginFault, sources: &Sources<'_>
             told.say(": ");
             tell_ini_line(told, line_at(sources.ini, line), reason);
         }
-        BeginFault::NotBuilt
-        | BeginFault::DuplicateType
+        BeginFault::DuplicateType
         | BeginFault::UnknownType
         | BeginFault::InheritanceCircle
         | BeginFault::KindClash

@@ -93,7 +93,6 @@ ruled_out texts ini config (fault.NedSyntax at line) why m is =
     let here = file_at texts at why.1.text is.read.read.files why.1.here is.read.read.declared in
     absurd (why.1.none here.0 here.1)
 ruled_out texts ini config (fault.IniSyntax line reason) why m is = absurd (bad_text line ini is.read.read.lines why.1.blamed is.read.read.said)
-ruled_out texts ini config fault.NotBuilt why m is = absurd (together texts ini types.NotBuilt is.read.read why.1)
 ruled_out texts ini config fault.DuplicateType why m is = absurd (together texts ini types.DuplicateType is.read.read why.1)
 ruled_out texts ini config fault.UnknownType why m is = absurd (together texts ini types.UnknownType is.read.read why.1)
 ruled_out texts ini config fault.InheritanceCircle why m is = absurd (together texts ini types.InheritanceCircle is.read.read why.1)

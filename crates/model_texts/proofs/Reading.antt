@@ -38,7 +38,6 @@ blames ts n t before (fault.NedSyntax at line) declared here is = record {
 blames ts n t before fault.TooLarge declared here is = holds_large ts n t here is
 blames ts n t before (fault.NoMemory _) declared here is = tt
 blames ts n t before (fault.IniSyntax line reason) declared here is = absurd is
-blames ts n t before fault.NotBuilt declared here is = absurd is
 blames ts n t before fault.DuplicateType declared here is = absurd is
 blames ts n t before fault.UnknownType declared here is = absurd is
 blames ts n t before fault.InheritanceCircle declared here is = absurd is
@@ -65,7 +64,6 @@ config_refused texts ini config read (fault.NoMemory _) is = tt
 config_refused texts ini config read (fault.NedSyntax at line) is = absurd is
 config_refused texts ini config read fault.TooLarge is = absurd is
 config_refused texts ini config read (fault.IniSyntax line reason) is = absurd is
-config_refused texts ini config read fault.NotBuilt is = absurd is
 config_refused texts ini config read fault.DuplicateType is = absurd is
 config_refused texts ini config read fault.UnknownType is = absurd is
 config_refused texts ini config read fault.InheritanceCircle is = absurd is
@@ -85,7 +83,6 @@ some_copied (Some x) e = refl
 
 -- types with a fault are refused
 pub refused_by : (declared : List TypeDeclaration) (why : TypeFault) → fault_of declared ≡ Some why → RefusesTypes declared (refusal_of why)
-refused_by declared types.NotBuilt h = h
 refused_by declared types.DuplicateType h = h
 refused_by declared types.UnknownType h = h
 refused_by declared types.InheritanceCircle h = h

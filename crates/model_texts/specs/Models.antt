@@ -103,7 +103,6 @@ refusal_of types.UnknownType = fault.UnknownType
 refusal_of types.InheritanceCircle = fault.InheritanceCircle
 refusal_of types.KindClash = fault.KindClash
 refusal_of types.Interface = fault.Interface
-refusal_of types.NotBuilt = fault.NotBuilt
 
 abbrev pub RefusesTypes : List TypeDeclaration → BeginFault → Type 0
 RefusesTypes declared fault.DuplicateType = fault_of declared ≡ Some types.DuplicateType
@@ -111,7 +110,6 @@ RefusesTypes declared fault.UnknownType = fault_of declared ≡ Some types.Unkno
 RefusesTypes declared fault.InheritanceCircle = fault_of declared ≡ Some types.InheritanceCircle
 RefusesTypes declared fault.KindClash = fault_of declared ≡ Some types.KindClash
 RefusesTypes declared fault.Interface = fault_of declared ≡ Some types.Interface
-RefusesTypes declared fault.NotBuilt = fault_of declared ≡ Some types.NotBuilt
 RefusesTypes declared (fault.NoMemory _) = Unit {0}
 RefusesTypes declared _ = ⊥
 
@@ -164,7 +162,6 @@ Refuses texts ini config fault.UnknownType = (is_too_large texts ini ≡ false) 
 Refuses texts ini config fault.InheritanceCircle = (is_too_large texts ini ≡ false) × AreApart texts ini types.InheritanceCircle
 Refuses texts ini config fault.KindClash = (is_too_large texts ini ≡ false) × AreApart texts ini types.KindClash
 Refuses texts ini config fault.Interface = (is_too_large texts ini ≡ false) × AreApart texts ini types.Interface
-Refuses texts ini config fault.NotBuilt = (is_too_large texts ini ≡ false) × AreApart texts ini types.NotBuilt
 Refuses texts ini config fault.NoSuchConfig = IsNotSelected texts ini config
 Refuses texts ini config fault.ChainFault = HasNoChain texts ini config
 Refuses texts ini config fault.NoSuchNetwork = HasNoNetwork texts ini config

@@ -55,9 +55,6 @@ pub enum BeginFault {
     KindClash,
     /// A type lacks a parameter or a gate of one of its interfaces.
     Interface,
-    /// A network has a part of which none is built yet, which is right in NED: a submodule that is a compound module or a vector, or has a
-    /// parametric type, a condition or gates in its body, or connections.
-    NotBuilt,
     /// The configuration isn't in the ini text.
     NoSuchConfig,
     /// The configuration extends one that isn't in the ini text, one twice, several that can't be put in order, or in the end itself.
@@ -161,7 +158,6 @@ fn refusal_of(fault: TypeFault) -> BeginFault
         TypeFault::InheritanceCircle => BeginFault::InheritanceCircle,
         TypeFault::KindClash => BeginFault::KindClash,
         TypeFault::Interface => BeginFault::Interface,
-        TypeFault::NotBuilt => BeginFault::NotBuilt,
     }
 }
 

@@ -17,5 +17,4 @@ pub mod sources;
 pub mod tokens;
 mod twice;
 pub mod types;
-mod unbuilt;
 pub mod values;

@@ -14,7 +14,6 @@ use crate::members::{
 use crate::ned_files::Files;
 use crate::origins::{Kind, origin_of};
 use crate::twice::tell_twice;
-use crate::unbuilt::tell_unbuilt;
 use ned_trees::declarations::TypeDeclaration;
 use type_building::places::{Member, Place};
 use type_building::table::TypeFault;
@@ -87,12 +86,6 @@ fn tell_member(
         }
         Member::LacksGate(number, at) => tell_lacked(told, files, order, number, Kind::Gate, at),
         Member::Submodule(at) => tell_other_submodule(told, files, order, at),
-        Member::Compound(_)
-        | Member::Vector(_)
-        | Member::Parametric(_)
-        | Member::Condition(_)
-        | Member::BodyGates(_)
-        | Member::Connections => tell_unbuilt(told, files, order, member),
         Member::Whole | Member::Base | Member::Interface(_) | Member::Channel(_, _) => {}
     }
 }

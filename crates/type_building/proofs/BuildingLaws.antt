@@ -1,4 +1,4 @@
--- Types have no fault exactly where they can be built.
+-- Types have no fault exactly where they keep the rules.
 use Rattle.std.proofs.Common.{◌≡◌, ◌≢◌, inl, inr, ℕ, Bool, true, false, not, ◌||◌, ◌&&◌, ◌⊎◌, List, [], ◌∷◌, map, length, Option, Some, None, Result, Ok, Err, IfOk, refl, sym, ap, subst, ◌∙◌, if◌then◌else◌}
 use Rattle.std.specs.List.{list_any}
 use Rattle.std.specs.Str.{bytes_eq}
@@ -10,7 +10,7 @@ use Rattle.ned_trees.specs.declared.declarations.TypeDeclaration.{TypeDeclaratio
 use Rattle.ned_trees.specs.declared.declarations.TypeKind.{TypeKind}
 use Rattle.ned_trees.specs.declared.declarations.TypeKind.TheVariants.{Simple, Module, Network, Channel, ModuleInterface, ChannelInterface}
 use Rattle.type_building.specs.declared.table.TypeFault.{TypeFault}
-use Rattle.type_building.specs.declared.table.TypeFault.TheVariants.{DuplicateType, UnknownType, InheritanceCircle, KindClash, Interface, NotBuilt}
+use Rattle.type_building.specs.declared.table.TypeFault.TheVariants.{DuplicateType, UnknownType, InheritanceCircle, KindClash, Interface}
 use Rattle.type_building.specs.declared.table.BuildError.{BuildError}
 use Rattle.type_building.specs.declared.table.BuildError.TheVariants.{Fault, NoMemory}
 use Rattle.type_building.specs.declared.places.Place.{Place}
@@ -19,8 +19,7 @@ use Rattle.ned_types.specs.Types as t
 use Rattle.type_building.specs.Interfaces as f
 use Rattle.type_building.specs.Circles.{ExtendsItself}
 use Rattle.type_building.specs.Inheritance as i
-use Rattle.type_building.specs.Building.{base_fault, fault_of, flat_fault, AreFaultless, Builds, KeepRules, IsFlatPlace, IsPlace, MayExtend}
-use Rattle.type_building.specs.Unbuilt.{has_unbuilt}
+use Rattle.type_building.specs.Building.{base_fault, fault_of, flat_fault, AnswersTable, AreFaultless, Builds, KeepRules, IsFlatPlace, IsPlace, MayExtend}
 use Rattle.ned_types.specs.Clashes as k
 use Rattle.ned_types.specs.Flat.{named_or, or_else}
 use Rattle.ned_types.specs.WellFormed.{HasChannel, IsAmong, IsChannelNamed, IsTypeOf, StandsBefore, IsWellFormed}
@@ -110,34 +109,30 @@ unknown_flat types none = any_made (λ a. t.names_unknown types a.submodules) ty
 -- ---- no fault
 
 -- the fault by the tests
-abbrev by_tests : Bool → Bool → Bool → Bool → Bool → Bool → Bool → Option TypeFault
-by_tests duplicate unknown circle other clash broken unbuilt =
+abbrev by_tests : Bool → Bool → Bool → Bool → Bool → Bool → Option TypeFault
+by_tests duplicate unknown circle other clash broken =
     or_else (if duplicate then Some DuplicateType else (if unknown then Some UnknownType else (if circle then Some InheritanceCircle else (if other then Some KindClash else None))))
-    (if clash then Some KindClash else (if broken then Some Interface else (if unbuilt then Some NotBuilt else None)))
+    (if clash then Some KindClash else (if broken then Some Interface else None))
 
 -- none of the tests is passed where nothing is told
-no_fault : (duplicate unknown circle other clash broken unbuilt : Bool) → by_tests duplicate unknown circle other clash broken unbuilt ≡ None → (duplicate ≡ false) × (clash ≡ false) × (broken ≡ false) × (unbuilt ≡ false)
-no_fault false false false false false false false h = (refl, refl, refl, refl)
-no_fault false false false false false false true h = absurd cc
-no_fault false false false false false true unbuilt h = absurd cc
-no_fault false false false false true broken unbuilt h = absurd cc
-no_fault false false false true clash broken unbuilt h = absurd cc
-no_fault false false true other clash broken unbuilt h = absurd cc
-no_fault false true circle other clash broken unbuilt h = absurd cc
-no_fault true unknown circle other clash broken unbuilt h = absurd cc
+no_fault : (duplicate unknown circle other clash broken : Bool) → by_tests duplicate unknown circle other clash broken ≡ None → (duplicate ≡ false) × (clash ≡ false) × (broken ≡ false)
+no_fault false false false false false false h = (refl, refl, refl)
+no_fault false false false false false true h = absurd cc
+no_fault false false false false true broken h = absurd cc
+no_fault false false false true clash broken h = absurd cc
+no_fault false false true other clash broken h = absurd cc
+no_fault false true circle other clash broken h = absurd cc
+no_fault true unknown circle other clash broken h = absurd cc
 
-none_parts : (types : List TypeDeclaration) → fault_of types ≡ None → (t.has_duplicate types ≡ false) × (k.has_clash (i.flat_types types) ≡ false) × (f.has_broken (i.flat_types types) ≡ false) × (has_unbuilt (i.flat_types types) ≡ false)
-none_parts types none = no_fault (t.has_duplicate types) (t.has_unknown types || (i.has_unknown_base types || (f.has_unknown_interface types || k.has_unknown_channels types))) (i.has_circle types) (t.has_inner_network types || (i.has_other_base types || f.has_other_interface types)) (k.has_clash (i.flat_types types)) (f.has_broken (i.flat_types types)) (has_unbuilt (i.flat_types types)) none
+none_parts : (types : List TypeDeclaration) → fault_of types ≡ None → (t.has_duplicate types ≡ false) × (k.has_clash (i.flat_types types) ≡ false) × (f.has_broken (i.flat_types types) ≡ false)
+none_parts types none = no_fault (t.has_duplicate types) (t.has_unknown types || (i.has_unknown_base types || (f.has_unknown_interface types || k.has_unknown_channels types))) (i.has_circle types) (t.has_inner_network types || (i.has_other_base types || f.has_other_interface types)) (k.has_clash (i.flat_types types)) (f.has_broken (i.flat_types types)) none
 
 -- types without a fault have flat types that keep the rules
-pub flat_rules : (types : List TypeDeclaration) → fault_of types ≡ None → IsWellFormed (i.flat_types types)
+flat_rules : (types : List TypeDeclaration) → fault_of types ≡ None → IsWellFormed (i.flat_types types)
 flat_rules types none =
     let parts = none_parts types none in
     let duplicate = duplicate_flat types types ∙ parts.0 in
     well_formed (i.flat_types types) duplicate parts.1 (kept_told (i.flat_types types) (types_apart (i.flat_types types) duplicate) parts.2)
-
-pub none_unbuilt : (types : List TypeDeclaration) → fault_of types ≡ None → has_unbuilt (i.flat_types types) ≡ false
-none_unbuilt types none = (none_parts types none).3
 
 -- ---- what is extended
 
@@ -231,8 +226,8 @@ channel_known types (Some c) h = let found = h c refl in name_known types c.type
 channels_known : (types : List TypeDeclaration) → IsWellFormed (i.flat_types types) → k.has_unknown_channels types ≡ false
 channels_known types w = any_made (λ a. k.has_unknown_channel types a.connections.items) types (λ a is. any_made (λ x. list_any (λ l. k.is_channel_unknown types l) (k.connections_of x)) a.connections.items (λ x in-a. any_made (λ l. k.is_channel_unknown types l) (k.connections_of x) (λ l in-x. channel_known types l.connection.channel (w.channels (i.flat_type types a) (among_flat types a types is) x (item_has types a is x in-a) l in-x))))
 
--- types that keep the rules have no fault but that a network isn't built yet
-pub rules_kept : (types : List TypeDeclaration) → KeepRules types → fault_of types ≡ (if has_unbuilt (i.flat_types types) then Some NotBuilt else None)
+-- types that keep the rules have no fault
+rules_kept : (types : List TypeDeclaration) → KeepRules types → fault_of types ≡ None
 rules_kept types w =
     let duplicate : t.has_duplicate types ≡ false = sym (duplicate_flat types types) ∙ no_duplicate (i.flat_types types) w.flat in
     let unknown : t.has_unknown types ≡ false = unknown_flat types (no_unknown (i.flat_types types) w.flat) in
@@ -259,9 +254,24 @@ flat_place types UnknownType p none is = absurd is
 flat_place types InheritanceCircle p none is = absurd is
 flat_place types KindClash p none is = subst (λ o. IsClashPlace types o p) (sym none) tt
 flat_place types Interface p none is = is
-flat_place types NotBuilt p none is = is
 
 pub built_flat : (types : List TypeDeclaration) (r : Result (List TypeDeclaration) BuildError) → base_fault types ≡ None → place_from (other_in types) 0 types ≡ None → AreFaultless (i.flat_types types) r → Builds types r
 built_flat types (Ok table) e none h = (h.0, no_base_fault (base_fault types) (flat_fault (i.flat_types types)) e ∙ h.1)
 built_flat types (Err (NoMemory m)) e none h = tt
 built_flat types (Err (Fault fault p)) e none h = (no_base_fault (base_fault types) (flat_fault (i.flat_types types)) e ∙ h.0, flat_place types fault p none h.1)
+
+-- ---- answers
+
+some_none : {X : Type 0} (x : X) (o : Option X) → o ≡ Some x → o ≡ None → ⊥
+some_none x o e f = absurd cc
+
+-- what is built keeps the rules of types
+pub rules_by : (types : List TypeDeclaration) (r : Result (List TypeDeclaration) BuildError) → Builds types r → IfOk r IsWellFormed
+rules_by types (Ok table) b = subst IsWellFormed (sym b.0) (flat_rules types b.1)
+rules_by types (Err e) b = tt
+
+-- types that keep the rules are built
+pub complete_by : (types : List TypeDeclaration) (r : Result (List TypeDeclaration) BuildError) → Builds types r → KeepRules types → AnswersTable (i.flat_types types) r
+complete_by types (Ok table) b w = b.0
+complete_by types (Err (NoMemory _)) b w = tt
+complete_by types (Err (Fault why _)) b w = some_none why _ b.0 (rules_kept types w)

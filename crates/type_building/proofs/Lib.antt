@@ -10,4 +10,3 @@ pub mod OrderLaws
 pub mod LineLaws
 pub mod SectionLaws
 pub mod PlaceLaws
-pub mod UnbuiltLaws

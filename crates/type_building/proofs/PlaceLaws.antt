@@ -21,7 +21,6 @@ use Rattle.type_building.specs.declared.table.BuildError.TheVariants.{Fault}
 use Rattle.ned_types.specs.Clashes.{connections_of, has_clash, has_unknown_channel, is_channel_unknown}
 use Rattle.ned_types.specs.Types.{has_duplicate}
 use Rattle.type_building.specs.Building.{base_fault, Builds, fault_of, flat_fault, TellsFlat}
-use Rattle.type_building.specs.Unbuilt.{has_unbuilt, unbuilt_in}
 use Rattle.type_building.specs.Inheritance.{flat_types, has_circle}
 use Rattle.type_building.specs.Places.{IsClashPlace}
 use Rattle.type_building.proofs.Repeats.{mixed}
@@ -210,29 +209,20 @@ none_found types apart none roots alike =
 
 -- ---- the faults of flat types, by what was found
 
-abbrev flat_of : Bool → Bool → Bool → Option TypeFault
-flat_of clash broken unbuilt = if clash then Some fault.KindClash else (if broken then Some fault.Interface else (if unbuilt then Some fault.NotBuilt else None))
+abbrev flat_of : Bool → Bool → Option TypeFault
+flat_of clash broken = if clash then Some fault.KindClash else (if broken then Some fault.Interface else None)
 
 pub clash_tells : (types : List TypeDeclaration) (p : Place) → has_clash types ≡ true → TellsFlat types (Some (fault.KindClash, p))
-clash_tells types p clash = (ap (λ b. flat_of b (has_broken types) (has_unbuilt types)) clash, tt)
+clash_tells types p clash = (ap (λ b. flat_of b (has_broken types)) clash, tt)
 
 pub lacked_tells : (types : List TypeDeclaration) (p : Place) → has_clash types ≡ false → place_from (lacked_in types) 0 types ≡ Some p → TellsFlat types (Some (fault.Interface, p))
 lacked_tells types p none found =
     let broken : has_broken types ≡ true = sym (lacked_told types types) ∙ ap is_some found in (
-      ap (λ b. flat_of b (has_broken types) (has_unbuilt types)) none ∙ ap (λ b. flat_of false b (has_unbuilt types)) broken,
+      ap (λ b. flat_of b (has_broken types)) none ∙ ap (flat_of false) broken,
       found,
     )
 
-pub unbuilt_tells : (types : List TypeDeclaration) (p : Place) → has_clash types ≡ false → place_from (lacked_in types) 0 types ≡ None → place_from (unbuilt_in types) 0 types ≡ Some p → TellsFlat types (Some (fault.NotBuilt, p))
-unbuilt_tells types p none whole found =
+pub none_tells : (types : List TypeDeclaration) → has_clash types ≡ false → place_from (lacked_in types) 0 types ≡ None → TellsFlat types None
+none_tells types none whole =
     let kept : has_broken types ≡ false = sym (lacked_told types types) ∙ ap is_some whole in
-    let unbuilt : has_unbuilt types ≡ true = sym (place_told (unbuilt_in types) 0 types) ∙ ap is_some found in (
-      ap (λ b. flat_of b (has_broken types) (has_unbuilt types)) none ∙ ap (λ b. flat_of false b (has_unbuilt types)) kept ∙ ap (λ b. flat_of false false b) unbuilt,
-      found,
-    )
-
-pub none_tells : (types : List TypeDeclaration) → has_clash types ≡ false → place_from (lacked_in types) 0 types ≡ None → place_from (unbuilt_in types) 0 types ≡ None → TellsFlat types None
-none_tells types none whole built =
-    let kept : has_broken types ≡ false = sym (lacked_told types types) ∙ ap is_some whole in
-    let done : has_unbuilt types ≡ false = sym (place_told (unbuilt_in types) 0 types) ∙ ap is_some built in
-    ap (λ b. flat_of b (has_broken types) (has_unbuilt types)) none ∙ ap (λ b. flat_of false b (has_unbuilt types)) kept ∙ ap (λ b. flat_of false false b) done
+    ap (λ b. flat_of b (has_broken types)) none ∙ ap (flat_of false) kept

@@ -1,14 +1,13 @@
 -- Why declared types make no model, and the table of those that do.
-use Rattle.std.specs.Prelude.{◌≡◌, ◌⊎◌, ◌↔◌, ℕ, true, false, ◌||◌, List, [], Option, Some, None, Result, Ok, Err, if◌then◌else◌}
+use Rattle.std.specs.Prelude.{◌≡◌, ◌⊎◌, ℕ, true, false, ◌||◌, List, [], Option, Some, None, Result, Ok, Err, if◌then◌else◌}
 use Rattle.ned_trees.specs.declared.declarations.TypeDeclaration.{TypeDeclaration}
 use Rattle.ned_trees.specs.declared.declarations.TypeKind.{TypeKind}
 use Rattle.ned_trees.specs.declared.declarations.TypeKind.TheVariants.{Simple, Module, Network, Channel, ModuleInterface, ChannelInterface}
 use Rattle.type_building.specs.declared.table.TypeFault.{TypeFault}
-use Rattle.type_building.specs.declared.table.TypeFault.TheVariants.{DuplicateType, UnknownType, InheritanceCircle, KindClash, Interface, NotBuilt}
+use Rattle.type_building.specs.declared.table.TypeFault.TheVariants.{DuplicateType, UnknownType, InheritanceCircle, KindClash, Interface}
 use Rattle.type_building.specs.declared.table.BuildError.{BuildError}
 use Rattle.type_building.specs.declared.table.BuildError.TheVariants.{Fault, NoMemory}
 use Rattle.type_building.specs.declared.places.Place.{Place}
-use Rattle.type_building.specs.Unbuilt.{AreBuildable, has_unbuilt, unbuilt_in}
 use Rattle.type_building.specs.Places.{duplicate_from, IsClashPlace, lacked_in, other_in, place_from, unknown_in}
 use Rattle.ned_types.specs.Clashes.{has_clash, has_unknown_channels}
 use Rattle.ned_types.specs.Types.{has_duplicate, has_inner_network, has_unknown, is_built_in, is_inner_name}
@@ -26,14 +25,13 @@ base_fault types =
     else (if has_circle types then Some InheritanceCircle
     else (if has_inner_network types || (has_other_base types || has_other_interface types) then Some KindClash else None)))
 
--- the faults of flat types: a clash in one of them, then a member of an interface that one lacks, and then that a network isn't built yet
+-- the faults of flat types: a clash in one of them, and then a member of an interface that one lacks
 abbrev pub flat_fault : List TypeDeclaration → Option TypeFault
 flat_fault types =
     if has_clash types then Some KindClash
-    else (if has_broken types then Some Interface
-    else (if has_unbuilt types then Some NotBuilt else None))
+    else (if has_broken types then Some Interface else None)
 
--- why the types make no model, where they don't: a rule that they break, or else that a network isn't built yet
+-- why the types make no model, where they don't: the first rule that they break
 abbrev pub fault_of : List TypeDeclaration → Option TypeFault
 fault_of types = or_else (base_fault types) (flat_fault (flat_types types))
 
@@ -45,7 +43,6 @@ IsPlace types UnknownType p = place_from (unknown_in types) 0 types ≡ Some p
 IsPlace types InheritanceCircle p = Unit {0}
 IsPlace types KindClash p = IsClashPlace types (place_from (other_in types) 0 types) p
 IsPlace types Interface p = place_from (lacked_in (flat_types types)) 0 (flat_types types) ≡ Some p
-IsPlace types NotBuilt p = place_from (unbuilt_in (flat_types types)) 0 (flat_types types) ≡ Some p
 
 -- the same of a fault of flat types
 abbrev pub IsFlatPlace : List TypeDeclaration → TypeFault → Place → Type 0
@@ -54,7 +51,6 @@ IsFlatPlace types UnknownType p = ⊥
 IsFlatPlace types InheritanceCircle p = ⊥
 IsFlatPlace types KindClash p = Unit {0}
 IsFlatPlace types Interface p = place_from (lacked_in types) 0 types ≡ Some p
-IsFlatPlace types NotBuilt p = place_from (unbuilt_in types) 0 types ≡ Some p
 
 -- the answer to these types: the flat type of each, or their first fault and its place; or memory ran out
 abbrev pub Builds : List TypeDeclaration → Result (List TypeDeclaration) BuildError → Type 0
@@ -100,11 +96,3 @@ pub record KeepRules (types : List TypeDeclaration) : Type 0 where
   pub roots : ExtendsItself types → ⊥
   -- and the flat types keep the rules of types.
   pub flat : IsWellFormed (flat_types types)
-
--- they keep the rules, and their networks are built
-abbrev pub CanBuild : List TypeDeclaration → Type 0
-CanBuild types = KeepRules types × AreBuildable (flat_types types)
-
--- of types that keep the rules it is told exactly where a network isn't built yet
-abbrev pub NotBuiltIsTold : Type 0
-NotBuiltIsTold = (types : List TypeDeclaration) → KeepRules types → (fault_of types ≡ Some NotBuilt) ↔ (AreBuildable (flat_types types) → ⊥)

@@ -24,7 +24,7 @@ use Rattle.ned_trees.specs.declared.declarations.SubmoduleType.TheVariants as su
 use Rattle.ned_trees.specs.declared.declarations.TypeDeclaration.{TypeDeclaration}
 use Rattle.ned_trees.specs.declared.declarations.TypeKind.TheVariants.{Simple, Module, Network, Channel, ModuleInterface, ChannelInterface}
 use Rattle.type_building.specs.declared.table.TypeFault.{TypeFault}
-use Rattle.type_building.specs.declared.table.TypeFault.TheVariants.{DuplicateType, UnknownType, InheritanceCircle, KindClash, Interface, NotBuilt}
+use Rattle.type_building.specs.declared.table.TypeFault.TheVariants.{DuplicateType, UnknownType, InheritanceCircle, KindClash, Interface}
 use Rattle.ned_types.specs.Flat.{class_of, last_value, statistics_of}
 use Rattle.type_building.specs.Inheritance.{flat_type, no_connections}
 use Rattle.type_building.specs.Building.{fault_of}
@@ -341,37 +341,32 @@ pub record ExampleExtending : Type 0 where
 -- declares no gate; what a connection names as its channel is a channel, and its block gives values to that channel's parameters alone, and none
 -- behind a fixed one; a block alone means the built-in channel that has what it sets
 pub record ExampleInsides : Type 0 where
-  pub like_interface : fault_inside (like_with (codes "I") (second_for (codes "gap") ∷ [])) no_connections ≡ Some NotBuilt
+  pub like_interface : fault_inside (like_with (codes "I") (second_for (codes "gap") ∷ [])) no_connections ≡ None
   pub like_other : fault_inside (like_with (codes "I") (second_for (codes "own") ∷ [])) no_connections ≡ Some KindClash
   pub like_simple : fault_inside (like_with (codes "Tick") []) no_connections ≡ Some KindClash
   pub like_unknown : fault_inside (like_with (codes "Zed") []) no_connections ≡ Some UnknownType
   pub gate_declared : fault_inside (gates_with (input_gate (codes "in") ∷ [])) no_connections ≡ Some KindClash
   pub unknown : fault_connected (Some (codes "Zed")) [] ≡ Some UnknownType
   pub simple : fault_connected (Some (codes "Tick")) [] ≡ Some KindClash
-  pub built_in : fault_connected (Some (codes "DelayChannel")) (second_for (codes "delay") ∷ []) ≡ Some NotBuilt
+  pub built_in : fault_connected (Some (codes "DelayChannel")) (second_for (codes "delay") ∷ []) ≡ None
   pub no_rate : fault_connected (Some (codes "DelayChannel")) (second_for (codes "datarate") ∷ []) ≡ Some KindClash
-  pub own : fault_connected (Some (codes "Slow")) [] ≡ Some NotBuilt
+  pub own : fault_connected (Some (codes "Slow")) [] ≡ None
   pub fixed : fault_connected (Some (codes "Slow")) (second_for (codes "delay") ∷ []) ≡ Some KindClash
-  pub block : fault_connected None (second_for (codes "delay") ∷ second_for (codes "datarate") ∷ []) ≡ Some NotBuilt
+  pub block : fault_connected None (second_for (codes "delay") ∷ second_for (codes "datarate") ∷ []) ≡ None
   pub other_block : fault_connected None (second_for (codes "gab") ∷ []) ≡ Some KindClash
   pub twice : fault_connected None (second_for (codes "delay") ∷ second_for (codes "delay") ∷ []) ≡ Some KindClash
   pub declared : fault_connected None (double_named (codes "own") ∷ []) ≡ Some KindClash
   pub in_group : fault_grouped (Some (codes "Zed")) [] ≡ Some UnknownType
   pub clash_in_group : fault_grouped (Some (codes "Tick")) [] ≡ Some KindClash
-  pub inherited : fault_of (heir_network (codes "O") [] [] ∷ record { kind = Network; name = codes "N"; base = None; interfaces = []; lines = []; gates = []; submodules = []; connections = one_connection } ∷ []) ≡ Some NotBuilt
+  pub inherited : fault_of (heir_network (codes "O") [] [] ∷ record { kind = Network; name = codes "N"; base = None; interfaces = []; lines = []; gates = []; submodules = []; connections = one_connection } ∷ []) ≡ None
 
--- no network is built yet of a compound module, a vector of submodules, a condition, a parametric type, gates in the body of a submodule or
--- connections, and every other fault goes before this; a compound module in which no network is nothing that has to be built, and so is
--- a section of connections without items
-pub record ExampleUnbuilt : Type 0 where
-  pub none : fault_inside (tick_named (codes "t")) no_connections ≡ None
+-- a network may have connections, or a section of connections without any, vectors of submodules, conditions, sizes of gates in bodies,
+-- and submodules that are compound modules or networks
+pub record ExampleParts : Type 0 where
   pub unconnected : fault_inside (tick_named (codes "t")) (record { allow_unconnected = true; items = [] }) ≡ None
-  pub connections : fault_inside (tick_named (codes "t")) one_connection ≡ Some NotBuilt
-  pub vector : fault_inside (record { name = codes "t"; size = Some (expression.Literal (values.Whole (pos 3))); submodule_type = submodule_type.Named (codes "Tick"); condition = None; body = record { lines = []; gates = [] } }) no_connections ≡ Some NotBuilt
-  pub condition : fault_inside (record { name = codes "t"; size = None; submodule_type = submodule_type.Named (codes "Tick"); condition = Some (expression.Literal (values.Truth false)); body = record { lines = []; gates = [] } }) no_connections ≡ Some NotBuilt
-  pub parametric : fault_inside (like_with (codes "I") []) no_connections ≡ Some NotBuilt
-  pub gates : fault_inside (gates_with (three_of (codes "g") ∷ [])) no_connections ≡ Some NotBuilt
-  pub module_alone : fault_of (module_m ∷ []) ≡ None
-  pub compound : fault_of (network_of [] (t_with (codes "M") [] ∷ []) ∷ module_m ∷ []) ≡ Some NotBuilt
-  pub network : fault_of (network_of [] (t_with (codes "O") [] ∷ []) ∷ record { kind = Network; name = codes "O"; base = None; interfaces = []; lines = []; gates = []; submodules = []; connections = no_connections } ∷ []) ≡ Some NotBuilt
-  pub last : fault_of (network_of [] (t_with (codes "M") [] ∷ []) ∷ module_m ∷ slow_channel ∷ channel_with (codes "Slower") (codes "Slow") (second_for (codes "delay") ∷ []) ∷ []) ≡ Some KindClash
+  pub connections : fault_inside (tick_named (codes "t")) one_connection ≡ None
+  pub vector : fault_inside (record { name = codes "t"; size = Some (expression.Literal (values.Whole (pos 3))); submodule_type = submodule_type.Named (codes "Tick"); condition = None; body = record { lines = []; gates = [] } }) no_connections ≡ None
+  pub condition : fault_inside (record { name = codes "t"; size = None; submodule_type = submodule_type.Named (codes "Tick"); condition = Some (expression.Literal (values.Truth false)); body = record { lines = []; gates = [] } }) no_connections ≡ None
+  pub gates : fault_inside (gates_with (three_of (codes "g") ∷ [])) no_connections ≡ None
+  pub compound : fault_of (network_of [] (t_with (codes "M") [] ∷ []) ∷ module_m ∷ []) ≡ None
+  pub network : fault_of (network_of [] (t_with (codes "O") [] ∷ []) ∷ record { kind = Network; name = codes "O"; base = None; interfaces = []; lines = []; gates = []; submodules = []; connections = no_connections } ∷ []) ≡ None

@@ -1,7 +1,6 @@
 pub mod Interfaces
 pub mod Inheritance
 pub mod Places
-pub mod Unbuilt
 pub mod Circles
 pub mod Building
 pub mod Seen

@@ -4,8 +4,7 @@ ghost use Rattle.std.specs.Prelude.{◌≡◌, ◌||◌, false, not, is_some, If
 ghost use Rattle.ned_types.specs.Clashes.{clashes, has_clash};
 ghost use Rattle.ned_types.specs.Types.{has_duplicate, is_built_in, is_type_named, names_unknown, has_inner_network, is_inner_name, is_inner_network, is_submodule_known, submodules_clash, is_submodule_suited, suits_kind, repeats_submodule, has_other_kind};
 ghost use Rattle.type_building.specs.Inheritance.{flat_type, flat_types};
-ghost use Rattle.type_building.specs.Building.{Builds, AnswersTable, AreFaultless, CanBuild, TellsFlat};
-ghost use Rattle.type_building.specs.Unbuilt.{AreBuildable};
+ghost use Rattle.type_building.specs.Building.{Builds, AnswersTable, AreFaultless, KeepRules, TellsFlat};
 ghost use Rattle.ned_types.specs.WellFormed.{IsWellFormed};
 ghost use Rattle.std.specs.List.{list_any};
 ghost use Rattle.type_building.specs.Named.{HaveLines, is_other_named, is_unknown_named};
@@ -22,7 +21,6 @@ use crate::named::{NamedTypes, by_name};
 use crate::places::{Member, Place, placed};
 use crate::sections::section_clash;
 use crate::table::{BuildError, TypeFault};
-use crate::unbuilt::unbuilt_place;
 use indexmap::IndexSet;
 use ned_trees::declarations::{Submodule, SubmoduleType, TypeDeclaration, TypeKind};
 use ned_trees::refusals::refused;
@@ -37,12 +35,10 @@ pub(crate) fn flattened(
     types: &[TypeDeclaration],
 ) -> Result<Items<TypeDeclaration>, BuildError>
     ensures built { Builds types.now result }
-    // Its networks are built.
-    ensures parts { IfOk result AreBuildable }
     // What is built keeps the rules of types.
     ensures rules { IfOk result IsWellFormed }
-    // Types that keep the rules, with networks that are built, have no fault.
-    ensures complete { CanBuild types.now → AnswersTable (flat_types types.now) result }
+    // Types that keep the rules have no fault.
+    ensures complete { KeepRules types.now → AnswersTable (flat_types types.now) result }
 {
     by_rules(alloc, types)
 }
@@ -253,17 +249,14 @@ fn flat_fault_by(
 }
 
 /// The same of types without a clash.
-#[tactic(auto, using(crate::proofs::PlaceLaws::lacked_tells, crate::proofs::PlaceLaws::unbuilt_tells, crate::proofs::PlaceLaws::none_tells))]
+#[tactic(auto, using(crate::proofs::PlaceLaws::lacked_tells, crate::proofs::PlaceLaws::none_tells))]
 fn later_fault(named: &NamedTypes<'_>, types: &[TypeDeclaration]) -> Option<(TypeFault, Place)>
     requires names { named.now ≡ types.now }
     requires fit { has_clash types.now ≡ false }
     ensures { TellsFlat types.now result }
 {
-    if let Some(place) = broken_place(named, types) {
-        return Some((TypeFault::Interface, place));
-    }
-    match unbuilt_place(named, types) {
-        Some(place) => Some((TypeFault::NotBuilt, place)),
+    match broken_place(named, types) {
+        Some(place) => Some((TypeFault::Interface, place)),
         None => None,
     }
 }

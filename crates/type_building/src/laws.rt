@@ -1,8 +1,7 @@
 //! Laws of types.
 
-ghost use Rattle.type_building.specs.Building.{NotBuiltIsTold};
 ghost use Rattle.type_building.specs.Circles.{CirclesAreFound};
-ghost use Rattle.type_building.specs.Example.{ExampleBodies, ExampleChannels, ExampleExtending, ExampleFaults, ExampleGates, ExampleInsides, ExampleInterfaces, ExampleIsFlat, ExampleNetworks, ExampleUnbuilt};
+ghost use Rattle.type_building.specs.Example.{ExampleBodies, ExampleChannels, ExampleExtending, ExampleFaults, ExampleGates, ExampleInsides, ExampleInterfaces, ExampleIsFlat, ExampleNetworks, ExampleParts};
 
 /// The flat types of small examples, their faults, and those of bodies of submodules.
 pub fn examples()
@@ -15,16 +14,11 @@ pub fn examples()
     ensures interfaces { ExampleInterfaces }
     ensures extending { ExampleExtending }
     ensures insides { ExampleInsides }
-    ensures unbuilt { ExampleUnbuilt }
+    ensures parts { ExampleParts }
 {}
 
 /// A circle is found exactly where one of the types extends itself, perhaps by way of others: it is no matter that the
 /// definition counts steps.
 pub fn circles()
     ensures { CirclesAreFound }
-{}
-
-/// That a network isn't built yet is told, of types that keep the rules, exactly where one of their networks has such a part.
-pub fn unbuilt()
-    ensures { NotBuiltIsTold }
 {}

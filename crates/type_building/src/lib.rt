@@ -14,5 +14,4 @@ mod order;
 pub mod places;
 mod sections;
 pub mod table;
-mod unbuilt;
 mod webs;

@@ -43,18 +43,6 @@ pub enum Member {
     LacksParameter(usize, usize),
     /// It lacks the gate that the interface of the first number declares in its line of gates of the second.
     LacksGate(usize, usize),
-    /// The type of the submodule of that number is a compound module.
-    Compound(usize),
-    /// The submodule of that number is a vector.
-    Vector(usize),
-    /// Its type is parametric, `<..> like NAME`.
-    Parametric(usize),
-    /// It has a condition.
-    Condition(usize),
-    /// Its body says something of gates.
-    BodyGates(usize),
-    /// The type has connections.
-    Connections,
 }
 
 /// The place of a fault: the type of that number among the types of the files, and what of it.

@@ -4,8 +4,7 @@ ghost use Rattle.std.specs.Prelude.{◌≡◌, IfOk};
 ghost use Rattle.ned_scopes.specs.Scopes.{types_of};
 ghost use Rattle.ned_types.specs.WellFormed.{IsWellFormed};
 ghost use Rattle.type_building.specs.Inheritance.{flat_types};
-ghost use Rattle.type_building.specs.Building.{AnswersTable, Builds, CanBuild};
-ghost use Rattle.type_building.specs.Unbuilt.{AreBuildable};
+ghost use Rattle.type_building.specs.Building.{AnswersTable, Builds, KeepRules};
 
 use crate::faults;
 use crate::places::Place;
@@ -32,9 +31,6 @@ pub enum TypeFault {
     KindClash,
     /// A type lacks a parameter or a gate of one of its interfaces.
     Interface,
-    /// A network has a part of which none is built yet, which is right in NED: a submodule that is a compound module or a vector, or has a
-    /// parametric type, a condition or gates in its body, or connections.
-    NotBuilt,
 }
 
 /// Why there is no table.
@@ -65,12 +61,10 @@ pub fn flat_types(
 ) -> Result<Items<TypeDeclaration>, BuildError>
     // Each flat type, or the first fault with its place.
     ensures built { Builds types.now result }
-    // Its networks are built.
-    ensures parts { IfOk result AreBuildable }
     // What is built keeps the rules of types.
     ensures rules { IfOk result IsWellFormed }
-    // Types that keep the rules, with networks that are built, have no fault.
-    ensures complete { CanBuild types.now → AnswersTable (flat_types types.now) result }
+    // Types that keep the rules have no fault.
+    ensures complete { KeepRules types.now → AnswersTable (flat_types types.now) result }
 {
     faults::flattened(alloc, types)
 }
@@ -79,12 +73,10 @@ pub fn flat_types(
 pub fn build(alloc: Global, files: Vec<NedFile>) -> Result<TypeTable, BuildError>
     // The table has the flat types of all files, or the first fault is told with its place.
     ensures built { Builds (types_of files.items) result }
-    // Its networks are built.
-    ensures parts { IfOk result AreBuildable }
     // What is built keeps the rules of types.
     ensures rules { IfOk result IsWellFormed }
-    // Types that keep the rules, with networks that are built, are built, unless memory runs out.
-    ensures complete { CanBuild (types_of files.items)
+    // Types that keep the rules make a table, unless memory runs out.
+    ensures complete { KeepRules (types_of files.items)
         → AnswersTable (flat_types (types_of files.items)) result }
 {
     let declared = types_of(alloc, files)?;

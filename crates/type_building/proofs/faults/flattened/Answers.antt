@@ -1,8 +1,5 @@
-use Rattle.type_building.proofs.UnbuiltLaws.{rules_by, complete_by, parts_by}
+use Rattle.type_building.proofs.BuildingLaws.{complete_by, rules_by}
 use Rattle.type_building.proofs.faults.flattened.Goals as goal
-
-pub returns-clause-parts : goal.returns-clause-parts
-returns-clause-parts c = parts_by c.args.types.now c.by_rules.result c.by_rules.ensures
 
 pub returns-clause-rules : goal.returns-clause-rules
 returns-clause-rules c = rules_by c.args.types.now c.by_rules.result c.by_rules.ensures

@@ -28,5 +28,5 @@ returns-clause-extending c = record { flat = refl; two_ways = refl; two_ways_fin
 pub returns-clause-insides : goal.returns-clause-insides
 returns-clause-insides c = record { like_interface = refl; like_other = refl; like_simple = refl; like_unknown = refl; gate_declared = refl; unknown = refl; simple = refl; built_in = refl; no_rate = refl; own = refl; fixed = refl; block = refl; other_block = refl; twice = refl; declared = refl; in_group = refl; clash_in_group = refl; inherited = refl }
 
-pub returns-clause-unbuilt : goal.returns-clause-unbuilt
-returns-clause-unbuilt c = record { none = refl; unconnected = refl; connections = refl; vector = refl; condition = refl; parametric = refl; gates = refl; module_alone = refl; compound = refl; network = refl; last = refl }
+pub returns-clause-parts : goal.returns-clause-parts
+returns-clause-parts c = record { unconnected = refl; connections = refl; vector = refl; condition = refl; gates = refl; compound = refl; network = refl }
