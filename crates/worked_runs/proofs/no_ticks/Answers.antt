@@ -19,8 +19,9 @@ use Rattle.module_parts.specs.Numbers.{number_of, read_number, state_of}
 use Rattle.module_parts.specs.Scripts.{naming_of}
 use Rattle.stock_modules.specs.Stock.{stock}
 use Rattle.stock_modules.specs.Tick.{tick_script}
+use Rattle.worked_runs.proofs.Giving.{gives}
 use Rattle.worked_runs.proofs.no_ticks.Goals as goal
 
 pub returns : goal.returns
 unfolding encode is_utf8 chars digits text_of_time path_of path_around answers_of setting_of value_of time_limit_of is_within statistic_lines selected_modes item_line stock number_of read_number state_of naming_of tick_script upcoming most_nested outer_first inner_first
-returns c = record { answer_is = refl; scalars_are = refl; vectors_are = refl }
+returns c = gives _ _ _ _ _ refl refl refl
