@@ -6,8 +6,12 @@
 mod configurations;
 mod ini_lines;
 mod insides;
+mod items;
+mod lacking;
+mod modules;
 mod reading;
 pub mod refusals;
 pub mod runs;
+mod sites;
 mod syntax;
 pub mod warnings;

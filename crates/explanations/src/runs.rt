@@ -1,20 +1,20 @@
 //! Why a run ended with a fault.
 
-use crate::insides::tell_inside;
+use crate::insides::fault_of;
+use crate::modules::{Declared, ToldFault, declared_at};
 use crate::reading::read_types;
+use crate::sites::tell_fault_inside;
 use ini_entries::constants::is_constant;
 use ini_texts::entries::value_for;
 use ini_texts::entry::EntryValue;
-use ini_texts::speaks::last_name;
 use model_answers::plain::PlainAnswers;
-use model_settings::standings::{before_last, name_in};
 use model_texts::begin::model_of;
 use models::model::Model;
 use ned_trees::declarations::{
-    Declaration, ParameterValue, ParameterWord, SectionLine, Submodule, TypeDeclaration, TypeKind,
+    Declaration, ParameterValue, ParameterWord, SectionLine, TypeDeclaration, TypeKind,
 };
 use ned_trees::expressions::Expression;
-use ned_types::flat::{class_of, last_value, submodule_named};
+use ned_types::flat::{class_of, last_value};
 use run_questions::answer::{Answer, ModelFault};
 use run_questions::record::path_under;
 use sim_values::NoMemory;
@@ -26,13 +26,6 @@ use text_explanations::ned_files::Files;
 use text_explanations::sources::Sources;
 use text_explanations::values::{Parameter, tell_place_of_value};
 
-/// A fault as the answer of a run tells it.
-#[derive(Clone, Copy)]
-struct ToldFault<'a> {
-    path: &'a str,
-    name: &'a str,
-}
-
 /// The fault that an answer tells, as in `done fault 1 N.t TimeOverflow from start executed 1`.
 fn told_fault(answer: &str) -> Option<ToldFault<'_>> {
     let rest = answer.strip_prefix("done fault ")?;
@@ -42,13 +35,6 @@ fn told_fault(answer: &str) -> Option<ToldFault<'_>> {
     Some(ToldFault { path, name })
 }
 
-/// A submodule as it is declared, with the type that declares it.
-#[derive(Clone, Copy)]
-struct Declared<'a> {
-    around: &'a TypeDeclaration,
-    submodule: &'a Submodule,
-}
-
 /// A module of a model that answers: its path, its type, and its declaration, which the network has none of.
 #[derive(Clone, Copy)]
 struct Found<'a> {
@@ -56,25 +42,6 @@ struct Found<'a> {
     path: &'a [u8],
     of: &'a TypeDeclaration,
     declared: Option<Declared<'a>>,
-}
-
-/// The declaration of the module of that path.
-fn declared_at<'a>(
-    alloc: Global,
-    answers: &'a PlainAnswers<'a>,
-    path: &[u8],
-) -> Result<Option<Declared<'a>>, NoMemory> {
-    let Some(above) = before_last(path) else {
-        return Ok(None);
-    };
-    let Some(around) = answers.type_at_path(alloc, above)? else {
-        return Ok(None);
-    };
-    let name = name_in(last_name(path));
-    match submodule_named(name, around.submodules.as_slice()) {
-        Some(submodule) => Ok(Some(Declared { around, submodule })),
-        None => Ok(None),
-    }
 }
 
 /// The module of that path.
@@ -339,17 +306,17 @@ fn tell_faulty(
     }
 }
 
-/// Says which parameter has that fault, and what is wrong with it.
+/// Says which parameter has that fault, and what is wrong with it. Answers whether one has.
 fn tell_parameter(
     told: &mut Explanation,
     sources: &Sources<'_>,
     path: &str,
     it: &Found<'_>,
     fault: ModelFault,
-) -> Result<(), NoMemory> {
+) -> Result<bool, NoMemory> {
     let alloc = told.alloc();
     let Some(declaration) = blamed(alloc, it, fault)? else {
-        return Ok(());
+        return Ok(false);
     };
     let given = given_in_ned(alloc, it, declaration.name.as_bytes())?;
     let faulty = Faulty {
@@ -358,7 +325,7 @@ fn tell_parameter(
         fault,
     };
     tell_faulty(told, sources, it, faulty, given);
-    Ok(())
+    Ok(true)
 }
 
 /// Says which parameters a type declares.
@@ -430,23 +397,13 @@ fn why_not_sent(name: &str) -> Option<&'static str> {
     })
 }
 
-/// Says what is behind a fault of that name, of a module of that type and path, which is none of a parameter.
-fn tell_other(
+/// Says what is behind a fault of a simple module's call, which is none of a parameter.
+fn tell_call(
     told: &mut Explanation,
     fault: ToldFault<'_>,
     of: &TypeDeclaration,
     classes: &[&[u8]],
 ) {
-    if of.kind == TypeKind::Simple {
-        if let Some(why) = why_not_sent(fault.name) {
-            told.say(fault.path);
-            told.say(": ");
-            return told.say(why);
-        }
-    }
-    if !is_of_call(fault.name, of) {
-        return tell_inside(told, fault.path, fault.name);
-    }
     told.say(fault.path);
     told.say(": ");
     match fault.name {
@@ -460,23 +417,60 @@ fn tell_other(
     }
 }
 
-/// Says what is behind a fault of a module that was found, if one was.
+/// Says what is behind a fault of a simple module, where it is one of its calls. Answers whether it is.
+fn tell_of_call(
+    told: &mut Explanation,
+    fault: ToldFault<'_>,
+    of: &TypeDeclaration,
+    classes: &[&[u8]],
+) -> bool {
+    if let (TypeKind::Simple, Some(why)) = (of.kind, why_not_sent(fault.name)) {
+        told.say(fault.path);
+        told.say(": ");
+        told.say(why);
+        return true;
+    }
+    if is_of_call(fault.name, of) {
+        tell_call(told, fault, of, classes);
+        return true;
+    }
+    false
+}
+
+/// Says what is behind a fault of a module's parameter or of its call. Answers whether it is one.
+fn tell_own(
+    told: &mut Explanation,
+    sources: &Sources<'_>,
+    it: &Found<'_>,
+    fault: ToldFault<'_>,
+    classes: &[&[u8]],
+) -> Result<bool, NoMemory> {
+    match parameter_fault(fault.name) {
+        None => Ok(tell_of_call(told, fault, it.of, classes)),
+        Some(found) => tell_parameter(told, sources, fault.path, it, found),
+    }
+}
+
+/// Says what is behind a fault of the module that was found at its path, if one was.
 fn tell_found(
     told: &mut Explanation,
     sources: &Sources<'_>,
+    answers: &PlainAnswers<'_>,
     found: Option<Found<'_>>,
     fault: ToldFault<'_>,
     classes: &[&[u8]],
 ) -> Result<(), NoMemory> {
-    let Some(it) = found else {
-        tell_inside(told, fault.path, fault.name);
-        return Ok(());
-    };
-    match parameter_fault(fault.name) {
-        None => tell_other(told, fault, it.of, classes),
-        Some(found) => tell_parameter(told, sources, fault.path, &it, found)?,
+    let mut of = None;
+    if let Some(it) = found {
+        if tell_own(told, sources, &it, fault, classes)? {
+            return Ok(());
+        }
+        of = Some(it.of);
     }
-    Ok(())
+    match fault_of(fault.name) {
+        Some(kind) => tell_fault_inside(told, sources, answers, fault, kind, of),
+        None => Ok(()),
+    }
 }
 
 /// Says what is behind a fault in a run of that model.
@@ -489,7 +483,7 @@ fn tell_fault(
 ) -> Result<(), NoMemory> {
     let answers = PlainAnswers::new(told.alloc(), model)?;
     let found = found_at(told.alloc(), &answers, fault.path.as_bytes())?;
-    tell_found(told, sources, found, fault, classes)
+    tell_found(told, sources, &answers, found, fault, classes)
 }
 
 /// Says what is behind a fault in a run of the model that the files make, where they make one.

@@ -7,7 +7,8 @@ use crate::ned_files::{Files, type_named};
 use crate::origins::{Kind, has_parameter, is_built_in, origin_of};
 use crate::places::{Sign, Spot};
 use ned_trees::connections::{Channel, ConnectionItem, ConnectionLine};
-use ned_trees::declarations::{SectionLine, TypeDeclaration, TypeKind};
+use ned_trees::declarations::{GateLine, SectionLine, TypeDeclaration, TypeKind};
+use ned_types::flat::submodule_named;
 use ned_types::given::{gives, name_in};
 
 /// A channel in the text of a type.
@@ -56,14 +57,19 @@ fn line_at(item: &ConnectionItem, number: usize) -> Option<(&ConnectionLine, usi
     }
 }
 
-/// The channel of the connection of that number of the item of that number.
-fn site_at(it: &TypeDeclaration, item: usize, line: usize) -> Option<Site<'_>> {
-    let items = it.connections.items.as_slice();
+/// How many arrows stand before the item of that number.
+fn arrows_before(it: &TypeDeclaration, item: usize) -> Option<usize> {
     let mut arrows = 0usize;
-    for before in items.get(..item)? {
+    for before in it.connections.items.as_slice().get(..item)? {
         arrows = arrows.saturating_add(arrows_of_item(before));
     }
-    let (line, within) = line_at(items.get(item)?, line)?;
+    Some(arrows)
+}
+
+/// The channel of the connection of that number of the item of that number.
+fn site_at(it: &TypeDeclaration, item: usize, line: usize) -> Option<Site<'_>> {
+    let arrows = arrows_before(it, item)?;
+    let (line, within) = line_at(it.connections.items.as_slice().get(item)?, line)?;
     Some(Site {
         it,
         channel: line.connection.channel.as_ref()?,
@@ -77,16 +83,67 @@ fn flat_site<'a>(order: &[&'a TypeDeclaration], item: usize, line: usize) -> Opt
     site_at(origin.it, origin.at, line)
 }
 
-/// Says where the connection stands: `path:line: `.
-fn begin(told: &mut Explanation, files: &Files<'_>, site: Site<'_>) {
+/// Says where a connection of the type stands that is behind so many arrows: `path:line: `.
+fn begin_behind(told: &mut Explanation, files: &Files<'_>, it: &TypeDeclaration, arrows: usize) {
     let spot = Spot {
         body: None,
         sign: Sign::Arrow,
         name: b"",
-        behind: site.arrows,
+        behind: arrows,
     };
-    files.tell_place(told, site.it, spot);
+    files.tell_place(told, it, spot);
     told.say(": ");
+}
+
+/// Says where the connection stands: `path:line: `.
+fn begin(told: &mut Explanation, files: &Files<'_>, site: Site<'_>) {
+    begin_behind(told, files, site.it, site.arrows);
+}
+
+/// Says where the item of that number of the flat type of the last of these types stands, which are all that it extends, the root first: `path:line: `.
+pub fn tell_place_of_item(
+    told: &mut Explanation,
+    files: &Files<'_>,
+    order: &[&TypeDeclaration],
+    item: usize,
+) {
+    if let Some(origin) = origin_of(order, Kind::Item, item) {
+        if let Some(arrows) = arrows_before(origin.it, origin.at) {
+            begin_behind(told, files, origin.it, arrows);
+        }
+    }
+}
+
+/// Says where one of these types declares the submodule of that name: `path:line: `.
+pub fn tell_place_of_submodule(
+    told: &mut Explanation,
+    files: &Files<'_>,
+    order: &[&TypeDeclaration],
+    name: &[u8],
+) {
+    for it in order {
+        if submodule_named(name, it.submodules.as_slice()).is_some() {
+            return files.begin(told, *it, Sign::Submodule, name);
+        }
+    }
+}
+
+/// Says where one of these types declares the gate of that name: `path:line: `.
+pub fn tell_place_of_gate(
+    told: &mut Explanation,
+    files: &Files<'_>,
+    order: &[&TypeDeclaration],
+    name: &[u8],
+) {
+    for it in order {
+        for line in it.gates.as_slice() {
+            if let GateLine::Declaration(declared) = line {
+                if declared.name.is(name) {
+                    return files.begin(told, *it, Sign::Gate, name);
+                }
+            }
+        }
+    }
 }
 
 /// Says what the channel of a connection is called.

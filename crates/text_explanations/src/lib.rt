@@ -4,7 +4,7 @@
 #![tactic(auto)]
 
 pub mod bases;
-mod connections;
+pub mod connections;
 pub mod explanation;
 mod heads;
 mod interfaces;

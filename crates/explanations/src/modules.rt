@@ -1,0 +1,57 @@
+//! Modules of a model, by their paths.
+
+use ini_texts::speaks::last_name;
+use model_answers::plain::PlainAnswers;
+use model_settings::standings::{before_last, name_in};
+use ned_trees::declarations::{Submodule, TypeDeclaration};
+use ned_types::flat::submodule_named;
+use run_questions::record::Record;
+use sim_values::NoMemory;
+use sim_values::text::Text;
+use sqlite_items::Items;
+use std::alloc::Global;
+
+/// A fault as the answer of a run tells it.
+#[derive(Clone, Copy)]
+pub struct ToldFault<'a> {
+    pub path: &'a str,
+    pub name: &'a str,
+}
+
+/// A submodule as it is declared, with the type that declares it.
+#[derive(Clone, Copy)]
+pub struct Declared<'a> {
+    pub around: &'a TypeDeclaration,
+    pub submodule: &'a Submodule,
+}
+
+/// The declaration of the module of that path, with or without its index.
+pub fn declared_at<'a>(
+    alloc: Global,
+    answers: &'a PlainAnswers<'_>,
+    path: &[u8],
+) -> Result<Option<Declared<'a>>, NoMemory> {
+    let Some(above) = before_last(path) else {
+        return Ok(None);
+    };
+    let Some(around) = answers.type_at_path(alloc, above)? else {
+        return Ok(None);
+    };
+    let name = name_in(last_name(path));
+    match submodule_named(name, around.submodules.as_slice()) {
+        Some(submodule) => Ok(Some(Declared { around, submodule })),
+        None => Ok(None),
+    }
+}
+
+/// Records of one module, of id 1, which has that path. So a question about that id is one about the module of the path.
+pub fn record_of(alloc: Global, path: &[u8]) -> Result<Items<Record>, NoMemory> {
+    let mut records = Items::new(alloc);
+    records.push(Record {
+        parent: 0,
+        name: Text::from_bytes(alloc, path)?,
+        index: None,
+        class: None,
+    })?;
+    Ok(records)
+}

@@ -1,0 +1,208 @@
+//! Where the NED files say what is wrong with the inside of a compound module.
+
+use crate::insides::tell_inside;
+use crate::items::{Faulted, item_at_fault};
+use crate::lacking::{Lacking, lacking_gate};
+use crate::modules::{Declared, ToldFault, declared_at};
+use crate::reading::read_types;
+use inside_parts::fault::Fault;
+use model_answers::plain::PlainAnswers;
+use ned_trees::declarations::{GateDeclaration, GateLine, GateSize, TypeDeclaration, TypeKind};
+use sim_values::NoMemory;
+use std::alloc::Global;
+use text_explanations::bases::root_first;
+use text_explanations::connections::{
+    tell_place_of_gate, tell_place_of_item, tell_place_of_submodule,
+};
+use text_explanations::explanation::Explanation;
+use text_explanations::names::shown;
+use text_explanations::ned_files::{Files, type_named};
+use text_explanations::sources::Sources;
+
+/// A type as the files declare it and all that it extends, the root first.
+fn order_of<'a>(
+    alloc: Global,
+    types: &'a [TypeDeclaration],
+    of: &TypeDeclaration,
+) -> Result<Vec<&'a TypeDeclaration>, NoMemory> {
+    match type_named(types, of.name.as_bytes()) {
+        Some(it) => root_first(alloc, types, it),
+        None => Ok(Vec::new(alloc)),
+    }
+}
+
+/// Whether a type has connections.
+fn is_compound(of: &TypeDeclaration) -> bool {
+    matches!(of.kind, TypeKind::Module | TypeKind::Network)
+}
+
+/// What is looked at: a model that answers, and the fault of one of its modules.
+#[derive(Clone, Copy)]
+struct Case<'a> {
+    answers: &'a PlainAnswers<'a>,
+    files: &'a Files<'a>,
+    told: ToldFault<'a>,
+    fault: Fault,
+}
+
+/// Says where the connection stands with which the fault comes, of the module of that type, and whether there is one.
+fn tell_item(told: &mut Explanation, it: Case<'_>, of: &TypeDeclaration) -> Result<bool, NoMemory> {
+    let alloc = told.alloc();
+    let order = order_of(alloc, it.files.types, of)?;
+    let all = Faulted {
+        model: it.answers.model(),
+        types: it.files.types,
+        order: order.as_slice(),
+        path: it.told.path.as_bytes(),
+        fault: it.fault,
+    };
+    match item_at_fault(alloc, all)? {
+        Some(item) => {
+            tell_place_of_item(told, it.files, order.as_slice(), item);
+            Ok(true)
+        }
+        None => Ok(false),
+    }
+}
+
+/// Says where the submodule is declared.
+fn tell_submodule(
+    told: &mut Explanation,
+    it: Case<'_>,
+    declared: Option<Declared<'_>>,
+) -> Result<(), NoMemory> {
+    if let Some(declared) = declared {
+        let order = order_of(told.alloc(), it.files.types, declared.around)?;
+        let name = declared.submodule.name.as_bytes();
+        tell_place_of_submodule(told, it.files, order.as_slice(), name);
+    }
+    Ok(())
+}
+
+/// Says where the connection or the submodule stands that has the fault.
+fn tell_place(
+    told: &mut Explanation,
+    it: Case<'_>,
+    of: Option<&TypeDeclaration>,
+    declared: Option<Declared<'_>>,
+) -> Result<(), NoMemory> {
+    if let Some(of) = of {
+        if is_compound(of) && tell_item(told, it, of)? {
+            return Ok(());
+        }
+    }
+    tell_submodule(told, it, declared)
+}
+
+/// Whether the line declares a vector of that name.
+fn is_vector(line: &GateLine, name: &[u8]) -> bool {
+    match line {
+        GateLine::Declaration(
+            GateDeclaration {
+                name: own,
+                size,
+                ..
+            },
+        ) => { own.is(name) && !matches!(size, GateSize::Single) }
+        GateLine::Refinement(_) => false,
+    }
+}
+
+/// Says the name of a gate, with its index where it is one of a vector.
+fn say_gate(told: &mut Explanation, of: &TypeDeclaration, gate: &Lacking) {
+    let name = gate.name.as_bytes();
+    told.say("'");
+    told.say(shown(name));
+    for line in of.gates.as_slice() {
+        if is_vector(line, name) {
+            told.say("[");
+            told.say_number(gate.index as usize);
+            told.say("]");
+        }
+    }
+    told.say("'");
+}
+
+/// Says which gate of a module isn't connected, and where it or its submodule is declared.
+fn tell_gate(
+    told: &mut Explanation,
+    it: Case<'_>,
+    of: &TypeDeclaration,
+    declared: Option<Declared<'_>>,
+    gate: &Lacking,
+) -> Result<(), NoMemory> {
+    if gate.own {
+        let order = order_of(told.alloc(), it.files.types, of)?;
+        tell_place_of_gate(told, it.files, order.as_slice(), gate.name.as_bytes());
+    } else {
+        tell_submodule(told, it, declared)?;
+    }
+    told.say(it.told.path);
+    told.say(": the gate ");
+    say_gate(told, of, gate);
+    told.say(if gate.own {
+        " stands in no connection within the module"
+    } else {
+        " stands in no connection"
+    });
+    told.say(": connect it, or write 'connections allowunconnected:', or '@loose' behind the gate");
+    Ok(())
+}
+
+/// Says which gate of the module of that type isn't connected, and whether there is one.
+fn tell_unconnected(
+    told: &mut Explanation,
+    it: Case<'_>,
+    of: &TypeDeclaration,
+    declared: Option<Declared<'_>>,
+) -> Result<bool, NoMemory> {
+    let path = it.told.path.as_bytes();
+    match lacking_gate(told.alloc(), it.answers, path, of, declared)? {
+        Some(gate) => {
+            tell_gate(told, it, of, declared, &gate)?;
+            Ok(true)
+        }
+        None => Ok(false),
+    }
+}
+
+/// Says what is wrong with the inside of a compound module, or with a submodule of one: `path:line: `, the module, and what would be right.
+fn tell_case(
+    told: &mut Explanation,
+    it: Case<'_>,
+    of: Option<&TypeDeclaration>,
+) -> Result<(), NoMemory> {
+    let declared = declared_at(told.alloc(), it.answers, it.told.path.as_bytes())?;
+    if let (Fault::Unconnected, Some(of)) = (it.fault, of) {
+        if tell_unconnected(told, it, of, declared)? {
+            return Ok(());
+        }
+    }
+    tell_place(told, it, of, declared)?;
+    tell_inside(told, it.told.path, it.fault);
+    Ok(())
+}
+
+/// Says what is wrong with the inside of the compound module of that type, or with the submodule of a fault's path. The type is none where the submodule
+/// has none.
+pub fn tell_fault_inside(
+    told: &mut Explanation,
+    sources: &Sources<'_>,
+    answers: &PlainAnswers<'_>,
+    fault: ToldFault<'_>,
+    kind: Fault,
+    of: Option<&TypeDeclaration>,
+) -> Result<(), NoMemory> {
+    let types = read_types(told.alloc(), sources)?;
+    let files = Files {
+        sources,
+        types: types.as_slice(),
+    };
+    let it = Case {
+        answers,
+        files: &files,
+        told: fault,
+        fault: kind,
+    };
+    tell_case(told, it, of)
+}
