@@ -1,6 +1,7 @@
 -- What each key asks.
-use Rattle.std.specs.Prelude.{ℕ, nat_lt, ℤ, pos, Bool, true, false, not, ◌&&◌, List, [], ◌∷◌, ◌++◌, codes, Option, Some, None, Result, Ok, Err, if◌then◌else◌, length, slice_get, slice_index}
+use Rattle.std.specs.Prelude.{ℕ, zero, suc, nat_lt, ℤ, pos, Bool, true, false, not, ◌&&◌, List, [], ◌∷◌, ◌++◌, codes, Option, Some, None, Result, Ok, Err, if◌then◌else◌, length, slice_get, slice_index}
 use Rattle.std.specs.List.{list_any}
+use Rattle.std.specs.Option.{option_and_then}
 use Rattle.asking.specs.Asking.{Done, Ask}
 use Rattle.asking.specs.Following.{Rules, value_of}
 use Rattle.ned_trees.specs.declared.declarations.ParametricType.{ParametricType}
@@ -149,9 +150,20 @@ module _ (s : Setting) where
 
   -- ---- types that values choose
 
-  -- which type a name means in the text of a type: one that stands in that, or a global one. Of a name with its package the last part counts
+  -- the type of a full name, where there is one
+  abbrev pub type_named : List ℕ → Option TypeDeclaration
+  type_named name = option_and_then (slice_get s.types) (position_of name (type_names s))
+
+  -- the type of that name that stands within a type, or else within what that extends, and so on, so many of them
+  abbrev pub inner_along : ℕ → Option TypeDeclaration → List ℕ → Option ℕ
+  inner_along n None name = None
+  inner_along zero (Some t) name = None
+  inner_along (suc n) (Some t) name = or_else (position_of (t.name ++ 46 ∷ name) (type_names s)) (inner_along n (option_and_then type_named t.base) name)
+
+  -- WHICH TYPE A NAME MEANS in the text of a type: one that stands in that, or in the nearest type that it extends, or a global one. Of a name with its
+  -- package the last part counts. No line of types without a circle is longer than there are types
   abbrev pub type_meant : TypeDeclaration → List ℕ → Option ℕ
-  type_meant t name = or_else (position_of (t.name ++ 46 ∷ last_name name) (type_names s)) (position_of (last_name name) (type_names s))
+  type_meant t name = or_else (inner_along (length s.types) (Some t) (last_name name)) (position_of (last_name name) (type_names s))
 
   -- whether the body of a submodule gives a value to a parameter that has a fixed one in these lines
   abbrev pub sets_fixed : List SectionLine → SubmoduleBody → Bool

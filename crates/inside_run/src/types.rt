@@ -1,10 +1,10 @@
 //! Types that values choose.
 
-ghost use Rattle.std.specs.Prelude.{◌≡◌, ◌+◌, ◌<◌, ◌^◌, ◌++◌, ◌∷◌, ◌&&◌, [], IfOk, IfSome, codes, not, slice_get};
+ghost use Rattle.std.specs.Prelude.{◌≡◌, ◌+◌, ◌<◌, ◌^◌, ◌++◌, ◌∷◌, ◌&&◌, [], IfOk, IfSome, Some, codes, length, not, slice_get};
 ghost use Rattle.std.specs.List.{list_any};
 ghost use Rattle.inside_parts.specs.Names.{is_one};
 ghost use Rattle.ned_types.specs.Types.{gives_fixed, is_fixed_in, is_kind_of_modules, is_refixed};
-ghost use Rattle.std.specs.Option.{option_copied};
+ghost use Rattle.std.specs.Option.{option_and_then, option_copied};
 ghost use Rattle.parameter_values.specs.Scenes.{maybe_written};
 ghost use Rattle.param_eval.specs.Evaluating as evaluating;
 ghost use Rattle.inside_keys.specs.Asked.{valued_then};
@@ -59,6 +59,40 @@ fn inner_name(alloc: Global, declared: &TypeDeclaration, name: &[u8]) -> Result<
     Ok(Text::from_vec(full))
 }
 
+/// What a type extends.
+fn base_of<'m, S: Scene>(scene: &'m S, declared: &TypeDeclaration) -> Option<&'m TypeDeclaration>
+    ensures { option_copied result ≡ option_and_then (values.type_named (S.setting scene.now)) declared.now.base }
+{
+    let name = declared.base.as_ref()?;
+    type_at(scene, scene.type_number(name)?)
+}
+
+/// The type of that name that stands within a type, or else within what that extends, and so on.
+fn inner_along<'m, S: Scene>(
+    alloc: Global,
+    scene: &'m S,
+    declared: &'m TypeDeclaration,
+    name: &[u8],
+) -> Result<Option<usize>, NoMemory>
+    ensures same { IfOk result (λ number. number ≡ values.inner_along (S.setting scene.now) (length (S.setting scene.now).types) (Some declared.now) name.now) }
+    ensures small { IfOk result (λ number. IfSome number (λ n. n < 2 ^ 63)) }
+{
+    let mut next = Some(declared);
+    let mut left = scene.types().len();
+    while let Some(found) = next {
+        if left == 0 {
+            break;
+        }
+        let full = inner_name(alloc, found, name)?;
+        if let Some(number) = scene.type_number(&full) {
+            return Ok(Some(number));
+        }
+        next = base_of(scene, found);
+        left -= 1;
+    }
+    Ok(None)
+}
+
 /// Which type a name means in the text of a type.
 fn type_meant<S: Scene>(
     alloc: Global,
@@ -70,8 +104,7 @@ fn type_meant<S: Scene>(
     ensures small { IfOk result (λ number. IfSome number (λ n. n < 2 ^ 63)) }
 {
     let last = last_name(name.as_bytes());
-    let full = inner_name(alloc, declared, last)?;
-    if let Some(number) = scene.type_number(&full) {
+    if let Some(number) = inner_along(alloc, scene, declared, last)? {
         return Ok(Some(number));
     }
     let last = Text::from_bytes(alloc, last)?;

@@ -162,12 +162,12 @@ class_lines true class = line.Class class ∷ []
 class_lines false class = []
 
 -- a type that extends another, before it has any member. The class of a simple type stands before its lines, as the first
--- class that lines name counts; types of other kinds have none
+-- class that lines name counts; types of other kinds have none. It keeps the name of what it extends: names that values choose are looked up there too
 abbrev pub bare_heir_of : List TypeDeclaration → TypeDeclaration → TypeDeclaration
 bare_heir_of line t = record {
   kind = t.kind;
   name = t.name;
-  base = None;
+  base = t.base;
   interfaces = [];
   lines = class_lines (is_simple_kind t.kind) (class_along line);
   gates = [];
@@ -238,7 +238,7 @@ abbrev pub flat_as : Bool → List TypeDeclaration → TypeDeclaration → TypeD
 flat_as true types t = flat_interface types t
 flat_as false types t = flat_by types t t.base
 
--- THE FLAT TYPE: what the type has with all that its bases have, which extends nothing
+-- THE FLAT TYPE: what the type has with all that its bases have
 abbrev pub flat_type : List TypeDeclaration → TypeDeclaration → TypeDeclaration
 flat_type types t = flat_as (is_interface_kind t.kind) types t
 

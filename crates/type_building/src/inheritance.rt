@@ -12,7 +12,7 @@ use crate::named::NamedTypes;
 use crate::order::is_interface_kind;
 use ned_channels::built_in::add_root;
 use ned_scopes::connections::add_items;
-use ned_scopes::copies::{add_gates, add_lines, add_names, add_submodules, copy_type};
+use ned_scopes::copies::{add_gates, add_lines, add_names, add_submodules, copy_base, copy_type};
 use ned_trees::connections::ConnectionSection;
 use ned_trees::declarations::{SectionLine, TypeDeclaration, TypeKind};
 use ned_types::flat::{class_in, class_of};
@@ -225,11 +225,12 @@ fn bare_heir(
     ensures { IfOk result (λ flat. flat ≡ bare_heir_of (types_in line.now) declared.now) }
 {
     let name = declared.name.copy(alloc)?;
+    let (name, base) = behind(name, copy_base(alloc, &declared.base))?;
     let (name, lines) = behind(name, class_lines(alloc, declared, line))?;
     Ok(TypeDeclaration {
         kind: declared.kind,
         name,
-        base: None,
+        base,
         interfaces: Items::new(alloc),
         lines,
         gates: Items::new(alloc),
