@@ -1,11 +1,12 @@
 //! What is inside of compound modules.
 
-ghost use Rattle.std.specs.Prelude.{◌≡◌, IfOk};
+ghost use Rattle.std.specs.Prelude.{◌≡◌, IfOk, IfSome, Ok};
 ghost use Rattle.std.specs.Option.{option_copied};
 ghost use Rattle.answer_engine.specs.Tables.{IsKept};
 ghost use Rattle.inside_keys.specs.Settings.{type_gates};
 ghost use Rattle.inside_keys.specs.Unconnected.{unconnected};
 ghost use Rattle.inside_keys.specs.Values.{rules_of};
+ghost use Rattle.inside_keys.specs.declared.found.Found.TheVariants as found_as;
 ghost use Rattle.model_answers.specs.Insides as insides;
 ghost use Rattle.model_answers.specs.Keyed as keyed;
 ghost use Rattle.model_answers.specs.Reading.{settings_of, IsRight};
@@ -14,7 +15,7 @@ use crate::keyed::type_of;
 use crate::reading::{Sources, module_of, own_table};
 use answer_engine::table::Table;
 use inside_keys::found::{Found, Inside};
-use inside_keys::key::{Key, Module};
+use inside_keys::key::{Key, Module, What};
 use inside_keys::unconnected::unconnected;
 use inside_parts::fault::Fault;
 use inside_parts::parts::Part;
@@ -113,6 +114,25 @@ fn inside_found(
     placed(alloc, from.setting, own, &site, stands.around.as_ref())
 }
 
+/// The inside of the module of that path, where it is kept.
+fn kept_inside<'a>(
+    alloc: Global,
+    from: Sources<'a>,
+    path: &[u8],
+) -> Result<Option<&'a Inside>, NoMemory>
+    requires { IsRight from }
+    ensures { IfOk result (λ kept. IfSome kept (λ i. insides.inside_found (settings_of from.entry) path.now ≡ Ok (found_as.Inside i.now))) }
+{
+    let site = module_of(alloc, path)?;
+    let what = What::Inside;
+    let key = Key { site, what };
+    let _count = from.kept.len();
+    match from.kept.find(&key) {
+        Some((_, Found::Inside(inside))) => Ok(Some(inside)),
+        _ => Ok(None),
+    }
+}
+
 /// What is inside of the compound module of that path and type.
 fn built_in(
     alloc: Global,
@@ -121,9 +141,13 @@ fn built_in(
     path: &[u8],
     declared: &TypeDeclaration,
 ) -> Result<Answer, NoMemory>
-    requires { IsKept (rules_of (settings_of from)) own.old.entries }
+    requires right { IsRight from }
+    requires own { IsKept (rules_of (settings_of from)) own.old.entries }
     ensures { IfOk result (λ answer. answer ≡ insides.built_answer (settings_of from.entry) path.now declared.now (insides.inside_found (settings_of from.entry) path.now)) }
 {
+    if let Some(inside) = kept_inside(alloc, from, path)? {
+        return connected_answer(alloc, from, path, declared, inside);
+    }
     let found = inside_found(alloc, from, own, path)?;
     built_answer(alloc, from, path, declared, found)
 }
