@@ -8,7 +8,8 @@ use ini_texts::entry::{EntryMeaning, ObjectEntry, ObjectOption};
 use ini_texts::lines::{Entry, IniLine, IniText};
 use ini_texts::scan::{entry_in, section_behind};
 use ini_texts::speaks::last_name;
-use ned_trees::declarations::{SectionLine, Submodule, TypeDeclaration};
+use model_settings::standings::before_last;
+use ned_trees::declarations::{SectionLine, Submodule, SubmoduleType, TypeDeclaration, TypeKind};
 use ned_types::flat::type_name;
 use sim_values::NoMemory;
 use sim_values::text::Text;
@@ -40,12 +41,90 @@ const OBJECT_OPTIONS: [&[u8]; 4] = [
 /// Keys are compared with the names of a network at most so often.
 const MOST_TRIES: usize = 4_000_000;
 
-/// The paths in a network that a key can be for, each on a line.
+/// What a key can be for, each on a line: paths in a network of simple modules alone, or else the names that types declare, as the paths of
+/// modules in vectors and in one another are known only when the network is built.
 #[derive(Drop)]
 struct Paths {
     parameters: String,
     statistics: String,
     count: usize,
+    /// They are paths, and not names.
+    exact: bool,
+    /// A submodule leaves its type open.
+    open: bool,
+}
+
+/// Whether a submodule leaves its type open.
+fn is_open(it: &Submodule) -> bool {
+    matches!(it.submodule_type, SubmoduleType::Like(_))
+}
+
+/// Whether one of the types has a submodule that leaves its type open.
+fn has_open(types: &[TypeDeclaration]) -> bool {
+    for of in types {
+        for it in of.submodules.as_slice() {
+            if is_open(it) {
+                return true;
+            }
+        }
+    }
+    false
+}
+
+/// Whether a submodule is one simple module, as it is declared.
+fn is_plain(types: &[TypeDeclaration], it: &Submodule) -> bool {
+    match type_named(types, type_name(it)) {
+        Some(of) => of.kind == TypeKind::Simple && it.size.is_none() && !is_open(it),
+        None => false,
+    }
+}
+
+/// Whether a network has simple modules alone, and no channels.
+fn is_flat(types: &[TypeDeclaration], along: &[&TypeDeclaration]) -> bool {
+    for of in along {
+        if !of.connections.items.is_empty() {
+            return false;
+        }
+        for it in of.submodules.as_slice() {
+            if !is_plain(types, it) {
+                return false;
+            }
+        }
+    }
+    true
+}
+
+/// Whether a name has a character that patterns read otherwise than as itself.
+fn is_pattern(name: &[u8]) -> bool {
+    for byte in name {
+        if matches!(*byte, b'*' | b'?' | b'{' | b'[' | b'\\') {
+            return true;
+        }
+    }
+    false
+}
+
+/// Whether one of these lines is that name, which a pattern may be too.
+fn is_named(lines: &str, name: &[u8]) -> bool {
+    if is_pattern(name) {
+        return true;
+    }
+    for line in lines.lines() {
+        if line.as_bytes() == name {
+            return true;
+        }
+    }
+    false
+}
+
+/// The name of a statistic without what stands behind a colon.
+fn without_mode(name: &[u8]) -> &[u8] {
+    for (at, byte) in name.iter().enumerate() {
+        if *byte == b':' {
+            return &name[..at];
+        }
+    }
+    name
 }
 
 impl Paths {
@@ -121,7 +200,34 @@ impl Paths {
         Ok(())
     }
 
-    /// Adds what a network of these types and its submodules have.
+    /// Adds the name that a line declares.
+    fn push_name(&mut self, line: &SectionLine) -> Result<(), NoMemory> {
+        match line {
+            SectionLine::Declaration(it) => {
+                writeln!(self.parameters, "{}", shown(it.name.as_bytes()))?
+            }
+            SectionLine::Statistic(it) => {
+                writeln!(self.statistics, "{}", shown(it.name.as_bytes()))?
+            }
+            _ => return Ok(()),
+        }
+        self.count = self.count.saturating_add(1);
+        Ok(())
+    }
+
+    /// Adds the names that types declare, and those of the parameters of the built-in channels.
+    fn push_names(&mut self, types: &[TypeDeclaration]) -> Result<(), NoMemory> {
+        self.parameters
+            .push_str("delay\ndisabled\ndatarate\nber\nper\n")?;
+        for it in types {
+            for line in it.lines.as_slice() {
+                self.push_name(line)?;
+            }
+        }
+        Ok(())
+    }
+
+    /// Adds what a network of these types and its modules have.
     fn push_all(
         &mut self,
         alloc: Global,
@@ -129,11 +235,19 @@ impl Paths {
         network: &TypeDeclaration,
     ) -> Result<(), NoMemory> {
         let along = with_bases(alloc, types, network)?;
-        self.push_network(alloc, types, along.as_slice())
+        self.open = has_open(types);
+        if is_flat(types, along.as_slice()) {
+            return self.push_network(alloc, types, along.as_slice());
+        }
+        self.exact = false;
+        self.push_names(types)
     }
 
-    /// Whether a pattern matches a parameter.
-    fn has_parameter(&self, pattern: &Pattern) -> bool {
+    /// Whether there may be a parameter for that key, which has that pattern.
+    fn has_parameter(&self, key: &[u8], pattern: &Pattern) -> bool {
+        if !self.exact {
+            return is_named(self.parameters.as_str(), last_name(key));
+        }
         for path in self.parameters.lines() {
             if pattern.matches(path) {
                 return true;
@@ -142,13 +256,21 @@ impl Paths {
         false
     }
 
-    /// Whether a pattern matches a statistic with that option.
+    /// Whether there may be a statistic for that key with that option behind it, which has that pattern.
     fn has_statistic(
         &self,
         alloc: Global,
+        key: &[u8],
         pattern: &Pattern,
         option: &str,
     ) -> Result<bool, NoMemory> {
+        if !self.exact {
+            let name = match before_last(key) {
+                Some(path) => last_name(path),
+                None => key,
+            };
+            return Ok(is_named(self.statistics.as_str(), without_mode(name)));
+        }
         for path in self.statistics.lines() {
             if is_for_statistic(alloc, pattern, path, option)? {
                 return Ok(true);
@@ -219,10 +341,14 @@ fn tell_object(
         told.say("\n");
         return;
     }
-    match paths.has_statistic(told.alloc(), &object.pattern, shown(option)) {
+    match paths.has_statistic(told.alloc(), key, &object.pattern, shown(option)) {
         Ok(true) => {}
         Ok(false) => {
-            let why = "no statistic of the network has that path\n";
+            let why = if paths.exact {
+                "no statistic of the network has that path\n"
+            } else {
+                "no type declares a statistic of that name\n"
+            };
             tell_useless(told, sources, line, key, why);
         }
         Err(error) => told.refuse(error),
@@ -244,13 +370,17 @@ fn tell_entry(
             told.say_near(key, OPTIONS.as_slice());
             told.say("\n");
         }
-        EntryMeaning::Parameter(it) if !paths.has_parameter(&it.pattern) => {
-            let why = "no parameter of the network has that path";
+        EntryMeaning::Parameter(it) if !paths.has_parameter(key, &it.pattern) => {
+            let why = if paths.exact {
+                "no parameter of the network has that path"
+            } else {
+                "no type declares a parameter of that name"
+            };
             tell_useless(told, sources, line, key, why);
             paths.say_near(told, last_name(key));
             told.say("\n");
         }
-        EntryMeaning::Type(_) => {
+        EntryMeaning::Type(_) if !paths.open => {
             let why = "no submodule leaves its type open\n";
             tell_useless(told, sources, line, key, why);
         }
@@ -315,6 +445,8 @@ fn tell_network(
         parameters: String::new(alloc),
         statistics: String::new(alloc),
         count: 0,
+        exact: true,
+        open: false,
     };
     match paths.push_all(alloc, types, network) {
         Ok(()) => tell_chain(told, sources, &paths, lines, chain),
@@ -352,7 +484,8 @@ fn tell_text(told: &mut Explanation, sources: &Sources<'_>, text: &IniText) {
 }
 
 /// Lines for a person on the entries of the configuration that have no effect at all: unknown options, and keys that no
-/// parameter or statistic of the network has. The files make a model. Of very large models nothing is said.
+/// parameter or statistic of the network has; where modules stand in vectors or in one another, or are connected, those whose last name no type declares. The
+/// files make a model. Of very large models nothing is said.
 pub fn warning_lines(alloc: Global, sources: &Sources<'_>) -> Result<String, NoMemory> {
     let mut told = Explanation::new(alloc);
     match lines_of(alloc, sources) {
