@@ -9,7 +9,7 @@ ghost use Rattle.model_settings.specs.Standings.{setting_of};
 ghost use Rattle.run_questions.specs.Answers.{answer_of, gates_of, parameters_of};
 
 use crate::answering::{answer, gates_of, parameters_of, type_at, type_of_path, value_of_path};
-use crate::kept::kept_values;
+use crate::kept::{kept_types, kept_values};
 use crate::reading::Sources;
 use answer_engine::table::Table;
 use injection_order::injection::Injection;
@@ -29,7 +29,7 @@ use std::marker;
 /// A model that answers. Values that it found at its beginning are kept.
 pub struct PlainAnswers<'m> {
     setting: ModelSetting<'m>,
-    /// The insides of its compound modules, and what these rest on.
+    /// The insides of its compound modules, or types of modules, and what these rest on.
     kept: Table<Key, Found>,
 }
 
@@ -67,6 +67,19 @@ impl<'m> PlainAnswers<'m> {
     {
         let setting = ModelSetting::new(alloc, model)?;
         let kept = kept_values(alloc, &setting)?;
+        Ok(PlainAnswers { setting, kept })
+    }
+
+    /// The answers of a model, which keeps the types of the modules of these records, and no inside: for who asks for types alone.
+    pub fn of_types(
+        alloc: Global,
+        model: &'m Model,
+        records: &[Record],
+    ) -> Result<PlainAnswers<'m>, NoMemory>
+        ensures { IfOk result (λ answers. answers ≡ model.now) }
+    {
+        let setting = ModelSetting::new(alloc, model)?;
+        let kept = kept_types(alloc, &setting, records)?;
         Ok(PlainAnswers { setting, kept })
     }
 

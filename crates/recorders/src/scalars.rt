@@ -294,6 +294,6 @@ pub fn scalars(
     requires few { length records.now < 2 ^ 32 }
     ensures { IfOk result (λ found. found ≡ scalars_of model.now records.now finished.now recorded.now emissions.now) }
 {
-    let answers = PlainAnswers::new(alloc, model)?;
+    let answers = PlainAnswers::of_types(alloc, model, records)?;
     scalars_by(alloc, &answers, records, finished, recorded, emissions)
 }

@@ -164,6 +164,6 @@ pub fn vectors(
     requires few { length records.now < 2 ^ 32 }
     ensures { IfOk result (λ found. found ≡ vectors_of model.now records.now emissions.now) }
 {
-    let answers = PlainAnswers::new(alloc, model)?;
+    let answers = PlainAnswers::of_types(alloc, model, records)?;
     vectors_by(alloc, &answers, records, emissions)
 }
