@@ -1,0 +1,143 @@
+"""The stock modules: what each does when it is called."""
+from ned import NotReckoned
+
+
+class Message:
+    def __init__(self, kind, priority, bits, payload, gate=None):
+        self.kind, self.priority, self.bits, self.payload, self.gate = kind, priority, bits, payload, gate
+
+    def at(self, gate):
+        """The message as it arrives at that gate."""
+        return Message(self.kind, self.priority, self.bits, self.payload, gate)
+
+
+class Outside(Message):
+    """A message from outside."""
+
+    def __init__(self, number, path, time, priority, kind, bits, payload):
+        super().__init__(kind, priority, bits, payload)
+        self.number, self.path, self.time = number, path, time
+
+    def __eq__(self, other):
+        return isinstance(other, Outside) and vars(self) == vars(other)
+
+    def __lt__(self, other):
+        return self.number < other.number
+
+
+class Call:
+    """A call of a module, with what it read: `message` is none for a timer and at the start. What is read and absent, or wrong, is kept."""
+
+    def __init__(self, world, module, state, message):
+        self.world, self.module, self.state, self.message = world, module, state, message
+        self.starts, self.absent, self.wrong = world.count == 0 and world.event == 0, [], []
+
+    def read(self, name, kind="whole", suits=lambda _: True):
+        value = self.world.value(self.module, name)
+        if value is None:
+            self.absent.append("NoParameter")
+        elif value[0] != kind or not suits(value[1]):
+            self.wrong.append(name)
+        else:
+            return value[1]
+        return 0
+
+    def time(self, name):
+        return self.read(name, "time", lambda it: it >= 0)
+
+    def priority(self):
+        return self.read("priority", suits=lambda it: -(2**15) <= it < 2**15)
+
+    def comes(self, gate):
+        """Whether a message comes from outside, or from that gate, which is no half of another one."""
+        if self.message is not None and self.message.gate == gate and self.module.type.gates[gate].direction == "inout":
+            raise NotReckoned(f"a message from a half of {gate}")
+        return isinstance(self.message, Outside) or self.message is not None and self.message.gate == gate
+
+
+class Tick:
+    initial = staticmethod(lambda: 0)
+
+    @staticmethod
+    def handle(call):
+        n = call.state
+        if call.message:
+            return [], n
+        if not call.starts:
+            n += 1
+        count, gap, priority = call.read("count"), call.time("gap"), call.priority()
+        actions = []
+        if not call.starts:
+            actions.append(("emit", "fired", n))
+            if call.read("late") == n:
+                actions.append(("emit", "extra", call.read("extra")))
+        return actions + ([("schedule", gap, priority)] if n < count else []), n
+
+
+class Source:
+    initial = staticmethod(lambda: 0)
+
+    @staticmethod
+    def handle(call):
+        n = call.state
+        if call.message:
+            return [], n
+        if call.starts:
+            count, start = call.read("count"), call.time("start")
+            return [("schedule", start, 0)] if 0 < count else [], n
+        count, bits, gap = call.read("count"), call.read("bits", suits=lambda it: it >= 0), call.time("gap")
+        sent = ("send", "out", "", 0, Message(0, 0, bits, b""))
+        return [sent] + ([("schedule", gap, 0)] if n + 1 < count else []), n + 1
+
+
+class Queue:
+    initial = staticmethod(lambda: ())
+
+    @staticmethod
+    def handle(call):
+        held = call.state
+        if call.starts:
+            return [], held
+        if call.message is None:
+            front, held = held[0], held[1:]
+            actions = [("send", "out", "", 0, front), ("emit", "length", len(held))]
+            return actions + ([("schedule", call.time("service"), 0)] if held else []), held
+        if not call.comes("in"):
+            return [], held
+        capacity = call.read("capacity")
+        if not held:
+            return [("emit", "length", 1), ("schedule", call.time("service"), 0)], (call.message,)
+        if len(held) <= capacity:
+            return [("emit", "length", len(held) + 1)], (*held, call.message)
+        return [("emit", "dropped", 1)], held
+
+
+class Sink:
+    initial = staticmethod(lambda: None)
+
+    @staticmethod
+    def handle(call):
+        return [("emit", "rx", call.message.bits)] if not call.starts and call.comes("in") else [], None
+
+
+class Router:
+    initial = staticmethod(lambda: None)
+
+    @staticmethod
+    def handle(call):
+        if call.starts or not call.message:
+            return [], None
+        if not call.message.payload:
+            return [("emit", "rx", call.message.bits)], None
+        port = call.world.ask("gate", call.module.path, "port")
+        if not port:
+            call.absent.append("NoGate")
+        elif port[0] != "inout":
+            call.wrong.append("port")
+        elif call.message.payload[0] < port[1]:
+            it = call.message
+            return [("send", "port", "$o", it.payload[0], Message(it.kind, it.priority, it.bits, it.payload[1:]))], None
+        return [("fail", "route")], None
+
+
+CLASSES = {"Tick": Tick, "Source": Source, "Queue": Queue, "Sink": Sink, "Router": Router}
