@@ -66,7 +66,7 @@ pub of_counts : (n : ℕ) (ps : List Position) → Below n (counts_of ps) → Ar
 of_counts n [] h = tt
 of_counts n (p ∷ ps) h = (h.0, of_counts n ps h.1)
 
-below_both : (n : ℕ) (xs ys : List ℕ) → Below n xs → Below n ys → Below n (xs ++ ys)
+pub below_both : (n : ℕ) (xs ys : List ℕ) → Below n xs → Below n ys → Below n (xs ++ ys)
 below_both n [] ys h g = g
 below_both n (x ∷ xs) ys h g = (h.0, below_both n xs ys h.1 g)
 
@@ -74,7 +74,7 @@ pub below_more : (n k : ℕ) (xs : List ℕ) → n ≤ k → Below n xs → Belo
 below_more n k [] l h = tt
 below_more n k (x ∷ xs) l h = (omega (arith, l, h.0), below_more n k xs l h.1)
 
-below_filter : (n : ℕ) (test : ℕ → Bool) (xs : List ℕ) → Below n xs → Below n (filter test xs)
+pub below_filter : (n : ℕ) (test : ℕ → Bool) (xs : List ℕ) → Below n xs → Below n (filter test xs)
 below_filter n test [] h = tt
 below_filter n test (x ∷ xs) h = by (test x) (below_filter n test xs h.1)
   where
@@ -134,7 +134,7 @@ passed_last : (m : ℕ) (f : Bool) (t : Timeline ℕ) → passed (is_left m f) t
 passed_last m f t = ap (λ c. if (if c then not f else is_multiple t.interval m) then with_count m t else t) (equal m)
 
 -- of events of which the last is this one
-left_behind : (first k m : ℕ) (f : Bool) (t : Timeline ℕ) → m ≡ first + k
+pub left_behind : (first k m : ℕ) (f : Bool) (t : Timeline ℕ) → m ≡ first + k
     → behind (is_left m f) t (numbers_from first (suc k)) ≡ (if not f then with_count m (behind is_multiple t (numbers_from first k)) else behind is_multiple t (numbers_from first k))
 left_behind first k m f t e =
     behind_next (is_left m f) t first k
@@ -372,6 +372,30 @@ last_within limit ps p e =
     let l = below_last (suc limit) (up_to limit ps) p (below_up_to limit (suc limit) ps (omega arith)) e in
     omega (arith, l)
 
+-- a run begins up to its limit
+below_up_to_limit : (limit : ℕ) (ns : List ℕ) → Below (suc limit) (filter (λ n. nat_le n limit) ns)
+below_up_to_limit limit [] = tt
+below_up_to_limit limit (k ∷ ks) = by (nat_le k limit) refl (below_up_to_limit limit ks)
+  where
+    by : (t : Bool) → nat_le k limit ≡ t → Below (suc limit) (filter (λ n. nat_le n limit) ks) → Below (suc limit) (cond t (k ∷ filter (λ n. nat_le n limit) ks) (filter (λ n. nat_le n limit) ks))
+    by true e rest = (let l = up_to_is k limit e in omega (arith, l), rest)
+    by false e rest = rest
+
+last_from_below : (n k : ℕ) (ks : List ℕ) → k < n → Below n ks → last_from k ks < n
+last_from_below n k [] l h = l
+last_from_below n k (j ∷ js) l h = last_from_below n j js h.0 h.1
+
+last_below_limit : (n : ℕ) (ns : List ℕ) (s : ℕ) → Below n ns → last_count ns ≡ Some s → s < n
+last_below_limit n [] s h e = cc
+last_below_limit n (k ∷ ks) s h e =
+    let same : last_from k ks ≡ s = cc in
+    subst (λ j. j < n) same (last_from_below n k ks h.0 h.1)
+
+pub start_within : (limit : ℕ) (counts : List ℕ) (s : ℕ) → start_of limit counts ≡ Some s → s ≤ limit
+start_within limit counts s e =
+    let l = last_below_limit (suc limit) (filter (λ n. nat_le n limit) counts) s (below_up_to_limit limit counts) e in
+    omega (arith, l)
+
 -- ---- what is stored behind a start
 
 pub left_after_start : (b : Behaviour) (m : Answers) (limit s : ℕ) (old : Timeline ℕ) (before new : Timeline Position) → start_of limit old.stored ≡ Some s → counts_in before ≡ cut (Some s) old
@@ -386,12 +410,13 @@ left_after_start b m limit s old before new e c h =
     ∙ ap (λ k. behind (is_left last f) (cut (Some s) old) (numbers_from (suc s) k)) (sym d))
 
 pub start_stored : (b : Behaviour) (m : Answers) (limit s : ℕ) (old : Timeline ℕ) (at : Stood) (before new : Timeline Position) → start_of limit old.stored ≡ Some s → counts_in before ≡ cut (Some s) old
-    → HasBegun b m s at before new (run_to b m limit) → HasStored b m limit old at (counts_in new)
+    → HasBegun b m limit s at before new → HasStored b m limit old at (counts_in new)
 start_stored b m limit s old stood.Before before new e c h = absurd h
 start_stored b m limit s old (stood.After k) before new e c h =
     let d : k - s ≡ suc k - suc s = omega arith in
     record {
       going = h.going;
+      limited = h.limited;
       within = subst (λ (o : Option ℕ). starts_within o k) (sym e) h.grew;
       positions = subst (λ (o : Option ℕ). counts_in new ≡ positions_begun old o (suc k - first_behind o)) (sym e)
           (h.counts ∙ ap (λ t. behind is_multiple t (numbers_from (suc s) (k - s))) c ∙ ap (λ n. behind is_multiple (cut (Some s) old) (numbers_from (suc s) n)) d);
@@ -400,6 +425,7 @@ start_stored b m limit s old (stood.Untaken k) before new e c h =
     let l = h.grew in
     record {
       going = h.going;
+      limited = h.limited;
       within = subst (λ (o : Option ℕ). starts_within o k) (sym e) (omega (arith, l));
       positions = subst (λ (o : Option ℕ). counts_in new ≡ positions_begun old o (k - first_behind o)) (sym e) (h.counts ∙ ap (λ t. behind is_multiple t (numbers_from (suc s) (k - suc s))) c);
     }
@@ -411,6 +437,7 @@ back_stored b m limit s old new e going c =
     let z : suc s - suc s ≡ 0 = omega arith in
     record {
       going = going;
+      limited = start_within limit old.stored s e;
       within = subst (λ (o : Option ℕ). starts_within o s) (sym e) (omega arith);
       positions = subst (λ (o : Option ℕ). new ≡ positions_begun old o (suc s - first_behind o)) (sym e)
           (c ∙ ap (λ n. behind is_multiple (cut (Some s) old) (numbers_from (suc s) n)) (sym z));
@@ -421,11 +448,13 @@ setup_begun : (b : Behaviour) (m : Answers) (limit : ℕ) (old : Timeline ℕ) (
 setup_begun b m limit old stood.Before new e h = (e, h.1)
 setup_begun b m limit old (stood.After k) new e h = record {
   going = h.going;
+  limited = h.limited;
   within = subst (λ (o : Option ℕ). starts_within o k) (sym e) tt;
   positions = subst (λ (o : Option ℕ). new ≡ positions_begun old o (suc k - first_behind o)) (sym e) h.positions;
 }
 setup_begun b m limit old (stood.Untaken k) new e h = record {
   going = h.going;
+  limited = h.limited;
   within = subst (λ (o : Option ℕ). starts_within o k) (sym e) tt;
   positions = subst (λ (o : Option ℕ). new ≡ positions_begun old o (k - first_behind o)) (sym e) h.positions;
 }
@@ -449,13 +478,14 @@ begun_left b m limit i before new c h =
     let f : Bool = is_fault ran.outcome in
     h.counts ∙ ap (λ t. behind (is_left last f) t (numbers_from 1 (last - 0))) c ∙ setup_left i last f h.faulted
 
-begun_stored : (b : Behaviour) (m : Answers) (limit i : ℕ) (at : Stood) (before new : Timeline Position) → counts_in before ≡ with_count 0 (begun i) → HasBegun b m 0 at before new (run_to b m limit) → HasStored b m limit (begun i) at (counts_in new)
+begun_stored : (b : Behaviour) (m : Answers) (limit i : ℕ) (at : Stood) (before new : Timeline Position) → counts_in before ≡ with_count 0 (begun i) → HasBegun b m limit 0 at before new → HasStored b m limit (begun i) at (counts_in new)
 begun_stored b m limit i stood.Before before new c h = absurd h
 begun_stored b m limit i (stood.After k) before new c h =
     let a : suc k - 0 ≡ suc k = omega arith in
     let z : k - 0 ≡ k = omega arith in
     record {
       going = h.going;
+      limited = h.limited;
       within = tt;
       positions = h.counts ∙ ap (λ t. behind is_multiple t (numbers_from 1 (k - 0))) c ∙ ap (λ n. behind is_multiple (with_count 0 (begun i)) (numbers_from 1 n)) z ∙ setup_begins i k
           ∙ ap (λ n. behind is_multiple (begun i) (numbers_from 0 n)) (sym a);
@@ -466,6 +496,7 @@ begun_stored b m limit i (stood.Untaken (suc k)) before new c h =
     let z : suc k - suc 0 ≡ k = omega arith in
     record {
       going = h.going;
+      limited = h.limited;
       within = tt;
       positions = h.counts ∙ ap (λ t. behind is_multiple t (numbers_from 1 (suc k - suc 0))) c ∙ ap (λ n. behind is_multiple (with_count 0 (begun i)) (numbers_from 1 n)) z ∙ setup_begins i k
           ∙ ap (λ n. behind is_multiple (begun i) (numbers_from 0 n)) (sym a);
@@ -476,7 +507,7 @@ pub setup_left_all : (b : Behaviour) (m : Answers) (limit : ℕ) (old before new
     → counts_in new ≡ positions_after b m limit (counts_in old)
 setup_left_all b m limit old before new none c h = begun_left b m limit old.first before new c h ∙ ap (positions_after b m limit) (sym (ap counts_in none))
 
-pub setup_stored_all : (b : Behaviour) (m : Answers) (limit : ℕ) (at : Stood) (old before new : Timeline Position) → IsBegun old → counts_in before ≡ with_count 0 (begun old.first) → HasBegun b m 0 at before new (run_to b m limit)
+pub setup_stored_all : (b : Behaviour) (m : Answers) (limit : ℕ) (at : Stood) (old before new : Timeline Position) → IsBegun old → counts_in before ≡ with_count 0 (begun old.first) → HasBegun b m limit 0 at before new
     → HasStored b m limit (counts_in old) at (counts_in new)
 setup_stored_all b m limit at old before new none c h = subst (λ (t : Timeline ℕ). HasStored b m limit t at (counts_in new)) (sym (ap counts_in none)) (begun_stored b m limit old.first at before new c h)
 
@@ -500,6 +531,7 @@ first_untaken b m limit at old new e going none same =
     let is : counts_in old ≡ begun old.first = ap counts_in none in
     subst (λ (t : Timeline ℕ). HasStored b m limit t at (counts_in new)) (sym is) (subst (λ (x : Stood). HasStored b m limit (begun old.first) x (counts_in new)) (sym e) (record {
       going = going;
+      limited = omega arith;
       within = tt;
       positions = ap counts_in same ∙ is ∙ ap (λ n. behind is_multiple (begun old.first) (numbers_from 0 n)) (sym z);
     }))

@@ -19,6 +19,7 @@ use Rattle.checkpointed_runs.specs.Kept.{lasting, is_owed, taken_if, HasBegun, H
 use Rattle.checkpointed_runs.specs.declared.running.Stood.{Stood}
 use Rattle.checkpointed_runs.specs.declared.running.Stood.TheVariants as stood
 use Rattle.checkpointed_runs.specs.Positions.{behind, numbers_from, passed}
+use Rattle.checkpointed_runs.proofs.Whole.{run_within}
 use Rattle.checkpointed_runs.proofs.Counting.{behind_next, left_is, of_counts, one_stored, paid, passed_not, stored_below, to_counts, Below}
 
 -- ---- how many events are counted where a run is over
@@ -132,16 +133,16 @@ gone_stopped b m from k before t w outcome l going e h =
 -- ---- and what it leaves
 
 -- an event could not be executed
-pub begun_after : (b : Behaviour) (m : Answers) (from k : ℕ) (at : Stood) (before t : Timeline Position) (w : World) (ran : Ran) → at ≡ stood.After k → from ≤ k → Running w ≡ after b m k → StoredAt from before t k → HasBegun b m from at before t ran
-begun_after b m from k at before t w ran e l going h =
-    subst (λ (x : Stood). HasBegun b m from x before t ran) (sym e) (record { going = (w, going); grew = l; counts = h })
+pub begun_after : (b : Behaviour) (m : Answers) (limit from k : ℕ) (at : Stood) (before t : Timeline Position) (w : World) → at ≡ stood.After k → from ≤ k → k ≤ limit → Running w ≡ after b m k → StoredAt from before t k → HasBegun b m limit from at before t
+begun_after b m limit from k at before t w e l few going h =
+    subst (λ (x : Stood). HasBegun b m limit from x before t) (sym e) (record { going = (w, going); limited = few; grew = l; counts = h })
 
 -- the position after an event could not be taken
-pub begun_untaken : (b : Behaviour) (m : Answers) (from k : ℕ) (at : Stood) (before t : Timeline Position) (w : World) (ran : Ran) → at ≡ stood.Untaken (suc k) → from ≤ k → Running w ≡ after b m (suc k) → StoredAt from before t k → HasBegun b m from at before t ran
-begun_untaken b m from k at before t w ran e l going h =
+pub begun_untaken : (b : Behaviour) (m : Answers) (limit from k : ℕ) (at : Stood) (before t : Timeline Position) (w : World) → at ≡ stood.Untaken (suc k) → from ≤ k → suc k ≤ limit → Running w ≡ after b m (suc k) → StoredAt from before t k → HasBegun b m limit from at before t
+begun_untaken b m limit from k at before t w e l few going h =
     let d : k - from ≡ suc k - suc from = omega arith in
-    subst (λ (x : Stood). HasBegun b m from x before t ran) (sym e)
-    (record { going = (w, going); grew = omega (arith, l); counts = h ∙ ap (λ n. behind is_multiple (counts_in before) (numbers_from (suc from) n)) d })
+    subst (λ (x : Stood). HasBegun b m limit from x before t) (sym e)
+    (record { going = (w, going); limited = few; grew = omega (arith, l); counts = h ∙ ap (λ n. behind is_multiple (counts_in before) (numbers_from (suc from) n)) d })
 
 pub left_gone : (b : Behaviour) (m : Answers) (limit from : ℕ) (before mid new : Timeline Position) (w : World) (outcome : Outcome) (p : Position) → AreBelow (suc from) before.stored → run_to b m limit ≡ record { world = w; outcome = outcome }
     → HasGoneOn b m from before mid w outcome → p.count ≡ w.count → new ≡ taken_if (is_owed from (is_fault outcome) w.count (counts_of mid.stored)) p mid → HasLeft from before new (run_to b m limit)
@@ -213,10 +214,11 @@ owed_below b m from before t w outcome below g owed =
     stored_within from (last - 1) last before t (omega (arith, l)) (omega (arith, l)) below (at.counts ∙ ap (λ n. behind is_multiple (counts_in before) (numbers_from (suc from) n)) z)
 
 -- the position after the last event could not be taken
-pub begun_owed : (b : Behaviour) (m : Answers) (from : ℕ) (at : Stood) (before mid t : Timeline Position) (w : World) (outcome : Outcome) (ran : Ran) → at ≡ stood.Untaken w.count → HasGoneOn b m from before mid w outcome
-    → is_owed from (is_fault outcome) w.count (counts_of mid.stored) ≡ true → t ≡ mid → HasBegun b m from at before t ran
-begun_owed b m from at before mid t w outcome ran e g owed same =
+pub begun_owed : (b : Behaviour) (m : Answers) (limit from : ℕ) (at : Stood) (before mid t : Timeline Position) (w : World) (outcome : Outcome) → at ≡ stood.Untaken w.count → run_to b m limit ≡ record { world = w; outcome = outcome }
+    → HasGoneOn b m from before mid w outcome → is_owed from (is_fault outcome) w.count (counts_of mid.stored) ≡ true → t ≡ mid → HasBegun b m limit from at before t
+begun_owed b m limit from at before mid t w outcome e ran g owed same =
     let here = owed_at b m from before mid w outcome g owed in
     let l : from < w.count = here.behind_it in
-    subst (λ (x : Stood). HasBegun b m from x before t ran) (sym e)
-    (record { going = (w, owed_lasts b m from before mid w outcome g owed); grew = omega (arith, l); counts = ap counts_in same ∙ here.counts })
+    let few : w.count ≤ limit = omega (arith, run_within b m limit, ap (λ (r : Ran). r.world.count) ran) in
+    subst (λ (x : Stood). HasBegun b m limit from x before t) (sym e)
+    (record { going = (w, owed_lasts b m from before mid w outcome g owed); limited = few; grew = omega (arith, l); counts = ap counts_in same ∙ here.counts })

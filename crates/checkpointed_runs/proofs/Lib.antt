@@ -4,3 +4,4 @@ pub mod Going
 pub mod Good
 pub mod Whole
 pub mod Few
+pub mod Most

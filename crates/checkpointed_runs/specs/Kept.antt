@@ -9,7 +9,7 @@ use Rattle.saved_boxes.specs.Seats.{Seat, instance_of}
 use Rattle.module_api.specs.Behaviour.{Behaviour}
 use Rattle.run_questions.specs.Answers.{Answers}
 use Rattle.run_semantics.specs.declared.outcome.Outcome.{Outcome}
-use Rattle.run_semantics.specs.Run.{Running, Ran, after, standing, is_fault}
+use Rattle.run_semantics.specs.Run.{Running, Ran, after, run_to, standing, is_fault}
 use Rattle.run_semantics.specs.World.{World, HasRoom}
 use Rattle.checkpointed_runs.specs.Positions.{behind, CanGoOn, is_left, numbers_from}
 use Rattle.checkpointed_runs.specs.declared.running.Runner.{Runner}
@@ -69,18 +69,19 @@ pub record HasLeft (from : ℕ) (before new : Timeline Position) (ran : Ran) : T
   pub faulted : is_fault ran.outcome ≡ true → from < ran.world.count
   pub counts : counts_in new ≡ behind (is_left ran.world.count (is_fault ran.outcome)) (counts_in before) (numbers_from (suc from) (ran.world.count - from))
 
--- It has executed so many events, at least this many; behind them stand the multiples among so many numbers.
-pub record HasGone (b : Behaviour) (m : Answers) (from least k more : ℕ) (before new : Timeline Position) : Type 0 where
+-- It has executed so many events, at least this many and no more than its limit; behind them stand the multiples among so many numbers.
+pub record HasGone (b : Behaviour) (m : Answers) (limit from least k more : ℕ) (before new : Timeline Position) : Type 0 where
   pub going : CanGoOn b m k
+  pub limited : k ≤ limit
   pub grew : least ≤ k
   pub counts : counts_in new ≡ behind is_multiple (counts_in before) (numbers_from (suc from) more)
 
--- what stands behind them, by where the run stands that went on from so many events
-abbrev pub HasBegun : Behaviour → Answers → ℕ → Stood → Timeline Position → Timeline Position → Ran → Type 0
-HasBegun b m from stood.Before before new ran = ⊥
-HasBegun b m from (stood.After k) before new ran = HasGone b m from from k (k - from) before new
-HasBegun b m from (stood.Untaken k) before new ran = HasGone b m from (suc from) k (k - suc from) before new
-HasBegun b m from stood.Ending before new ran = HasLeft from before new ran
+-- what stands behind them, by where the run to that limit stands that went on from so many events
+abbrev pub HasBegun : Behaviour → Answers → ℕ → ℕ → Stood → Timeline Position → Timeline Position → Type 0
+HasBegun b m limit from stood.Before before new = ⊥
+HasBegun b m limit from (stood.After k) before new = HasGone b m limit from from k (k - from) before new
+HasBegun b m limit from (stood.Untaken k) before new = HasGone b m limit from (suc from) k (k - suc from) before new
+HasBegun b m limit from stood.Ending before new = HasLeft from before new (run_to b m limit)
 
 -- ---- in a runner
 

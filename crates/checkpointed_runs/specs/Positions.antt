@@ -1,7 +1,7 @@
 -- Which positions the runs of a session leave, by their counts of events.
-use Rattle.std.specs.Prelude.{◌≡◌, ◌≤◌, ℕ, zero, suc, ◌+◌, ◌-◌, ◌==◌, nat_le, Bool, not, List, [], ◌∷◌, ◌++◌, length, Option, Some, None, if◌then◌else◌}
+use Rattle.std.specs.Prelude.{◌≡◌, ◌≤◌, ◌<◌, ◌^◌, ℕ, zero, suc, ◌+◌, ◌-◌, ◌==◌, nat_le, Bool, not, List, [], ◌∷◌, ◌++◌, length, Option, Some, None, if◌then◌else◌}
 use Rattle.std.specs.List.{filter}
-use Rattle.checkpoints.specs.Stored.{is_multiple, left, most_stored, with_count, Timeline}
+use Rattle.checkpoints.specs.Stored.{begun, is_multiple, left, most_stored, with_count, Timeline}
 use Rattle.module_api.specs.Behaviour.{Behaviour}
 use Rattle.run_questions.specs.Answers.{Answers}
 use Rattle.run_semantics.specs.Run.{Running, after, run_to, is_fault}
@@ -95,9 +95,10 @@ positions_after b m limit old =
 abbrev pub CanGoOn : Behaviour → Answers → ℕ → Type 0
 CanGoOn b m k = (w : World) × (Running w ≡ after b m k)
 
--- a run of the model that began there executed so many events, and of its own positions those of so many numbers are stored
-pub record HasGoneTo (b : Behaviour) (m : Answers) (old : Timeline ℕ) (start : Option ℕ) (k more : ℕ) (new : Timeline ℕ) : Type 0 where
+-- a run of the model to that limit, which began there, executed so many events, and of its own positions those of so many numbers are stored
+pub record HasGoneTo (b : Behaviour) (m : Answers) (limit : ℕ) (old : Timeline ℕ) (start : Option ℕ) (k more : ℕ) (new : Timeline ℕ) : Type 0 where
   pub going : CanGoOn b m k
+  pub limited : k ≤ limit
   pub within : starts_within start k
   pub positions : new ≡ positions_begun old start more
 
@@ -105,6 +106,16 @@ pub record HasGoneTo (b : Behaviour) (m : Answers) (old : Timeline ℕ) (start :
 -- that were due up to that one; where its own position could not be taken, those before it. In its end there are all of its own.
 abbrev pub HasStored : Behaviour → Answers → ℕ → Timeline ℕ → Stood → Timeline ℕ → Type 0
 HasStored b m limit old stood.Before new = (start_of limit old.stored ≡ None) × (new ≡ cut None old)
-HasStored b m limit old (stood.After k) new = HasGoneTo b m old (start_of limit old.stored) k (suc k - first_behind (start_of limit old.stored)) new
-HasStored b m limit old (stood.Untaken k) new = HasGoneTo b m old (start_of limit old.stored) k (k - first_behind (start_of limit old.stored)) new
+HasStored b m limit old (stood.After k) new = HasGoneTo b m limit old (start_of limit old.stored) k (suc k - first_behind (start_of limit old.stored)) new
+HasStored b m limit old (stood.Untaken k) new = HasGoneTo b m limit old (start_of limit old.stored) k (k - first_behind (start_of limit old.stored)) new
 HasStored b m limit old stood.Ending new = new ≡ positions_after b m limit old
+
+-- ---- one run and one edit after the other
+
+-- WHAT MAY BE STORED, whatever runs and edits came before: nothing at first; of what is stored those up to an event, behind an edit, or none, where a run waits; what a
+-- run leaves that is done; and what a run leaves that was given up. Each run may be of another model and to another limit.
+pub data CanBeStored : Timeline ℕ → Type 0 where
+  begins : (interval : ℕ) → 1 ≤ interval → CanBeStored (begun interval)
+  is_cut : (event : Option ℕ) (t : Timeline ℕ) → CanBeStored t → CanBeStored (cut event t)
+  is_done : (b : Behaviour) (m : Answers) (limit : ℕ) (t : Timeline ℕ) → limit < 2 ^ 64 → CanBeStored t → CanBeStored (positions_after b m limit t)
+  is_given_up : (b : Behaviour) (m : Answers) (limit : ℕ) (at : Stood) (t new : Timeline ℕ) → limit < 2 ^ 64 → HasStored b m limit t at new → CanBeStored t → CanBeStored new

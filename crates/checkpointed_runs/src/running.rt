@@ -287,9 +287,8 @@ impl<C: Catalogue> Runner<C> {
         ensures kinds { HasKinds C.behaviour SimpleModule-box self.new.kernel }
         ensures good { HasGood C.behaviour (answers_of model.now) SimpleModule-box self.new }
         ensures begun { let from = (world_in SimpleModule-box self.old.kernel).count in
-            let ran = run_to C.behaviour (answers_of model.now) limit in
-            OnErr result (HasBegun C.behaviour (answers_of model.now) from self.new.stood self.old.positions
-            self.new.positions ran) }
+            OnErr result (HasBegun C.behaviour (answers_of model.now) limit from self.new.stood self.old.positions
+            self.new.positions) }
         ensures ran { IfOk result (λ outcome. IsStopped C.behaviour (answers_of model.now) limit
             (ran_in SimpleModule-box outcome self.new.kernel)) }
         ensures stored { let from = (world_in SimpleModule-box self.old.kernel).count in
@@ -326,9 +325,8 @@ impl<C: Catalogue> Runner<C> {
             let ran = run_to C.behaviour (answers_of model.now) limit in
             OnOk result (HasLeft from self.old.positions self.new.positions ran) }
         ensures stopped { let from = (world_in SimpleModule-box self.old.kernel).count in
-            let ran = run_to C.behaviour (answers_of model.now) limit in
-            HasBegun C.behaviour (answers_of model.now) from self.new.stood self.old.positions
-            self.new.positions ran }
+            HasBegun C.behaviour (answers_of model.now) limit from self.new.stood self.old.positions
+            self.new.positions }
     {
         let from = self.kernel.count();
         let outcome = self.go_on(alloc, model, limit)?;

@@ -15,6 +15,7 @@ use Rattle.kernel.specs.Seats.{missing_of}
 use Rattle.checkpointed_runs.specs.declared.running.Phase.{Phase}
 use Rattle.checkpointed_runs.specs.declared.running.Phase.TheVariants.{Idle, Waiting, Declined}
 use Rattle.checkpointed_runs.specs.Kept.{AreGood}
+use Rattle.checkpointed_runs.specs.Positions.{CanBeStored, is_cut}
 use Rattle.checkpointed_runs.specs.Running.{IsFilled, IsWaiting, wanted_by}
 use Rattle.checkpointed_runs.proofs.Filling.{filled_above, filled_declined, filled_next, filled_wants, some_part}
 use Rattle.edit_session.specs.Editing.{Completed, IsFor, IsKept, IsLeft, IsUnknown, waited_for}
@@ -43,6 +44,7 @@ kept_declined b ss w m Waiting last known ps id e kept some unknown =
       undone = kept.undone;
       asked = kept.asked;
       good = kept.good;
+      stored = kept.stored;
     }
 kept_declined b ss w m Idle last known ps id e kept some unknown = cc
 kept_declined b ss w m Declined last known ps id e kept some unknown = cc
@@ -66,6 +68,7 @@ kept_supplied b ss ts w u m Waiting last known ps id box e kept some for_it kind
       undone = kept.undone;
       asked = known_same b (answers_of m) w u known (ap (λ (x : World). x.records) now) (ap (λ (x : World). x.questions) now) kept.asked;
       good = subst (λ (t : Timeline Position). AreGood b (answers_of m) ts u t.stored) (sym kept.undone.2) tt;
+      stored = kept.stored;
     }
 kept_supplied b ss ts w u m Idle last known ps id box e kept some for_it kinds now = cc
 kept_supplied b ss ts w u m Declined last known ps id box e kept some for_it kinds now = cc
@@ -83,8 +86,8 @@ begun_counted t i e =
     ∙ ap (λ (ps : List Position). record { first = t.first; interval = t.first; stored = ps }) none
 
 -- a run waits
-pub kept_waiting : (b : Behaviour) (ss : List Seat) (w : World) (m : Model) (limit kept : ℕ) (phase : Phase) (old : Timeline ℕ) (ps : Timeline Position) (request : Request) → AreOfKinds b ss → IsWaiting b (answers_of m) limit kept phase old w (counts_in ps) request → IsKept b ss w m Waiting None None ps
-kept_waiting b ss w m limit kept phase old ps request kinds h =
+pub kept_waiting : (b : Behaviour) (ss : List Seat) (w : World) (m : Model) (limit kept : ℕ) (phase : Phase) (old : Timeline ℕ) (ps : Timeline Position) (request : Request) → AreOfKinds b ss → CanBeStored old → IsWaiting b (answers_of m) limit kept phase old w (counts_in ps) request → IsKept b ss w m Waiting None None ps
+kept_waiting b ss w m limit kept phase old ps request kinds stored h =
     let none : IsBegun ps = begun_counted ps old.first h.positions in
     record {
       kinds = kinds;
@@ -93,4 +96,5 @@ kept_waiting b ss w m limit kept phase old ps request kinds h =
       undone = (refl, refl, none);
       asked = tt;
       good = subst (λ (t : Timeline Position). AreGood b (answers_of m) ss w t.stored) (sym none) tt;
+      stored = subst CanBeStored (sym h.positions) (is_cut None old stored);
     }

@@ -7,13 +7,13 @@ use Rattle.run_questions.specs.Answers.{Answers}
 use Rattle.run_semantics.specs.Run.{after, world_at}
 use Rattle.run_semantics.specs.World.{World}
 use Rattle.run_semantics.proofs.Counts.{reached_after}
-use Rattle.checkpoints.specs.Stored.{counts_of, last_of, AreRising, Timeline}
+use Rattle.checkpoints.specs.Stored.{counts_in, counts_of, last_of, AreRising, Timeline}
 use Rattle.kernel_actions.specs.declared.position.Position.{Position}
 use Rattle.kernel_actions.specs.Positions.{cut_to, lengths_of, IsGrownFrom}
 use Rattle.saved_boxes.specs.Seats.{Seat, AreOfKinds}
 use Rattle.checkpointed_runs.specs.declared.running.Phase.TheVariants.{Idle}
 use Rattle.checkpointed_runs.specs.Kept.{cut_to_last, AreGood, IsGood}
-use Rattle.checkpointed_runs.specs.Positions.{last_count}
+use Rattle.checkpointed_runs.specs.Positions.{last_count, CanBeStored}
 use Rattle.checkpointed_runs.proofs.Counting.{last_count_is}
 use Rattle.checkpointed_runs.proofs.Good.{cut_good, cut_grown, cut_is, good_last, last_below}
 use Rattle.edit_session.specs.Editing.{IsKept}
@@ -34,16 +34,17 @@ known_cut b m ss w u p h e =
     }
 
 cut_kept : (b : Behaviour) (m : Model) (ss : List Seat) (w u : World) (ps : Timeline Position) (last : Option Position) → last_of ps.stored ≡ last → AreOfKinds b ss → AreGood b (answers_of m) ss w ps.stored → AreRising ps.stored
-    → u ≡ cut_to_last last w → IsKept b ss u m Idle None (option_map (λ (p : Position). p.count) last) ps
-cut_kept b m ss w u ps None l kinds good rising e = record {
+    → CanBeStored (counts_in ps) → u ≡ cut_to_last last w → IsKept b ss u m Idle None (option_map (λ (p : Position). p.count) last) ps
+cut_kept b m ss w u ps None l kinds good rising stored e = record {
   kinds = kinds;
   live = tt;
   left = tt;
   undone = tt;
   asked = tt;
   good = subst (λ (x : World). AreGood b (answers_of m) ss x ps.stored) (sym e) good;
+  stored = stored;
 }
-cut_kept b m ss w u ps (Some p) l kinds good rising e =
+cut_kept b m ss w u ps (Some p) l kinds good rising stored e =
     let h : IsGood b (answers_of m) ss w p = good_last b (answers_of m) ss w ps.stored p good l in
     let cut : u ≡ cut_to (lengths_of h.world) w = e ∙ ap (λ (q : Position). cut_to q.lengths w) h.position in
     record {
@@ -53,14 +54,15 @@ cut_kept b m ss w u ps (Some p) l kinds good rising e =
       undone = tt;
       asked = known_cut b (answers_of m) ss w u p h cut;
       good = cut_good b (answers_of m) ss w u p ps.stored h (subst (IsGrownFrom h.world) (sym cut) (cut_grown h.world w h.grown)) (last_below ps.stored p rising l) good;
+      stored = stored;
     }
 
 -- WHAT A SESSION KEEPS of a run that is given up
-pub kept_given_up : (b : Behaviour) (m : Model) (ss : List Seat) (w u : World) (ps : Timeline Position) → AreOfKinds b ss → AreGood b (answers_of m) ss w ps.stored → AreRising ps.stored → u ≡ cut_to_last (last_of ps.stored) w
+pub kept_given_up : (b : Behaviour) (m : Model) (ss : List Seat) (w u : World) (ps : Timeline Position) → AreOfKinds b ss → AreGood b (answers_of m) ss w ps.stored → AreRising ps.stored → CanBeStored (counts_in ps) → u ≡ cut_to_last (last_of ps.stored) w
     → IsKept b ss u m Idle None (last_count (counts_of ps.stored)) ps
-kept_given_up b m ss w u ps kinds good rising e =
-    subst (λ k. IsKept b ss u m Idle None k ps) (sym (last_count_is ps.stored)) (cut_kept b m ss w u ps (last_of ps.stored) refl kinds good rising e)
+kept_given_up b m ss w u ps kinds good rising stored e =
+    subst (λ k. IsKept b ss u m Idle None k ps) (sym (last_count_is ps.stored)) (cut_kept b m ss w u ps (last_of ps.stored) refl kinds good rising stored e)
 
 pub kept_cut : (b : Behaviour) (m : Model) (ss ts : List Seat) (w u : World) (ps qs : Timeline Position) (known : Option ℕ) → ts ≡ ss → qs ≡ ps → known ≡ last_count (counts_of ps.stored)
-    → AreOfKinds b ss → AreGood b (answers_of m) ss w ps.stored → AreRising ps.stored → u ≡ cut_to_last (last_of ps.stored) w → IsKept b ts u m Idle None known qs
-kept_cut b m ss ts w u ps qs known t q k kinds good rising e = rw (t, q, k) (kept_given_up b m ss w u ps kinds good rising e)
+    → AreOfKinds b ss → AreGood b (answers_of m) ss w ps.stored → AreRising ps.stored → CanBeStored (counts_in ps) → u ≡ cut_to_last (last_of ps.stored) w → IsKept b ts u m Idle None known qs
+kept_cut b m ss ts w u ps qs known t q k kinds good rising stored e = rw (t, q, k) (kept_given_up b m ss w u ps kinds good rising stored e)

@@ -20,14 +20,16 @@ use Rattle.run_semantics.proofs.Reuse.{reached_same_up_to}
 use Rattle.result_files.specs.declared.files.ResultFiles.{ResultFiles}
 use Rattle.kernel_actions.specs.declared.position.Position.{Position}
 use Rattle.saved_boxes.specs.Seats.{Seat, AreOfKinds}
-use Rattle.checkpointed_runs.specs.Kept.{AreGood}
+use Rattle.checkpointed_runs.specs.Kept.{kept_up_to, AreGood}
+use Rattle.checkpointed_runs.specs.declared.running.Phase.{Phase}
 use Rattle.checkpointed_runs.specs.declared.running.Phase.TheVariants.{Idle}
 use Rattle.edit_session.specs.declared.session.Change.{Change}
-use Rattle.checkpoints.specs.Stored.{Timeline}
-use Rattle.checkpointed_runs.specs.Positions.{cut}
-use Rattle.edit_session.specs.Editing.{Editing, edited_by, files_in, IsKept}
+use Rattle.checkpoints.specs.Stored.{begun, counts_in, Timeline}
+use Rattle.checkpointed_runs.specs.Positions.{cut, CanBeStored, begins, is_cut}
+use Rattle.edit_session.specs.Editing.{Completed, Editing, edited_by, files_in, IsKept}
 use Rattle.checkpointed_runs.specs.Running.{whole_run}
 use Rattle.checkpointed_runs.proofs.Whole.{stopped_world}
+use Rattle.checkpointed_runs.proofs.Counting.{kept_counts}
 use Rattle.edit_session.specs.Reuse.{IsValidTo, IsAskedUpTo, IsKnown}
 
 -- ---- a run that is done
@@ -128,15 +130,41 @@ known_of b m n w known last (Ok found) e h a = known_edited b m n w last found (
 
 -- what is kept of a run that is done
 pub kept_done : (b : Behaviour) (ss : List Seat) (w : World) (m : Model) (limit : ℕ) (outcome : Outcome) (files : ResultFiles) (known : ℕ) (ps : Timeline Position) → AreOfKinds b ss → whole_run b (answers_of m) limit w outcome
-    → files ≡ files_in m w → known ≡ w.count → AreGood b (answers_of m) ss w ps.stored → IsKept b ss w m Idle (Some (record { limit = limit; outcome = outcome; files = files })) (Some known) ps
-kept_done b ss w m limit outcome files known ps kinds whole e n good = record {
+    → files ≡ files_in m w → known ≡ w.count → AreGood b (answers_of m) ss w ps.stored → CanBeStored (counts_in ps) → IsKept b ss w m Idle (Some (record { limit = limit; outcome = outcome; files = files })) (Some known) ps
+kept_done b ss w m limit outcome files known ps kinds whole e n good stored = record {
   kinds = kinds;
   live = tt;
   left = (whole, e);
   undone = tt;
   asked = subst (IsAskedUpTo b (answers_of m) w) (sym n) (known_done b (answers_of m) limit w outcome whole);
   good = good;
+  stored = stored;
 }
+
+-- what is kept without a run
+pub kept_begun : (b : Behaviour) (ss : List Seat) (w : World) (m : Model) (interval : ℕ) (ps : Timeline Position) → 1 ≤ interval → AreOfKinds b ss → ps ≡ begun interval → IsKept b ss w m Idle None None ps
+kept_begun b ss w m interval ps some kinds e = rw e (record {
+  kinds = kinds;
+  live = tt;
+  left = tt;
+  undone = tt;
+  asked = tt;
+  good = tt;
+  stored = begins interval some;
+})
+
+-- what is kept behind an accepted edit
+pub kept_edited : (b : Behaviour) (ss ts : List Seat) (w u : World) (m n : Model) (phase : Phase) (done : Option Completed) (known valid : Option ℕ) (ps qs : Timeline Position) → IsKept b ss w m phase done known ps → ts ≡ ss → u ≡ w → qs ≡ kept_up_to valid ps
+    → IsKnown b (answers_of n) w valid → AreGood b (answers_of n) ss w (kept_up_to valid ps).stored → IsKept b ts u n Idle None valid qs
+kept_edited b ss ts w u m n phase last known valid ps qs kept t e q asked good = rw (t, e, q) (record {
+  kinds = kept.kinds;
+  live = tt;
+  left = tt;
+  undone = tt;
+  asked = asked;
+  good = good;
+  stored = subst CanBeStored (sym (kept_counts valid ps)) (is_cut valid (counts_in ps) kept.stored);
+})
 
 -- what an accepted edit leaves
 pub edited_same : (before : Editing) (change : Change) (held : ℕ) (positions : Timeline ℕ) → held ≡ before.held → positions ≡ cut change.edited.valid_to before.positions

@@ -12,7 +12,7 @@ use Rattle.model_edits.specs.Edited.{number_given, IsEditOf, IsOnlyEditOf}
 use Rattle.result_files.specs.declared.files.ResultFiles.{ResultFiles}
 use Rattle.result_files.specs.Files.{files_of}
 use Rattle.kernel_actions.specs.declared.position.Position.{Position}
-use Rattle.checkpoints.specs.Stored.{begun, IsBegun, Timeline}
+use Rattle.checkpoints.specs.Stored.{begun, counts_in, IsBegun, Timeline}
 use Rattle.kernel.specs.declared.request.Request.{Request}
 use Rattle.saved_boxes.specs.Seats.{Seat, AreOfKinds}
 use Rattle.checkpointed_runs.specs.declared.running.Phase.{Phase}
@@ -24,7 +24,7 @@ use Rattle.edit_session.specs.declared.session.Progress.TheVariants as progress
 use Rattle.edit_session.specs.declared.session.Report.{Report}
 use Rattle.checkpointed_runs.specs.Kept.{AreGood}
 use Rattle.checkpointed_runs.specs.declared.running.Stood.{Stood}
-use Rattle.checkpointed_runs.specs.Positions.{cut, events_behind, last_count, positions_after, start_of, HasStored}
+use Rattle.checkpointed_runs.specs.Positions.{cut, events_behind, last_count, positions_after, start_of, HasStored, CanBeStored}
 use Rattle.checkpointed_runs.specs.Running.{fresh_run, kept_boxes, needed_by, wanted_by, whole_run, IsLive, IsUndeclined}
 use Rattle.edit_session.specs.Reuse.{IsKnown, IsValidTo}
 
@@ -94,6 +94,7 @@ pub record IsKept (b : Behaviour) (seats : List Seat) (w : World) (m : Model) (p
   pub undone : IsUndone phase done known ps
   pub asked : IsKnown b (answers_of m) w known
   pub good : AreGood b (answers_of m) seats w ps.stored
+  pub stored : CanBeStored (counts_in ps)
 
 -- ---- premises and answers
 

@@ -1,6 +1,6 @@
 //! A session.
 
-ghost use Rattle.std.specs.Prelude.{◌≡◌, ◌↔◌, ◌+◌, ◌≤◌, Some, None, IsSome, OnOk, OnErr, IfOk, IfErr, option_map, option_copied};
+ghost use Rattle.std.specs.Prelude.{◌≡◌, ◌↔◌, ◌+◌, ◌≤◌, Some, None, IsSome, OnOk, OnErr, IfOk, IfErr, length, option_map, option_copied};
 ghost use Rattle.sim_values.specs.Memory.{no_memory};
 ghost use Rattle.models.specs.declared.model.Model.{Model};
 ghost use Rattle.model_answers.specs.Answering.{answers_of};
@@ -16,7 +16,7 @@ ghost use Rattle.kernel.specs.declared.request.Request.{Request};
 ghost use Rattle.edit_session.specs.Reuse.{IsKnown, IsValidTo};
 ghost use Rattle.edit_session.specs.Sessions.{editing_of, stood_in, IsChangeOf, IsSound, KeepsModel};
 ghost use Rattle.kernel.specs.Kernels.{seats_in, world_in, HasKinds};
-ghost use Rattle.checkpoints.specs.Stored.{counts_in};
+ghost use Rattle.checkpoints.specs.Stored.{counts_in, most_stored};
 ghost use Rattle.model_edits.specs.declared.edit.Edit.{Edit};
 
 use agreement::agreement::agreement;
@@ -503,9 +503,10 @@ impl<C: Catalogue> Session<C> {
         }
     }
 
-    /// The positions that are stored, by their counts of events, which rise.
+    /// The positions that are stored, by their counts of events, which rise. Whatever edits and runs came before, there are at most 64.
     pub fn positions(&self) -> &[u64]
-        ensures { result.now ≡ (editing_of SimpleModule-box self.now).positions.stored }
+        ensures are { result.now ≡ (editing_of SimpleModule-box self.now).positions.stored }
+        ensures few { IsSound C.behaviour SimpleModule-box self.now → length result.now ≤ most_stored }
     {
         self.runner.positions.counts()
     }

@@ -42,9 +42,10 @@ same_begun more old other start from is kept =
 
 -- a run that went so far stored the same
 same_gone : (b : Behaviour) (limit k more less : ℕ) (e : Editing) (s : Machine) (new : Timeline ℕ) → RunsAlike limit e s → more ≡ less
-    → HasGoneTo b (answers_of e.model) e.positions (start_of limit e.positions.stored) k more new → HasGoneTo b (answers_of s.model) s.positions (start_of limit s.positions.stored) k less new
+    → HasGoneTo b (answers_of e.model) limit e.positions (start_of limit e.positions.stored) k more new → HasGoneTo b (answers_of s.model) limit s.positions (start_of limit s.positions.stored) k less new
 same_gone b limit k more less e s new same fewer h = record {
   going = subst (λ (m : Model). CanGoOn b (answers_of m) k) same.model h.going;
+  limited = h.limited;
   within = subst (λ (o : Option ℕ). starts_within o k) same.start h.within;
   positions = h.positions ∙ same_begun more e.positions s.positions (start_of limit e.positions.stored) (start_of limit s.positions.stored) same.start same.kept
       ∙ ap (λ (n : ℕ). positions_begun s.positions (start_of limit s.positions.stored) n) fewer;

@@ -29,11 +29,10 @@ returns-in_err-outcome-in-Some-clause-stopped g c =
     let m = (answers_of c.args.model.now) in
     let before = c.go_back.new.self.positions in
     let after = c.run_on.new.self.positions in
-    let ran = run_to b m c.args.limit in
     let back = rw c.in-Some.is at c.in_ok-start.ensures.back in
     start_stored b m c.args.limit c.in-Some.start (counts_in c.args.self.now.positions) c.run_on.new.self.stood before after (sym back.0)
     (ap counts_in back.1.2 ∙ kept_counts (Some c.in-Some.start) c.args.self.now.positions)
-    (subst (λ n. HasBegun b m n c.run_on.new.self.stood before after ran) back.1.1 (rw c.in_ok-answers-in-Some.ensures at c.run_on.ensures.stopped))
+    (subst (λ n. HasBegun b m c.args.limit n c.run_on.new.self.stood before after) back.1.1 (rw c.in_ok-answers-in-Some.ensures at c.run_on.ensures.stopped))
 
 pub returns-in_ok-outcome-in-Some-clause-stopped : goal.returns-in_ok-outcome-in-Some-clause-stopped
 returns-in_ok-outcome-in-Some-clause-stopped g c =
@@ -41,11 +40,10 @@ returns-in_ok-outcome-in-Some-clause-stopped g c =
     let m = (answers_of c.args.model.now) in
     let before = c.go_back.new.self.positions in
     let after = c.run_on.new.self.positions in
-    let ran = run_to b m c.args.limit in
     let back = rw c.in-Some.is at c.in_ok-start.ensures.back in
     start_stored b m c.args.limit c.in-Some.start (counts_in c.args.self.now.positions) c.run_on.new.self.stood before after (sym back.0)
     (ap counts_in back.1.2 ∙ kept_counts (Some c.in-Some.start) c.args.self.now.positions)
-    (subst (λ n. HasBegun b m n c.run_on.new.self.stood before after ran) back.1.1 (rw c.in_ok-answers-in-Some.ensures at c.run_on.ensures.stopped))
+    (subst (λ n. HasBegun b m c.args.limit n c.run_on.new.self.stood before after) back.1.1 (rw c.in_ok-answers-in-Some.ensures at c.run_on.ensures.stopped))
 
 pub returns-in_ok-outcome-in-Some-clause-advances : goal.returns-in_ok-outcome-in-Some-clause-advances
 returns-in_ok-outcome-in-Some-clause-advances g c =

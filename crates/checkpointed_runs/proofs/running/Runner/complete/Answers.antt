@@ -81,12 +81,11 @@ returns-in_ok-keep_if-in-None-clause-stopped g c =
     let w = world_in (λ b. (g.dyn-1.0.entry b.vtable).1) c.start.new.self in
     let before = c.keep_if.new.self.positions in
     let after = c.run_on.new.self.positions in
-    let ran = run_to b m c.args.limit in
     let count : w.count ≡ 0 = count_is b m 0 w (rw c.in-None.is at c.in_ok-outcome.ensures.step) in
     let from : c.keep_if.new.self.kernel.core.count ≡ 0 = ap (λ K. (world_in (λ b. (g.dyn-1.0.entry b.vtable).1) K).count) c.in_ok-keep_if-in-None.ensures.kept ∙ count in
     let counts : counts_in before ≡ with_count 0 (begun c.args.self.now.positions.first) = first_counts w c.args.self.now.positions before c.requires.none c.in_ok-keep_if-in-None.ensures.ok count in
     setup_stored_all b m c.args.limit c.run_on.new.self.stood c.args.self.now.positions before after c.requires.none counts
-    (subst (λ n. HasBegun b m n c.run_on.new.self.stood before after ran) from c.run_on.ensures.stopped)
+    (subst (λ n. HasBegun b m c.args.limit n c.run_on.new.self.stood before after) from c.run_on.ensures.stopped)
 
 pub returns-in_err-outcome-clause-stopped : goal.returns-in_err-outcome-clause-stopped
 returns-in_err-outcome-clause-stopped g c =

@@ -57,8 +57,8 @@ keep_if-requires g c =
 pub returns-in_err-outcome-clause-begun : goal.returns-in_err-outcome-clause-begun
 returns-in_err-outcome-clause-begun g c =
     on_err c.from_residual.result
-    (begun_after g.C.Catalogue.behaviour (answers_of c.args.model.now) (world_in (λ b. (g.dyn-1.0.entry b.vtable).1) c.args.self.now.kernel).count c.loop-k._k c.loop-k.self.stood c.args.self.now.positions c.loop-k.self.positions
-    (world_in (λ b. (g.dyn-1.0.entry b.vtable).1) c.loop-k.self.kernel) _ c.loop-k.invariant.stood c.loop-k.invariant.from c.loop-k.invariant.going c.loop-k.invariant.stored)
+    (begun_after g.C.Catalogue.behaviour (answers_of c.args.model.now) c.args.limit (world_in (λ b. (g.dyn-1.0.entry b.vtable).1) c.args.self.now.kernel).count c.loop-k._k c.loop-k.self.stood c.args.self.now.positions c.loop-k.self.positions
+    (world_in (λ b. (g.dyn-1.0.entry b.vtable).1) c.loop-k.self.kernel) c.loop-k.invariant.stood c.loop-k.invariant.from (omega (arith, c.loop-k-test.true)) c.loop-k.invariant.going c.loop-k.invariant.stored)
 
 pub returns-in_err-keep_if-clause-begun : goal.returns-in_err-keep_if-clause-begun
 returns-in_err-keep_if-clause-begun g c =
@@ -69,8 +69,8 @@ returns-in_err-keep_if-clause-begun g c =
     let going : Running v ≡ after b m (suc k) =
     next_after b m (world_in (λ b. (g.dyn-1.0.entry b.vtable).1) c.loop-k.self.kernel) (Running v) k c.loop-k.invariant.going (rw c.in_default.is at c.in_ok-outcome.ensures.step) in
     on_err c.from_residual-in_err-keep_if.result
-    (begun_untaken b m (world_in (λ b. (g.dyn-1.0.entry b.vtable).1) c.args.self.now.kernel).count k c.keep_if.new.self.stood c.args.self.now.positions c.keep_if.new.self.positions
-    v _ (c.in_err-keep_if.ensures.untaken ∙ ap stood.Untaken (count_is b m (suc k) v going)) c.loop-k.invariant.from going (ap counts_in c.in_err-keep_if.ensures.err ∙ c.loop-k.invariant.stored))
+    (begun_untaken b m c.args.limit (world_in (λ b. (g.dyn-1.0.entry b.vtable).1) c.args.self.now.kernel).count k c.keep_if.new.self.stood c.args.self.now.positions c.keep_if.new.self.positions
+    v (c.in_err-keep_if.ensures.untaken ∙ ap stood.Untaken (count_is b m (suc k) v going)) c.loop-k.invariant.from (omega (arith, c.loop-k-test.true)) going (ap counts_in c.in_err-keep_if.ensures.err ∙ c.loop-k.invariant.stored))
 
 pub returns-in_err-keep_if-clause-good : goal.returns-in_err-keep_if-clause-good
 returns-in_err-keep_if-clause-good g c =

@@ -66,8 +66,8 @@ returns-in_err-keep_if-clause-stopped g c =
     let w = world_in (λ b. (g.dyn-1.0.entry b.vtable).1) mid.kernel in
     let due : c.is_owed-due.result ≡ is_owed from (is_fault c.in_ok-outcome.outcome) mid.kernel.core.count (counts_of mid.positions.stored) =
     rw (c.count-from.ensures, c.is_fault.ensures, c.ends_at.ensures, c.count-last.ensures) at c.is_owed-due.ensures in
-    begun_owed g.C.Catalogue.behaviour (answers_of c.args.model.now) from c.keep_if.new.self.stood c.args.self.now.positions mid.positions c.keep_if.new.self.positions w c.in_ok-outcome.outcome _
-    c.in_err-keep_if.ensures.untaken c.in_ok-outcome.ensures.stored (sym due ∙ c.in_err-keep_if.ensures.due) c.in_err-keep_if.ensures.err
+    begun_owed g.C.Catalogue.behaviour (answers_of c.args.model.now) c.args.limit from c.keep_if.new.self.stood c.args.self.now.positions mid.positions c.keep_if.new.self.positions w c.in_ok-outcome.outcome
+    c.in_err-keep_if.ensures.untaken c.in_ok-outcome.ensures.ran.ran_is c.in_ok-outcome.ensures.stored (sym due ∙ c.in_err-keep_if.ensures.due) c.in_err-keep_if.ensures.err
 
 pub returns-clause-stopped : goal.returns-clause-stopped
 returns-clause-stopped g c =

@@ -1,10 +1,20 @@
-use Rattle.std.proofs.Common.{length, ap, ◌∙◌}
+use Rattle.std.proofs.Common.{length, option_map, ap, ◌∙◌}
 use Rattle.checkpoints.specs.Stored.{counts_in}
-use Rattle.kernel.specs.Kernels.{seats_in}
-use Rattle.edit_session.specs.Sessions.{editing_of}
+use Rattle.kernel.specs.Kernels.{seats_in, world_in}
+use Rattle.edit_session.specs.Sessions.{completed_of, editing_of}
 use Rattle.checkpointed_runs.proofs.Counting.{kept_counts}
-use Rattle.edit_session.proofs.Valid.{edited_same}
+use Rattle.edit_session.proofs.Valid.{edited_same, kept_edited}
 use Rattle.edit_session.proofs.session.Session.accept.Goals as goal
+
+pub returns-clause-sound : goal.returns-clause-sound
+returns-clause-sound g c =
+    let old = c.args.self.now in
+    let new = c.keep_up_to.new.self in
+    let kernel = rw c.give_up.ensures at c.keep_up_to.ensures.kernel in
+    rw c.give_up.ensures (kept_edited g.C.Catalogue.behaviour (seats_in (λ b. (g.dyn-1.0.entry b.vtable).1) old.runner.kernel) (seats_in (λ b. (g.dyn-1.0.entry b.vtable).1) new.kernel) (world_in (λ b. (g.dyn-1.0.entry b.vtable).1) old.runner.kernel)
+    (world_in (λ b. (g.dyn-1.0.entry b.vtable).1) new.kernel) old.model c.args.change.model old.phase (option_map completed_of old.done) old.known c.args.change.edited.valid_to old.runner.positions new.positions c.requires.sound
+    (ap (λ K. seats_in (λ b. (g.dyn-1.0.entry b.vtable).1) K) kernel) (ap (λ K. world_in (λ b. (g.dyn-1.0.entry b.vtable).1) K) kernel) (rw c.give_up.ensures at c.keep_up_to.ensures.positions)
+    c.requires.changed.1.known c.requires.changed.1.good)
 
 pub returns-clause-left : goal.returns-clause-left
 returns-clause-left g c =

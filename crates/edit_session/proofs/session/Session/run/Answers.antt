@@ -1,8 +1,9 @@
 use Rattle.std.proofs.Common.{refl, sym, ap, ◌∙◌, subst}
+use Rattle.std.proofs.Math.Facts.{Fits-lt-pow}
 use Rattle.kernel_actions.specs.declared.position.Position.{Position}
 use Rattle.checkpoints.specs.Stored.{counts_in, counts_of, Timeline}
 use Rattle.model_answers.specs.Answering.{answers_of}
-use Rattle.checkpointed_runs.specs.Positions.{last_count, HasStored}
+use Rattle.checkpointed_runs.specs.Positions.{last_count, HasStored, is_given_up}
 use Rattle.kernel.specs.Kernels.{seats_in, world_in}
 use Rattle.edit_session.proofs.GivenUp.{kept_cut}
 use Rattle.edit_session.proofs.session.Session.run.Goals as goal
@@ -11,11 +12,13 @@ pub returns-in-Err-clause-kept : goal.returns-in-Err-clause-kept
 returns-in-Err-clause-kept g c =
     let old = c.run_through.new.self.runner in
     let new = c.cut_back-self.new.self in
+    let stored =
+    is_given_up g.C.Catalogue.behaviour (answers_of c.args.self.now.model) c.args.limit old.stood (counts_in c.args.self.now.runner.positions) (counts_in old.positions) (Fits-lt-pow c.ranges.limit) c.run_through.ensures.stored c.requires.sound.stored in
     record {
       sound = rw c.give_up.ensures (kept_cut g.C.Catalogue.behaviour c.run_through.new.self.model (seats_in (λ b. (g.dyn-1.0.entry b.vtable).1) old.kernel) (seats_in (λ b. (g.dyn-1.0.entry b.vtable).1) new.kernel) (world_in (λ b. (g.dyn-1.0.entry b.vtable).1) old.kernel) (world_in (λ b. (g.dyn-1.0.entry b.vtable).1) new.kernel)
           old.positions new.positions c.cut_back-self.result
           (rw c.give_up.ensures at c.cut_back-self.ensures.seats) (rw c.give_up.ensures at c.cut_back-self.ensures.positions) (rw c.give_up.ensures at c.cut_back-self.ensures.last)
-          c.run_through.ensures.kinds c.run_through.ensures.good (rw c.give_up.ensures at c.cut_back-self.ensures.rising) (rw c.give_up.ensures at c.cut_back-self.ensures.world));
+          c.run_through.ensures.kinds c.run_through.ensures.good (rw c.give_up.ensures at c.cut_back-self.ensures.rising) stored (rw c.give_up.ensures at c.cut_back-self.ensures.world));
       model = rw c.give_up.ensures c.run_through.ensures.model;
     }
 
