@@ -4,6 +4,7 @@ use crate::key::WrittenAt;
 use inside_parts::parts::Parts;
 use inside_wiring::wiring::{Carrier, Wiring};
 use sim_values::value::Value;
+use sqlite_items::Boxed;
 
 /// The inside of a compound module: its submodules, the sizes of their gate vectors and of its own, and the connections.
 #[derive(Drop)]
@@ -23,11 +24,11 @@ pub enum Found {
     Inside(Inside),
 }
 
-/// The inside of a compound module while it is built.
+/// The inside of a compound module while it is built. It goes from step to step, so its large part stands in a box.
 #[derive(Drop)]
 pub struct State {
     pub parts: Parts,
-    pub wiring: Wiring,
+    pub wiring: Boxed<Wiring>,
     /// How many turns of loops may still be made.
     pub turns: u32,
     /// Where the connection is written that is made.

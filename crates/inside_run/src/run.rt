@@ -159,6 +159,7 @@ fn made(state: State) -> Found
         turns: _,
         written: _,
     } = state;
+    let wiring = wiring.into_inner();
     Found::Inside(Inside { parts, wiring })
 }
 
@@ -288,7 +289,7 @@ fn begun(alloc: Global, number: usize) -> Result<State, NoMemory>
             made: Items::new(alloc),
             parts,
         },
-        wiring: Wiring::new(alloc, Vec::new(alloc)),
+        wiring: Boxed::new(alloc, Wiring::new(alloc, Vec::new(alloc)))?,
         turns: 1_000_000,
         written: WrittenAt { items: 0, lines: 0 },
     })

@@ -21,6 +21,7 @@ use inside_wiring::ends::{
 };
 use inside_wiring::wiring::{GateId, Role};
 use ned_trees::connections::{Connection, End, GateIndex, Owner};
+use sqlite_items::Boxed;
 use std::alloc::Global;
 
 /// The end of that side.
@@ -70,6 +71,7 @@ fn took<'m>(
     ensures spends { Spends ground.now (of_rest connection.now side) 0 tasks.old turns result tasks.new }
 {
     let Taken { wiring, id } = found;
+    let wiring = Boxed::new(alloc, wiring)?;
     let state = State {
         parts,
         wiring,
@@ -107,7 +109,7 @@ fn single<'m>(
         turns,
         written,
     } = state;
-    let taken = at_single(wiring, other, role, gate)?;
+    let taken = at_single(wiring.into_inner(), other, role, gate)?;
     took(
         alloc, ground, tasks, connection, side, parts, turns, written, taken,
     )
@@ -136,7 +138,7 @@ fn free<'m>(
         turns,
         written,
     } = state;
-    let taken = at_next(wiring, other, role, gate)?;
+    let taken = at_next(wiring.into_inner(), other, role, gate)?;
     took(
         alloc, ground, tasks, connection, side, parts, turns, written, taken,
     )
@@ -211,7 +213,7 @@ pub fn part<'m>(
     let gate = gate_named(
         ground.gates,
         &state.parts,
-        state.wiring.count(),
+        state.wiring.get().count(),
         part,
         &end.gate.name,
     )?;
@@ -289,7 +291,7 @@ pub fn at<'m>(
         turns,
         written,
     } = state;
-    let taken = at_index(wiring, other, role, gate, index)?;
+    let taken = at_index(wiring.into_inner(), other, role, gate, index)?;
     took(
         alloc, ground, tasks, connection, side, parts, turns, written, taken,
     )

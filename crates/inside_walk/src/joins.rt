@@ -17,6 +17,7 @@ use inside_wiring::ends::linked;
 use inside_wiring::wiring::{Carrier, GateId};
 use ned_trees::connections::{Arrow, Channel, Connection};
 use sim_values::NoMemory;
+use sqlite_items::Boxed;
 use std::alloc::{AllocError, Global};
 
 /// Adds the number that a loop gives its variable now.
@@ -84,6 +85,7 @@ fn carrier_from(
 
 /// The connection is made.
 fn link<'m>(
+    alloc: Global,
     _ground: &Ground<'m>,
     _tasks: &mut Stack<Task<'m>>,
     arrow: Arrow,
@@ -103,7 +105,8 @@ fn link<'m>(
         turns,
         written,
     } = state;
-    let wiring = linked(wiring, arrow, left, right, onwards, back)?;
+    let wiring = linked(wiring.into_inner(), arrow, left, right, onwards, back)?;
+    let wiring = Boxed::new(alloc, wiring)?;
     Ok(Next::Go(State {
         parts,
         wiring,
@@ -146,6 +149,7 @@ fn back<'m>(
 {
     match arrow {
         Arrow::Right => link(
+            alloc,
             ground,
             tasks,
             Arrow::Right,
@@ -156,6 +160,7 @@ fn back<'m>(
             state,
         ),
         Arrow::Left => link(
+            alloc,
             ground,
             tasks,
             Arrow::Left,
@@ -208,6 +213,7 @@ pub fn joined<'m>(
 {
     match channel_of(ground.is_whole, connection) {
         None => link(
+            alloc,
             ground,
             tasks,
             connection.arrow,
@@ -242,7 +248,9 @@ pub fn carried<'m>(
             back(alloc, ground, tasks, arrow, left, right, carrier, state)
         }
         Carry::Back(arrow, left, right, onwards) => {
-            link(ground, tasks, arrow, left, right, onwards, carrier, state)
+            link(
+                alloc, ground, tasks, arrow, left, right, onwards, carrier, state,
+            )
         }
     }
 }

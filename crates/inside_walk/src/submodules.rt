@@ -21,10 +21,11 @@ use ned_trees::declarations::{SectionLine, Submodule, TypeDeclaration};
 use sim_values::NoMemory;
 use sim_values::text::Text;
 use sim_values::value::Value;
+use sqlite_items::Boxed;
 use std::alloc::Global;
 
 /// One gate vector more, of that size.
-fn grown(state: State, size: u32) -> Result<State, NoMemory>
+fn grown(alloc: Global, state: State, size: u32) -> Result<State, NoMemory>
     ensures { IfOk result (λ s. s ≡ states.grown state size) }
 {
     let State {
@@ -33,7 +34,8 @@ fn grown(state: State, size: u32) -> Result<State, NoMemory>
         turns,
         written,
     } = state;
-    let wiring = wiring.add(size)?;
+    let wiring = wiring.into_inner().add(size)?;
+    let wiring = Boxed::new(alloc, wiring)?;
     Ok(State {
         parts,
         wiring,
@@ -54,7 +56,7 @@ fn part_added(state: State, number: usize, index: Option<u32>) -> Result<State, 
     } = state;
     let Parts { made, mut parts } = parts;
     parts.push(Part {
-        first: wiring.count(),
+        first: wiring.get().count(),
         of_type: number,
         is_own: false,
         line: made.len().saturating_sub(1),
@@ -119,7 +121,7 @@ fn gate<'m>(
         return Ok(Next::Ask(key, Wait::Gate, state));
     }
     tasks.push(Task::Gates(holder, sort, rest))?;
-    let state = grown(state, 1)?;
+    let state = grown(alloc, state, 1)?;
     Ok(Next::Go(state))
 }
 
@@ -483,7 +485,7 @@ pub fn waited<'m>(
         Wait::Parameter => Ok(Next::Go(state)),
         Wait::Gate => {
             let size = size(value)?;
-            let state = grown(state, size)?;
+            let state = grown(alloc, state, size)?;
             Ok(Next::Go(state))
         }
         Wait::Condition(submodule) => held(alloc, ground, tasks, submodule, value, state),
