@@ -1,17 +1,13 @@
 //! Which connection of a compound module has a fault: the first with which the fault comes.
 
-use inside_keys::key::Module;
+use crate::modules::placed_at;
 use inside_parts::fault::Fault;
-use inside_run::placed::placed;
-use inside_run::values::empty_table;
 use model_settings::setting::ModelSetting;
-use model_settings::standings::around_of;
 use models::model::Model;
 use ned_scopes::copies::copy_type;
 use ned_trees::declarations::TypeDeclaration;
 use ned_types::table::TypeTable;
 use sim_values::NoMemory;
-use sim_values::text::Text;
 use sqlite_items::Items;
 use std::alloc::Global;
 use type_building::table::{BuildError, flat_types};
@@ -83,13 +79,7 @@ fn table_of(alloc: Global, types: &[TypeDeclaration]) -> Result<Option<TypeTable
 /// Whether the inside of the module of that path has the fault, in this model.
 fn has_fault(alloc: Global, model: &Model, path: &[u8], fault: Fault) -> Result<bool, NoMemory> {
     let setting = ModelSetting::new(alloc, model)?;
-    let mut table = empty_table(alloc, &setting);
-    let site = Module {
-        created: 0,
-        path: Text::from_bytes(alloc, path)?,
-    };
-    let around = around_of(alloc, &site)?;
-    match placed(alloc, &setting, &mut table, &site, around.as_ref())? {
+    match placed_at(alloc, &setting, path)? {
         Ok(_) => Ok(false),
         Err((told, found)) => Ok(told.is(path) && found == fault),
     }

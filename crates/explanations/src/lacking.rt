@@ -1,15 +1,18 @@
 //! Which gate has to be connected and isn't.
 
-use crate::modules::{Declared, record_of};
+use crate::modules::{declared_at, module_of, placed_at, record_of};
+use inside_keys::found::Found;
+use inside_keys::unconnected::unconnected;
+use inside_run::scene::Scene;
 use model_answers::plain::PlainAnswers;
-use model_settings::standings::before_last;
+use model_inside::built::name_of_part;
+use model_settings::setting::ModelSetting;
 use module_api::call::{Direction, Gate};
 use ned_trees::declarations::{GateLine, TypeDeclaration};
-use run_questions::answer::{Answer, ModelFault, Question};
+use run_questions::answer::{Answer, Question};
 use run_questions::record::Record;
 use sim_values::NoMemory;
 use sim_values::text::Text;
-use sqlite_items::Items;
 use std::alloc::Global;
 
 /// How many gates are looked at, at most.
@@ -111,67 +114,113 @@ fn first_lacking(alloc: Global, it: Seen<'_>, gate: &Gate) -> Result<Option<u32>
 /// A gate that isn't connected.
 #[derive(Drop)]
 pub struct Lacking {
+    /// The path of the module whose gate it is.
+    pub path: Text,
     pub name: Text,
     pub index: u32,
     /// It is one of the module's own gates, which isn't connected within.
     pub own: bool,
 }
 
-/// The first of these gates that isn't connected, but those that these lines let stay free.
+/// The first of these gates that isn't connected, but those that these lines let stay free: its name and its index.
 fn lacking_among(
     alloc: Global,
     it: Seen<'_>,
     gates: &[Gate],
     lines: &[GateLine],
     body: &[GateLine],
-) -> Result<Option<Lacking>, NoMemory> {
+) -> Result<Option<(Text, u32)>, NoMemory> {
     for gate in gates {
         let name = gate.name.as_bytes();
         if !is_loose(lines, name) && !is_loose(body, name) {
             if let Some(index) = first_lacking(alloc, it, gate)? {
-                let name = gate.name.copy(alloc)?;
-                return Ok(Some(Lacking {
-                    name,
-                    index,
-                    own: it.own,
-                }));
+                return Ok(Some((gate.name.copy(alloc)?, index)));
             }
         }
     }
     Ok(None)
 }
 
-/// Whether the inside of the module around has the fault, so that the gate isn't connected outside.
-fn is_outside(alloc: Global, answers: &PlainAnswers<'_>, path: &[u8]) -> Result<bool, NoMemory> {
-    let Some(above) = before_last(path) else {
-        return Ok(false);
-    };
-    let records = record_of(alloc, above)?;
-    match answers.answer(alloc, records.as_slice(), &Question::Build(1))? {
-        Answer::Fault(told, fault) => Ok(fault == ModelFault::Unconnected && told.is(path)),
-        _ => Ok(false),
-    }
+/// A part with a gate that has to be connected and isn't.
+#[derive(Drop)]
+struct Part {
+    path: Text,
+    /// The number of its type among all.
+    of_type: usize,
+    /// It is the compound module itself.
+    own: bool,
 }
 
-/// The first gate of the module of that path and type that has to be connected and isn't.
-pub fn lacking_gate(
+/// The first such part of the inside of the module of that path and type.
+fn lacking_part(
     alloc: Global,
-    answers: &PlainAnswers<'_>,
+    setting: &ModelSetting<'_>,
     path: &[u8],
     of: &TypeDeclaration,
-    declared: Option<Declared<'_>>,
+) -> Result<Option<Part>, NoMemory> {
+    let Ok(Found::Inside(inside)) = placed_at(alloc, setting, path)? else {
+        return Ok(None);
+    };
+    let Some(number) = unconnected(alloc, of, setting.gates(), &inside)? else {
+        return Ok(None);
+    };
+    let Some(part) = inside.parts.parts.get(number) else {
+        return Ok(None);
+    };
+    let site = module_of(alloc, path)?;
+    let name = Text::from_bytes(alloc, name_of_part(of.submodules.as_slice(), *part))?;
+    let child = site.child(alloc, &name, part.index)?;
+    let path = if part.is_own { site.path } else { child.path };
+    Ok(Some(Part {
+        path,
+        of_type: part.of_type,
+        own: part.is_own,
+    }))
+}
+
+/// The first gate of that part that isn't connected.
+fn lacking_of(
+    alloc: Global,
+    answers: &PlainAnswers<'_>,
+    part: Part,
+    of: &TypeDeclaration,
 ) -> Result<Option<Lacking>, NoMemory> {
-    let records: Items<Record> = record_of(alloc, path)?;
+    let records = record_of(alloc, part.path.as_bytes())?;
     let gates = answers.gates_of(alloc, records.as_slice(), 1)?;
-    let own = !is_outside(alloc, answers, path)?;
+    let declared = declared_at(alloc, answers, part.path.as_bytes())?;
     let body = match declared {
-        Some(declared) if !own => declared.submodule.body.gates.as_slice(),
+        Some(declared) if !part.own => declared.submodule.body.gates.as_slice(),
         _ => &[],
     };
     let it = Seen {
         answers,
         records: records.as_slice(),
-        own,
+        own: part.own,
     };
-    lacking_among(alloc, it, gates.as_slice(), of.gates.as_slice(), body)
+    match lacking_among(alloc, it, gates.as_slice(), of.gates.as_slice(), body)? {
+        Some((name, index)) => Ok(Some(Lacking {
+            path: part.path,
+            name,
+            index,
+            own: part.own,
+        })),
+        None => Ok(None),
+    }
+}
+
+/// The first gate in the inside of the module of that path and type that has to be connected and isn't.
+pub fn lacking_gate(
+    alloc: Global,
+    answers: &PlainAnswers<'_>,
+    path: &[u8],
+    of: &TypeDeclaration,
+) -> Result<Option<Lacking>, NoMemory> {
+    let setting = ModelSetting::new(alloc, answers.model())?;
+    let Some(part) = lacking_part(alloc, &setting, path, of)? else {
+        return Ok(None);
+    };
+    match setting.types().get(part.of_type) {
+        Some(of) => lacking_of(alloc, answers, part, of),
+        None => Ok(None),
+    }
 }

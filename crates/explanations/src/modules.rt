@@ -1,8 +1,14 @@
 //! Modules of a model, by their paths.
 
 use ini_texts::speaks::last_name;
+use inside_keys::found::Found;
+use inside_keys::key::Module;
+use inside_parts::fault::Fault;
+use inside_run::placed::placed;
+use inside_run::values::empty_table;
 use model_answers::plain::PlainAnswers;
-use model_settings::standings::{before_last, name_in};
+use model_settings::setting::ModelSetting;
+use model_settings::standings::{around_of, before_last, name_in};
 use ned_trees::declarations::{Submodule, TypeDeclaration};
 use ned_types::flat::submodule_named;
 use run_questions::record::Record;
@@ -54,4 +60,24 @@ pub fn record_of(alloc: Global, path: &[u8]) -> Result<Items<Record>, NoMemory> 
         class: None,
     })?;
     Ok(records)
+}
+
+/// The module of that path, as it is declared.
+pub fn module_of(alloc: Global, path: &[u8]) -> Result<Module, NoMemory> {
+    Ok(Module {
+        created: 0,
+        path: Text::from_bytes(alloc, path)?,
+    })
+}
+
+/// What comes of the inside of the module of that path, or its first fault with the path that it is told with.
+pub fn placed_at(
+    alloc: Global,
+    setting: &ModelSetting<'_>,
+    path: &[u8],
+) -> Result<Result<Found, (Text, Fault)>, NoMemory> {
+    let mut table = empty_table(alloc, setting);
+    let site = module_of(alloc, path)?;
+    let around = around_of(alloc, &site)?;
+    placed(alloc, setting, &mut table, &site, around.as_ref())
 }

@@ -123,47 +123,51 @@ fn say_gate(told: &mut Explanation, of: &TypeDeclaration, gate: &Lacking) {
     told.say("'");
 }
 
-/// Says which gate of a module isn't connected, and where it or its submodule is declared.
-fn tell_gate(
+/// Says where a gate of the module itself is declared, of that type, or the submodule whose gate it is.
+fn tell_gate_place(
     told: &mut Explanation,
     it: Case<'_>,
     of: &TypeDeclaration,
-    declared: Option<Declared<'_>>,
     gate: &Lacking,
 ) -> Result<(), NoMemory> {
     if gate.own {
         let order = order_of(told.alloc(), it.files.types, of)?;
         tell_place_of_gate(told, it.files, order.as_slice(), gate.name.as_bytes());
-    } else {
-        tell_submodule(told, it, declared)?;
+        return Ok(());
     }
-    told.say(it.told.path);
-    told.say(": the gate ");
-    say_gate(told, of, gate);
-    told.say(if gate.own {
-        " stands in no connection within the module"
-    } else {
-        " stands in no connection"
-    });
-    told.say(": connect it, or write 'connections allowunconnected:', or '@loose' behind the gate");
-    Ok(())
+    let declared = declared_at(told.alloc(), it.answers, gate.path.as_bytes())?;
+    tell_submodule(told, it, declared)
 }
 
-/// Says which gate of the module of that type isn't connected, and whether there is one.
+/// Says whose gate isn't connected.
+fn say_whose(told: &mut Explanation, gate: &Lacking) {
+    if gate.own {
+        told.say(" stands in no connection within the module");
+    } else {
+        told.say(" of ");
+        told.say_name(gate.path.as_bytes());
+        told.say(" stands in no connection");
+    }
+}
+
+/// Says which gate in the inside of the module of that type isn't connected, and whether there is one.
 fn tell_unconnected(
     told: &mut Explanation,
     it: Case<'_>,
     of: &TypeDeclaration,
-    declared: Option<Declared<'_>>,
 ) -> Result<bool, NoMemory> {
-    let path = it.told.path.as_bytes();
-    match lacking_gate(told.alloc(), it.answers, path, of, declared)? {
-        Some(gate) => {
-            tell_gate(told, it, of, declared, &gate)?;
-            Ok(true)
-        }
-        None => Ok(false),
-    }
+    let alloc = told.alloc();
+    let Some(gate) = lacking_gate(alloc, it.answers, it.told.path.as_bytes(), of)? else {
+        return Ok(false);
+    };
+    tell_gate_place(told, it, of, &gate)?;
+    told.say(it.told.path);
+    told.say(": the gate ");
+    let its = it.answers.type_at_path(alloc, gate.path.as_bytes())?;
+    say_gate(told, its.unwrap_or(of), &gate);
+    say_whose(told, &gate);
+    told.say(": connect it, or write 'connections allowunconnected:', or '@loose' behind the gate");
+    Ok(true)
 }
 
 /// Says what is wrong with the inside of a compound module, or with a submodule of one: `path:line: `, the module, and what would be right.
@@ -174,7 +178,7 @@ fn tell_case(
 ) -> Result<(), NoMemory> {
     let declared = declared_at(told.alloc(), it.answers, it.told.path.as_bytes())?;
     if let (Fault::Unconnected, Some(of)) = (it.fault, of) {
-        if tell_unconnected(told, it, of, declared)? {
+        if tell_unconnected(told, it, of)? {
             return Ok(());
         }
     }

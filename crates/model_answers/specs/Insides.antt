@@ -43,18 +43,10 @@ use Rattle.model_answers.specs.Keyed.{module_at, type_of, typed, value_of}
 abbrev pub child_path : List ℕ → List Submodule → Part → List ℕ
 child_path path lines p = (child (module_at path) (name_of_part lines p) p.index).path
 
--- the path of a part of the inside of the module of that path, which declares these submodules: its own is that of the module itself
-abbrev pub part_path : List ℕ → List Submodule → Part → List ℕ
-part_path path lines p = if p.is_own then path else child_path path lines p
-
-abbrev pub path_of_number : List ℕ → List Submodule → Option Part → List ℕ
-path_of_number path lines None = path
-path_of_number path lines (Some p) = part_path path lines p
-
--- a fault of the part with a gate that has to be connected and isn't, or else the submodules
+-- a fault where a part has a gate that has to be connected and isn't, with the module's own path as of all its connections, or else the submodules
 abbrev pub connected_answer : Setting → List ℕ → TypeDeclaration → Inside → Option ℕ → Answer
 connected_answer s path t i None = answer.Inside (built_parts s.types t.submodules i.parts.parts)
-connected_answer s path t i (Some n) = answer.Fault (path_of_number path t.submodules (slice_get i.parts.parts n)) Unconnected
+connected_answer s path t i (Some n) = answer.Fault path Unconnected
 
 abbrev pub built_answer : Setting → List ℕ → TypeDeclaration → Result Found (List ℕ × Fault) → Answer
 built_answer s path t (Ok (found.Inside i)) = connected_answer s path t i (unconnected t (settings.type_gates s) i)

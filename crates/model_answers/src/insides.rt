@@ -1,7 +1,6 @@
 //! What is inside of compound modules.
 
 ghost use Rattle.std.specs.Prelude.{◌≡◌, IfOk, IfSome, Ok};
-ghost use Rattle.std.specs.Option.{option_copied};
 ghost use Rattle.answer_engine.specs.Tables.{IsKept};
 ghost use Rattle.inside_keys.specs.Settings.{type_gates};
 ghost use Rattle.inside_keys.specs.Unconnected.{unconnected};
@@ -44,22 +43,7 @@ pub fn child_path(
     Ok(path)
 }
 
-/// The path of a part of the module of that path: its own is that of the module itself.
-fn part_path(
-    alloc: Global,
-    path: &[u8],
-    lines: &[Submodule],
-    part: Option<&Part>,
-) -> Result<Text, NoMemory>
-    ensures { IfOk result (λ found. found ≡ insides.path_of_number path.now lines.now (option_copied part.entry)) }
-{
-    match part {
-        Some(part) if !part.is_own => child_path(alloc, path, lines, *part),
-        _ => Ok(Text::from_bytes(alloc, path)?),
-    }
-}
-
-/// The submodules of an inside, or the fault of its first part with a gate that has to be connected and isn't.
+/// The submodules of an inside, or the fault of one that has a part with a gate which has to be connected and isn't.
 fn connected_answer(
     alloc: Global,
     from: Sources<'_>,
@@ -73,8 +57,8 @@ fn connected_answer(
     let lines = declared.submodules.as_slice();
     let parts = inside.parts.parts.as_slice();
     match unconnected(alloc, declared, from.setting.gates(), inside)? {
-        Some(number) => {
-            let path = part_path(alloc, path, lines, parts.get(number))?;
+        Some(_) => {
+            let path = Text::from_bytes(alloc, path)?;
             Ok(Answer::Fault(path, ModelFault::Unconnected))
         }
         None => Ok(Answer::Inside(built_parts(alloc, from.setting.types(), lines, parts)?)),
