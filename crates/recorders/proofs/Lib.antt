@@ -1,3 +1,4 @@
 pub mod Noted
+pub mod Hearers
 pub mod Reading
 pub mod Unwanted

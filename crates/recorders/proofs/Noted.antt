@@ -4,9 +4,6 @@ use Rattle.std.proofs.Math.Seq.{take-suc}
 use Rattle.std.proofs.lemmas.List.{append-nil, length-take-le}
 use Rattle.std.proofs.lemmas.Bool.Decides.{nat_tests}
 use Rattle.std.specs.declared.alloc.Global.{Global}
-use Rattle.run_questions.specs.declared.record.Record.{Record}
-use Rattle.run_questions.specs.Records.{record_at}
-use Rattle.recorders.specs.Hearing.{is_within_up, within_parent}
 use Rattle.recorders.specs.Places.{places_from, PlaceLists, places_at, is_place, noted, noted_if}
 
 -- ---- a place more
@@ -92,13 +89,6 @@ pub noted_step : {A : Type 0} (p : ℕ → A → Bool) (xs : List A) (i : ℕ) (
 noted_step p xs i x before after l e long known step q m =
     let n : q < length before = omega arith in
     step q n ∙ ap (noted_if (p q x) i) (known q n) ∙ noted_next (p q) xs i x l (sym e)
-
--- one module further up
-pub noted_above : (records : List Record) (depth further q emitter place : ℕ) (r : Record) (list : List ℕ) → depth ≡ suc further → Some r ≡ record_at records emitter → noted_if (is_within_up further records q r.parent) place (noted_if (emitter == q) place list) ≡ noted_if (is_within_up depth records q emitter) place list
-noted_above records depth further q emitter place r list e at =
-    noted_either (emitter == q) (is_within_up further records q r.parent) place list
-    ∙ ap (λ (o : Option Record). noted_if (if emitter == q then true else within_parent (is_within_up further records q) o) place list) at
-    ∙ ap (λ (d : ℕ). noted_if (is_within_up d records q emitter) place list) (sym e)
 
 -- one list more, where all are empty
 pub empty_more : (lists : PlaceLists) (list : Vec ℕ Global) → list.items ≡ [] → ((q : ℕ) → places_at lists q ≡ []) → (q : ℕ) → places_at (lists ++ list ∷ []) q ≡ []

@@ -1,5 +1,5 @@
 -- Of modules that are not wanted nothing is recorded, and of the others all places are noted.
-use Rattle.std.proofs.Common.{◌≡◌, ℕ, suc, ◌+◌, ◌==◌, Bool, true, false, ◌&&◌, ◌||◌, List, [], ◌∷◌, ◌++◌, Option, Some, None, ℤ, refl, sym, ap, ◌∙◌, length, map, if◌then◌else◌}
+use Rattle.std.proofs.Common.{◌≡◌, ℕ, ◌+◌, ◌==◌, Bool, true, false, ◌&&◌, ◌||◌, List, [], ◌∷◌, ◌++◌, Option, Some, None, ℤ, refl, sym, ap, ◌∙◌, length, map, if◌then◌else◌}
 use Rattle.std.proofs.lemmas.Bool.{false≢true}
 use Rattle.ini_texts.specs.declared.lines.Entry.{Entry}
 use Rattle.model_answers.specs.Keyed.{lines_of}
@@ -7,17 +7,16 @@ use Rattle.models.specs.declared.model.Model.{Model}
 use Rattle.run_questions.specs.declared.record.Record.{Record}
 use Rattle.model_answers.specs.Answering.{type_at}
 use Rattle.models.specs.Models.{entries_in}
-use Rattle.run_questions.specs.Records.{path_of, record_at}
+use Rattle.run_questions.specs.Records.{path_of}
 use Rattle.ned_trees.specs.declared.declarations.Statistic.{Statistic}
 use Rattle.ned_types.specs.Flat.{statistics_of}
 use Rattle.ned_trees.specs.declared.modes.Mode.{Mode}
-use Rattle.recorders.proofs.Noted.{noted_above}
 use Rattle.recorders.specs.ByPlaces.{lines_of_type, lines_if_finished}
 use Rattle.recorders.specs.declared.scalar_line.ScalarLine.{ScalarLine}
 use Rattle.recorders.specs.declared.vector_line.VectorLine.{VectorLine}
 use Rattle.recorders.specs.declared.wanted.Output.TheVariants.{Vector, Scalars}
-use Rattle.recorders.specs.Hearing.{is_within, is_within_up}
-use Rattle.recorders.specs.Places.{places_from, heard_places, wanted_places, noted_if}
+use Rattle.recorders.specs.Hearing.{is_within}
+use Rattle.recorders.specs.Places.{places_from, heard_places, wanted_places}
 use Rattle.recorders.specs.Scalars.{line_of_value, mode_lines, statistic_lines, lines_among}
 use Rattle.recorders.specs.Selection.{records_scalar_named, records_scalar_among, records_scalars, records_vector, result_name, selected_modes}
 use Rattle.recorders.specs.Statistics.{value_in, values_heard}
@@ -43,20 +42,8 @@ rest_false false b e = e
 
 -- ---- places
 
--- one module further up, where wanted modules alone are noted
-pub noted_above_wanted : (wanted : Bool) (records : List Record) (depth further q emitter place : ℕ) (r : Record) (list : List ℕ) → depth ≡ suc further → Some r ≡ record_at records emitter → noted_if (is_within_up further records q r.parent && wanted) place (noted_if ((emitter == q) && wanted) place list) ≡ noted_if (is_within_up depth records q emitter && wanted) place list
-noted_above_wanted true records depth further q emitter place r list e at =
-    ap (λ (b : Bool). noted_if b place (noted_if ((emitter == q) && true) place list)) (with_true (is_within_up further records q r.parent))
-    ∙ ap (λ (b : Bool). noted_if (is_within_up further records q r.parent) place (noted_if b place list)) (with_true (emitter == q))
-    ∙ noted_above records depth further q emitter place r list e at
-    ∙ ap (λ (b : Bool). noted_if b place list) (sym (with_true (is_within_up depth records q emitter)))
-noted_above_wanted false records depth further q emitter place r list e at =
-    ap (λ (b : Bool). noted_if b place (noted_if ((emitter == q) && false) place list)) (with_false (is_within_up further records q r.parent))
-    ∙ ap (λ (b : Bool). noted_if b place list) (with_false (emitter == q))
-    ∙ ap (λ (b : Bool). noted_if b place list) (sym (with_false (is_within_up depth records q emitter)))
-
 -- elements that pass the one test pass the other
-same_places : {A : Type 0} (p q : A → Bool) → ((x : A) → p x ≡ q x) → (place : ℕ) (xs : List A) → places_from place p xs ≡ places_from place q xs
+pub same_places : {A : Type 0} (p q : A → Bool) → ((x : A) → p x ≡ q x) → (place : ℕ) (xs : List A) → places_from place p xs ≡ places_from place q xs
 same_places p q same place [] = refl
 same_places p q same place (x ∷ xs) =
     ap (λ (b : Bool). if b then place ∷ places_from (place + 1) p xs else places_from (place + 1) p xs) (same x)

@@ -87,6 +87,23 @@ abbrev pub AreHeard : List Bool → List Record → List Emission → PlaceLists
 AreHeard wanted records emissions lists =
     AreOf (length records + 1) (λ id (e : Emission). is_within records id e.id && is_wanted wanted id) emissions lists
 
+-- whether a number is one of these
+abbrev pub is_number : ℕ → List ℕ → Bool
+is_number q ids = list_any (λ id. id == q) ids
+
+-- lists of ids, one for each id of a module
+abbrev pub ids_at : List (Vec ℕ Global) → ℕ → List ℕ
+ids_at = places_at
+
+-- the first so many lists have the ids of the wanted modules in whose subtree the module of their id stands
+abbrev pub AreHearers : List Bool → List Record → ℕ → List (Vec ℕ Global) → Type 0
+AreHearers wanted records count hearers =
+    (length hearers ≡ count) × ((e : ℕ) → e < count → (q : ℕ) → is_number q (ids_at hearers e) ≡ (is_within records q e && is_wanted wanted q))
+
+-- the places of the emissions that the module of that id is to hear by such lists
+abbrev pub places_heard : List (Vec ℕ Global) → ℕ → List Emission → List ℕ
+places_heard hearers id emissions = places_from 0 (λ (e : Emission). is_number id (ids_at hearers e.id)) emissions
+
 abbrev pub AreRecorded : List Record → List Scalar → PlaceLists → Type 0
 AreRecorded records recorded lists = AreOf (length records + 1) (λ id (s : Scalar). s.id == id) recorded lists
 

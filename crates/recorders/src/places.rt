@@ -1,9 +1,10 @@
 //! Which elements of a list concern which module: their places in the list, by the module's id.
 
-ghost use Rattle.std.specs.Prelude.{◌≡◌, ◌+◌, ◌^◌, ◌<◌, ◌==◌, ◌&&◌, ℕ, [], length, IfOk, OnOk};
+ghost use Rattle.std.specs.Prelude.{◌≡◌, ◌+◌, ◌^◌, ◌<◌, ◌==◌, ◌&&◌, ◌||◌, ℕ, [], length, IfOk, OnOk};
 ghost use Rattle.recorders.specs.Hearing.{is_within_up, is_within};
 ghost use Rattle.recorders.specs.Wanted.{is_wanted};
-ghost use Rattle.recorders.specs.Places.{places_at, noted, noted_if, wanted_places, recorded_places, finished_places, AreHeard, AreRecorded, AreFinished, AreOfRun};
+ghost use Rattle.run_semantics.specs.declared.traces.Emission.{Emission as emission_type};
+ghost use Rattle.recorders.specs.Places.{ids_at, is_number, places_at, places_heard, noted, noted_if, recorded_places, finished_places, AreOf, AreHeard, AreHearers, AreRecorded, AreFinished, AreOfRun};
 
 use crate::wanted::is_wanted;
 use run_questions::record::{MAX_NESTING, Record, record_at};
@@ -47,58 +48,90 @@ fn note_for(lists: &mut [Vec<usize>], id: u32, place: usize) -> Result<(), Alloc
     Ok(())
 }
 
-/// Adds a place to the list for that id, if there is one and it is wanted.
-fn note_wanted(
-    lists: &mut [Vec<usize>],
-    wanted: &[bool],
-    id: u32,
-    place: usize,
-) -> Result<(), AllocError>
-    ensures { OnOk result ((q : ℕ) → q < length lists.old → places_at lists.new q
-        ≡ noted_if ((id == q) && is_wanted wanted.now q) place (places_at lists.old q)) }
+/// Adds a place to the lists for these ids, where there are such.
+fn note_for_all(lists: &mut [Vec<usize>], ids: &[u32], place: usize) -> Result<(), AllocError>
+    ensures { OnOk result ((q : ℕ) → q < length lists.old → places_at lists.new q ≡ noted_if (is_number q ids.now) place (places_at lists.old q)) }
 {
-    if is_wanted(wanted, id) {
-        note_for(lists, id, place)?;
+    for id in ids {
+        note_for(lists, *id, place)?;
     }
     Ok(())
 }
 
-#[tactic(auto, using(crate::proofs::Noted::noted_either))]
-/// Adds a place to the lists for that id and for those of the modules around it, at most so many, which are wanted.
-fn note_up(
-    lists: &mut [Vec<usize>],
+/// Adds an id, if it is wanted.
+fn add_wanted(ids: &mut Vec<u32>, wanted: &[bool], id: u32) -> Result<(), AllocError>
+    ensures { OnOk result ((q : ℕ) → is_number q ids.new.items ≡ is_number q ids.old.items || ((id == q) && is_wanted wanted.now q)) }
+{
+    if is_wanted(wanted, id) {
+        ids.push(id)?;
+    }
+    Ok(())
+}
+
+/// Adds that id and those of the modules around it, at most so many, which are wanted.
+fn add_hearers_up(
+    ids: &mut Vec<u32>,
     wanted: &[bool],
     depth: u32,
     records: &[Record],
     emitter: u32,
-    place: usize,
 ) -> Result<(), AllocError>
-    ensures { OnOk result ((q : ℕ) → q < length lists.old → places_at lists.new q
-        ≡ noted_if (is_within_up depth records.now q emitter && is_wanted wanted.now q) place (places_at lists.old q)) }
+    ensures { OnOk result ((q : ℕ) → is_number q ids.new.items ≡ is_number q ids.old.items || (is_within_up depth records.now q emitter && is_wanted wanted.now q)) }
 {
     if depth == 0 {
         return Ok(());
     }
-    note_wanted(lists, wanted, emitter, place)?;
+    add_wanted(ids, wanted, emitter)?;
     match record_at(records, emitter) {
-        Some(record) => note_up(lists, wanted, depth - 1, records, record.parent, place),
+        Some(record) => add_hearers_up(ids, wanted, depth - 1, records, record.parent),
         None => Ok(()),
     }
 }
 
 #[tactic(auto, unfolding(crate::specs::Hearing::is_within))]
-/// Adds a place to the lists for all wanted modules in whose subtree that of that id stands.
-fn note_around(
-    lists: &mut [Vec<usize>],
+/// The ids of all wanted modules in whose subtree that of that id stands.
+fn hearers_of(
+    alloc: Global,
     wanted: &[bool],
     records: &[Record],
     emitter: u32,
+) -> Result<Vec<u32>, AllocError>
+    ensures { IfOk result (λ ids. (q : ℕ) → is_number q ids.items ≡ (is_within records.now q emitter && is_wanted wanted.now q)) }
+{
+    let mut ids = Vec::new(alloc);
+    add_hearers_up(&mut ids, wanted, MAX_NESTING, records, emitter)?;
+    Ok(ids)
+}
+
+/// For each id of a module those of all wanted modules in whose subtree it stands.
+fn hearer_lists(
+    alloc: Global,
+    wanted: &[bool],
+    records: &[Record],
+) -> Result<Vec<Vec<u32>>, AllocError>
+    requires { length records.now < 2 ^ 32 }
+    ensures { IfOk result (λ hearers. AreHearers wanted.now records.now (length records.now + 1) hearers.items) }
+{
+    let mut hearers = Vec::new(alloc);
+    for id in 0..records.len() + 1 {
+        hearers.push(hearers_of(alloc, wanted, records, id as u32)?)?;
+    }
+    Ok(hearers)
+}
+
+/// Adds a place to the lists for all wanted modules in whose subtree that of that id stands.
+fn note_around(
+    lists: &mut [Vec<usize>],
+    hearers: &[Vec<u32>],
+    emitter: u32,
     place: usize,
 ) -> Result<(), AllocError>
-    ensures { OnOk result ((q : ℕ) → q < length lists.old → places_at lists.new q
-        ≡ noted_if (is_within records.now q emitter && is_wanted wanted.now q) place (places_at lists.old q)) }
+    ensures { OnOk result ((q : ℕ) → q < length lists.old → places_at lists.new q ≡ noted_if (is_number q (ids_at hearers.now emitter)) place (places_at lists.old q)) }
 {
-    note_up(lists, wanted, MAX_NESTING, records, emitter, place)
+    match hearers.get(emitter as usize) {
+        Some(ids) => note_for_all(lists, ids.as_slice(), place),
+        None => Ok(()),
+    }
 }
 
 /// So many empty lists.
@@ -115,15 +148,14 @@ fn empty_lists(alloc: Global, count: usize) -> Result<Vec<Vec<usize>>, AllocErro
 /// Notes each emission's place for all wanted modules in whose subtree the emitter stands.
 fn note_emissions(
     lists: &mut [Vec<usize>],
-    wanted: &[bool],
-    records: &[Record],
+    hearers: &[Vec<u32>],
     emissions: &[Emission],
 ) -> Result<(), AllocError>
     requires { (q : ℕ) → places_at lists.old q ≡ [] }
-    ensures { OnOk result ((q : ℕ) → q < length lists.old → places_at lists.new q ≡ wanted_places wanted.now records.now q emissions.now) }
+    ensures { OnOk result ((q : ℕ) → q < length lists.old → places_at lists.new q ≡ places_heard hearers.now q emissions.now) }
 {
     for (place, emission) in emissions.iter().enumerate() {
-        note_around(lists, wanted, records, emission.id, place)?;
+        note_around(lists, hearers, emission.id, place)?;
     }
     Ok(())
 }
@@ -150,6 +182,20 @@ fn note_finished(lists: &mut [Vec<usize>], finished: &[u32]) -> Result<(), Alloc
     Ok(())
 }
 
+/// So many lists, one for each id of a module, with the places of the emissions that it is to hear.
+fn lists_heard(
+    alloc: Global,
+    hearers: &[Vec<u32>],
+    count: usize,
+    emissions: &[Emission],
+) -> Result<Vec<Vec<usize>>, AllocError>
+    ensures { IfOk result (λ lists. AreOf count (λ q (e : emission_type). is_number q (ids_at hearers.now e.id)) emissions.now lists.items) }
+{
+    let mut lists = empty_lists(alloc, count)?;
+    note_emissions(&mut lists, hearers, emissions)?;
+    Ok(lists)
+}
+
 /// For each id of a wanted module the places of the emissions that come from its subtree; those of the others are left out.
 pub fn heard_lists(
     alloc: Global,
@@ -160,8 +206,8 @@ pub fn heard_lists(
     requires { length records.now < 2 ^ 32 }
     ensures { IfOk result (λ lists. AreHeard wanted.now records.now emissions.now lists.items) }
 {
-    let mut lists = empty_lists(alloc, records.len() + 1)?;
-    note_emissions(&mut lists, wanted, records, emissions)?;
+    let hearers = hearer_lists(alloc, wanted, records)?;
+    let lists = lists_heard(alloc, hearers.as_slice(), records.len() + 1, emissions)?;
     Ok(lists)
 }
 
