@@ -63,7 +63,7 @@ class Maker:
             self.odd()
         parts = ["parameters: int few = default(2); double far @unit(s) = default(300ms); int c = default(1); double g @unit(s) = default(1s);" + self.statistics()]
         parts += ["types:"] + inner if inner else []
-        parts += ["submodules:", *self.subs, "connections allowunconnected:", *self.wires]
+        parts += ["submodules:", *self.subs, "connections:" if not self.dice.randrange(20) else "connections allowunconnected:", *self.wires]
         network = "network N {\n    " + "\n    ".join(parts) + "\n}\n"
         others = list(self.types)
         self.dice.shuffle(others)
@@ -92,7 +92,7 @@ class Maker:
         wires += ["if true { x.port++ <--> y[0].port++; x.port[0] <--> y[1].port++; }", "if few > 0 { x.port$o++ --> y[0].port$i++; y[0].port[0] <--> x.port++; }"]
         self.wires.append(self.one(*wires))
         if self.likely(5):
-            self.subs[-2] = f"x: Router {{ gates: port[{self.one('1', '2', 'few', '-1', 'sizeof(y)', 'few / 2', '1s')}]; }}"
+            self.subs[-2] = f"x: Router {{ gates: {self.one('port', 'port', 'port', 'gate')}[{self.one('1', '2', 'few', '-1', 'sizeof(y)', 'few / 2', '1s')}]; }}"
 
     def parts(self):
         """Types that values choose."""

@@ -111,8 +111,9 @@ class Types:
                     self.refuse(made, f"the gate {name} twice")
                 flat.gates[name] = Gate(direction, vector)
             gate = flat.gates.get(name)
-            if not gate or vector and not gate.vector:
+            if vector and not (gate and gate.vector):
                 flat.odd = True
+            if not gate or vector and not gate.vector:
                 continue
             gate.size, gate.loose = size or gate.size, gate.loose or loose
         for sub in made.subs:
@@ -370,10 +371,10 @@ class Model:
     def chosen_type(self, module, line, made):
         if not line.choice:
             return self.types.flat(self.types.find(line.type, line.home))
-        name = self.type_name(module, line, made.path)
+        name = self.type_name(module, line, made.path).rpartition(".")[2]
         found = self.types.find(name, line.home)
         if not found:
-            raise Fault("UnknownType")
+            raise Fault("Interface" if name in BUILT_IN else "UnknownType")
         flat = self.types.flat(found)
         fixes = any(flat.parameters[it].fixed for it in made.values if it in flat.parameters)
         if found.kind not in ("simple", "module", "network") or self.types.find(line.type, line.home) not in flat.likes or fixes:

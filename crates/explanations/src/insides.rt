@@ -37,7 +37,7 @@ fn words_of(fault: Fault) -> &'static str {
         Fault::UnknownType =>
             "no file declares the type that is chosen for this submodule: let it name another one, or add the file",
         Fault::Interface =>
-            "the type that is chosen for this submodule isn't declared 'like' the interface that the submodule names, or gives a value of its own to a parameter that the submodule's body sets: choose another type, or leave that value out",
+            "the type that is chosen for this submodule isn't declared 'like' the interface that the submodule names, as no channel is, or gives a value of its own to a parameter that the submodule's body sets: choose another type, or leave that value out",
         Fault::Unassigned =>
             "a type, a condition, a size, an index, a loop or a channel refers to something that has no value: a name there is a parameter of the module itself, a loop variable, or 'sub.x' of a submodule that is there",
         Fault::Circle =>
@@ -51,7 +51,7 @@ fn words_of(fault: Fault) -> &'static str {
         Fault::GateSize =>
             "a gate vector would have fewer than 0 or more than 65536 gates, or a connection takes a gate outside of a vector, or by '++' one more than the module's own vector has: declare another size, or connect fewer gates",
         Fault::NoGate =>
-            "a connection, or a size in a body, names a submodule or a gate that isn't there, a gate of another direction, an index where there is no vector, or none where there is one: name a gate that the submodule's type declares",
+            "a connection names a submodule or a gate that isn't there, a gate of another direction, an index where there is no vector, or none where there is one: name a gate that the submodule's type declares",
         Fault::AlreadyConnected =>
             "two connections take the same gate: leave one of them out, or let it take another gate",
         Fault::Unconnected =>

@@ -3,7 +3,7 @@
 use crate::insides::fault_of;
 use crate::modules::{Declared, ToldFault, declared_at};
 use crate::reading::read_types;
-use crate::sites::tell_fault_inside;
+use crate::sites::{tell_fault_inside, tell_misplaced};
 use ini_entries::constants::is_constant;
 use ini_texts::entries::value_for;
 use ini_texts::entry::EntryValue;
@@ -462,6 +462,9 @@ fn tell_found(
 ) -> Result<(), NoMemory> {
     let mut of = None;
     if let Some(it) = found {
+        if fault.name == "NoGate" && tell_misplaced(told, sources, answers, fault, it.of)? {
+            return Ok(());
+        }
         if tell_own(told, sources, &it, fault, classes)? {
             return Ok(());
         }

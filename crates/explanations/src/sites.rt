@@ -5,10 +5,13 @@ use crate::items::{Faulted, item_at_fault};
 use crate::lacking::{Lacking, lacking_gate};
 use crate::modules::{Declared, ToldFault, declared_at};
 use crate::reading::read_types;
+use inside_keys::sizes::misplaced;
 use inside_parts::fault::Fault;
+use inside_parts::gates::gates_of;
 use model_answers::plain::PlainAnswers;
 use ned_trees::declarations::{GateDeclaration, GateLine, GateSize, TypeDeclaration, TypeKind};
 use sim_values::NoMemory;
+use sim_values::text::Text;
 use std::alloc::Global;
 use text_explanations::bases::root_first;
 use text_explanations::connections::{
@@ -170,6 +173,64 @@ fn tell_unconnected(
     Ok(true)
 }
 
+/// The name in the first of these lines that gives a size to what is no gate vector of a type with these gates.
+fn misplaced_in<'a>(
+    alloc: Global,
+    of: &TypeDeclaration,
+    lines: &'a [GateLine],
+) -> Result<Option<&'a Text>, NoMemory> {
+    let gates = gates_of(alloc, of.gates.as_slice())?;
+    Ok(misplaced(&gates, lines))
+}
+
+/// Says that a size is given to what is no gate vector of a type.
+fn say_misplaced(told: &mut Explanation, path: &str, of: &TypeDeclaration, name: &[u8]) {
+    told.say(path);
+    told.say(": a size is given to ");
+    told.say_name(name);
+    told.say(", which is no gate vector of the type ");
+    told.say_name(of.name.as_bytes());
+    told.say(": leave the size out, or declare the gate with '[]'");
+}
+
+/// Says where the body of a submodule of that type gives a size to what is no gate vector, and whether it does.
+fn tell_misplaced_in_body(
+    told: &mut Explanation,
+    it: Case<'_>,
+    of: &TypeDeclaration,
+) -> Result<bool, NoMemory> {
+    let alloc = told.alloc();
+    let Some(declared) = declared_at(alloc, it.answers, it.told.path.as_bytes())? else {
+        return Ok(false);
+    };
+    let lines = declared.submodule.body.gates.as_slice();
+    let Some(name) = misplaced_in(alloc, of, lines)? else {
+        return Ok(false);
+    };
+    tell_submodule(told, it, Some(declared))?;
+    say_misplaced(told, it.told.path, of, name.as_bytes());
+    Ok(true)
+}
+
+/// Says where a size is given to what is no gate vector of the module of that type, and whether one is.
+fn tell_misplaced_of(
+    told: &mut Explanation,
+    it: Case<'_>,
+    of: &TypeDeclaration,
+) -> Result<bool, NoMemory> {
+    if tell_misplaced_in_body(told, it, of)? {
+        return Ok(true);
+    }
+    let alloc = told.alloc();
+    let Some(name) = misplaced_in(alloc, of, of.gates.as_slice())? else {
+        return Ok(false);
+    };
+    let order = order_of(alloc, it.files.types, of)?;
+    tell_place_of_gate(told, it.files, order.as_slice(), name.as_bytes());
+    say_misplaced(told, it.told.path, of, name.as_bytes());
+    Ok(true)
+}
+
 /// Says what is wrong with the inside of a compound module, or with a submodule of one: `path:line: `, the module, and what would be right.
 fn tell_case(
     told: &mut Explanation,
@@ -185,6 +246,28 @@ fn tell_case(
     tell_place(told, it, of, declared)?;
     tell_inside(told, it.told.path, it.fault);
     Ok(())
+}
+
+/// Says where a size is given to what is no gate vector of the module of a fault's path, which has that type, and whether one is.
+pub fn tell_misplaced(
+    told: &mut Explanation,
+    sources: &Sources<'_>,
+    answers: &PlainAnswers<'_>,
+    fault: ToldFault<'_>,
+    of: &TypeDeclaration,
+) -> Result<bool, NoMemory> {
+    let types = read_types(told.alloc(), sources)?;
+    let files = Files {
+        sources,
+        types: types.as_slice(),
+    };
+    let it = Case {
+        answers,
+        files: &files,
+        told: fault,
+        fault: Fault::NoGate,
+    };
+    tell_misplaced_of(told, it, of)
 }
 
 /// Says what is wrong with the inside of the compound module of that type, or with the submodule of a fault's path. The type is none where the submodule

@@ -1,5 +1,5 @@
 -- The expressions that give keys their values (OMNeT++ Simulation Manual, "Assigning Parameters", "Gates", "Submodules").
-use Rattle.std.specs.Prelude.{ℕ, ◌==◌, ℤ, Bool, false, List, [], ◌∷◌, ◌++◌, length, reverse, Option, Some, None, bytes_eq, if◌then◌else◌, slice_get}
+use Rattle.std.specs.Prelude.{ℕ, ◌==◌, ℤ, Bool, false, List, [], ◌∷◌, ◌++◌, ◌&&◌, length, not, reverse, Option, Some, None, bytes_eq, if◌then◌else◌, is_some, slice_get}
 use Rattle.std.specs.Option.{option_and_then}
 use Rattle.ned_trees.specs.declared.connections.Channel.{Channel}
 use Rattle.ned_trees.specs.declared.connections.Clause.{Clause}
@@ -224,3 +224,21 @@ is_vector_at (Some g) = g.kind.is_vector
 -- whether one of these gates is a vector of that name
 abbrev pub has_vector : TypeGates → List ℕ → Bool
 has_vector gates g = is_vector_at (option_and_then (slice_get gates.gates) (position_of g gates.names))
+
+abbrev pub is_misplaced : TypeGates → GateLine → Bool
+is_misplaced gates (gate.Declaration d) = false
+is_misplaced gates (gate.Refinement r) = is_some r.size && not (has_vector gates r.name)
+
+abbrev pub named_in : GateLine → List ℕ
+named_in (gate.Declaration d) = d.name
+named_in (gate.Refinement r) = r.name
+
+-- A SIZE FOR WHAT IS NO GATE VECTOR: the name in the first of these lines that gives one, where these are the gates
+abbrev pub misplaced : TypeGates → List GateLine → Option (List ℕ)
+misplaced gates [] = None
+misplaced gates (l ∷ ls) = if is_misplaced gates l then Some (named_in l) else misplaced gates ls
+
+-- the same in the body of a submodule, or else in its type, which has these gates
+abbrev pub misplaced_in : Option TypeGates → TypeDeclaration → SubmoduleBody → Option (List ℕ)
+misplaced_in None t body = None
+misplaced_in (Some gates) t body = or_else (misplaced gates body.gates) (misplaced gates t.gates)

@@ -42,6 +42,7 @@ use Rattle.inside_keys.specs.declared.key.What.TheVariants as what
 use Rattle.inside_keys.specs.declared.place.Place.{Place}
 use Rattle.inside_keys.specs.Asked.{Asked, ask_then, carried_then, known_then, number_then, result_then, size_then, truth_then, valued_then, whole_then}
 use Rattle.inside_keys.specs.Channels.{channel_path, ideal}
+use Rattle.inside_keys.specs.Given.{misplaced_in}
 use Rattle.inside_keys.specs.Keys.{child, key}
 use Rattle.inside_keys.specs.Places.{Scope, bind, meant_under}
 use Rattle.inside_keys.specs.States.{at_item, at_line, with_wiring, grown, part_added, noted}
@@ -194,6 +195,11 @@ gates m size [] s rest = rest s
 gates m size (g ∷ gs) s rest =
     if g.kind.is_vector then ask_then (key m (size g.name)) (λ v. size_then v (λ n. gates m size gs (grown s n) rest)) else gates m size gs (grown s 1) rest
 
+-- THE DECLARED SIZES OF A SUBMODULE'S GATES. One that is given to what is no gate vector of that name is asked for first, and refused
+abbrev pub sizes : Module → Option (List ℕ) → List TypeGate → State → Rest → Asked
+sizes m None gs s rest = gates m what.Declared gs s rest
+sizes m (Some name) gs s rest = ask_then (key m (what.Declared name)) (λ v. rest s)
+
 -- all parameters that these lines declare have values
 abbrev pub parameters : Module → List SectionLine → State → Rest → Asked
 parameters m [] s rest = rest s
@@ -226,16 +232,20 @@ module _ (m : Module) (types : List TypeDeclaration) (type_gates : List TypeGate
   abbrev pub asked_lines : TypeDeclaration → List SectionLine
   asked_lines t = if is_whole then t.lines else []
 
-  -- a submodule of the type of that number: its parameters, its declared gate sizes
-  abbrev pub element_of : Module → Option ℕ → ℕ → State → Rest → TypeDeclaration → Asked
-  element_of at index n s rest t = parameters at (asked_lines t) (part_added s n index) (λ u. gates at what.Declared (gates_of n) u rest)
+  -- a size that is given to what is no gate vector of a submodule of the type of that number
+  abbrev pub misplaced_of : Submodule → ℕ → TypeDeclaration → Option (List ℕ)
+  misplaced_of l n t = misplaced_in (slice_get type_gates n) t l.body
 
-  abbrev pub element_typed : Module → Option ℕ → ℕ → State → Rest → Asked
-  element_typed at index n s rest = known_then (slice_get types n) (element_of at index n s rest)
+  -- a submodule of the type of that number: its parameters, its declared gate sizes
+  abbrev pub element_of : Submodule → Module → Option ℕ → ℕ → State → Rest → TypeDeclaration → Asked
+  element_of l at index n s rest t = parameters at (asked_lines t) (part_added s n index) (λ u. sizes at (misplaced_of l n t) (gates_of n) u rest)
+
+  abbrev pub element_typed : Submodule → Module → Option ℕ → ℕ → State → Rest → Asked
+  element_typed l at index n s rest = known_then (slice_get types n) (element_of l at index n s rest)
 
   -- A SUBMODULE: its nesting and its type, its parameters, its declared gate sizes
   abbrev pub element : Submodule → Option ℕ → State → Rest → Asked
-  element l index s rest = ask_then (key (child m l.name index) what.Type) (λ v. number_then v (λ n. element_typed (child m l.name index) index n s rest))
+  element l index s rest = ask_then (key (child m l.name index) what.Type) (λ v. number_then v (λ n. element_typed l (child m l.name index) index n s rest))
 
   -- the last n of so many elements of a vector
   abbrev pub elements : ℕ → ℕ → Submodule → State → Rest → Asked

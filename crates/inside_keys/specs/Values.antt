@@ -14,7 +14,7 @@ use Rattle.ned_trees.specs.declared.declarations.SubmoduleType.TheVariants.{Name
 use Rattle.ned_trees.specs.declared.declarations.TypeDeclaration.{TypeDeclaration}
 use Rattle.ini_texts.specs.Entries.{last_name}
 use Rattle.ned_types.specs.Flat.{or_else, submodule_named}
-use Rattle.ned_types.specs.Types.{is_kind_of_modules, is_refixed}
+use Rattle.ned_types.specs.Types.{is_built_in, is_kind_of_modules, is_refixed}
 use Rattle.parameter_values.specs.declared.scene.Section.TheVariants as written
 use Rattle.parameter_values.specs.Settings.{Written}
 use Rattle.parameter_values.specs.Values.{first_given}
@@ -177,13 +177,17 @@ module _ (s : Setting) where
   kept_type p body n None = Done (Err UnknownType)
   kept_type p body n (Some u) = if keeps p body u then is (value.Whole (pos n)) else Done (Err Interface)
 
-  abbrev pub type_found : ParametricType → SubmoduleBody → Option ℕ → Asked
-  type_found p body None = Done (Err UnknownType)
-  type_found p body (Some n) = kept_type p body n (slice_get s.types n)
+  -- a built-in channel is no type of modules
+  abbrev pub no_type : List ℕ → Fault
+  no_type name = if is_built_in (last_name name) then Interface else UnknownType
+
+  abbrev pub type_found : ParametricType → SubmoduleBody → List ℕ → Option ℕ → Asked
+  type_found p body name None = Done (Err (no_type name))
+  type_found p body name (Some n) = kept_type p body n (slice_get s.types n)
 
   -- the type that a value names
   abbrev pub type_told : TypeDeclaration → ParametricType → SubmoduleBody → Value → Asked
-  type_told t p body (value.Text name) = type_found p body (type_meant t name)
+  type_told t p body (value.Text name) = type_found p body name (type_meant t name)
   type_told t p body _ = Done (Err Mismatch)
 
   -- the full path of an entry that names a submodule's type

@@ -193,7 +193,7 @@ pub fn lines_of<'m>(
 }
 
 /// Whether a built-in channel has that name.
-fn is_built_in(name: &[u8]) -> bool
+pub fn is_built_in(name: &[u8]) -> bool
     ensures { result ≡ is_built_in name.now }
 {
     spells(name, b"IdealChannel")

@@ -7,5 +7,6 @@ pub mod found;
 pub mod key;
 pub mod laws;
 pub mod place;
+pub mod sizes;
 pub mod turn;
 pub mod unconnected;

@@ -20,4 +20,4 @@ begun_weighs s g t e h =
     ∙ ap (λ ts. by ts g.gates.now) e ∙ ap (λ gs. by s.types gs) h
   where
     by : List TypeDeclaration → List TypeGates → ℕ
-    by ts gs = of_type_gates gs + submodules_weight (of_types ts + of_type_gates gs + 2) t.submodules + of_items t.connections.items + 1000000 * of_items t.connections.items
+    by ts gs = of_type_gates gs + submodules_weight (of_types ts + of_type_gates gs + 3) t.submodules + of_items t.connections.items + 1000000 * of_items t.connections.items

@@ -69,7 +69,7 @@ module _ (s : Setting) where
 
   -- an inside of that type
   abbrev pub inside_weight : TypeDeclaration → ℕ
-  inside_weight t = of_type_gates (type_gates s) + submodules_weight (of_types s.types + of_type_gates (type_gates s) + 2) t.submodules
+  inside_weight t = of_type_gates (type_gates s) + submodules_weight (of_types s.types + of_type_gates (type_gates s) + 3) t.submodules
       + of_items t.connections.items + 1000000 * of_items t.connections.items
 
   -- a key of a module of that type

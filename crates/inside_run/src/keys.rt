@@ -21,27 +21,15 @@ use crate::reading::read;
 use crate::scene::{Scene, Stands};
 use inside_keys::found::Found;
 use inside_keys::key::{Module, What};
+use inside_keys::sizes::has_vector;
 use inside_parts::fault::{Fault, Stop};
-use inside_parts::gates::{TypeGates, gates_of};
+use inside_parts::gates::gates_of;
 use ned_trees::declarations::{Submodule, TypeDeclaration};
 use ned_types::flat::submodule_named;
 use sim_values::NoMemory;
 use sim_values::text::Text;
 use sim_values::value::Value;
 use std::alloc::Global;
-
-/// Whether one of these gates is a vector of that name.
-fn has_vector(gates: &TypeGates, name: &Text) -> bool
-    ensures { result ≡ has_vector gates.now name.now }
-{
-    match gates.names.position(name) {
-        Some(place) => match gates.gates.get(place) {
-            Some(gate) => gate.kind.is_vector,
-            None => false,
-        },
-        None => false,
-    }
-}
 
 /// Whether a type has a gate vector of that name.
 fn is_gate_vector(alloc: Global, declared: &TypeDeclaration, name: &Text) -> Result<bool, NoMemory>

@@ -23,7 +23,9 @@ use inside_parts::stack::Stack;
 use inside_walk::ends::{at, end, part};
 use inside_walk::joins::carried;
 use inside_walk::loops::{clauses, connection_lines, evaluate, items, next_turn, turns_from};
-use inside_walk::submodules::{elements, gates, gates_of, parameters, submodules, waited};
+use inside_walk::submodules::{
+    elements, gates, gates_of, misplaced, parameters, submodules, waited,
+};
 use inside_walk::task::{Body, Doing, Ground, Halt, Next, Sort, Task, Want};
 use inside_wiring::ends::part_named;
 use inside_wiring::wiring::{Carrier, Wiring};
@@ -49,6 +51,7 @@ fn step<'m>(
     match task {
         Task::Parameters(holder, names) => parameters(alloc, ground, tasks, holder, names, state),
         Task::Gates(holder, sort, list) => gates(alloc, ground, tasks, holder, sort, list, state),
+        Task::Misplaced(holder, name) => misplaced(alloc, ground, tasks, holder, name, state),
         Task::Elements(line, left, all) => elements(alloc, ground, tasks, line, left, all, state),
         Task::Submodules(list) => submodules(alloc, ground, tasks, list, state),
         Task::Items(list) => items(alloc, ground, tasks, list, state),

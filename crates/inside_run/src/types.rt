@@ -23,6 +23,7 @@ use crate::reach::{Reached, reach};
 use crate::scene::Scene;
 use crate::variables::NoVariables;
 use ini_texts::speaks::last_name;
+use inside_keys::channel::is_built_in;
 use inside_keys::key::Module;
 use inside_keys::place::{Place, Section};
 use inside_parts::fault::{Fault, Stop};
@@ -189,6 +190,17 @@ fn type_at<S: Scene>(scene: &S, number: usize) -> Option<&TypeDeclaration>
     scene.types().get(number)
 }
 
+/// What is wrong with a name that no type has: a built-in channel is no type of modules.
+fn no_type(name: &Text) -> Fault
+    ensures { (s : Setting) → result ≡ values.no_type s name.now }
+{
+    if is_built_in(last_name(name.as_bytes())) {
+        Fault::Interface
+    } else {
+        Fault::UnknownType
+    }
+}
+
 /// The type that a name means, where it may stand there.
 fn named_type<'m, S: Scene>(
     alloc: Global,
@@ -198,12 +210,12 @@ fn named_type<'m, S: Scene>(
     body: &SubmoduleBody,
     name: &Text,
 ) -> Result<Moved<'m>, Stop>
-    ensures moves { Moves (S.setting scene.now) result (values.type_found (S.setting scene.now) parametric.now body.now (values.type_meant (S.setting scene.now) declared.now name.now)) }
+    ensures moves { Moves (S.setting scene.now) result (values.type_found (S.setting scene.now) parametric.now body.now name.now (values.type_meant (S.setting scene.now) declared.now name.now)) }
     ensures costs { Costs (S.setting scene.now) 0 result }
 {
     match type_meant(alloc, scene, declared, name)? {
         Some(number) => kept_type(parametric, body, number, type_at(scene, number)),
-        None => Err(Stop::Fault(Fault::UnknownType)),
+        None => Err(Stop::Fault(no_type(name))),
     }
 }
 

@@ -1,5 +1,5 @@
 -- Submodules, gates and parameters.
-use Rattle.std.proofs.Common.{◌≡◌, ℕ, suc, zero, ◌+◌, ◌*◌, ◌<◌, ◌≤◌, max, true, false, if◌then◌else◌, List, [], ◌∷◌, length, slice_get, Option, Some, None, IfSome, Result, Ok, Bor, ap, sym, subst, ◌∙◌, arith}
+use Rattle.std.proofs.Common.{◌≡◌, ℕ, suc, zero, ◌+◌, ◌*◌, ◌<◌, ◌≤◌, max, true, false, if◌then◌else◌, List, [], ◌∷◌, length, slice_get, Option, Some, None, IfSome, Result, Ok, Bor, refl, ap, sym, subst, ◌∙◌, arith}
 use Rattle.std.specs.Option.{option_copied}
 use Rattle.sim_values.specs.declared.value.Value.{Value}
 use Rattle.inside_keys.specs.declared.found.State.{State}
@@ -7,7 +7,7 @@ use Rattle.inside_keys.specs.declared.key.Key.{Key}
 use Rattle.inside_keys.specs.declared.key.Module.{Module}
 use Rattle.inside_keys.specs.declared.key.What.{What}
 use Rattle.inside_keys.specs.Asked.{Asked, ask_then, number_then, numbered_by, result_then, size_then}
-use Rattle.inside_keys.specs.Inside.{gates, gates_in, is_vector, parameters, element, element_of, element_typed, elements, sized, submodule_there, submodule, submodules}
+use Rattle.inside_keys.specs.Inside.{gates, gates_in, is_vector, parameters, element, element_of, element_typed, elements, misplaced_of, sized, sizes, submodule_there, submodule, submodules}
 use Rattle.inside_keys.specs.Keys.{child, key}
 use Rattle.inside_keys.specs.States.{grown, noted, part_added}
 use Rattle.inside_parts.specs.declared.fault.Fault.{Fault}
@@ -26,8 +26,8 @@ use Rattle.inside_walk.specs.declared.task.Sort.TheVariants as sort
 use Rattle.inside_walk.specs.declared.task.Task.{Task}
 use Rattle.inside_walk.specs.declared.task.Task.TheVariants as task
 use Rattle.inside_walk.specs.declared.task.Wait.TheVariants as wait
-use Rattle.inside_walk.specs.Tasks.{Leads, continued, size_by, waited}
-use Rattle.inside_walk.specs.Weights.{IsSpent, Spends, of_section, of_gates, of_types, of_type_gates, of_typed, of_element, of_submodule, of_submodules, of_tasks, cost_of_tasks}
+use Rattle.inside_walk.specs.Tasks.{Leads, continued, size_by, sizes_task, waited}
+use Rattle.inside_walk.specs.Weights.{IsSpent, Spends, of_section, of_gates, of_types, of_type_gates, of_typed, of_element, of_submodule, of_submodules, of_task, of_tasks, cost_of_task, cost_of_tasks}
 use Rattle.inside_walk.proofs.Spent.{below}
 
 pub section_some : (ls : List SectionLine) → 1 ≤ of_section ls
@@ -85,16 +85,25 @@ module _ (g : Ground) where
   abbrev here : List Submodule → State → (State → Asked) → Asked
   here = submodules g.site g.types.now g.gates.now g.is_whole
 
+  -- what asks for the sizes of a submodule's gates
+  sizes_lead : (ts : List Task) (m : Module) (o : Option (Bor (List ℕ))) (gs : Bor (List TypeGate)) (ls : Bor (List SectionLine)) (holder : Module) (s : State)
+      → continued g (task.Parameters m ls ∷ sizes_task holder o gs ∷ ts) s ≡ parameters m ls.now s (λ u. sizes holder (option_copied o) gs.now u (continued g ts))
+  sizes_lead ts m None gs ls holder s = refl
+  sizes_lead ts m (Some x) gs ls holder s = refl
+
   -- a submodule's parameters and gates are laid on the stack
-  pub type_leads : (ts a b : List Task) (d : TypeDeclaration) (n : ℕ) (s t : State) (m holder : Module) (index : Option ℕ) (gs : Bor (List TypeGate)) (ls : Bor (List SectionLine)) → a ≡ task.Gates holder sort.Declared gs ∷ ts → b ≡ task.Parameters m ls ∷ a
-      → holder ≡ m → gs.now ≡ gates_in (slice_get g.gates.now n) → ls.now ≡ (if g.is_whole then d.lines else []) → t ≡ part_added s n index
-      → continued g b t ≡ element_of g.site g.types.now g.gates.now g.is_whole m index n s (continued g ts) d
-  type_leads ts a b d n s t m holder index gs ls is js same f k q =
-      ap (λ x. continued g x t) (js ∙ ap (λ x. task.Parameters m ls ∷ x) is)
-      ∙ ap (λ ns. parameters m ns t (λ u. gates holder (size_by sort.Declared) gs.now u (continued g ts))) k
-      ∙ ap (λ x. parameters m asked x (λ u. gates holder (size_by sort.Declared) gs.now u (continued g ts))) q
-      ∙ ap (λ x. parameters m asked (part_added s n index) (λ u. gates holder (size_by sort.Declared) x u (continued g ts))) f
-      ∙ ap (λ x. parameters m asked (part_added s n index) (λ u. gates x (size_by sort.Declared) declared u (continued g ts))) same
+  pub type_leads : (ts a b : List Task) (l : Submodule) (d : TypeDeclaration) (n : ℕ) (s t : State) (m holder : Module) (index : Option ℕ) (o : Option (Bor (List ℕ))) (gs : Bor (List TypeGate)) (ls : Bor (List SectionLine)) (first : Task)
+      → first ≡ sizes_task holder o gs → a ≡ first ∷ ts → b ≡ task.Parameters m ls ∷ a
+      → holder ≡ m → option_copied o ≡ misplaced_of g.site g.types.now g.gates.now g.is_whole l n d → gs.now ≡ gates_in (slice_get g.gates.now n) → ls.now ≡ (if g.is_whole then d.lines else []) → t ≡ part_added s n index
+      → continued g b t ≡ element_of g.site g.types.now g.gates.now g.is_whole l m index n s (continued g ts) d
+  type_leads ts a b l d n s t m holder index o gs ls first e is js same p f k q =
+      ap (λ x. continued g x t) (js ∙ ap (λ x. task.Parameters m ls ∷ x) (is ∙ ap (λ x. x ∷ ts) e))
+      ∙ sizes_lead ts m o gs ls holder t
+      ∙ ap (λ ns. parameters m ns t (λ u. sizes holder (option_copied o) gs.now u (continued g ts))) k
+      ∙ ap (λ x. parameters m asked x (λ u. sizes holder (option_copied o) gs.now u (continued g ts))) q
+      ∙ ap (λ x. parameters m asked (part_added s n index) (λ u. sizes holder (option_copied o) x u (continued g ts))) f
+      ∙ ap (λ x. parameters m asked (part_added s n index) (λ u. sizes holder x declared u (continued g ts))) p
+      ∙ ap (λ x. parameters m asked (part_added s n index) (λ u. sizes x (misplaced_of g.site g.types.now g.gates.now g.is_whole l n d) declared u (continued g ts))) same
     where
       asked : List SectionLine
       asked = if g.is_whole then d.lines else []
@@ -102,8 +111,16 @@ module _ (g : Ground) where
       declared : List TypeGate
       declared = gates_in (slice_get g.gates.now n)
 
-  light : (names params gs all of_ts p q : ℕ) → names ≤ params → gs ≤ all → p ≡ q → 0 + (names + (gs + of_ts)) + p < (params + all + 2) + of_ts + q
-  light names params gs all of_ts p q h k e = omega arith
+  light : (names params first all of_ts p q : ℕ) → names ≤ params → first ≤ all + 2 → p ≡ q → 0 + (names + (first + of_ts)) + p < (params + all + 3) + of_ts + q
+  light names params first all of_ts p q h k e = omega arith
+
+  sizes_weigh : (m : Module) (o : Option (Bor (List ℕ))) (gs : Bor (List TypeGate)) (all : ℕ) → of_gates gs.now ≤ all → 1 ≤ all → of_task g (sizes_task m o gs) ≤ all + 2
+  sizes_weigh m None gs all h k = omega (arith, h)
+  sizes_weigh m (Some x) gs all h k = omega (arith, k)
+
+  sizes_cost : (m : Module) (o : Option (Bor (List ℕ))) (gs : Bor (List TypeGate)) → cost_of_task (sizes_task m o gs) ≡ 0
+  sizes_cost m None gs = refl
+  sizes_cost m (Some x) gs = refl
 
   nothing : (most c : ℕ) → c ≤ most → max 0 (max 0 c) ≤ most
   nothing most c h = omega arith
@@ -111,26 +128,28 @@ module _ (g : Ground) where
   both_within : (a b c : ℕ) → a ≤ b → b ≤ c → a ≤ c
   both_within a b c h k = omega arith
 
-  pub type_spends : (ts a b : List Task) (d : TypeDeclaration) (n : ℕ) (s t : State) (m holder : Module) (index : Option ℕ) (gs : Bor (List TypeGate)) (ls : Bor (List SectionLine)) → a ≡ task.Gates holder sort.Declared gs ∷ ts → b ≡ task.Parameters m ls ∷ a
+  pub type_spends : (ts a b : List Task) (d : TypeDeclaration) (n : ℕ) (s t : State) (m holder : Module) (index : Option ℕ) (o : Option (Bor (List ℕ))) (gs : Bor (List TypeGate)) (ls : Bor (List SectionLine)) (first : Task)
+      → first ≡ sizes_task holder o gs → a ≡ first ∷ ts → b ≡ task.Parameters m ls ∷ a
       → of_gates gs.now ≤ of_type_gates g.gates.now → of_section ls.now ≤ of_section d.lines → of_section d.lines ≤ of_types g.types.now → t ≡ part_added s n index
       → (most : ℕ) → 0 ≤ most → cost_of_tasks ts ≤ most → IsSpent g most (of_typed g) ts s.turns (next.Go t) b
-  type_spends ts a b d n s t m holder index gs ls is js f w v q most z c =
-      subst (λ x. IsSpent g most (of_typed g) ts s.turns (next.Go t) x) (sym (js ∙ ap (λ x. task.Parameters m ls ∷ x) is))
+  type_spends ts a b d n s t m holder index o gs ls first e is js f w v q most z c =
+      subst (λ x. IsSpent g most (of_typed g) ts s.turns (next.Go t) x) (sym (js ∙ ap (λ x. task.Parameters m ls ∷ x) (is ∙ ap (λ x. x ∷ ts) e)))
       (record {
         cost = z;
-        costs = nothing most (cost_of_tasks ts) c;
-        less = light (of_section ls.now) (of_types g.types.now) (of_gates gs.now) (of_type_gates g.gates.now) (of_tasks g ts) (t.turns * most) (s.turns * most)
-            (both_within (of_section ls.now) (of_section d.lines) (of_types g.types.now) w v) f (ap (λ (x : State). x.turns * most) q);
+        costs = subst (λ y. max 0 (max y (cost_of_tasks ts)) ≤ most) (sym (sizes_cost holder o gs)) (nothing most (cost_of_tasks ts) c);
+        less = light (of_section ls.now) (of_types g.types.now) (of_task g (sizes_task holder o gs)) (of_type_gates g.gates.now) (of_tasks g ts) (t.turns * most) (s.turns * most)
+            (both_within (of_section ls.now) (of_section d.lines) (of_types g.types.now) w v)
+            (sizes_weigh holder o gs (of_type_gates g.gates.now) f (gates_some g.gates.now)) (ap (λ (x : State). x.turns * most) q);
       })
 
   -- the type of a submodule is known
   pub known_leads : (ts us : List Task) (l : Submodule) (index : Option ℕ) (v : Value) (n : ℕ) (m : Module) (s : State) (r : Result Next Stop) → numbered_by v ≡ Ok n → m ≡ child g.site l.name index
-      → Leads g r us (element_typed g.site g.types.now g.gates.now g.is_whole m index n s (continued g ts))
-      → Leads g r us (number_then v (λ k. element_typed g.site g.types.now g.gates.now g.is_whole (child g.site l.name index) index k s (continued g ts)))
+      → Leads g r us (element_typed g.site g.types.now g.gates.now g.is_whole l m index n s (continued g ts))
+      → Leads g r us (number_then v (λ k. element_typed g.site g.types.now g.gates.now g.is_whole l (child g.site l.name index) index k s (continued g ts)))
   known_leads ts us l index v n m s r e f h =
       subst (λ x. Leads g r us x)
-      (ap (λ (a : Module). element_typed g.site g.types.now g.gates.now g.is_whole a index n s (continued g ts)) f
-      ∙ sym (ap (λ (x : Result ℕ Fault). result_then x (λ k. element_typed g.site g.types.now g.gates.now g.is_whole (child g.site l.name index) index k s (continued g ts))) e))
+      (ap (λ (a : Module). element_typed g.site g.types.now g.gates.now g.is_whole l a index n s (continued g ts)) f
+      ∙ sym (ap (λ (x : Result ℕ Fault). result_then x (λ k. element_typed g.site g.types.now g.gates.now g.is_whole l (child g.site l.name index) index k s (continued g ts))) e))
       h
 
   -- what is made of a declaration that is no vector

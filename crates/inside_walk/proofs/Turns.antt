@@ -11,6 +11,7 @@ use Rattle.inside_walk.specs.Tasks.{numbers_of, scope_of}
 pub numbers_first : (t : Task) (ts : List Task) → values_in (scope_of (t ∷ ts)) ≡ numbers_of t ++ values_in (scope_of ts)
 numbers_first (task.Parameters m ls) ts = refl
 numbers_first (task.Gates m which gs) ts = refl
+numbers_first (task.Misplaced m x) ts = refl
 numbers_first (task.Elements l n all) ts = refl
 numbers_first (task.Submodules ls) ts = refl
 numbers_first (task.Items is) ts = refl

@@ -1,14 +1,16 @@
 -- What is left to be done of an inside, as a stack of tasks of which the first is the next.
 use Rattle.std.specs.Prelude.{◌≡◌, ℕ, ℤ, pos, ◌+ℤ◌, List, [], ◌∷◌, Option, Some, None, Result, Ok, Err, length}
+use Rattle.std.specs.Borrow.{Bor}
 use Rattle.asking.specs.Asking.{Done, Ask}
 use Rattle.inside_keys.specs.declared.found.State.{State}
+use Rattle.inside_keys.specs.declared.key.Module.{Module}
 use Rattle.inside_keys.specs.declared.key.What.{What}
 use Rattle.inside_keys.specs.declared.key.What.TheVariants as what
 use Rattle.inside_keys.specs.declared.found.Found.{Found}
 use Rattle.inside_keys.specs.Asked.{Asked, ask_then, carried_then, carrier_then, result_then, whole_then, size_then, truth_then, number_then, value_then, valued_then}
 use Rattle.inside_keys.specs.Inside.{Rest, whole, looped, turns, count, gate_then, named_then, part_then, end_then, right_end, connected, connection_lines, items, gates, parameters, element_typed, elements, submodule_there, submodules, made_of, back_then, linked_then}
 use Rattle.inside_keys.specs.Inside as joins
-use Rattle.inside_keys.specs.Keys.{child}
+use Rattle.inside_keys.specs.Keys.{child, key}
 use Rattle.inside_keys.specs.Places.{Scope, bind, meant_under}
 use Rattle.inside_keys.specs.States.{with_wiring, grown, noted}
 use Rattle.inside_parts.specs.declared.fault.Stop.{Stop}
@@ -17,6 +19,7 @@ use Rattle.ned_trees.specs.declared.connections.Connection.{Connection}
 use Rattle.ned_trees.specs.declared.connections.End.{End}
 use Rattle.ned_trees.specs.declared.connections.GateIndex.{GateIndex}
 use Rattle.ned_trees.specs.declared.connections.Owner.{Owner}
+use Rattle.inside_parts.specs.declared.gates.TypeGate.{TypeGate}
 use Rattle.inside_parts.specs.declared.parts.NamedGate.{NamedGate}
 use Rattle.inside_wiring.specs.declared.ends.Taken.{Taken}
 use Rattle.inside_parts.specs.declared.parts.Made.TheVariants.{Absent, Vector}
@@ -58,6 +61,11 @@ scope_of (_ ∷ ts) = scope_of ts
 abbrev pub size_by : Sort → List ℕ → What
 size_by sort.Own x = what.GateSize x
 size_by sort.Declared x = what.Declared x
+
+-- what asks for the declared sizes of the gates of a submodule, where one may be given to what is no gate vector
+abbrev pub sizes_task : Module → Option (Bor (List ℕ)) → Bor (List TypeGate) → Task
+sizes_task m None gs = task.Gates m sort.Declared gs
+sizes_task m (Some x) gs = task.Misplaced m x
 
 -- ---- ends of connections
 
@@ -123,6 +131,7 @@ module _ (g : Ground) where
   abbrev pub after : Task → Scope → State → Rest → Asked
   after (task.Parameters m xs) scope s rest = parameters m xs.now s rest
   after (task.Gates m sort gs) scope s rest = gates m (size_by sort) gs.now s rest
+  after (task.Misplaced m x) scope s rest = ask_then (key m (what.Declared x.now)) (λ v. rest s)
   after (task.Elements l n all) scope s rest = elements g.site g.types.now g.gates.now g.is_whole n all l.now s rest
   after (task.Submodules ls) scope s rest = submodules g.site g.types.now g.gates.now g.is_whole ls.now s rest
   after (task.Items is) scope s rest = items g.place g.submodules.now g.gates.now joined is.now scope s rest
@@ -143,7 +152,7 @@ module _ (g : Ground) where
   waited wait.Gate v s rest = size_then v (λ n. rest (grown s n))
   waited (wait.Condition l) v s rest = truth_then v (submodule_there g.site g.types.now g.gates.now g.is_whole l.now s rest) (rest (noted s Absent))
   waited (wait.Size l) v s rest = size_then v (λ n. elements g.site g.types.now g.gates.now g.is_whole n n l.now (noted s (Vector (length s.parts.parts) n)) rest)
-  waited (wait.Type l index) v s rest = number_then v (λ n. element_typed g.site g.types.now g.gates.now g.is_whole (child g.site l.now.name index) index n s rest)
+  waited (wait.Type l index) v s rest = number_then v (λ n. element_typed g.site g.types.now g.gates.now g.is_whole l.now (child g.site l.now.name index) index n s rest)
 
   -- what is done with the value of an expression
   abbrev pub wanted : Want → Value → Scope → State → Rest → Asked

@@ -115,7 +115,7 @@ of_carry (carry.Back way l r onwards) = 1
 module _ (g : Ground) where
   -- a submodule whose type is known, whichever that is
   abbrev pub of_typed : ℕ
-  of_typed = of_types g.types.now + of_type_gates g.gates.now + 2
+  of_typed = of_types g.types.now + of_type_gates g.gates.now + 3
 
   abbrev pub of_element : ℕ
   of_element = of_typed + 2
@@ -136,6 +136,7 @@ module _ (g : Ground) where
   abbrev pub of_task : Task → ℕ
   of_task (task.Parameters m ls) = of_section ls.now
   of_task (task.Gates m sort gs) = of_gates gs.now
+  of_task (task.Misplaced m x) = 3
   of_task (task.Elements l n all) = of_elements n
   of_task (task.Submodules ls) = of_submodules ls.now
   of_task (task.Items is) = of_items is.now

@@ -6,13 +6,15 @@ ghost use Rattle.inside_keys.specs.Asked.{numbered_by, sized_by};
 ghost use Rattle.inside_keys.specs.Inside as inside;
 ghost use Rattle.inside_keys.specs.States as states;
 ghost use Rattle.inside_parts.specs.Faults.{Tells};
-ghost use Rattle.inside_walk.specs.Tasks.{Leads, continued, size_by, waited};
+ghost use Rattle.inside_walk.specs.Tasks.{Leads, after, continued, scope_of, size_by, sizes_task, waited};
+ghost use Rattle.inside_walk.specs.declared.task.Task.TheVariants as doing;
 ghost use Rattle.inside_walk.specs.declared.task.Wait.TheVariants as on;
 ghost use Rattle.inside_walk.specs.Weights.{Spends, of_section, of_gates, of_element, of_elements, of_submodule, of_submodules, of_type_gates, of_typed, of_types, of_wait};
 
 use crate::task::{Ground, Next, Sort, Task, Wait};
 use inside_keys::found::State;
 use inside_keys::key::{Module, What};
+use inside_keys::sizes::misplaced_in;
 use inside_parts::fault::{Fault, Stop};
 use inside_parts::gates::{TypeGate, TypeGates};
 use inside_parts::parts::{Made, Part, Parts};
@@ -214,11 +216,50 @@ fn asked_lines(is_whole: bool, declared: &TypeDeclaration) -> &[SectionLine]
     }
 }
 
+/// A size that is given to what is no gate vector of a submodule of that type, which has that number.
+fn misplaced_of<'m>(
+    ground: &Ground<'m>,
+    submodule: &'m Submodule,
+    number: usize,
+    declared: &'m TypeDeclaration,
+) -> Option<&'m Text>
+    ensures { option_copied result ≡ inside.misplaced_of ground.now.site ground.now.types.now ground.now.gates.now ground.now.is_whole submodule.now number declared.now }
+{
+    misplaced_in(gates_at(ground.gates, number), declared, &submodule.body)
+}
+
+/// What asks for the declared sizes of a submodule's gates, where one may be given to what is no gate vector.
+fn sizes_task<'m>(holder: Module, misplaced: Option<&'m Text>, gates: &'m [TypeGate]) -> Task<'m>
+    ensures { result ≡ sizes_task holder misplaced.entry gates.entry }
+{
+    match misplaced {
+        Some(name) => Task::Misplaced(holder, name),
+        None => Task::Gates(holder, Sort::Declared, gates),
+    }
+}
+
+/// Asks for a size that is given to what is no gate vector of that name.
+pub fn misplaced<'m>(
+    alloc: Global,
+    _ground: &Ground<'m>,
+    _tasks: &mut Stack<Task<'m>>,
+    holder: Module,
+    name: &'m Text,
+    state: State,
+) -> Result<Next<'m>, Stop>
+    ensures leads { Leads _ground.now result _tasks.new (after _ground.now (doing.Misplaced holder name.entry) (scope_of _tasks.old) state (continued _ground.now _tasks.old)) }
+    ensures spends { Spends _ground.now 3 0 _tasks.old state.turns result _tasks.new }
+{
+    let key = holder.key(alloc, What::Declared(name.copy(alloc)?))?;
+    Ok(Next::Ask(key, Wait::Parameter, state))
+}
+
 /// A submodule of that type, which has that number.
 fn of_type<'m>(
     alloc: Global,
     ground: &Ground<'m>,
     tasks: &mut Stack<Task<'m>>,
+    submodule: &'m Submodule,
     child: Module,
     index: Option<u32>,
     number: usize,
@@ -226,13 +267,14 @@ fn of_type<'m>(
     state: State,
 ) -> Result<Next<'m>, Stop>
     requires { of_section declared.now.lines ≤ of_types ground.now.types.now }
-    ensures leads { Leads ground.now result tasks.new (inside.element_of ground.now.site ground.now.types.now ground.now.gates.now ground.now.is_whole child index number state (continued ground.now tasks.old) declared.now) }
+    ensures leads { Leads ground.now result tasks.new (inside.element_of ground.now.site ground.now.types.now ground.now.gates.now ground.now.is_whole submodule.now child index number state (continued ground.now tasks.old) declared.now) }
     ensures spends { Spends ground.now (of_typed ground.now) 0 tasks.old state.turns result tasks.new }
 {
     let holder = child.copy(alloc)?;
     let gates = gates_of(ground.gates, number);
+    let misplaced = misplaced_of(ground, submodule, number, declared);
     let lines = asked_lines(ground.is_whole, declared);
-    tasks.push(Task::Gates(holder, Sort::Declared, gates))?;
+    tasks.push(sizes_task(holder, misplaced, gates))?;
     tasks.push(Task::Parameters(child, lines))?;
     let state = part_added(state, number, index)?;
     Ok(Next::Go(state))
@@ -258,18 +300,21 @@ fn typed<'m>(
     alloc: Global,
     ground: &Ground<'m>,
     tasks: &mut Stack<Task<'m>>,
+    submodule: &'m Submodule,
     child: Module,
     index: Option<u32>,
     number: usize,
     state: State,
 ) -> Result<Next<'m>, Stop>
-    ensures leads { Leads ground.now result tasks.new (inside.element_typed ground.now.site ground.now.types.now ground.now.gates.now ground.now.is_whole child index number state (continued ground.now tasks.old)) }
+    ensures leads { Leads ground.now result tasks.new (inside.element_typed ground.now.site ground.now.types.now ground.now.gates.now ground.now.is_whole submodule.now child index number state (continued ground.now tasks.old)) }
     ensures spends { Spends ground.now (of_typed ground.now) 0 tasks.old state.turns result tasks.new }
 {
     let Some(declared) = type_at(ground.types, number) else {
         return Err(Stop::Fault(Fault::UnknownType));
     };
-    of_type(alloc, ground, tasks, child, index, number, declared, state)
+    of_type(
+        alloc, ground, tasks, submodule, child, index, number, declared, state,
+    )
 }
 
 /// A submodule: its type is asked for.
@@ -466,7 +511,7 @@ fn known<'m>(
 {
     let number = number(value)?;
     let child = ground.site.child(alloc, &submodule.name, index)?;
-    typed(alloc, ground, tasks, child, index, number, state)
+    typed(alloc, ground, tasks, submodule, child, index, number, state)
 }
 
 /// Does what the value of a key is for.

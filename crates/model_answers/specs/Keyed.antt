@@ -8,6 +8,7 @@ use Rattle.ned_trees.specs.declared.declarations.TypeDeclaration.{TypeDeclaratio
 use Rattle.ned_types.specs.Flat.{or_else}
 use Rattle.inside_parts.specs.declared.fault.Fault.{Fault}
 use Rattle.inside_parts.specs.declared.gates.TypeGate.{TypeGate}
+use Rattle.inside_parts.specs.declared.gates.TypeGates.{TypeGates}
 use Rattle.inside_parts.specs.Gates as type_gates
 use Rattle.inside_keys.specs.declared.found.Found.{Found}
 use Rattle.inside_keys.specs.declared.found.Found.TheVariants as found
@@ -15,6 +16,7 @@ use Rattle.inside_keys.specs.declared.key.Module.{Module}
 use Rattle.inside_keys.specs.declared.key.What.{What}
 use Rattle.inside_keys.specs.declared.key.What.TheVariants as what
 use Rattle.inside_keys.specs.Asked.{numbered_by}
+use Rattle.inside_keys.specs.Given.{misplaced}
 use Rattle.inside_keys.specs.Keys.{key}
 use Rattle.inside_keys.specs.Settings.{Setting}
 use Rattle.inside_keys.specs.Values.{value_at}
@@ -133,9 +135,18 @@ abbrev pub fault_of_sizes : Setting → List ℕ → List TypeGate → Option Mo
 fault_of_sizes s path [] = None
 fault_of_sizes s path (g ∷ gs) = or_else (fault_of_size s path g) (fault_of_sizes s path gs)
 
+-- the fault of a size that is given to what is no gate vector
+abbrev pub fault_of_misplaced : Setting → List ℕ → Option (List ℕ) → Option ModelFault
+fault_of_misplaced s path None = None
+fault_of_misplaced s path (Some name) = fault_in (value_of s path (what.Declared name))
+
+-- the first fault of the sizes that a type gives its gates
+abbrev pub fault_of_gates : Setting → List ℕ → TypeDeclaration → TypeGates → Option ModelFault
+fault_of_gates s path t gates = or_else (fault_of_misplaced s path (misplaced gates t.gates)) (fault_of_sizes s path gates.gates)
+
 -- the first fault of the network of that type: of its parameters, and then of the sizes of its gates
 abbrev pub fault_of_network : Setting → TypeDeclaration → Option ModelFault
-fault_of_network s t = or_else (fault_of_lines s t.name t.lines) (fault_of_sizes s t.name (type_gates.gates_of t.gates).gates)
+fault_of_network s t = or_else (fault_of_lines s t.name t.lines) (fault_of_gates s t.name t (type_gates.gates_of t.gates))
 
 abbrev pub root_without : TypeDeclaration → Option ModelFault → Answer
 root_without t (Some fault) = answer.Fault t.name fault

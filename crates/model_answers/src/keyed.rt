@@ -6,6 +6,7 @@ ghost use Rattle.std.specs.Result.{result_ok};
 ghost use Rattle.answer_engine.specs.Tables.{IsKept};
 ghost use Rattle.inside_keys.specs.Asked.{numbered_by};
 ghost use Rattle.inside_keys.specs.Values.{rules_of};
+ghost use Rattle.inside_parts.specs.Gates as type_gates;
 ghost use Rattle.inside_keys.specs.declared.key.What.TheVariants as of;
 ghost use Rattle.model_answers.specs.Keyed as keyed;
 ghost use Rattle.model_answers.specs.Reading.{maybe_copied, result_copied, settings_of, type_by, IsNumbered, IsRight};
@@ -15,6 +16,7 @@ use crate::reading::{Sources, own_table, said, value_of};
 use answer_engine::table::Table;
 use inside_keys::found::Found;
 use inside_keys::key::{Key, What};
+use inside_keys::sizes::misplaced;
 use inside_parts::fault::{Fault, Stop};
 use inside_parts::gates::{TypeGate, gates_of};
 use inside_run::scene::Scene;
@@ -363,6 +365,45 @@ fn fault_of_sizes(
     Ok(None)
 }
 
+/// The fault of a size that is given to what is no gate vector.
+fn fault_of_misplaced(
+    alloc: Global,
+    from: Sources<'_>,
+    own: &mut Table<Key, Found>,
+    path: &[u8],
+    name: Option<&Text>,
+) -> Result<Option<ModelFault>, NoMemory>
+    requires right { IsRight from }
+    requires own { IsKept (rules_of (settings_of from)) own.old.entries }
+    ensures value { IfOk result (λ fault. fault ≡ keyed.fault_of_misplaced (settings_of from.entry) path.now (option_copied name.entry)) }
+    ensures kept { OnOk result (IsKept (rules_of (settings_of from.entry)) own.new.entries) }
+{
+    match name {
+        Some(name) => fault_of(alloc, from, own, path, What::Declared(name.copy(alloc)?)),
+        None => Ok(None),
+    }
+}
+
+/// The first fault of the sizes that a type gives its gates.
+fn fault_of_gates(
+    alloc: Global,
+    from: Sources<'_>,
+    own: &mut Table<Key, Found>,
+    path: &[u8],
+    declared: &TypeDeclaration,
+) -> Result<Option<ModelFault>, NoMemory>
+    requires right { IsRight from }
+    requires own { IsKept (rules_of (settings_of from)) own.old.entries }
+    ensures { IfOk result (λ fault. fault ≡ keyed.fault_of_gates (settings_of from.entry) path.now declared.now (type_gates.gates_of declared.now.gates)) }
+{
+    let gates = gates_of(alloc, declared.gates.as_slice())?;
+    let misplaced = misplaced(&gates, declared.gates.as_slice());
+    if let Some(fault) = fault_of_misplaced(alloc, from, own, path, misplaced)? {
+        return Ok(Some(fault));
+    }
+    fault_of_sizes(alloc, from, own, path, gates.gates.as_slice())
+}
+
 /// The first fault of the network of that type: of its parameters, and then of the sizes of its gates.
 fn fault_of_network(
     alloc: Global,
@@ -377,8 +418,7 @@ fn fault_of_network(
     if let Some(fault) = fault_of_lines(alloc, from, &mut own, path, network.lines.as_slice())? {
         return Ok(Some(fault));
     }
-    let gates = gates_of(alloc, network.gates.as_slice())?;
-    fault_of_sizes(alloc, from, &mut own, path, gates.gates.as_slice())
+    fault_of_gates(alloc, from, &mut own, path, network)
 }
 
 /// Which network is run, or its first fault.
