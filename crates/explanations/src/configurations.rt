@@ -15,7 +15,6 @@ use sim_values::text::{Text, spells};
 use sqlite_items::Items;
 use std::alloc::Global;
 use text_explanations::explanation::Explanation;
-use text_explanations::names::shown;
 use text_explanations::ned_files::{is_anywhere, type_named};
 use text_explanations::sources::Sources;
 
@@ -273,7 +272,7 @@ fn tell_networks(told: &mut Explanation, types: &[TypeDeclaration]) {
     for it in types {
         if is_anywhere(it, TypeKind::Network) {
             told.say(before);
-            told.say(shown(it.name.as_bytes()));
+            told.say_front(it.name.as_bytes());
             before = ", ";
         }
     }

@@ -176,7 +176,7 @@ struct Faulty<'a> {
 fn say_path(told: &mut Explanation, it: Faulty<'_>) {
     told.say(it.path);
     told.say(".");
-    told.say(shown(it.declaration.name.as_bytes()));
+    told.say_front(it.declaration.name.as_bytes());
 }
 
 /// Says that something is so of the value of a parameter.
@@ -334,7 +334,7 @@ fn tell_parameters(told: &mut Explanation, of: &TypeDeclaration) {
     for line in of.lines.as_slice() {
         if let SectionLine::Declaration(declaration) = line {
             told.say(before);
-            told.say(shown(declaration.name.as_bytes()));
+            told.say_front(declaration.name.as_bytes());
             before = ", ";
         }
     }

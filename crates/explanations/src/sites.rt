@@ -18,7 +18,6 @@ use text_explanations::connections::{
     tell_place_of_gate, tell_place_of_item, tell_place_of_submodule,
 };
 use text_explanations::explanation::Explanation;
-use text_explanations::names::shown;
 use text_explanations::ned_files::{Files, type_named};
 use text_explanations::sources::Sources;
 
@@ -115,7 +114,7 @@ fn is_vector(line: &GateLine, name: &[u8]) -> bool {
 fn say_gate(told: &mut Explanation, of: &TypeDeclaration, gate: &Lacking) {
     let name = gate.name.as_bytes();
     told.say("'");
-    told.say(shown(name));
+    told.say_front(name);
     for line in of.gates.as_slice() {
         if is_vector(line, name) {
             told.say("[");

@@ -1,6 +1,6 @@
 //! What is said to a person, as it grows.
 
-use crate::names::{is_near, shown};
+use crate::names::{MOST_SHOWN, front_shown, is_near, shown};
 use sim_values::NoMemory;
 use std::alloc::Global;
 use std::fmt::Write;
@@ -48,10 +48,18 @@ impl Explanation {
         }
     }
 
-    /// Says a name, in quotes.
+    /// Says a name, of a long one only the front.
+    pub fn say_front(&mut self, name: &[u8]) {
+        self.say(shown(front_shown(name)));
+        if name.len() > MOST_SHOWN {
+            self.say("..");
+        }
+    }
+
+    /// Says a name, in quotes, of a long one only the front.
     pub fn say_name(&mut self, name: &[u8]) {
         self.say("'");
-        self.say(shown(name));
+        self.say_front(name);
         self.say("'");
     }
 
@@ -70,7 +78,7 @@ impl Explanation {
         let mut before = "";
         for name in names {
             self.say(before);
-            self.say(shown(name));
+            self.say_front(name);
             before = ", ";
         }
     }

@@ -2,7 +2,6 @@
 
 use crate::bases::root_first;
 use crate::explanation::Explanation;
-use crate::names::shown;
 use crate::ned_files::{Files, type_named};
 use crate::origins::{Kind, Origin, origin_of};
 use crate::places::{Sign, Spot};
@@ -85,7 +84,7 @@ fn tell_lacking(
     told.say(", and lacks the ");
     told.say(lacking.what);
     told.say(lacking.word);
-    told.say(shown(lacking.name));
+    told.say_front(lacking.name);
     told.say(lacking.brackets);
     told.say("' of ");
     told.say_name(interface.name.as_bytes());

@@ -1,6 +1,6 @@
 //! Names as they are shown, and names that are near to one another.
 
-ghost use Rattle.std.specs.Prelude.{◌≡◌};
+ghost use Rattle.std.specs.Prelude.{◌≡◌, ◌≤◌};
 ghost use Rattle.text_explanations.specs.Names.{shown};
 
 /// The characters of a name.
@@ -10,6 +10,41 @@ pub fn shown(bytes: &[u8]) -> &str
     match std::str::from_utf8(bytes) {
         Ok(text) => text,
         Err(_) => "?",
+    }
+}
+
+/// How many bytes of a text are shown, at most.
+pub const MOST_SHOWN: usize = 200;
+
+/// Whether a character goes on at that place.
+fn goes_on_at(bytes: &[u8], at: usize) -> bool {
+    match bytes.get(at) {
+        Some(byte) => *byte & 0xc0 == 0x80,
+        None => false,
+    }
+}
+
+/// Where the last of the characters ends that are shown of a longer text: a character has at most four bytes.
+fn end_of_shown(bytes: &[u8]) -> usize
+    ensures { result ≤ 200 }
+{
+    if !goes_on_at(bytes, 200) {
+        200
+    } else if !goes_on_at(bytes, 199) {
+        199
+    } else if !goes_on_at(bytes, 198) {
+        198
+    } else {
+        197
+    }
+}
+
+/// What is shown of a text: no more than its first 200 bytes.
+pub fn front_shown(bytes: &[u8]) -> &[u8] {
+    if bytes.len() <= MOST_SHOWN {
+        bytes
+    } else {
+        &bytes[..end_of_shown(bytes)]
     }
 }
 

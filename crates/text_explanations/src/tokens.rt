@@ -1,7 +1,6 @@
 //! Tokens as they are written.
 
 use crate::explanation::Explanation;
-use crate::names::shown;
 use ned_tokens::lines::tokenize;
 use ned_tokens::token::Token;
 use sim_values::NoMemory;
@@ -87,7 +86,7 @@ pub fn tell_token(told: &mut Explanation, token: &Token) {
         Token::Quantity(_, _) => told.say("quantity"),
         Token::Literal(text) => {
             told.say("\"");
-            told.say(shown(text.as_bytes()));
+            told.say_front(text.as_bytes());
             told.say("\"");
         }
         Token::OddLiteral => told.say(
