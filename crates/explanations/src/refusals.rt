@@ -3,8 +3,9 @@
 use crate::configurations::{tell_no_chain, tell_no_config, tell_no_network};
 use crate::ini_lines::{line_at, tell_ini_line};
 use crate::reading::read_types;
-use crate::syntax::tell_syntax;
-use model_texts::begin::{BeginFault, MAX_FILES};
+use crate::syntax::{tell_connection, tell_syntax};
+use ini_entries::reason::Reason;
+use model_texts::begin::{BeginFault, MAX_FILES, model_of};
 use sim_values::NoMemory;
 use sim_values::text::MAX_LENGTH;
 use std::alloc::Global;
@@ -89,5 +90,37 @@ pub fn refusal_line(
 ) -> Result<String, NoMemory> {
     let mut told = Explanation::new(alloc);
     tell_refusal(&mut told, fault, sources);
+    told.said()
+}
+
+/// Why files make no model, and what would be right: a line for a person. Empty where they make one.
+pub fn why_refused(alloc: Global, sources: &Sources<'_>) -> Result<String, NoMemory> {
+    match model_of(alloc, sources.texts, sources.ini, sources.config.as_bytes()) {
+        Ok(_) => Ok(String::new(alloc)),
+        Err(BeginFault::NoMemory(error)) => Err(error),
+        Err(fault) => refusal_line(alloc, fault, sources),
+    }
+}
+
+/// Why the line of that number of an ini text means nothing, and what would be right: a line for a person.
+pub fn bad_line(
+    alloc: Global,
+    path: &str,
+    number: usize,
+    line: &[u8],
+    reason: Reason,
+) -> Result<String, NoMemory> {
+    let mut told = Explanation::new(alloc);
+    told.say_place(path, number);
+    told.say(": ");
+    tell_ini_line(&mut told, line, reason);
+    told.said()
+}
+
+/// Why a text is neither a connection nor a group of connections, and what would be right: a line for a person.
+pub fn bad_connection(alloc: Global, text: &[u8]) -> Result<String, NoMemory> {
+    let mut told = Explanation::new(alloc);
+    told.say("the connection: ");
+    tell_connection(&mut told, text);
     told.said()
 }

@@ -1,6 +1,6 @@
 //! Why a run ended with a fault.
 
-use crate::insides::fault_of;
+use crate::insides::{fault_of, tell_inside};
 use crate::modules::{Declared, ToldFault, declared_at};
 use crate::reading::read_types;
 use crate::sites::{tell_fault_inside, tell_misplaced};
@@ -471,6 +471,10 @@ fn tell_found(
         of = Some(it.of);
     }
     match fault_of(fault.name) {
+        Some(kind) if sources.has_other_connections => {
+            tell_inside(told, fault.path, kind);
+            Ok(())
+        }
         Some(kind) => tell_fault_inside(told, sources, answers, fault, kind, of),
         None => Ok(()),
     }

@@ -162,3 +162,71 @@ pub fn tell_syntax(told: &mut Explanation, text: &[u8]) {
         Err(error) => told.refuse(NoMemory::from(error)),
     }
 }
+
+/// What stands before a connection in a file.
+const BEFORE: &[u8] = b"module M { connections: ";
+
+/// The tokens of a file that ends behind the text of a connection.
+fn tokens_of_connection(alloc: Global, text: &[u8]) -> Result<Items<Token>, NoMemory> {
+    let mut bytes = Vec::from_slice(alloc, BEFORE)?;
+    bytes.extend_from_slice(text)?;
+    let list = tokenize(alloc, bytes.as_slice())?;
+    Ok(list.tokens)
+}
+
+/// How often a byte is in a text.
+fn count_of(text: &[u8], wanted: u8) -> usize {
+    let mut count = 0usize;
+    for byte in text {
+        if *byte == wanted {
+            count = count.saturating_add(1);
+        }
+    }
+    count
+}
+
+/// What is wanted behind the tokens of a connection, which the brace that ends the connections of its module is not.
+fn wanted_of_connection(
+    alloc: Global,
+    tokens: &mut Items<Token>,
+    open: usize,
+) -> Result<Vec<&'static str>, NoMemory> {
+    let mut found = wanted(alloc, tokens)?;
+    if open == 0 {
+        found.retain(|it| *it != "}");
+    }
+    Ok(found)
+}
+
+/// Says what is wrong with the text of a connection, of these tokens.
+fn tell_tokens_of_connection(
+    told: &mut Explanation,
+    text: &[u8],
+    tokens: &mut Items<Token>,
+) -> Result<(), NoMemory> {
+    let alloc = told.alloc();
+    let left = tokens_left(alloc, tokens.as_slice())?.unwrap_or(0);
+    let before = tokens.len().saturating_sub(left);
+    tell_blamed(told, tokens.get(before));
+    cut(tokens, before);
+    let open = count_of(text, b'{').saturating_sub(count_of(text, b'}'));
+    let wanted = wanted_of_connection(alloc, tokens, open)?;
+    tell_wanted(told, wanted.as_slice());
+    Ok(())
+}
+
+/// Says what is wrong with a text that is neither a connection nor a group of connections, and what could stand there.
+pub fn tell_connection(told: &mut Explanation, text: &[u8]) {
+    if count_of(text, b'}') > count_of(text, b'{') {
+        return told.say("a '}' closes nothing");
+    }
+    match tokens_of_connection(told.alloc(), text) {
+        Ok(tokens) => {
+            let mut tokens = tokens;
+            if let Err(error) = tell_tokens_of_connection(told, text, &mut tokens) {
+                told.refuse(error);
+            }
+        }
+        Err(error) => told.refuse(error),
+    }
+}

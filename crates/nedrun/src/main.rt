@@ -23,6 +23,7 @@ use program_stops::stops::Stop;
 use program_streams::{endings, files};
 use program_user::user::User;
 use program_words::words::Words;
+use std::io::IsTerminal;
 use std::process::ExitCode;
 use std::rt::{Env, Files};
 use stock_desk::serving::serve;
@@ -33,6 +34,7 @@ fn serve_user<'a, R: Files + Input + Print + Eprint + AllocGlobal>(
     rt: &'a R,
     words: &'a Words,
     sources: &'a Sources<'a>,
+    at_terminal: bool,
 ) -> Result<(User<'a, R>, clients::Stop), BeginFault>
     requires interval { 1 ≤ words.now.interval }
     // What the user hears is what the plain machine says to what the user asks.
@@ -52,7 +54,7 @@ fn serve_user<'a, R: Files + Input + Print + Eprint + AllocGlobal>(
     ensures complete { IfErr result (λ fault. IsRuledOut sources.now.texts.now
         sources.now.ini.now (string_bytes words.now.config) fault) }
 {
-    let user = User::new(rt, words, sources);
+    let user = User::new(rt, words, sources, at_terminal);
     serve(
         rt.alloc(),
         sources.texts,
@@ -86,6 +88,7 @@ fn session<R: Files + Input + Print + Eprint + AllocGlobal>(
     rt: &R,
     words: &Words,
     sources: &Sources<'_>,
+    at_terminal: bool,
 ) -> Result<(), Stop>
     requires interval { 1 ≤ words.now.interval }
     ensures served { OnOk result ((model : Model)
@@ -93,11 +96,14 @@ fn session<R: Files + Input + Print + Eprint + AllocGlobal>(
     ensures early { IfErr result (EndsEarly
         sources.now.texts.now sources.now.ini.now (string_bytes words.now.config)) }
 {
-    ended(rt, sources, serve_user(rt, words, sources))
+    ended(rt, sources, serve_user(rt, words, sources, at_terminal))
 }
 
-/// Does what the words ask for.
-fn work<R: Files + Env + Input + Print + Eprint + AllocGlobal>(rt: &R) -> Result<(), Stop> {
+/// Does what the words ask for, at a terminal or not.
+fn work<R: Files + Env + Input + Print + Eprint + AllocGlobal>(
+    rt: &R,
+    at_terminal: bool,
+) -> Result<(), Stop> {
     let words = Words::read(rt)?;
     let ini = files::read_text(rt, words.ini.as_str())?;
     let texts = files::read_texts(rt, words.texts.as_slice())?;
@@ -107,10 +113,12 @@ fn work<R: Files + Env + Input + Print + Eprint + AllocGlobal>(rt: &R) -> Result
         ned_paths: words.texts.as_slice(),
         texts: &texts,
         config: words.config.as_str(),
+        has_other_connections: false,
     };
-    session(rt, &words, &sources)
+    session(rt, &words, &sources, at_terminal)
 }
 
 fn main(rt: HostRuntime) -> ExitCode {
-    endings::status(&rt, work(&rt))
+    let at_terminal = rt.stdin().is_terminal();
+    endings::status(&rt, work(&rt, at_terminal))
 }

@@ -1,12 +1,15 @@
-//! Lines for a person: what has no effect, and what is behind a fault.
+//! What the program says of its own: what has no effect, what is behind a refusal or a fault, and that a text is saved.
 
 ghost use Rattle.std.specs.Prelude.{IfErr};
 ghost use Rattle.program_streams.specs.Stops.{IsUnadvised};
+ghost use Rattle.program_user.specs.Stops.{IsUntold};
 
-use explanations::runs::fault_line;
 use explanations::warnings::warning_lines;
 use program_stops::stops::Stop;
-use program_streams::output::advise;
+use program_streams::output::{advise, say};
+use session_texts::notes::Notes;
+use std::rt::Files;
+use std::{fs, io};
 use text_explanations::sources::Sources;
 
 /// The classes that the program has modules of.
@@ -20,14 +23,51 @@ pub fn warn<R: Eprint + AllocGlobal>(rt: &R, sources: &Sources<'_>) -> Result<()
     advise(rt, lines.as_str())
 }
 
-/// Says what is behind a fault, where the answer tells of one.
+/// Says what is behind an answer, a refusal or a fault, where there is more to say.
 pub fn explain<R: Eprint + AllocGlobal>(
     rt: &R,
     sources: &Sources<'_>,
+    notes: &mut Notes,
     answer: &[u8],
 ) -> Result<(), Stop>
     ensures { IfErr result IsUnadvised }
 {
-    let line = fault_line(rt.alloc(), answer, sources, CLASSES.as_slice())?;
+    let line = notes.hears(rt.alloc(), sources, answer, CLASSES.as_slice())?;
     advise(rt, line.as_str())
+}
+
+/// Asks for a command at a terminal. That this can't be shown is no matter.
+pub fn prompt<R: Eprint>(rt: &R) {
+    let _shown = eprint!(rt; "> ");
+}
+
+/// Answers that a file can't be saved, and says why.
+fn unsaved<R: Print + Eprint + AllocGlobal>(
+    rt: &R,
+    path: &str,
+    error: io::Error,
+) -> Result<(), Stop>
+    ensures { IfErr result IsUntold }
+{
+    say(rt, b"refused NotSaved".as_slice())?;
+    let line = format!(in rt.alloc(); "{path}: this file can't be written: {error}")?;
+    advise(rt, line.as_str())?;
+    Ok(())
+}
+
+/// Writes a text to the file of that path, and answers that it did, or why not.
+pub fn save<R: Files + Print + Eprint + AllocGlobal>(
+    rt: &R,
+    path: &str,
+    text: &[u8],
+) -> Result<(), Stop>
+    ensures { IfErr result IsUntold }
+{
+    match fs::write(rt, path, text) {
+        Ok(()) => {
+            say(rt, b"saved".as_slice())?;
+            Ok(())
+        }
+        Err(error) => unsaved(rt, path, error),
+    }
 }

@@ -23,6 +23,8 @@ use program_streams::devices::FileOut;
 use program_streams::files::read_text;
 use program_streams::output;
 use program_words::words::Words;
+use session_texts::notes::Notes;
+use session_texts::own::Own;
 use sim_values::NoMemory;
 use sim_values::text::Text;
 use std::rt::Files;
@@ -43,15 +45,22 @@ pub struct User<'a, R: Files + Input> {
     has_folder: bool,
     /// Whether an answer was heard.
     heard_any: bool,
-    /// Whether the model is the one that the files make: no edit was made.
-    is_as_read: bool,
+    /// What was asked last, and the texts as edits made them.
+    notes: Notes,
+    /// Whether standard input is a terminal.
+    at_terminal: bool,
     /// Why the user can't go on.
     pub stop: Option<Stop>,
 }
 
 impl<'a, R: Files + Input + Print + Eprint + AllocGlobal> User<'a, R> {
-    /// Who has asked nothing yet.
-    pub fn new(rt: &'a R, words: &'a Words, sources: &'a Sources<'a>) -> User<'a, R>
+    /// Who has asked nothing yet, at a terminal or not.
+    pub fn new(
+        rt: &'a R,
+        words: &'a Words,
+        sources: &'a Sources<'a>,
+        at_terminal: bool,
+    ) -> User<'a, R>
         ensures unasked { result.dialogue.transcript.asked ≡ [] }
         ensures unheard { result.dialogue.transcript.heard ≡ [] }
         ensures words { result.words.now ≡ words.now }
@@ -65,7 +74,8 @@ impl<'a, R: Files + Input + Print + Eprint + AllocGlobal> User<'a, R> {
             dialogue: Dialogue::new(rt.alloc(), words.limit, rt.reader()),
             has_folder: false,
             heard_any: false,
-            is_as_read: true,
+            notes: Notes::new(),
+            at_terminal,
             stop: None,
         }
     }
@@ -82,7 +92,8 @@ impl<'a, R: Files + Input + Print + Eprint + AllocGlobal> User<'a, R> {
             dialogue: _,
             has_folder: _,
             heard_any: _,
-            is_as_read: _,
+            notes: _,
+            at_terminal: _,
             stop,
         } = self;
         match stop {
@@ -120,7 +131,24 @@ impl<'a, R: Files + Input + Print + Eprint + AllocGlobal> User<'a, R> {
             output::make_folder(self.rt, self.words.directory.as_str())?;
             self.has_folder = true;
         }
-        self.dialogue.next(self.rt.alloc())
+        if self.at_terminal && self.notes.is_typed() {
+            advice::prompt(self.rt);
+        }
+        let next = self.dialogue.next(self.rt.alloc())?;
+        self.note(&next);
+        Ok(next)
+    }
+
+    /// Notes what is asked.
+    fn note(&mut self, next: &Option<Asked>)
+        ensures words { self.new.words ≡ self.old.words }
+        ensures dialogue { self.new.dialogue ≡ self.old.dialogue }
+    {
+        match next {
+            Some(Asked::Line(line)) => self.notes.asks(self.rt.alloc(), line.as_bytes()),
+            Some(Asked::TooLong) => self.notes.asks_too_long(),
+            None => {}
+        }
     }
 
     /// Notes that both files are kept, of which nothing is left to write.
@@ -142,23 +170,62 @@ impl<'a, R: Files + Input + Print + Eprint + AllocGlobal> User<'a, R> {
         );
     }
 
-    /// Prints an answer: warnings before the first one, and an explanation behind a fault.
+    /// Prints an answer. A command of the program's own, which the
+    /// session doesn't know, is answered in place of that. At a terminal a blank line has no answer.
     fn tell(&mut self, answer: &[u8]) -> Result<(), Stop>
         ensures failed { IfErr result IsUntold }
         ensures words { self.new.words ≡ self.old.words }
         ensures dialogue { self.new.dialogue ≡ self.old.dialogue }
     {
         if !self.heard_any {
-            self.heard_any = true;
-            advice::warn(self.rt, self.sources)?;
+            return self.tell_first(answer);
         }
-        if answer.starts_with(b"edited") {
-            self.is_as_read = false;
+        if self.at_terminal && self.notes.is_blank(answer) {
+            return Ok(());
         }
+        match self.notes.own(self.rt.alloc(), answer)? {
+            Some(own) => self.tell_own(own),
+            None => self.tell_answer(answer),
+        }
+    }
+
+    /// Prints the first answer, and warnings before it.
+    fn tell_first(&mut self, answer: &[u8]) -> Result<(), Stop>
+        ensures failed { IfErr result IsUntold }
+        ensures words { self.new.words ≡ self.old.words }
+        ensures dialogue { self.new.dialogue ≡ self.old.dialogue }
+    {
+        self.heard_any = true;
+        advice::warn(self.rt, self.sources)?;
+        self.tell_answer(answer)?;
+        Ok(())
+    }
+
+    /// Prints an answer of the session, and an explanation behind a refusal or a fault.
+    fn tell_answer(&mut self, answer: &[u8]) -> Result<(), Stop>
+        ensures failed { IfErr result IsUntold }
+        ensures words { self.new.words ≡ self.old.words }
+        ensures dialogue { self.new.dialogue ≡ self.old.dialogue }
+    {
         output::say(self.rt, answer)?;
-        if self.is_as_read {
-            advice::explain(self.rt, self.sources, answer)?;
+        advice::explain(self.rt, self.sources, &mut self.notes, answer)?;
+        Ok(())
+    }
+
+    /// Answers a command of the program's own.
+    fn tell_own(&mut self, own: Own) -> Result<(), Stop>
+        ensures failed { IfErr result IsUntold }
+        ensures words { self.new.words ≡ self.old.words }
+        ensures dialogue { self.new.dialogue ≡ self.old.dialogue }
+    {
+        if let Own::Save(path) = &own {
+            let bytes = self.notes.ini_bytes(self.rt.alloc(), self.sources)?;
+            advice::save(self.rt, shown(path.as_bytes()), bytes.as_slice())?;
+            return Ok(());
         }
+        let listing = self.notes.listing(self.rt.alloc(), self.sources, &own)?;
+        output::advise(self.rt, listing.lines.as_str())?;
+        output::say(self.rt, listing.answer.as_bytes())?;
         Ok(())
     }
 
@@ -332,6 +399,7 @@ impl<'a, R: Files + Input + Print + Eprint + AllocGlobal> Client<FileOut<'a, R>>
     {
         match self.text_of(path) {
             Ok(text) => {
+                self.notes.reads(self.rt.alloc(), text.as_bytes());
                 self.dialogue.hears_read(path, text.as_bytes());
                 Ok(text)
             }

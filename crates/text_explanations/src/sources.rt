@@ -2,7 +2,7 @@
 
 use ned_trees::texts::NedTexts;
 
-/// The files of a run, as the program was given them.
+/// The files of a run, as the program was given them, or as edits made them.
 #[derive(Clone, Copy)]
 pub struct Sources<'a> {
     pub ini_path: &'a str,
@@ -12,6 +12,8 @@ pub struct Sources<'a> {
     pub texts: &'a NedTexts,
     /// The name of the configuration.
     pub config: &'a str,
+    /// Whether connections were added or taken out, which stand in no text.
+    pub has_other_connections: bool,
 }
 
 impl Sources<'_> {

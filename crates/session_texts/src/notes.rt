@@ -1,0 +1,251 @@
+//! What is noted of a session, besides its answers.
+
+use crate::changes::bytes_of;
+use crate::listings::{Listing, listing_of};
+use crate::own::{Own, own_of};
+use crate::refused::{why_refused_command, why_refused_edit};
+use crate::texts::SessionTexts;
+use command_lines::commands::{Command, command_of};
+use explanations::runs::fault_line;
+use model_edits::edit::Edit;
+use sim_values::NoMemory;
+use sim_values::text::{Text, spells};
+use std::alloc::{AllocError, Global};
+use text_explanations::names::shown;
+use text_explanations::sources::Sources;
+
+/// What is noted of a session: what was asked last, the file that was read for it, and the texts as edits made them. It answers nothing that the
+/// session answers, and what it says is for a person.
+#[derive(Drop)]
+pub struct Notes {
+    /// The line that was asked last. None where it was too long to be kept.
+    asked: Option<Text>,
+    /// The file that was read for it.
+    read: Option<Text>,
+    /// That memory ran out for one of both.
+    short: Option<NoMemory>,
+    /// The texts, where they were needed yet.
+    texts: Option<SessionTexts>,
+    /// How often something was asked.
+    count: u64,
+}
+
+/// Whether a command changes or looks at texts.
+fn is_of_texts(command: &Command) -> bool {
+    matches!(command, Command::Edit(_) | Command::Ned(_, _))
+}
+
+/// Whether an edit changes no text.
+fn is_of_messages(command: &Command) -> bool {
+    matches!(
+        command,
+        Command::Edit(Edit::Inject(_, _, _, _, _)) | Command::Edit(Edit::Withdraw(_))
+    )
+}
+
+/// The bytes of a text, where there is one.
+fn bytes_in(text: &Option<Text>) -> Option<&[u8]> {
+    match text {
+        Some(text) => Some(text.as_bytes()),
+        None => None,
+    }
+}
+
+impl Notes {
+    /// Nothing was asked yet.
+    pub fn new() -> Notes {
+        Notes {
+            asked: None,
+            read: None,
+            short: None,
+            texts: None,
+            count: 0,
+        }
+    }
+
+    /// Whether what is asked next is typed: the program itself asks for the first run, and to write its files.
+    pub fn is_typed(&self) -> bool {
+        self.count >= 2
+    }
+
+    /// Keeps a copy, or that memory ran out for it.
+    fn kept(&mut self, alloc: Global, bytes: &[u8]) -> Option<Text> {
+        match Text::from_bytes(alloc, bytes) {
+            Ok(copy) => Some(copy),
+            Err(error) => {
+                self.short = Some(NoMemory::from(error));
+                None
+            }
+        }
+    }
+
+    /// This line is asked.
+    pub fn asks(&mut self, alloc: Global, line: &[u8]) {
+        self.count = self.count.saturating_add(1);
+        self.read = None;
+        self.short = None;
+        self.asked = self.kept(alloc, line);
+    }
+
+    /// A line is asked that is too long to be kept.
+    pub fn asks_too_long(&mut self) {
+        self.read = None;
+        self.short = None;
+        self.asked = None;
+    }
+
+    /// This is read of the file that the line names.
+    pub fn reads(&mut self, alloc: Global, text: &[u8]) {
+        self.read = self.kept(alloc, text);
+    }
+
+    /// What the line asks for that was asked last.
+    fn command(&self, alloc: Global) -> Result<Command, NoMemory> {
+        if let Some(error) = self.short {
+            return Err(error);
+        }
+        match bytes_in(&self.asked) {
+            Some(line) => command_of(alloc, line),
+            None => Ok(Command::TooLarge),
+        }
+    }
+
+    /// The texts as they are.
+    fn texts(
+        &mut self,
+        alloc: Global,
+        sources: &Sources<'_>,
+    ) -> Result<&mut SessionTexts, NoMemory> {
+        if self.texts.is_none() {
+            self.texts = Some(SessionTexts::new(alloc, sources)?);
+        }
+        match &mut self.texts {
+            Some(texts) => Ok(texts),
+            None => unreachable!(),
+        }
+    }
+
+    /// Follows the edit that was asked last, which is made.
+    fn follow(&mut self, alloc: Global, sources: &Sources<'_>) -> Result<(), NoMemory> {
+        let command = self.command(alloc)?;
+        if !is_of_texts(&command) || is_of_messages(&command) {
+            return Ok(());
+        }
+        let read = self.read.take();
+        let texts = self.texts(alloc, sources)?;
+        match (command, read) {
+            (Command::Edit(edit), _) => texts.take(&edit),
+            (Command::Ned(number, path), Some(text)) => {
+                texts.take_ned(number as usize, path.as_bytes(), text.as_bytes())
+            }
+            _ => Ok(()),
+        }
+    }
+
+    /// Why what was asked last is refused with that name.
+    fn why_refused(
+        &mut self,
+        alloc: Global,
+        sources: &Sources<'_>,
+        name: &str,
+    ) -> Result<String, NoMemory> {
+        let command = self.command(alloc)?;
+        if is_of_texts(&command) {
+            self.texts(alloc, sources)?;
+        }
+        match &self.texts {
+            Some(texts) if is_of_texts(&command) => {
+                let read = bytes_in(&self.read).unwrap_or(b"".as_slice());
+                why_refused_edit(alloc, texts, &command, read, name)
+            }
+            _ => {
+                let line = bytes_in(&self.asked).unwrap_or(b"".as_slice());
+                why_refused_command(alloc, &command, line)
+            }
+        }
+    }
+
+    /// What is behind the fault that the answer of a run tells, where it tells one.
+    fn why_fault(
+        &self,
+        alloc: Global,
+        sources: &Sources<'_>,
+        answer: &[u8],
+        classes: &[&[u8]],
+    ) -> Result<String, NoMemory> {
+        match &self.texts {
+            Some(texts) => {
+                let ini = bytes_of(alloc, &texts.ini)?;
+                fault_line(alloc, answer, &texts.sources(ini.as_slice()), classes)
+            }
+            None => fault_line(alloc, answer, sources, classes),
+        }
+    }
+
+    /// The program's own command that was asked last, where it is one and the session answered that it knows no such command.
+    pub fn own(&self, alloc: Global, answer: &[u8]) -> Result<Option<Own>, NoMemory> {
+        if !spells(answer, b"refused Command") {
+            return Ok(None);
+        }
+        match bytes_in(&self.asked) {
+            Some(line) => Ok(own_of(alloc, line)?),
+            None => Ok(None),
+        }
+    }
+
+    /// Whether a blank line was asked last, and the session answered that it is no command.
+    pub fn is_blank(&self, answer: &[u8]) -> bool {
+        match bytes_in(&self.asked) {
+            Some(line) => spells(answer, b"refused Command") && line.trim_ascii().is_empty(),
+            None => false,
+        }
+    }
+
+    /// What a command of the program's own lists.
+    pub fn listing(
+        &mut self,
+        alloc: Global,
+        sources: &Sources<'_>,
+        own: &Own,
+    ) -> Result<Listing, NoMemory> {
+        listing_of(alloc, self.texts(alloc, sources)?, own)
+    }
+
+    /// The bytes of the ini text as it is.
+    pub fn ini_bytes(&self, alloc: Global, sources: &Sources<'_>) -> Result<Vec<u8>, AllocError> {
+        match &self.texts {
+            Some(texts) => bytes_of(alloc, &texts.ini),
+            None => Vec::from_slice(alloc, sources.ini),
+        }
+    }
+
+    /// What is behind an answer, and what to change: a line for a person. Empty where there is no more to say. `sources` are the files as they were
+    /// read, and `classes` those that the program has modules of.
+    pub fn hears(
+        &mut self,
+        alloc: Global,
+        sources: &Sources<'_>,
+        answer: &[u8],
+        classes: &[&[u8]],
+    ) -> Result<String, NoMemory> {
+        let answer_text = shown(answer);
+        if answer_text.starts_with("edited ") {
+            self.follow(alloc, sources)?;
+        }
+        if answer_text.starts_with("done fault ") {
+            return self.why_fault(alloc, sources, answer, classes);
+        }
+        match answer_text.strip_prefix("refused ") {
+            Some("NoMemory") | None => Ok(String::new(alloc)),
+            Some(name) => self.why_refused(alloc, sources, name_of(name)),
+        }
+    }
+}
+
+/// The name with which a refusal begins.
+fn name_of(refusal: &str) -> &str {
+    match refusal.split_once(' ') {
+        Some((name, _place)) => name,
+        None => refusal,
+    }
+}
