@@ -7,6 +7,7 @@ ghost use Rattle.program_user.specs.Stops.{IsUntold};
 use explanations::warnings::warning_lines;
 use program_stops::stops::Stop;
 use program_streams::output::{advise, say};
+use program_words::words::Words;
 use session_texts::notes::Notes;
 use std::rt::Files;
 use std::{fs, io};
@@ -33,6 +34,20 @@ pub fn explain<R: Eprint + AllocGlobal>(
     ensures { IfErr result IsUnadvised }
 {
     let line = notes.hears(rt.alloc(), sources, answer, CLASSES.as_slice())?;
+    advise(rt, line.as_str())
+}
+
+/// Says that the limit ended the run of the words, where they name none and the answer tells so.
+pub fn tell_limit<R: Eprint + AllocGlobal>(rt: &R, words: &Words, answer: &[u8]) -> Result<(), Stop>
+    ensures { IfErr result IsUnadvised }
+{
+    if words.names_limit || !answer.starts_with(b"done event-limit ") {
+        return Ok(());
+    }
+    let limit = words.limit;
+    let line = format!(in rt.alloc();
+        "the limit of {limit} events ended the run, which is the one where none is given: -l LIMIT gives another"
+    )?;
     advise(rt, line.as_str())
 }
 

@@ -189,7 +189,7 @@ impl<'a, R: Files + Input + Print + Eprint + AllocGlobal> User<'a, R> {
         }
     }
 
-    /// Prints the first answer, and warnings before it.
+    /// Prints the first answer: warnings before it, and behind it that the limit ended the run, where none was given.
     fn tell_first(&mut self, answer: &[u8]) -> Result<(), Stop>
         ensures failed { IfErr result IsUntold }
         ensures words { self.new.words ≡ self.old.words }
@@ -198,6 +198,7 @@ impl<'a, R: Files + Input + Print + Eprint + AllocGlobal> User<'a, R> {
         self.heard_any = true;
         advice::warn(self.rt, self.sources)?;
         self.tell_answer(answer)?;
+        advice::tell_limit(self.rt, self.words, answer)?;
         Ok(())
     }
 

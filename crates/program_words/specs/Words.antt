@@ -1,9 +1,11 @@
 -- What the program is asked for.
-use Rattle.std.specs.Prelude.{◌≡◌, ◌<◌, ◌^◌, ℕ, List, [], ◌∷◌, Option, Some, None, codes, unwrap_or, option_map, map}
+use Rattle.std.specs.Prelude.{◌≡◌, ◌<◌, ◌^◌, ℕ, Bool, true, false, List, [], ◌∷◌, Option, Some, None, codes, unwrap_or, option_and_then, option_map, map}
 use Rattle.std.specs.String.{string_bytes}
 use Rattle.std.specs.Str.Parse.{IsNumeral, digits_value, without_leading_plus}
 use Rattle.clap.specs.Matches.{first_value, matched_of, one_text, raw_values}
 use Rattle.clap.specs.declared.parser.matches.Found.{Found}
+use Rattle.clap.specs.declared.parser.matches.ValueSource.{ValueSource}
+use Rattle.clap.specs.declared.parser.matches.ValueSource.TheVariants as source
 use Rattle.program_stops.specs.declared.stops.Stop.{Stop}
 use Rattle.program_stops.specs.declared.stops.Stop.TheVariants as stop
 use Rattle.program_words.specs.declared.words.Words.{Words}
@@ -17,6 +19,12 @@ IsNumberOf word n = IsNumeral 10 (without_leading_plus word) → digits_value 10
 abbrev pub IsLimitOf : Option (List ℕ) → ℕ → Type 0
 IsLimitOf None n = n ≡ 1000000
 IsLimitOf (Some word) n = IsNumberOf word n
+
+-- whether a word is among those that the program was started with, by where its value comes from
+abbrev pub is_given : Option ValueSource → Bool
+is_given None = false
+is_given (Some source.DefaultValue) = false
+is_given (Some source.CommandLine) = true
 
 -- the interval that a word gives, where it is not zero; 1,000 where there is none
 abbrev pub IsIntervalOf : Option (List ℕ) → ℕ → Type 0
@@ -32,6 +40,7 @@ folder_of (b ∷ bs) = b ∷ bs
 pub record IsGiven (found : Found) (words : Words) : Type 0 where
   pub config : string_bytes words.config ≡ unwrap_or (first_value found (codes "config")) (codes "General")
   pub limit : IsLimitOf (one_text found (codes "limit")) words.limit
+  pub named : words.names_limit ≡ is_given (option_and_then (λ a. a.source) (matched_of found (codes "limit")))
   pub interval : IsIntervalOf (one_text found (codes "interval")) words.interval
   pub directory : string_bytes words.directory ≡ folder_of (unwrap_or (first_value found (codes "directory")) (codes "."))
   pub ini : string_bytes words.ini ≡ unwrap_or (first_value found (codes "ini")) []

@@ -1,10 +1,11 @@
 //! What the program is asked for.
 
-ghost use Rattle.std.specs.Prelude.{◌≡◌, ◌≤◌, [], IfErr, IfOk, codes, map, option_map, unwrap_or, string_bytes};
+ghost use Rattle.std.specs.Prelude.{◌≡◌, ◌≤◌, [], IfErr, IfOk, codes, map, option_and_then, option_map, unwrap_or, string_bytes};
 ghost use Rattle.clap.specs.Matches.{found_of, matched_of, one_text, raw_values};
 ghost use Rattle.program_stops.specs.Stops.{Fails};
-ghost use Rattle.program_words.specs.Words.{folder_of, AreUnreadWords, IsGiven, IsIntervalOf, IsLimitOf};
+ghost use Rattle.program_words.specs.Words.{folder_of, is_given, AreUnreadWords, IsGiven, IsIntervalOf, IsLimitOf};
 
+use clap::parser::ValueSource;
 use clap::{Arg, ArgAction, ArgMatches, Command, value_parser};
 use program_stops::stops::Stop;
 use std::alloc::{AllocError, Global};
@@ -31,6 +32,8 @@ pub struct Words {
     pub config: String,
     /// The run ends after so many events.
     pub limit: u64,
+    /// Whether that limit was given, and is not the word's default.
+    pub names_limit: bool,
     /// A run leaves a position after each multiple of so many events.
     pub interval: u64,
     /// Where the result files are written.
@@ -133,6 +136,17 @@ fn given_limit(matches: &ArgMatches<'_>) -> u64
     matches.get_one::<u64>("limit").unwrap_or(1000000)
 }
 
+/// Whether a limit was given.
+fn names_limit(matches: &ArgMatches<'_>) -> bool
+    ensures { result ≡ is_given (option_and_then (λ a. a.source)
+        (matched_of (found_of matches.now) (codes "limit"))) }
+{
+    match matches.value_source("limit") {
+        Some(ValueSource::CommandLine) => true,
+        Some(ValueSource::DefaultValue) | None => false,
+    }
+}
+
 /// The interval that was given: `clap` takes none below 1.
 fn given_interval(matches: &ArgMatches<'_>) -> u64
     ensures given { IsIntervalOf (one_text (found_of matches.now) (codes "interval")) result }
@@ -200,6 +214,7 @@ impl Words {
         Ok(Words {
             config: String::from_str(alloc, matches.get_str("config").unwrap_or("General"))?,
             limit: given_limit(matches),
+            names_limit: names_limit(matches),
             interval: given_interval(matches),
             directory: String::from_str(
                 alloc,
