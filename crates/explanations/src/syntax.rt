@@ -13,6 +13,9 @@ use text_explanations::tokens::{tell_token, token_of};
 const GOES_ON: &str =
     "; } { = ( ) [ ] : , parameters gates types submodules connections allowunconnected simple module network channel moduleinterface channelinterface package import extends like if for input output inout bool int string double volatile default @ . .. < > --> <-- <--> ++ $i $o 1 + x";
 
+/// The recording modes, one of which is wanted behind `record=`.
+const MODES: &str = "count sum min max last vector";
+
 /// How many tokens are left at the first with which no file goes on, where this stands behind the tokens; none where they
 /// are a file with it.
 fn left_behind(
@@ -34,10 +37,14 @@ fn end_of_any(alloc: Global, tokens: &mut Items<Token>) -> Result<&'static str, 
     }
 }
 
-/// What the tokens can go on with.
-fn found_behind(alloc: Global, tokens: &mut Items<Token>) -> Result<Vec<&'static str>, NoMemory> {
+/// With which of these words the tokens can go on.
+fn found_behind(
+    alloc: Global,
+    tokens: &mut Items<Token>,
+    words: &'static str,
+) -> Result<Vec<&'static str>, NoMemory> {
     let mut found = Vec::new(alloc);
-    for written in GOES_ON.split(' ') {
+    for written in words.split(' ') {
         if left_behind(alloc, tokens, written)?.unwrap_or(0) == 0 {
             found.push(written)?;
         }
@@ -77,9 +84,12 @@ fn count_angles(found: &[&str]) -> usize {
 }
 
 /// What is wanted behind the tokens: what they can go on with, but where an expression is wanted not what it begins with, where
-/// an operator is wanted no comparison, and where anything may stand only what ends that.
+/// an operator is wanted no comparison, where anything may stand only what ends that, and where nothing of all that may stand a recording mode.
 fn wanted(alloc: Global, tokens: &mut Items<Token>) -> Result<Vec<&'static str>, NoMemory> {
-    let mut found = found_behind(alloc, tokens)?;
+    let mut found = found_behind(alloc, tokens, GOES_ON)?;
+    if found.is_empty() {
+        return found_behind(alloc, tokens, MODES);
+    }
     if found.len() == GOES_ON.split(' ').count() {
         found.clear();
         found.push(end_of_any(alloc, tokens)?)?;
@@ -103,8 +113,11 @@ fn tell_one(told: &mut Explanation, written: &str) {
     }
 }
 
-/// Says what is expected: one thing, or one of several.
+/// Says what is expected: one thing, or one of several, where it is known.
 fn tell_wanted(told: &mut Explanation, wanted: &[&str]) {
+    if wanted.is_empty() {
+        return;
+    }
     told.say(match wanted {
         [_] => ", expected",
         _ => ", expected one of",
