@@ -5,3 +5,4 @@ pub mod Fields
 pub mod ScalarText
 pub mod VectorText
 pub mod Rising
+pub mod Sections

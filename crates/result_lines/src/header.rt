@@ -1,14 +1,16 @@
 //! The header of a result file.
 
-ghost use Rattle.std.specs.Prelude.{◌≡◌, ◌++◌, IfOk, OnOk};
+ghost use Rattle.std.specs.Prelude.{◌≡◌, ◌++◌, ◌<◌, length, IfOk, OnOk};
 ghost use Rattle.std.specs.List.{flat_map};
-ghost use Rattle.ini_texts.specs.Sections.{entries_along, entries_under};
+ghost use Rattle.ini_texts.specs.Sections.{entries_along};
 ghost use Rattle.result_lines.specs.Header.{escaped, value_text, item_line, run_lines, attribute_lines, config_line, config_lines, header_text, network_name, header_of};
+ghost use Rattle.result_lines.specs.Sections.{entries_at, entries_in};
 
+use crate::sections::section_entries;
 use ini_texts::entries::network_entry;
 use ini_texts::entry::EntryMeaning;
 use ini_texts::lines::{Entry, IniLine};
-use ini_texts::scan::{entry_in, section_behind};
+use ini_texts::names::section_names;
 use ini_texts::speaks::last_name;
 use models::model::Model;
 use module_api::names::{is_all_plain, is_quoting};
@@ -78,26 +80,45 @@ fn push_entry(header: &mut Vec<u8>, entry: &Entry) -> Result<(), AllocError>
     }
 }
 
-/// Adds the lines of the entries of the section of that name.
-fn push_section(header: &mut Vec<u8>, name: &[u8], lines: &[IniLine]) -> Result<(), AllocError>
-    ensures { OnOk result (header.new.items ≡ header.old.items ++ config_lines (entries_under name.now lines.now)) }
+/// Adds the lines of these entries.
+fn push_listed(header: &mut Vec<u8>, entries: &[&Entry]) -> Result<(), AllocError>
+    ensures { OnOk result (header.new.items ≡ header.old.items ++ config_lines (entries_in entries.now)) }
 {
-    let mut section = None;
-    for line in lines {
-        if let Some(entry) = entry_in(name, section, line) {
-            push_entry(header, entry)?;
-        }
-        section = section_behind(section, line);
+    let mut rest = entries;
+    while let [entry, after @ ..] = rest {
+        push_entry(header, entry)?;
+        rest = after;
     }
     Ok(())
 }
 
-/// Adds the lines of all entries of the chain.
-fn push_entries(header: &mut Vec<u8>, chain: &[Text], lines: &[IniLine]) -> Result<(), AllocError>
+/// Adds the lines of the entries of the section of that number.
+fn push_section(
+    header: &mut Vec<u8>,
+    lists: &[Vec<&Entry>],
+    number: usize,
+) -> Result<(), AllocError>
+    requires { number < length lists.now }
+    ensures { OnOk result (header.new.items ≡ header.old.items ++ config_lines (entries_at lists.now number)) }
+{
+    push_listed(header, lists[number].as_slice())
+}
+
+/// Adds the lines of all entries of the chain. The text is walked once, and not once for each section of the chain.
+fn push_entries(
+    alloc: Global,
+    header: &mut Vec<u8>,
+    chain: &[Text],
+    lines: &[IniLine],
+) -> Result<(), AllocError>
     ensures { OnOk result (header.new.items ≡ header.old.items ++ config_lines (entries_along chain.now lines.now)) }
 {
+    let names = section_names(alloc, lines)?;
+    let lists = section_entries(alloc, lines, &names)?;
     for name in chain {
-        push_section(header, name.as_bytes(), lines)?;
+        if let Some(number) = names.number_of(name.as_bytes()) {
+            push_section(header, lists.as_slice(), number)?;
+        }
     }
     Ok(())
 }
@@ -143,7 +164,7 @@ pub fn header_text(
     let mut header = Vec::new(alloc);
     push_run(&mut header, config)?;
     push_attributes(&mut header, config, network)?;
-    push_entries(&mut header, chain, lines)?;
+    push_entries(alloc, &mut header, chain, lines)?;
     header.push(b'\n')?;
     Ok(Text::from_vec(header))
 }

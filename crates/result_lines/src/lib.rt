@@ -6,4 +6,5 @@ pub mod header;
 pub mod lines;
 mod next_vector;
 pub mod progress;
+mod sections;
 pub mod writer;

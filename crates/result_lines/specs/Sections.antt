@@ -1,0 +1,41 @@
+-- The entries of a text by the sections in which they stand.
+use Rattle.std.specs.Prelude.{◌≡◌, ◌≢◌, ℕ, ◌<◌, List, [], ◌∷◌, ◌++◌, Option, Some, None, Vec, length, map, slice_get}
+use Rattle.std.specs.Borrow.{Bor}
+use Rattle.std.specs.declared.alloc.Global.{Global}
+use Rattle.ini_texts.specs.declared.lines.Entry.{Entry}
+use Rattle.ini_texts.specs.declared.lines.IniLine.{IniLine}
+use Rattle.ini_texts.specs.Numbers.{name_at}
+use Rattle.ini_texts.specs.Sections.{entries_under}
+use Rattle.ini_texts.specs.Words.{Bytes}
+
+-- the entries that references lead to
+abbrev pub entries_in : List (Bor Entry) → List Entry
+entries_in refs = map (λ (r : Bor Entry). r.now) refs
+
+-- lists of entries, one for each section
+abbrev pub EntryLists : Type 0
+EntryLists = List (Vec (Bor Entry) Global)
+
+abbrev pub entries_of : Option (Vec (Bor Entry) Global) → List Entry
+entries_of None = []
+entries_of (Some list) = entries_in list.items
+
+-- the list of the section of that number
+abbrev pub entries_at : EntryLists → ℕ → List Entry
+entries_at lists k = entries_of (slice_get lists k)
+
+-- the entry, where there is one
+abbrev pub one_of : Option Entry → List Entry
+one_of None = []
+one_of (Some e) = e ∷ []
+
+-- an entry was added to the list of that number, and to no other
+abbrev pub AddsTo : ℕ → Entry → EntryLists → EntryLists → Type 0
+AddsTo number e old new =
+    (entries_at new number ≡ entries_at old number ++ e ∷ [])
+    × ((k : ℕ) → k < length old → k ≢ number → entries_at new k ≡ entries_at old k)
+
+-- for each section the entries that stand in it
+abbrev pub HaveEntries : List IniLine → List Bytes → EntryLists → Type 0
+HaveEntries lines names lists =
+    (length lists ≡ length names) × ((k : ℕ) → k < length names → entries_at lists k ≡ entries_under (name_at names k) lines)
