@@ -1,13 +1,14 @@
 //! Why a configuration can't be run.
 
 use crate::reading::read_types;
+use crate::sections::{Sections, sections_of};
 use ini_config::error::IniError;
 use ini_config::parse::parse_ini;
 use ini_texts::entries::network_entry;
 use ini_texts::entry::EntryMeaning;
 use ini_texts::error::ChainError;
 use ini_texts::lines::{IniLine, IniText, LineMeaning};
-use ini_texts::scan::{entry_in, section_behind};
+use ini_texts::names::{SectionNames, section_names};
 use ini_texts::speaks::last_name;
 use ned_trees::declarations::{TypeDeclaration, TypeKind};
 use sim_values::NoMemory;
@@ -46,17 +47,19 @@ pub fn is_among(name: &[u8], names: &[&[u8]]) -> bool {
     false
 }
 
-/// The names of the configurations of an ini text, each once.
-fn configurations<'a>(alloc: Global, lines: &'a [IniLine]) -> Result<Vec<&'a [u8]>, NoMemory> {
+/// The names of sections, as a list.
+fn listed<'a>(alloc: Global, sections: &SectionNames<'a>) -> Result<Vec<&'a [u8]>, NoMemory> {
     let mut names: Vec<&[u8]> = Vec::new(alloc);
-    for line in lines {
-        if let LineMeaning::Section(name) = &line.meaning {
-            if !is_among(name.as_bytes(), names.as_slice()) {
-                names.push(name.as_bytes())?;
-            }
-        }
+    for number in 0..sections.len() {
+        names.push(sections.name(number))?;
     }
     Ok(names)
+}
+
+/// The names of the configurations of an ini text, each once.
+fn configurations<'a>(alloc: Global, lines: &'a [IniLine]) -> Result<Vec<&'a [u8]>, NoMemory> {
+    let sections = section_names(alloc, lines)?;
+    listed(alloc, &sections)
 }
 
 /// Says that there is no configuration of that name, and which there are.
@@ -86,22 +89,18 @@ pub fn tell_no_config(told: &mut Explanation, sources: &Sources<'_>) {
 }
 
 /// The number of the line that says what the section of that name extends, and the names.
-fn bases_of<'a>(lines: &'a [IniLine], name: &[u8]) -> Option<(usize, &'a [Text])> {
-    let mut section = None;
-    for (at, line) in lines.iter().enumerate() {
-        section = section_behind(section, line);
-        if let Some(entry) = entry_in(name, section, line) {
-            if let EntryMeaning::Extends(names) = &entry.meaning {
-                return Some((at.saturating_add(1), names.as_slice()));
-            }
+fn bases_of<'a>(sections: &Sections<'a>, name: &[u8]) -> Option<(usize, &'a [Text])> {
+    for it in sections.entries_under(name)? {
+        if let EntryMeaning::Extends(names) = &it.entry.meaning {
+            return Some((it.line, names.as_slice()));
         }
     }
     None
 }
 
 /// Whether there is a configuration of that name.
-fn exists(names: &[&[u8]], name: &[u8]) -> bool {
-    spells(name, b"General") || is_among(name, names)
+fn exists(sections: &SectionNames<'_>, name: &[u8]) -> bool {
+    spells(name, b"General") || sections.number_of(name).is_some()
 }
 
 /// Begins what is wrong with the configuration of that name, which extends something in that line.
@@ -146,10 +145,10 @@ fn faulty_base<'a>(
     Ok(None)
 }
 
-/// The first of these names of which there is no configuration.
-fn missing_base<'a>(names: &[&[u8]], bases: &'a [Text]) -> Option<&'a [u8]> {
+/// The first of these names of which there is no section.
+fn missing_base<'a>(sections: &SectionNames<'_>, bases: &'a [Text]) -> Option<&'a [u8]> {
     for base in bases {
-        if !exists(names, base.as_bytes()) {
+        if !exists(sections, base.as_bytes()) {
             return Some(base.as_bytes());
         }
     }
@@ -175,21 +174,36 @@ fn tell_unordered(told: &mut Explanation, bases: &[Text], left: usize) {
     );
 }
 
+/// Says that the configuration of that name extends one in that line that isn't there, and which there are.
+fn tell_missing(
+    told: &mut Explanation,
+    sources: &Sources<'_>,
+    sections: &SectionNames<'_>,
+    line: usize,
+    walked: &[u8],
+    base: &[u8],
+) {
+    begin(told, sources, line, walked);
+    told.say_name(base);
+    told.say(", which isn't there; there are: ");
+    match listed(told.alloc(), sections) {
+        Ok(names) => told.say_list(names.as_slice()),
+        Err(error) => told.refuse(error),
+    }
+}
+
 /// The configuration with no chain that the one of that name extends; says what is wrong where that is with this one.
 fn followed<'a>(
     told: &mut Explanation,
     sources: &Sources<'_>,
-    text: &'a IniText,
-    names: &[&[u8]],
+    text: &IniText,
+    sections: &Sections<'a>,
     walked: &[u8],
     left: &mut usize,
 ) -> Option<&'a [u8]> {
-    let (line, bases) = bases_of(text.lines(), walked)?;
-    if let Some(base) = missing_base(names, bases) {
-        begin(told, sources, line, walked);
-        told.say_name(base);
-        told.say(", which isn't there; there are: ");
-        told.say_list(names);
+    let (line, bases) = bases_of(sections, walked)?;
+    if let Some(base) = missing_base(&sections.names, bases) {
+        tell_missing(told, sources, &sections.names, line, walked, base);
         return None;
     }
     match faulty_base(told.alloc(), text, bases, left) {
@@ -207,8 +221,13 @@ fn followed<'a>(
 }
 
 /// Says that the configuration of that name extends itself in the end.
-fn tell_circle(told: &mut Explanation, sources: &Sources<'_>, text: &IniText, walked: &[u8]) {
-    let line = match bases_of(text.lines(), walked) {
+fn tell_circle(
+    told: &mut Explanation,
+    sources: &Sources<'_>,
+    sections: &Sections<'_>,
+    walked: &[u8],
+) {
+    let line = match bases_of(sections, walked) {
         Some((line, _)) => line,
         None => 1,
     };
@@ -216,30 +235,62 @@ fn tell_circle(told: &mut Explanation, sources: &Sources<'_>, text: &IniText, wa
     told.say("itself in the end: take one 'extends' out of the circle");
 }
 
-/// Says what is wrong with the chain of the configuration, where these are all.
-fn tell_chain(told: &mut Explanation, sources: &Sources<'_>, text: &IniText, names: &[&[u8]]) {
+/// Whether the section of that number was passed before; it is from now on.
+fn was_passed(passed: &mut [bool], number: usize) -> bool {
+    match passed.get_mut(number) {
+        Some(it) => {
+            let before = *it;
+            *it = true;
+            before
+        }
+        None => false,
+    }
+}
+
+/// Says what is wrong with the chain of the configuration, where none of its sections was passed.
+fn tell_chain(
+    told: &mut Explanation,
+    sources: &Sources<'_>,
+    text: &IniText,
+    sections: &Sections<'_>,
+    passed: &mut [bool],
+) {
     let mut left = MOST_CHAINS;
     let mut walked = sources.config.as_bytes();
-    let mut passed: Vec<&[u8]> = Vec::new(told.alloc());
-    for _step in 0..=names.len() {
-        if is_among(walked, passed.as_slice()) {
-            return tell_circle(told, sources, text, walked);
+    for _step in 0..=passed.len() {
+        let Some(number) = sections.names.number_of(walked) else {
+            return;
+        };
+        if was_passed(passed, number) {
+            return tell_circle(told, sources, sections, walked);
         }
-        if let Err(error) = passed.push(walked) {
-            return told.refuse(error.into());
-        }
-        match followed(told, sources, text, names, walked, &mut left) {
+        match followed(told, sources, text, sections, walked, &mut left) {
             Some(base) => walked = base,
             None => return,
         }
     }
 }
 
+/// Says what is wrong with the chain of the configuration in this text, which has these sections.
+fn tell_chain_by(
+    told: &mut Explanation,
+    sources: &Sources<'_>,
+    text: &IniText,
+    sections: &Sections<'_>,
+) -> Result<(), NoMemory> {
+    let mut passed = vec![in told.alloc(); false; sections.names.len()]?;
+    tell_chain(told, sources, text, sections, passed.as_mut_slice());
+    Ok(())
+}
+
 /// Says what is wrong with the chain of the configuration in this text.
 fn tell_chain_in(told: &mut Explanation, sources: &Sources<'_>, text: &IniText) {
-    match configurations(told.alloc(), text.lines()) {
-        Ok(names) => tell_chain(told, sources, text, names.as_slice()),
-        Err(error) => told.refuse(error),
+    let done = match sections_of(told.alloc(), text.lines()) {
+        Ok(sections) => tell_chain_by(told, sources, text, &sections),
+        Err(error) => Err(error),
+    };
+    if let Err(error) = done {
+        told.refuse(error);
     }
 }
 

@@ -12,6 +12,7 @@ mod modules;
 mod reading;
 pub mod refusals;
 pub mod runs;
+mod sections;
 mod sites;
 mod syntax;
 pub mod warnings;

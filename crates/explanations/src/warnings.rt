@@ -2,11 +2,11 @@
 
 use crate::configurations::{chain_of, is_among, lines_of};
 use crate::reading::read_types;
+use crate::sections::{Numbered, Sections, sections_of};
 use ini_pattern::Pattern;
 use ini_texts::entries::network_entry;
 use ini_texts::entry::{EntryMeaning, ObjectEntry, ObjectOption};
 use ini_texts::lines::{Entry, IniLine, IniText};
-use ini_texts::scan::{entry_in, section_behind};
 use ini_texts::speaks::last_name;
 use model_settings::standings::before_last;
 use ned_trees::declarations::{SectionLine, Submodule, SubmoduleType, TypeDeclaration, TypeKind};
@@ -389,19 +389,29 @@ fn tell_entry(
     }
 }
 
-/// Says a line for each entry of a section that has no effect.
+/// Says a line for each of these entries that has no effect.
 fn tell_section(
     told: &mut Explanation,
     sources: &Sources<'_>,
     paths: &Paths,
-    lines: &[IniLine],
-    name: &[u8],
+    entries: &[Numbered<'_>],
 ) {
-    let mut section = None;
-    for (at, line) in lines.iter().enumerate() {
-        section = section_behind(section, line);
-        if let Some(entry) = entry_in(name, section, line) {
-            tell_entry(told, sources, paths, at.saturating_add(1), entry);
+    for it in entries {
+        tell_entry(told, sources, paths, it.line, it.entry);
+    }
+}
+
+/// Says a line for each entry of a chain of these sections that has no effect.
+fn tell_sections(
+    told: &mut Explanation,
+    sources: &Sources<'_>,
+    paths: &Paths,
+    sections: &Sections<'_>,
+    chain: &[Text],
+) {
+    for name in chain {
+        if let Some(entries) = sections.entries_under(name.as_bytes()) {
+            tell_section(told, sources, paths, entries);
         }
     }
 }
@@ -417,8 +427,9 @@ fn tell_chain(
     if paths.count.saturating_mul(lines.len()) > MOST_TRIES {
         return;
     }
-    for name in chain {
-        tell_section(told, sources, paths, lines, name.as_bytes());
+    match sections_of(told.alloc(), lines) {
+        Ok(sections) => tell_sections(told, sources, paths, &sections, chain),
+        Err(error) => told.refuse(error),
     }
 }
 
