@@ -85,7 +85,7 @@ fewer p (y ∷ ys) = by (p y) (fewer p ys)
     by true l = omega (arith, l)
     by false l = omega (arith, l)
 
-less : {X : Type 0} (p : X → Bool) (xs : List X) (x : X) → IsAmong x xs → p x ≡ false → length (filter p xs) < length xs
+pub less : {X : Type 0} (p : X → Bool) (xs : List X) (x : X) → IsAmong x xs → p x ≡ false → length (filter p xs) < length xs
 less p [] x is h = absurd is
 less p (y ∷ ys) x is h = by (p y) refl is (fewer p ys) (λ r. less p ys x r h)
   where
@@ -119,13 +119,13 @@ turned_true false h = refl
 
 -- ---- a type extends one of these
 
-abbrev Found_in : List TypeDeclaration → TypeDeclaration → Type 0
+abbrev pub Found_in : List TypeDeclaration → TypeDeclaration → Type 0
 Found_in types t = (u : TypeDeclaration) × IsAmong u types × Extends t u
 
 named_one : (types : List TypeDeclaration) (name : List ℕ) → is_type_named name types ≡ true → (u : TypeDeclaration) × IsAmong u types × (u.name ≡ name)
 named_one types name h = let found = any_found (λ u. bytes_eq u.name name) types h in (found.0, found.1, same_names found.0.name name found.2)
 
-extended_found : (types : List TypeDeclaration) (t : TypeDeclaration) → extends_one types t ≡ true → Found_in types t
+pub extended_found : (types : List TypeDeclaration) (t : TypeDeclaration) → extends_one types t ≡ true → Found_in types t
 extended_found types t h = go t.base refl (is_interface_kind t.kind) refl h
   where
     based : (name : List ℕ) → t.base ≡ Some name → is_type_named name types ≡ true → Found_in types t
@@ -194,17 +194,17 @@ one_is_circle types c = by (left_after (length types) types) (circle_ever (lengt
 
 -- ---- where some are left, each of some types extends one of them
 
-abbrev AllExtend : List TypeDeclaration → Type 0
+abbrev pub AllExtend : List TypeDeclaration → Type 0
 AllExtend types = (t : TypeDeclaration) → IsAmong t types → extends_one types t ≡ true
 
-abbrev Stuck : List TypeDeclaration → Type 0
+abbrev pub Stuck : List TypeDeclaration → Type 0
 Stuck types = (ts : List TypeDeclaration) × (is_one_left ts ≡ true) × AllExtend ts × ((t : TypeDeclaration) → IsAmong t ts → IsAmong t types)
 
 none_left : (n : ℕ) → is_one_left (left_after n []) ≡ false
 none_left zero = refl
 none_left (suc n) = none_left n
 
-stuck : (n : ℕ) (types : List TypeDeclaration) → length types ≤ n → is_one_left (left_after n types) ≡ true → Stuck types
+pub stuck : (n : ℕ) (types : List TypeDeclaration) → length types ≤ n → is_one_left (left_after n types) ≡ true → Stuck types
 stuck n [] l h = absurd (false≢true (sym (none_left n) ∙ h))
 stuck zero (t ∷ ts) l h = absurd (omega (arith, l))
 stuck (suc n) (t ∷ ts) l h = by (list_any (λ x. not (extends_one (t ∷ ts) x)) (t ∷ ts)) refl (stuck n (heirs (t ∷ ts)))
@@ -219,7 +219,7 @@ stuck (suc n) (t ∷ ts) l h = by (list_any (λ x. not (extends_one (t ∷ ts) x
 
 -- ---- a way along as many types as there are, and one more
 
-abbrev Point : List TypeDeclaration → Type 0
+abbrev pub Point : List TypeDeclaration → Type 0
 Point types = (t : TypeDeclaration) × IsAmong t types
 
 abbrev next_point : (types : List TypeDeclaration) → AllExtend types → Point types → Point types
@@ -259,20 +259,19 @@ at_place [] t is = absurd is
 at_place (u ∷ us) t (inl e) = ap Some (sym e)
 at_place (u ∷ us) t (inr is) = at_place us t is
 
-some_same : (t u : TypeDeclaration) → Some t ≡ Some u → t ≡ u
+pub some_same : (t u : TypeDeclaration) → Some t ≡ Some u → t ≡ u
 some_same t u e = cc
 
 way_among : (n : ℕ) (ts types : List TypeDeclaration) (t u : TypeDeclaration) → ((x : TypeDeclaration) → IsAmong x ts → IsAmong x types) → LeadsTo n ts t u → LeadsTo n types t u
 way_among zero ts types t u among w = (among u w.0, w.1)
 way_among (suc n) ts types t u among w = (w.0, (among w.0 w.1.0, w.1.1), way_among n ts types w.0 u among w.2)
 
-begin : (types : List TypeDeclaration) → is_one_left types ≡ true → Point types
+pub begin : (types : List TypeDeclaration) → is_one_left types ≡ true → Point types
 begin [] h = absurd (false≢true h)
 begin (t ∷ ts) h = (t, inl refl)
 
-pub circle_is_one : (types : List TypeDeclaration) → has_circle types ≡ true → ExtendsItself types
-circle_is_one types h =
-    let s = stuck (length types) types (omega arith) h in
+pub stuck_is_one : (types : List TypeDeclaration) → Stuck types → ExtendsItself types
+stuck_is_one types s =
     let ts = s.0 in
     let all = s.2 in
     let p = begin ts s.1 in
@@ -289,3 +288,6 @@ circle_is_one types h =
       s.3 (point i).0 (point i).1,
       (n, way_among n ts types (point i).0 (point i).0 s.3 (subst (LeadsTo n ts (point i).0) back (walk_leads ts all n (point i)))),
     )
+
+pub circle_is_one : (types : List TypeDeclaration) → has_circle types ≡ true → ExtendsItself types
+circle_is_one types h = stuck_is_one types (stuck (length types) types (omega arith) h)

@@ -1,6 +1,5 @@
 pub mod WellFormedLaws
 pub mod BuildingLaws
-pub mod InheritanceLaws
 pub mod Repeats
 pub mod NamedLaws
 pub mod Circles
@@ -10,3 +9,5 @@ pub mod OrderLaws
 pub mod LineLaws
 pub mod SectionLaws
 pub mod PlaceLaws
+pub mod ReadyLaws
+pub mod FlatLaws

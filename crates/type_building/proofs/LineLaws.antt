@@ -1,15 +1,16 @@
 -- Lines of interfaces.
-use Rattle.std.proofs.Common.{◌≡◌, ◌⊎◌, inl, inr, ℕ, zero, suc, ◌+◌, ◌-◌, ◌≤◌, Bool, true, false, not, ◌||◌, ◌&&◌, List, [], ◌∷◌, ◌++◌, Option, Some, None, refl, sym, subst, ap, ◌∙◌, arith, append_assoc, append-nil, length, map, take, drop, slice_index_or, bytes_eq, Bor, if◌then◌else◌}
+use Rattle.std.proofs.Common.{◌≡◌, inl, inr, ℕ, zero, suc, ◌-◌, ◌≤◌, Bool, true, false, not, ◌||◌, List, [], ◌∷◌, ◌++◌, Some, None, refl, sym, subst, ap, ◌∙◌, arith, append_assoc, append-nil, length, map, take, drop, slice_index_or, bytes_eq, Bor, if◌then◌else◌}
 use Rattle.std.proofs.lemmas.Bool.{false≢true}
 use Rattle.std.specs.List.{filter}
 use Rattle.std.specs.Map.{lookup}
 use Rattle.ned_trees.specs.declared.declarations.TypeDeclaration.{TypeDeclaration}
 use Rattle.ned_types.specs.Types.{has_duplicate, is_interface_kind, is_type_named, type_named}
 use Rattle.ned_types.specs.WellFormed.{IsAmong}
-use Rattle.type_building.specs.Inheritance.{bare, behind_all, extends_one, flat_interface, gathered, has_circle, heirs, is_base_among, is_one_among, is_one_left, joined_behind, left_after, once_behind, reached, roots, taken_within, types_in, with_members, without_interfaces}
+use Rattle.type_building.specs.Inheritance.{bare, behind_all, flat_interface, gathered, joined_behind, once_behind, reached, types_in, with_members, without_interfaces}
 use Rattle.type_building.specs.Named.{AddsLine, HaveLines, HaveLinesOf, IsBehind, LinesAlong, StandBehind, flat_by_lines, line_at, line_or_none}
-use Rattle.type_building.proofs.Circles.{among_filter, filter_among, turned_true}
-use Rattle.type_building.proofs.WellFormedLaws.{any_found, any_is, any_told, or_second, same_names, names_same, type_is, types_apart}
+use Rattle.type_building.specs.Order.{IsOrder}
+use Rattle.type_building.proofs.Circles.{filter_among, less}
+use Rattle.type_building.proofs.WellFormedLaws.{any_is, same_names, names_same, type_is, types_apart}
 use Rattle.type_building.proofs.NamedLaws.{or_joined, or_zero, turned}
 use Rattle.type_building.proofs.OrderLaws.{first_and_rest}
 use Rattle.indexmap.specs.IndexMap.{insert_entry}
@@ -58,28 +59,28 @@ flat_same entries types t have = ap (λ ls. without_interfaces (with_members (ga
 
 -- ---- names that were seen
 
-or_turned : (a b : Bool) → (a || b) ≡ true → (b || a) ≡ true
+pub or_turned : (a b : Bool) → (a || b) ≡ true → (b || a) ≡ true
 or_turned true true h = refl
 or_turned true false h = refl
 or_turned false true h = refl
 or_turned false false h = h
 
-or_either : (a b : Bool) → (a || b) ≡ true → a ≡ false → b ≡ true
+pub or_either : (a b : Bool) → (a || b) ≡ true → a ≡ false → b ≡ true
 or_either true b h e = absurd (false≢true (sym e))
 or_either false b h e = h
 
-or_first : (a b : Bool) → a ≡ true → (a || b) ≡ true
+pub or_first : (a b : Bool) → a ≡ true → (a || b) ≡ true
 or_first a b h = ap (λ c. c || b) h
 
-neither_first : (a b : Bool) → (a || b) ≡ false → a ≡ false
+pub neither_first : (a b : Bool) → (a || b) ≡ false → a ≡ false
 neither_first false b h = refl
 neither_first true b h = absurd (false≢true (sym h))
 
-neither_second : (a b : Bool) → (a || b) ≡ false → b ≡ false
+pub neither_second : (a b : Bool) → (a || b) ≡ false → b ≡ false
 neither_second false b h = h
 neither_second true b h = absurd (false≢true (sym h))
 
-named_joined : (name : List ℕ) (xs ys : List TypeDeclaration) → is_type_named name (xs ++ ys) ≡ (is_type_named name xs || is_type_named name ys)
+pub named_joined : (name : List ℕ) (xs ys : List TypeDeclaration) → is_type_named name (xs ++ ys) ≡ (is_type_named name xs || is_type_named name ys)
 named_joined name [] ys = refl
 named_joined name (x ∷ xs) ys = ap (λ b. bytes_eq x.name name || b) (named_joined name xs ys) ∙ sym (or_joined (bytes_eq x.name name) (is_type_named name xs) (is_type_named name ys))
 
@@ -87,21 +88,12 @@ longer : (xs : List TypeDeclaration) (t : TypeDeclaration) → length (xs ++ t �
 longer [] t = refl
 longer (x ∷ xs) t = ap suc (longer xs t)
 
-named_among : (types : List TypeDeclaration) (t : TypeDeclaration) (name : List ℕ) → IsAmong t types → bytes_eq t.name name ≡ true → is_type_named name types ≡ true
+pub named_among : (types : List TypeDeclaration) (t : TypeDeclaration) (name : List ℕ) → IsAmong t types → bytes_eq t.name name ≡ true → is_type_named name types ≡ true
 named_among types t name is e = any_is (λ u. bytes_eq u.name name) types t is e
-
-kept_by : {X : Type 0} (p : X → Bool) (xs : List X) (x : X) → IsAmong x (filter p xs) → p x ≡ true
-kept_by p [] x is = absurd is
-kept_by p (y ∷ ys) x is = by (p y) refl is (kept_by p ys x)
-  where
-    by : (b : Bool) → p y ≡ b → IsAmong x (if b then y ∷ filter p ys else filter p ys) → (IsAmong x (filter p ys) → p x ≡ true) → p x ≡ true
-    by true e (inl same) later = ap p same ∙ e
-    by true e (inr r) later = later r
-    by false e r later = later r
 
 -- ---- what is reached
 
-none_named : (types : List TypeDeclaration) (name : List ℕ) → is_type_named name types ≡ false → type_named name types ≡ None
+pub none_named : (types : List TypeDeclaration) (name : List ℕ) → is_type_named name types ≡ false → type_named name types ≡ None
 none_named [] name h = refl
 none_named (t ∷ ts) name h =
     ap (λ b. if b then Some t else type_named name ts) (neither_first (bytes_eq t.name name) (is_type_named name ts) h)
@@ -123,7 +115,7 @@ one_reached n types t name apart is e =
 
 -- ---- one type more
 
-abbrev Within : List TypeDeclaration → List TypeDeclaration → Type 0
+abbrev pub Within : List TypeDeclaration → List TypeDeclaration → Type 0
 Within seen types = (name : List ℕ) → is_type_named name seen ≡ true → is_type_named name types ≡ true
 
 line_before : (entries : List LineEntry) (types seen : List TypeDeclaration) → HaveLinesOf entries types seen → Within seen types → (n : ℕ) → length seen ≤ n → (name : List ℕ) → (is_type_named name types ≡ true → is_type_named name seen ≡ true) → reached n types name ≡ line_at entries name
@@ -186,13 +178,13 @@ line_left entries types seen t apart have is kind = (λ name there n l. first na
 
 -- ---- along an order
 
-behind_front : (types seen xs : List TypeDeclaration) (t : TypeDeclaration) → StandBehind types seen (xs ++ t ∷ []) → StandBehind types seen xs × IsBehind types (seen ++ xs) t
+pub behind_front : (types seen xs : List TypeDeclaration) (t : TypeDeclaration) → StandBehind types seen (xs ++ t ∷ []) → StandBehind types seen xs × IsBehind types (seen ++ xs) t
 behind_front types seen [] t h = (tt, subst (λ ts. IsBehind types ts t) (sym (append-nil seen)) h.0)
 behind_front types seen (x ∷ xs) t h =
     let later = behind_front types (seen ++ x ∷ []) xs t h.1 in
     ((h.0, later.0), subst (λ ts. IsBehind types ts t) (append_assoc seen (x ∷ []) xs) later.1)
 
-stand_within : (types seen ts : List TypeDeclaration) → StandBehind types seen ts → Within ts types
+pub stand_within : (types seen ts : List TypeDeclaration) → StandBehind types seen ts → Within ts types
 stand_within types seen [] h name e = absurd (false≢true e)
 stand_within types seen (t ∷ ts) h name e = by (bytes_eq t.name name) refl e (stand_within types (seen ++ t ∷ []) ts h.1 name)
   where
@@ -222,124 +214,49 @@ done_moved rest item d done all h is told =
     ∙ sym (ap (λ (rs : List (Bor TypeDeclaration)). done ++ types_in rs) (first_and_rest rest d h))
     ∙ told
 
--- ---- the order in which types are taken away
+-- ---- an order of all types
 
-abbrev Covers : List TypeDeclaration → List TypeDeclaration → List TypeDeclaration → Type 0
-Covers types seen rest = (name : List ℕ) → is_type_named name types ≡ true → (is_type_named name seen || is_type_named name rest) ≡ true
-
-behind_both : (types seen xs ys : List TypeDeclaration) → StandBehind types seen xs → StandBehind types (seen ++ xs) ys → StandBehind types seen (xs ++ ys)
+pub behind_both : (types seen xs ys : List TypeDeclaration) → StandBehind types seen xs → StandBehind types (seen ++ xs) ys → StandBehind types seen (xs ++ ys)
 behind_both types seen [] ys a b = subst (λ ts. StandBehind types ts ys) (append-nil seen) b
 behind_both types seen (x ∷ xs) ys a b = (a.0, behind_both types (seen ++ x ∷ []) xs ys a.1 (subst (λ ts. StandBehind types ts ys) (sym (append_assoc seen (x ∷ []) xs)) b))
 
-covers_more : (types seen rest : List TypeDeclaration) (t : TypeDeclaration) → Covers types seen rest → Covers types (seen ++ t ∷ []) rest
-covers_more types seen rest t covers name known = by (is_type_named name seen) refl
+-- the types of an order are among all
+pub behind_among : (types seen order : List TypeDeclaration) → StandBehind types seen order → (x : TypeDeclaration) → IsAmong x order → IsAmong x types
+behind_among types seen [] h x is = absurd is
+behind_among types seen (t ∷ ts) h x (inl same) = subst (λ (u : TypeDeclaration). IsAmong u types) (sym same) h.0.0
+behind_among types seen (t ∷ ts) h x (inr is) = behind_among types (seen ++ t ∷ []) ts h.1 x is
+
+-- and none was seen
+behind_fresh : (types seen order : List TypeDeclaration) → StandBehind types seen order → (x : TypeDeclaration) → IsAmong x order → is_type_named x.name seen ≡ false
+behind_fresh types seen [] h x is = absurd is
+behind_fresh types seen (t ∷ ts) h x (inl same) = ap (λ (u : TypeDeclaration). is_type_named u.name seen) same ∙ h.0.3
+behind_fresh types seen (t ∷ ts) h x (inr is) =
+    neither_first (is_type_named x.name seen) (bytes_eq t.name x.name || false) (sym (named_joined x.name seen (t ∷ [])) ∙ behind_fresh types (seen ++ t ∷ []) ts h.1 x is)
+
+-- an order has no more types than there are
+pub order_length : (types seen order pool : List TypeDeclaration) → StandBehind types seen order → ((x : TypeDeclaration) → IsAmong x order → IsAmong x pool) → length order ≤ length pool
+order_length types seen [] pool h among = omega arith
+order_length types seen (t ∷ ts) pool h among =
+    let later = order_length types (seen ++ t ∷ []) ts (filter (λ u. not (bytes_eq t.name u.name)) pool) h.1 (λ x is. filter_among (λ u. not (bytes_eq t.name u.name)) pool x (among x (inr is)) (ap not (other x is))) in
+    let fewer = less (λ u. not (bytes_eq t.name u.name)) pool t (among t (inl refl)) (ap not (names_same t.name t.name refl)) in
+    omega (arith, later, fewer)
   where
-    by : (b : Bool) → is_type_named name seen ≡ b → (is_type_named name (seen ++ t ∷ []) || is_type_named name rest) ≡ true
-    by true e = or_first (is_type_named name (seen ++ t ∷ [])) (is_type_named name rest) (named_joined name seen (t ∷ []) ∙ or_first (is_type_named name seen) (bytes_eq t.name name || false) e)
-    by false e = or_second (is_type_named name (seen ++ t ∷ [])) (is_type_named name rest) (or_either (is_type_named name seen) (is_type_named name rest) (covers name known) e)
-
-roots_behind : (types rest seen ts : List TypeDeclaration) → Covers types seen rest → ((x : TypeDeclaration) → IsAmong x ts → IsAmong x types × (extends_one rest x ≡ false)) → StandBehind types seen ts
-roots_behind types rest seen [] covers h = tt
-roots_behind types rest seen (t ∷ ts) covers h =
-    let own = h t (inl refl) in (
-      (own.0, λ name kind in-t known. behind name kind in-t known own.1),
-      roots_behind types rest (seen ++ t ∷ []) ts (covers_more types seen rest t covers) (λ x is. h x (inr is)),
-    )
-  where
-    behind : (name : List ℕ) → is_interface_kind t.kind ≡ true → IsAmong name t.interfaces → is_type_named name types ≡ true → extends_one rest t ≡ false → is_type_named name seen ≡ true
-    behind name kind in-t known root =
-        let none : is_one_among rest t.interfaces ≡ false = sym (ap (λ b. b && is_one_among rest t.interfaces) kind) ∙ neither_second (is_base_among rest t.base) (is_interface_kind t.kind && is_one_among rest t.interfaces) root in
-        let gone : is_type_named name rest ≡ false = any_told (λ n. is_type_named n rest) t.interfaces none name in-t in
-        or_either (is_type_named name rest) (is_type_named name seen) (or_turned (is_type_named name seen) (is_type_named name rest) (covers name known)) gone
-
-root_of : (rest : List TypeDeclaration) (x : TypeDeclaration) → IsAmong x (roots rest) → extends_one rest x ≡ false
-root_of rest x is = turned_true (extends_one rest x) (kept_by (λ t. not (extends_one rest t)) rest x is)
-
--- a name of some types is one of the roots or of the heirs
-parted_name : (rest : List TypeDeclaration) (name : List ℕ) → is_type_named name rest ≡ true → (is_type_named name (roots rest) || is_type_named name (heirs rest)) ≡ true
-parted_name rest name h =
-    let found = any_found (λ u. bytes_eq u.name name) rest h in
-    by found.0 found.1 found.2 (extends_one rest found.0) refl
-  where
-    by : (u : TypeDeclaration) → IsAmong u rest → bytes_eq u.name name ≡ true → (b : Bool) → extends_one rest u ≡ b → (is_type_named name (roots rest) || is_type_named name (heirs rest)) ≡ true
-    by u is e true x = or_second (is_type_named name (roots rest)) (is_type_named name (heirs rest)) (named_among (heirs rest) u name (filter_among (λ t. extends_one rest t) rest u is x) e)
-    by u is e false x = or_first (is_type_named name (roots rest)) (is_type_named name (heirs rest)) (named_among (roots rest) u name (filter_among (λ t. not (extends_one rest t)) rest u is (ap not x)) e)
-
-covers_round : (types seen rest : List TypeDeclaration) → Covers types seen rest → Covers types (seen ++ roots rest) (heirs rest)
-covers_round types seen rest covers name known = by (is_type_named name seen) refl
-  where
-    by : (b : Bool) → is_type_named name seen ≡ b → (is_type_named name (seen ++ roots rest) || is_type_named name (heirs rest)) ≡ true
-    by true e = or_first (is_type_named name (seen ++ roots rest)) (is_type_named name (heirs rest)) (named_joined name seen (roots rest) ∙ or_first (is_type_named name seen) (is_type_named name (roots rest)) e)
-    by false e =
-        ap (λ b. b || is_type_named name (heirs rest)) (named_joined name seen (roots rest) ∙ ap (λ b. b || is_type_named name (roots rest)) e)
-        ∙ parted_name rest name (or_either (is_type_named name seen) (is_type_named name rest) (covers name known) e)
-
-taken_behind : (n : ℕ) (types seen rest : List TypeDeclaration) → Covers types seen rest → ((x : TypeDeclaration) → IsAmong x rest → IsAmong x types) → StandBehind types seen (taken_within n rest)
-taken_behind zero types seen rest covers among = tt
-taken_behind (suc n) types seen rest covers among =
-    behind_both types seen (roots rest) (taken_within n (heirs rest))
-    (roots_behind types rest seen (roots rest) covers (λ x is. (among x (among_filter (λ t. not (extends_one rest t)) rest x is), root_of rest x is)))
-    (taken_behind n types (seen ++ roots rest) (heirs rest) (covers_round types seen rest covers) (λ x is. among x (among_filter (λ t. extends_one rest t) rest x is)))
-
--- what is not left is taken
-taken_named : (n : ℕ) (rest : List TypeDeclaration) (name : List ℕ) → is_type_named name rest ≡ true → (is_type_named name (taken_within n rest) || is_type_named name (left_after n rest)) ≡ true
-taken_named zero rest name h = h
-taken_named (suc n) rest name h = by (is_type_named name (roots rest)) refl (taken_named n (heirs rest) name)
-  where
-    by : (b : Bool) → is_type_named name (roots rest) ≡ b → (is_type_named name (heirs rest) ≡ true → (is_type_named name (taken_within n (heirs rest)) || is_type_named name (left_after n (heirs rest))) ≡ true) → (is_type_named name (roots rest ++ taken_within n (heirs rest)) || is_type_named name (left_after n (heirs rest))) ≡ true
-    by true e later = or_first (is_type_named name (roots rest ++ taken_within n (heirs rest))) (is_type_named name (left_after n (heirs rest))) (named_joined name (roots rest) (taken_within n (heirs rest)) ∙ or_first (is_type_named name (roots rest)) (is_type_named name (taken_within n (heirs rest))) e)
-    by false e later =
-        ap (λ b. b || is_type_named name (left_after n (heirs rest))) (named_joined name (roots rest) (taken_within n (heirs rest)) ∙ ap (λ b. b || is_type_named name (taken_within n (heirs rest))) e)
-        ∙ later (or_either (is_type_named name (roots rest)) (is_type_named name (heirs rest)) (parted_name rest name h) e)
-
-all_taken : (types : List TypeDeclaration) → has_circle types ≡ false → (name : List ℕ) → is_type_named name types ≡ true → is_type_named name (taken_within (length types) types) ≡ true
-all_taken types none name h =
-    or_either (is_type_named name (left_after (length types) types)) (is_type_named name (taken_within (length types) types))
-    (or_turned (is_type_named name (taken_within (length types) types)) (is_type_named name (left_after (length types) types)) (taken_named (length types) types name h))
-    (gone (left_after (length types) types) none)
-  where
-    gone : (ts : List TypeDeclaration) → is_one_left ts ≡ false → is_type_named name ts ≡ false
-    gone [] e = refl
-    gone (t ∷ ts) e = absurd (false≢true (sym e))
-
-parted_length : (p : TypeDeclaration → Bool) (xs : List TypeDeclaration) → length (filter (λ t. not (p t)) xs) + length (filter (λ t. p t) xs) ≡ length xs
-parted_length p [] = refl
-parted_length p (x ∷ xs) = by (p x) (parted_length p xs)
-  where
-    by : (b : Bool) → length (filter (λ t. not (p t)) xs) + length (filter (λ t. p t) xs) ≡ length xs
-        → length (if not b then x ∷ filter (λ t. not (p t)) xs else filter (λ t. not (p t)) xs) + length (if b then x ∷ filter (λ t. p t) xs else filter (λ t. p t) xs) ≡ suc (length xs)
-    by true e = omega (arith, e)
-    by false e = omega (arith, e)
-
-both_long : (xs ys : List TypeDeclaration) → length (xs ++ ys) ≡ length xs + length ys
-both_long [] ys = omega arith
-both_long (x ∷ xs) ys = let e = both_long xs ys in omega (arith, e)
-
-taken_length : (n : ℕ) (rest : List TypeDeclaration) → length (taken_within n rest) ≤ length rest
-taken_length zero rest = omega arith
-taken_length (suc n) rest =
-    let later = taken_length n (heirs rest) in
-    let parted = parted_length (λ t. extends_one rest t) rest in
-    let both = both_long (roots rest) (taken_within n (heirs rest)) in
-    omega (arith, later, parted, both)
+    other : (x : TypeDeclaration) → IsAmong x ts → bytes_eq t.name x.name ≡ false
+    other x is =
+        neither_first (bytes_eq t.name x.name) false
+        (neither_second (is_type_named x.name seen) (bytes_eq t.name x.name || false) (sym (named_joined x.name seen (t ∷ [])) ∙ behind_fresh types (seen ++ t ∷ []) ts h.1 x is))
 
 -- the lines are those of all types
-pub lines_fit : (entries : List LineEntry) (order : List (Bor TypeDeclaration)) (types : List TypeDeclaration) → LinesAlong entries (types_in order) → types_in order ≡ taken_within (length types) types → has_duplicate types ≡ false → has_circle types ≡ false → HaveLines entries types
-lines_fit entries order types have is apart none = λ name. by name (is_type_named name types) refl
+pub lines_fit : (entries : List LineEntry) (order types : List TypeDeclaration) → LinesAlong entries order → IsOrder types order → has_duplicate types ≡ false → HaveLines entries types
+lines_fit entries order types have is apart = λ name. by name (is_type_named name types) refl
   where
-    taken : List TypeDeclaration
-    taken = taken_within (length types) types
-
-    stand : StandBehind types [] taken
-    stand = taken_behind (length types) types [] types (λ name known. known) (λ x among. among)
-
-    lines : HaveLinesOf entries types taken
-    lines = subst (LinesAlong entries) is have types apart stand
+    lines : HaveLinesOf entries types order
+    lines = have types apart is.0
 
     by : (name : List ℕ) (b : Bool) → is_type_named name types ≡ b → line_at entries name ≡ reached (length types) types name
-    by name true e = sym (lines.0 name (all_taken types none name e) (length types) (taken_length (length types) types))
-    by name false e = lines.1 name (other name e (is_type_named name taken) refl) ∙ sym (none_reached (length types) types name e)
+    by name true e = sym (lines.0 name (is.1 name e) (length types) (order_length types [] order types is.0 (behind_among types [] order is.0)))
+    by name false e = lines.1 name (other name e (is_type_named name order) refl) ∙ sym (none_reached (length types) types name e)
       where
-        other : (name : List ℕ) → is_type_named name types ≡ false → (b : Bool) → is_type_named name taken ≡ b → b ≡ false
-        other name e true f = absurd (false≢true (sym e ∙ stand_within types [] taken stand name f))
+        other : (name : List ℕ) → is_type_named name types ≡ false → (b : Bool) → is_type_named name order ≡ b → b ≡ false
+        other name e true f = absurd (false≢true (sym e ∙ stand_within types [] order is.0 name f))
         other name e false f = refl

@@ -6,17 +6,16 @@ use Rattle.std.specs.Option.{option_map}
 use Rattle.ned_trees.specs.declared.connections.ConnectionItem.{ConnectionItem}
 use Rattle.ned_trees.specs.declared.declarations.TypeDeclaration.{TypeDeclaration}
 use Rattle.ned_types.specs.Flat.{or_else}
-use Rattle.ned_types.specs.Types.{is_built_in, is_inner_network, is_submodule_known, is_type_named, names_unknown, type_named}
+use Rattle.ned_types.specs.Types.{is_inner_network, is_submodule_known, names_unknown, type_named}
 use Rattle.type_building.specs.declared.places.Member.{Member}
 use Rattle.type_building.specs.declared.places.Member.TheVariants.{Whole, Base, Interface, Submodule, Channel, LacksParameter, LacksGate}
 use Rattle.type_building.specs.declared.places.Place.{Place}
 use Rattle.type_building.specs.Inheritance.{extends_other, extends_unknown}
-use Rattle.type_building.specs.Interfaces.{breaks_interface, has_broken, is_interface_for, keeps_other, lacks_any, lacks_gate, lacks_members, lacks_parameter, names_no_type}
+use Rattle.type_building.specs.Interfaces.{breaks_interface, has_broken, is_interface_for, keeps_other, lacks_any, lacks_gate, lacks_parameter, names_no_type}
 use Rattle.type_building.specs.Named.{is_other_named, is_unknown_named}
-use Rattle.type_building.specs.Places.{first_from, is_known, lacked_from, lacked_in, lacked_of, lacked_of_any, other_in, place_from, placed, unknown_channel_from, unknown_in}
+use Rattle.type_building.specs.Places.{first_from, is_known, lacked_from, lacked_in, lacked_of_any, other_in, place_from, placed, unknown_channel_from, unknown_in}
 use Rattle.type_building.specs.declared.table.TypeFault.{TypeFault}
 use Rattle.type_building.specs.declared.table.TypeFault.TheVariants as fault
-use Rattle.type_building.specs.declared.table.BuildError.{BuildError}
 use Rattle.type_building.specs.declared.table.BuildError.TheVariants.{Fault}
 use Rattle.ned_types.specs.Clashes.{connections_of, has_clash, has_unknown_channel, is_channel_unknown}
 use Rattle.ned_types.specs.Types.{has_duplicate}

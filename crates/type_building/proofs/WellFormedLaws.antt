@@ -115,7 +115,7 @@ pairs_made Q R bad any none step one (z ∷ zs) q r =
 pub types_apart : (types : List TypeDeclaration) → t.has_duplicate types ≡ false → (a b : TypeDeclaration) → StandsBefore a b types → a.name ≢ b.name
 types_apart types h = pairs_told {X = TypeDeclaration} (λ a b. a.name ≢ b.name) (λ a behind. t.is_built_in a.name || t.is_type_named a.name behind) t.has_duplicate (λ a behind. refl) (λ a behind none b is. names_apart b.name a.name (any_told (λ u. bytes_eq u.name a.name) behind (or_parts (t.is_built_in a.name) _ none).1 b is)) types h
 
-types_own : (types : List TypeDeclaration) → t.has_duplicate types ≡ false → (a : TypeDeclaration) → IsAmong a types → t.is_built_in a.name ≡ false
+pub types_own : (types : List TypeDeclaration) → t.has_duplicate types ≡ false → (a : TypeDeclaration) → IsAmong a types → t.is_built_in a.name ≡ false
 types_own [] h a is = absurd is
 types_own (b ∷ bs) h a (inl e) =
     let parts = or_parts (t.is_built_in b.name || t.is_type_named b.name bs) (t.has_duplicate bs) h in

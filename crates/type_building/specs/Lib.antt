@@ -6,3 +6,5 @@ pub mod Building
 pub mod Seen
 pub mod Example
 pub mod Named
+pub mod Order
+pub mod Flats

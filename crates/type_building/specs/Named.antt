@@ -65,9 +65,13 @@ HaveLines entries types = (name : List ℕ) → line_at entries name ≡ reached
 abbrev pub AddsLine : List (Bor (List ℕ) × List TypeDeclaration) → List (Bor (List ℕ) × List TypeDeclaration) → TypeDeclaration → Type 0
 AddsLine before after t = (name : List ℕ) → line_at after name ≡ (if bytes_eq t.name name then once_behind (joined_behind [] (map (line_at before) t.interfaces)) t else line_at before name)
 
--- one of the types, which extends none of them but what is seen
+-- one of the types, which isn't seen and extends none of them but what is seen
 abbrev pub IsBehind : List TypeDeclaration → List TypeDeclaration → TypeDeclaration → Type 0
-IsBehind types seen t = IsAmong t types × ((name : List ℕ) → is_interface_kind t.kind ≡ true → IsAmong name t.interfaces → is_type_named name types ≡ true → is_type_named name seen ≡ true)
+IsBehind types seen t =
+    IsAmong t types
+    × ((name : List ℕ) → is_interface_kind t.kind ≡ true → IsAmong name t.interfaces → is_type_named name types ≡ true → is_type_named name seen ≡ true)
+    × ((name : List ℕ) → t.base ≡ Some name → is_type_named name types ≡ true → is_type_named name seen ≡ true)
+    × (is_type_named t.name seen ≡ false)
 
 -- each of some types stands behind all that it extends, and behind those that were seen
 abbrev pub StandBehind : List TypeDeclaration → List TypeDeclaration → List TypeDeclaration → Type 0

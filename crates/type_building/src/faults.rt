@@ -1,26 +1,30 @@
 //! Why declared types make no model.
 
-ghost use Rattle.std.specs.Prelude.{◌≡◌, ◌||◌, false, not, is_some, IfOk, map};
+ghost use Rattle.std.specs.Prelude.{◌≡◌, ◌||◌, false, not, is_some, None, IfOk, map};
 ghost use Rattle.ned_types.specs.Clashes.{clashes, has_clash};
 ghost use Rattle.ned_types.specs.Types.{has_duplicate, is_built_in, is_type_named, names_unknown, has_inner_network, is_inner_name, is_inner_network, is_submodule_known, submodules_clash, is_submodule_suited, suits_kind, repeats_submodule, has_other_kind};
-ghost use Rattle.type_building.specs.Inheritance.{flat_type, flat_types};
+ghost use Rattle.type_building.specs.Inheritance.{flat_type, flat_types, types_in};
+ghost use Rattle.type_building.specs.Order.{IsOrder};
 ghost use Rattle.type_building.specs.Building.{Builds, AnswersTable, AreFaultless, KeepRules, TellsFlat};
 ghost use Rattle.ned_types.specs.WellFormed.{IsWellFormed};
 ghost use Rattle.std.specs.List.{list_any};
-ghost use Rattle.type_building.specs.Named.{HaveLines, is_other_named, is_unknown_named};
+ghost use Rattle.type_building.specs.Named.{is_other_named, is_unknown_named};
 ghost use Rattle.type_building.specs.Places.{first_from, other_in, place_from, placed, unknown_in};
 ghost use Rattle.type_building.specs.Seen.{is_one_named, names_in};
 
 use crate::bodies::{body_clash, declared_in_body};
 use crate::connections::{connection_clash, unknown_channel};
+use crate::flats::flat_types;
 use crate::gates::redeclared_gate;
-use crate::inheritance::{extends_other, extends_unknown, flat_types};
+use crate::inheritance::{extends_other, extends_unknown};
 use crate::interfaces::{broken_place, first_other_interface, first_unknown_interface};
-use crate::lines::{Lines, all_lines};
+use crate::lines::lines_of;
 use crate::named::{NamedTypes, by_name};
+use crate::order::ordered;
 use crate::places::{Member, Place, placed};
 use crate::sections::section_clash;
 use crate::table::{BuildError, TypeFault};
+use crate::webs::circle_place;
 use indexmap::IndexSet;
 use ned_trees::declarations::{Submodule, SubmoduleType, TypeDeclaration, TypeKind};
 use ned_trees::refusals::refused;
@@ -70,31 +74,30 @@ fn built_by<'a>(
     if let Some(place) = unknown_place(named, types) {
         return Err(BuildError::Fault(TypeFault::UnknownType, place));
     }
-    let (circle, lines) = all_lines(alloc, named, types)?;
-    if let Some(place) = circle {
-        return Err(refused(
-            lines,
-            BuildError::Fault(TypeFault::InheritanceCircle, place),
-        ));
-    }
+    let Some(order) = ordered(alloc, named, types)? else {
+        let place = circle_place(alloc, named, types)?;
+        return Err(BuildError::Fault(TypeFault::InheritanceCircle, place));
+    };
     if let Some(place) = other_place(named, types) {
-        return Err(refused(lines, BuildError::Fault(TypeFault::KindClash, place)));
+        return Err(refused(order, BuildError::Fault(TypeFault::KindClash, place)));
     }
-    let flat = flat_over(alloc, named, lines, types)?;
+    let flat = flat_over(alloc, order, types)?;
     faultless(alloc, flat)
 }
 
-/// The flat type of each, where these are the lines of the interfaces among the types, which nothing needs behind it.
+/// The flat type of each, where this is an order of the types, which nothing needs behind it.
 fn flat_over<'a>(
     alloc: Global,
-    named: &NamedTypes<'a>,
-    lines: Lines<'a>,
+    order: Vec<&'a TypeDeclaration>,
     types: &'a [TypeDeclaration],
 ) -> Result<Items<TypeDeclaration>, AllocError>
-    requires { HaveLines lines.entries named.now }
-    ensures { IfOk result (λ flat. flat ≡ map (flat_type named.now) types.now) }
+    requires apart { has_duplicate types.now ≡ false }
+    requires order { IsOrder types.now (types_in order.items) }
+    requires fit { place_from (other_in types.now) 0 types.now ≡ None }
+    ensures { IfOk result (λ flat. flat ≡ map (flat_type types.now) types.now) }
 {
-    flat_types(alloc, named, &lines, types)
+    let lines = lines_of(alloc, &order)?;
+    flat_types(alloc, &lines, &order, types)
 }
 
 /// Flat types, which have names of their own, where they have no fault.

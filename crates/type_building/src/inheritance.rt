@@ -1,35 +1,22 @@
 //! Types that extend others.
 
-ghost use Rattle.std.specs.Prelude.{◌≡◌, ◌++◌, [], map, IfOk, OnOk};
+ghost use Rattle.std.specs.Prelude.{◌≡◌, [], map, IfOk, OnOk};
 ghost use Rattle.std.specs.Option.{option_copied};
-ghost use Rattle.ned_types.specs.Types.{is_channel_kind, is_simple_kind};
-ghost use Rattle.type_building.specs.Inheritance.{base_of, line_of, extends_unknown, extends_other, can_extend, is_base, is_channel_of, with_members, joined_with, class_along, class_lines, bare, bare_heir_of, flat_by, gathered, heir_of, flat_type, is_compound_kind, joined_behind, joined_connections, no_connections, types_in};
-ghost use Rattle.type_building.specs.Named.{HaveLines, flat_by_lines, line_at};
+ghost use Rattle.type_building.specs.Inheritance.{extends_unknown, extends_other, can_extend, is_base, is_channel_of, with_members, bare, gathered, is_compound_kind, joined_behind, joined_connections, no_connections, types_in};
+ghost use Rattle.type_building.specs.Named.{flat_by_lines, line_at};
 
 use crate::faults::{is_built_in, is_taken};
 use crate::lines::{Lines, add_lines_of};
 use crate::named::NamedTypes;
-use crate::order::is_interface_kind;
 use ned_channels::built_in::add_root;
 use ned_scopes::connections::add_items;
-use ned_scopes::copies::{add_gates, add_lines, add_names, add_submodules, copy_base, copy_type};
+use ned_scopes::copies::{add_gates, add_lines, add_names, add_submodules};
 use ned_trees::connections::ConnectionSection;
-use ned_trees::declarations::{SectionLine, TypeDeclaration, TypeKind};
-use ned_types::flat::{class_in, class_of};
-use ned_types::made::{behind, changed};
+use ned_trees::declarations::{TypeDeclaration, TypeKind};
+use ned_types::made::changed;
 use sim_values::text::Text;
 use sqlite_items::Items;
 use std::alloc::{AllocError, Global};
-
-/// What the type extends.
-fn base_of<'a>(named: &NamedTypes<'a>, declared: &TypeDeclaration) -> Option<&'a TypeDeclaration>
-    ensures { option_copied result ≡ base_of named.now declared.now.base }
-{
-    match &declared.base {
-        Some(name) => named.find(name.as_bytes()),
-        None => None,
-    }
-}
 
 /// Whether what is extended isn't there.
 pub(crate) fn extends_unknown(named: &NamedTypes<'_>, base: &Option<Text>) -> bool
@@ -89,36 +76,8 @@ fn is_base(kind: TypeKind, declared: Option<&TypeDeclaration>) -> bool
     }
 }
 
-fn is_simple_kind(kind: TypeKind) -> bool
-    ensures { result ≡ is_simple_kind kind }
-{
-    matches!(kind, TypeKind::Simple)
-}
-
-/// A type, what it extends, what that extends, and so on.
-fn line_of<'a>(
-    alloc: Global,
-    named: &NamedTypes<'a>,
-    declared: &'a TypeDeclaration,
-) -> Result<Vec<&'a TypeDeclaration>, AllocError>
-    ensures { IfOk result (λ line. types_in line.items ≡ line_of named.now declared.now) }
-{
-    let mut line = Vec::new(alloc);
-    let mut next = Some(declared);
-    let mut left = named.len();
-    while let Some(found) = next {
-        if left == 0 {
-            break;
-        }
-        line.push(found)?;
-        next = base_of(named, found);
-        left -= 1;
-    }
-    Ok(line)
-}
-
 /// A section of connections without items.
-fn no_connections(alloc: Global) -> ConnectionSection
+pub(crate) fn no_connections(alloc: Global) -> ConnectionSection
     ensures { result ≡ no_connections }
 {
     ConnectionSection {
@@ -128,7 +87,7 @@ fn no_connections(alloc: Global) -> ConnectionSection
 }
 
 /// Adds the connections of a section behind those of the other.
-fn add_connections(
+pub(crate) fn add_connections(
     alloc: Global,
     section: &mut ConnectionSection,
     more: &ConnectionSection,
@@ -154,105 +113,6 @@ fn add_members(
     add_gates(alloc, &mut flat.gates, declared.gates.as_slice())?;
     add_submodules(alloc, &mut flat.submodules, declared.submodules.as_slice())?;
     add_connections(alloc, &mut flat.connections, &declared.connections)
-}
-
-/// Adds the members of these types, those of the last one first.
-fn add_joined(
-    alloc: Global,
-    flat: &mut TypeDeclaration,
-    line: Vec<&TypeDeclaration>,
-) -> Result<(), AllocError>
-    ensures { OnOk result (flat.new ≡ joined_with flat.old (types_in line.entry.items)) }
-{
-    let mut rest = line;
-    while let Some(declared) = rest.pop() {
-        add_members(alloc, flat, declared)?;
-    }
-    Ok(())
-}
-
-/// The class that the first of these types names that names one, or else that of the last one.
-fn class_along<'a>(line: &[&'a TypeDeclaration]) -> &'a [u8]
-    ensures { result.now ≡ class_along (types_in line.now) }
-{
-    let mut rest = line;
-    while let [declared, after @ ..] = rest {
-        if after.is_empty() {
-            return class_of(declared);
-        }
-        if let Some(name) = class_in(declared.lines.as_slice()) {
-            return name;
-        }
-        rest = after;
-    }
-    b"".as_slice()
-}
-
-/// Adds the line that names the class of a type that extends another, where it is a simple type.
-fn add_class_line(
-    alloc: Global,
-    lines: &mut Items<SectionLine>,
-    declared: &TypeDeclaration,
-    line: &[&TypeDeclaration],
-) -> Result<(), AllocError>
-    ensures { OnOk result (lines.new ≡ lines.old ++ class_lines (is_simple_kind declared.now.kind) (class_along (types_in line.now))) }
-{
-    if is_simple_kind(declared.kind) {
-        lines.push(SectionLine::Class(Text::from_bytes(alloc, class_along(line))?))?;
-    }
-    Ok(())
-}
-
-/// The line that names the class of a type that extends another, where it is a simple type.
-fn class_lines(
-    alloc: Global,
-    declared: &TypeDeclaration,
-    line: &[&TypeDeclaration],
-) -> Result<Items<SectionLine>, AllocError>
-    ensures { IfOk result (λ lines. lines ≡ class_lines (is_simple_kind declared.now.kind) (class_along (types_in line.now))) }
-{
-    let mut lines = Items::new(alloc);
-    let done = add_class_line(alloc, &mut lines, declared, line);
-    changed(lines, done)
-}
-
-/// A type that extends another, where these are the type and its bases, before it has any member.
-fn bare_heir(
-    alloc: Global,
-    declared: &TypeDeclaration,
-    line: &[&TypeDeclaration],
-) -> Result<TypeDeclaration, AllocError>
-    ensures { IfOk result (λ flat. flat ≡ bare_heir_of (types_in line.now) declared.now) }
-{
-    let name = declared.name.copy(alloc)?;
-    let (name, base) = behind(name, copy_base(alloc, &declared.base))?;
-    let (name, lines) = behind(name, class_lines(alloc, declared, line))?;
-    Ok(TypeDeclaration {
-        kind: declared.kind,
-        name,
-        base,
-        interfaces: Items::new(alloc),
-        lines,
-        gates: Items::new(alloc),
-        submodules: Items::new(alloc),
-        connections: no_connections(alloc),
-    })
-}
-
-/// A type that extends another, with all that its bases have.
-fn heir_of<'a>(
-    alloc: Global,
-    named: &NamedTypes<'a>,
-    declared: &'a TypeDeclaration,
-) -> Result<TypeDeclaration, AllocError>
-    ensures { IfOk result (λ flat. flat ≡ heir_of named.now declared.now) }
-{
-    let line = line_of(alloc, named, declared)?;
-    let flat = bare_heir(alloc, declared, &line);
-    let (line, flat) = behind(line, flat)?;
-    let mut flat = flat;
-    let done = add_joined(alloc, &mut flat, line);
-    changed(flat, done)
 }
 
 /// Adds the members of these types, those of the first one first.
@@ -315,7 +175,7 @@ fn with_gathered(
 }
 
 /// A type with the members of another behind its own.
-fn with_own(
+pub(crate) fn with_own(
     alloc: Global,
     flat: TypeDeclaration,
     declared: &TypeDeclaration,
@@ -328,7 +188,7 @@ fn with_own(
 }
 
 /// An interface with all that it extends.
-fn flat_interface<'a>(
+pub(crate) fn flat_interface<'a>(
     alloc: Global,
     lines: &Lines<'a>,
     declared: &'a TypeDeclaration,
@@ -341,68 +201,4 @@ fn flat_interface<'a>(
     let mut flat = with_own(alloc, flat, declared)?;
     flat.interfaces = Items::new(alloc);
     Ok(flat)
-}
-
-/// What a type that is no interface has with all that its bases have.
-fn flat_by<'a>(
-    alloc: Global,
-    named: &NamedTypes<'a>,
-    declared: &'a TypeDeclaration,
-) -> Result<TypeDeclaration, AllocError>
-    ensures { IfOk result (λ flat. flat ≡ flat_by named.now declared.now declared.now.base) }
-{
-    match &declared.base {
-        Some(_) => heir_of(alloc, named, declared),
-        None => copy_type(alloc, declared),
-    }
-}
-
-/// What the type has with all that its bases have.
-fn flat_type<'a>(
-    alloc: Global,
-    named: &NamedTypes<'a>,
-    lines: &Lines<'a>,
-    declared: &'a TypeDeclaration,
-) -> Result<TypeDeclaration, AllocError>
-    requires { HaveLines lines.now.entries named.now }
-    ensures { IfOk result (λ flat. flat ≡ flat_type named.now declared.now) }
-{
-    if is_interface_kind(declared.kind) {
-        let flat = flat_interface(alloc, lines, declared)?;
-        return Ok(flat);
-    }
-    let flat = flat_by(alloc, named, declared)?;
-    Ok(flat)
-}
-
-/// Adds the flat type of each.
-fn add_flat_types<'a>(
-    alloc: Global,
-    flat: &mut Items<TypeDeclaration>,
-    named: &NamedTypes<'a>,
-    lines: &Lines<'a>,
-    types: &'a [TypeDeclaration],
-) -> Result<(), AllocError>
-    requires { HaveLines lines.now.entries named.now }
-    ensures { OnOk result (flat.new ≡ flat.old ++ map (flat_type named.now) types.now) }
-{
-    for declared in types {
-        flat.push(flat_type(alloc, named, lines, declared)?)?;
-    }
-    Ok(())
-}
-
-/// The flat type of each, where these are the lines of the interfaces among the types.
-pub(crate) fn flat_types<'a>(
-    alloc: Global,
-    named: &NamedTypes<'a>,
-    lines: &Lines<'a>,
-    types: &'a [TypeDeclaration],
-) -> Result<Items<TypeDeclaration>, AllocError>
-    requires { HaveLines lines.now.entries named.now }
-    ensures { IfOk result (λ flat. flat ≡ map (flat_type named.now) types.now) }
-{
-    let mut flat = Items::new(alloc);
-    let done = add_flat_types(alloc, &mut flat, named, lines, types);
-    changed(flat, done)
 }

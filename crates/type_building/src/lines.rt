@@ -1,15 +1,12 @@
 //! Interfaces with all that they extend.
 
-ghost use Rattle.std.specs.Prelude.{◌≡◌, [], false, is_some, map, IfOk, OnOk};
+ghost use Rattle.std.specs.Prelude.{◌≡◌, [], map, IfOk, OnOk};
 ghost use Rattle.std.specs.Option.{option_copied};
-ghost use Rattle.type_building.specs.Inheritance.{all_behind, has_circle, joined_behind, once_behind, types_in};
-ghost use Rattle.type_building.specs.Named.{AddsLine, HaveLines, LinesAlong, line_at};
-ghost use Rattle.ned_types.specs.Types.{has_duplicate};
+ghost use Rattle.type_building.specs.Inheritance.{all_behind, joined_behind, once_behind, types_in};
+ghost use Rattle.type_building.specs.Named.{AddsLine, LinesAlong, line_at};
 
 use crate::named::NamedTypes;
-use crate::order::{is_interface_kind, take_all};
-use crate::places::Place;
-use crate::webs::circle_place;
+use crate::order::is_interface_kind;
 use indexmap::IndexMap;
 use ned_trees::declarations::TypeDeclaration;
 use ned_types::made::changed;
@@ -111,32 +108,13 @@ fn add_interfaces<'a>(
 }
 
 /// The lines of the interfaces among these types, each of which stands behind all that it extends.
-fn lines_of<'a>(alloc: Global, order: &[&'a TypeDeclaration]) -> Result<Lines<'a>, AllocError>
+pub(crate) fn lines_of<'a>(
+    alloc: Global,
+    order: &[&'a TypeDeclaration],
+) -> Result<Lines<'a>, AllocError>
     ensures { IfOk result (λ lines. LinesAlong lines.entries (types_in order.now)) }
 {
     let mut lines = IndexMap::new(alloc);
     let done = add_interfaces(alloc, &mut lines, order);
     changed(lines, done)
-}
-
-#[tactic(auto, using(crate::proofs::LineLaws::lines_fit))]
-/// Where a type extends itself, perhaps by way of others; and where none does, the lines of all interfaces among the types.
-pub(crate) fn all_lines<'a>(
-    alloc: Global,
-    named: &NamedTypes<'a>,
-    types: &'a [TypeDeclaration],
-) -> Result<(Option<Place>, Lines<'a>), AllocError>
-    requires { has_duplicate types.now ≡ false }
-    ensures circle { IfOk result (λ r. is_some r.0 ≡ has_circle types.now) }
-    ensures lines { IfOk result (λ r. has_circle types.now ≡ false → HaveLines r.1.entries types.now) }
-{
-    let mut order = Vec::new(alloc);
-    if take_all(alloc, &mut order, types)? {
-        return Ok((
-            Some(circle_place(alloc, named, types)?),
-            IndexMap::new(alloc),
-        ));
-    }
-    let lines = lines_of(alloc, &order)?;
-    Ok((None, lines))
 }

@@ -1,15 +1,15 @@
 //! The order in which types stand behind all that they extend.
 
-ghost use Rattle.std.specs.Prelude.{◌≡◌, ◌++◌, [], false, not, length, IfOk, OnOk};
-ghost use Rattle.std.specs.List.{filter};
-ghost use Rattle.type_building.specs.Inheritance.{extends_one, has_circle, heirs, is_base_among, is_one_among, roots, taken_within, types_in};
-ghost use Rattle.ned_types.specs.Types.{is_interface_kind};
-ghost use Rattle.type_building.specs.Named.{HaveNamesOf};
+ghost use Rattle.std.specs.Prelude.{◌≡◌, ◌++◌, ◌<◌, [], true, false, is_none, length, IfOk, IfSome, OnOk};
+ghost use Rattle.type_building.specs.Inheritance.{has_circle, types_in};
+ghost use Rattle.type_building.specs.Order.{are_ready, is_base_ready, is_name_ready, is_ready, AreAmong, AreStuck, IsOrder, IsUnderWay, TakesOne};
+ghost use Rattle.ned_types.specs.Types.{has_duplicate, is_interface_kind};
 
 use crate::named::NamedTypes;
+use crate::webs::roots_first;
 use ned_trees::declarations::{TypeDeclaration, TypeKind};
-use ned_types::made::changed;
 use sim_values::text::Text;
+use sqlite_items::at;
 use std::alloc::{AllocError, Global};
 
 /// Whether it is a kind of interfaces.
@@ -19,34 +19,42 @@ pub(crate) fn is_interface_kind(kind: TypeKind) -> bool
     matches!(kind, TypeKind::ModuleInterface | TypeKind::ChannelInterface)
 }
 
-/// Whether one of the types has the name of a base.
-fn is_base_among(named: &NamedTypes<'_>, base: &Option<Text>) -> bool
-    ensures { result ≡ is_base_among named.now base.now }
+/// Whether the type of that name was seen, where there is one.
+fn is_name_ready(named: &NamedTypes<'_>, seen: &NamedTypes<'_>, name: &[u8]) -> bool
+    ensures { result ≡ is_name_ready named.now seen.now name.now }
+{
+    !named.has(name) || seen.has(name)
+}
+
+/// Whether a base was seen, where it is one of the types.
+fn is_base_ready(named: &NamedTypes<'_>, seen: &NamedTypes<'_>, base: &Option<Text>) -> bool
+    ensures { result ≡ is_base_ready named.now seen.now base.now }
 {
     match base {
-        Some(name) => named.has(name.as_bytes()),
-        None => false,
+        Some(name) => is_name_ready(named, seen, name.as_bytes()),
+        None => true,
     }
 }
 
-/// Whether one of the types has one of the names.
-fn is_one_among(named: &NamedTypes<'_>, names: &[Text]) -> bool
-    ensures { result ≡ is_one_among named.now names.now }
+/// Whether all of these names that one of the types has were seen.
+fn are_ready(named: &NamedTypes<'_>, seen: &NamedTypes<'_>, names: &[Text]) -> bool
+    ensures { result ≡ are_ready named.now seen.now names.now }
 {
     for name in names {
-        if named.has(name.as_bytes()) {
-            return true;
+        if !is_name_ready(named, seen, name.as_bytes()) {
+            return false;
         }
     }
-    false
+    true
 }
 
-/// Whether a type extends one of these.
-fn extends_one(named: &NamedTypes<'_>, declared: &TypeDeclaration) -> bool
-    ensures { result ≡ extends_one named.now declared.now }
+/// Whether all types that a type extends were seen.
+fn is_ready(named: &NamedTypes<'_>, seen: &NamedTypes<'_>, declared: &TypeDeclaration) -> bool
+    ensures { result ≡ is_ready named.now seen.now declared.now }
 {
-    is_base_among(named, &declared.base)
-        || (is_interface_kind(declared.kind) && is_one_among(named, declared.interfaces.as_slice()))
+    is_base_ready(named, seen, &declared.base)
+        && (!is_interface_kind(declared.kind)
+            || are_ready(named, seen, declared.interfaces.as_slice()))
 }
 
 /// Adds references to these.
@@ -62,112 +70,140 @@ fn add_references<'a>(
     Ok(())
 }
 
-/// References to these.
-fn references(alloc: Global, types: &[TypeDeclaration]) -> Result<Vec<&TypeDeclaration>, AllocError>
-    ensures { IfOk result (λ refs. types_in refs.items ≡ types.now) }
+/// Adds a reference to the type of that number.
+fn add_at<'a>(
+    refs: &mut Vec<&'a TypeDeclaration>,
+    types: &'a [TypeDeclaration],
+    number: usize,
+) -> Result<(), AllocError>
+    requires { AreAmong (types_in refs.old.items) types.now }
+    ensures { OnOk result (AreAmong (types_in refs.new.items) types.now) }
 {
-    let mut refs = Vec::new(alloc);
-    let done = add_references(&mut refs, types);
-    changed(refs, done)
+    match at(types, number) {
+        Some(declared) => {
+            refs.push(declared)?;
+            Ok(())
+        }
+        None => Ok(()),
+    }
 }
 
-/// Adds types that have the names of these to none.
-fn add_names_of<'a>(
-    named: &mut NamedTypes<'a>,
-    types: &[&'a TypeDeclaration],
+/// Adds references to those of the types that have these numbers.
+fn add_numbered<'a>(
+    refs: &mut Vec<&'a TypeDeclaration>,
+    types: &'a [TypeDeclaration],
+    numbers: &[usize],
 ) -> Result<(), AllocError>
-    requires { named.old ≡ [] }
-    ensures { OnOk result (HaveNamesOf named.new (types_in types.now)) }
+    requires { AreAmong (types_in refs.old.items) types.now }
+    ensures { OnOk result (AreAmong (types_in refs.new.items) types.now) }
 {
-    let mut rest = types;
-    while let [declared, after @ ..] = rest {
-        let _new = named.add(declared)?;
-        rest = after;
+    for number in numbers {
+        add_at(refs, types, *number)?;
     }
     Ok(())
 }
 
-/// Types that have the names of these.
-fn names_of<'a>(alloc: Global, types: &[&'a TypeDeclaration]) -> Result<NamedTypes<'a>, AllocError>
-    ensures { IfOk result (λ named. HaveNamesOf named (types_in types.now)) }
+/// The types in an order that serves: those that extend no other, and others behind what they extend, and then all of them again.
+fn candidates<'a>(
+    alloc: Global,
+    named: &NamedTypes<'a>,
+    types: &'a [TypeDeclaration],
+) -> Result<Vec<&'a TypeDeclaration>, AllocError>
+    ensures { IfOk result (λ refs. IsUnderWay types.now [] (types_in refs.items)) }
 {
-    let mut named = NamedTypes::new(alloc);
-    let done = add_names_of(&mut named, types);
-    changed(named, done)
+    let numbers = roots_first(alloc, named, types)?;
+    let mut refs = Vec::new(alloc);
+    add_numbered(&mut refs, types, numbers.as_slice())?;
+    add_references(&mut refs, types)?;
+    Ok(refs)
 }
 
-/// Adds those of the types that extend one of these to the others, and the rest to the order.
-fn part<'a>(
-    named: &NamedTypes<'_>,
-    order: &mut Vec<&'a TypeDeclaration>,
-    others: &mut Vec<&'a TypeDeclaration>,
-    types: &[&'a TypeDeclaration],
-) -> Result<(), AllocError>
-    ensures others { OnOk result (types_in others.new.items
-        ≡ types_in others.old.items ++ filter (λ t. extends_one named.now t) (types_in types.now)) }
-    ensures taken { OnOk result (types_in order.new.items
-        ≡ types_in order.old.items ++ filter (λ t. not (extends_one named.now t)) (types_in types.now)) }
+/// Adds a type to the order, where it isn't there and extends only what is there, or else to those that wait, where it isn't there.
+/// Answers whether it was added to the order.
+fn take_one<'a>(
+    named: &NamedTypes<'a>,
+    order: &mut NamedTypes<'a>,
+    waiting: &mut Vec<&'a TypeDeclaration>,
+    declared: &'a TypeDeclaration,
+) -> Result<bool, AllocError>
+    ensures { IfOk result (TakesOne named.now order.old order.new (types_in waiting.old.items) (types_in waiting.new.items) declared.now) }
 {
+    if order.has(declared.name.as_bytes()) {
+        return Ok(false);
+    }
+    if !is_ready(named, order, declared) {
+        waiting.push(declared)?;
+        return Ok(false);
+    }
+    let _new = order.add(declared)?;
+    Ok(true)
+}
+
+/// Adds those of the types that extend only what is there to the order, one after the other, and those that don't to none that wait.
+/// Answers whether it added one.
+fn take_ready<'a>(
+    named: &NamedTypes<'a>,
+    order: &mut NamedTypes<'a>,
+    waiting: &mut Vec<&'a TypeDeclaration>,
+    types: &[&'a TypeDeclaration],
+) -> Result<bool, AllocError>
+    requires none { waiting.old.items ≡ [] }
+    requires way { IsUnderWay named.now order.old (types_in types.now) }
+    ensures way { OnOk result (IsUnderWay named.now order.new (types_in waiting.new.items)) }
+    ensures stuck { IfOk result (λ taken. taken ≡ false → AreStuck named.now order.new (types_in waiting.new.items)) }
+    ensures fewer { IfOk result (λ taken. taken ≡ true → length waiting.new.items < length types.now) }
+{
+    let mut taken = false;
     let mut rest = types;
     while let [declared, after @ ..] = rest {
-        if extends_one(named, declared) {
-            others.push(*declared)?;
-        } else {
-            order.push(*declared)?;
+        if take_one(named, order, waiting, declared)? {
+            taken = true;
         }
         rest = after;
     }
-    Ok(())
+    Ok(taken)
 }
 
-/// Adds those of the types that extend one of them to the others, and the rest to the order.
-fn part_types<'a>(
+/// Adds the types to the order, each behind all that it extends. Answers whether one extends itself, perhaps by way of others: then it
+/// lacks some.
+fn take_all<'a>(
     alloc: Global,
-    order: &mut Vec<&'a TypeDeclaration>,
-    others: &mut Vec<&'a TypeDeclaration>,
-    types: &[&'a TypeDeclaration],
-) -> Result<(), AllocError>
-    ensures others { OnOk result (types_in others.new.items ≡ types_in others.old.items ++ heirs (types_in types.now)) }
-    ensures taken { OnOk result (types_in order.new.items ≡ types_in order.old.items ++ roots (types_in types.now)) }
-{
-    let named = names_of(alloc, types)?;
-    part(&named, order, others, types)
-}
-
-/// Adds those of the types that extend none of them to the order. Answers the others.
-fn take_roots<'a>(
-    alloc: Global,
-    order: &mut Vec<&'a TypeDeclaration>,
-    types: &[&'a TypeDeclaration],
-) -> Result<Vec<&'a TypeDeclaration>, AllocError>
-    ensures others { IfOk result (λ others. types_in others.items ≡ heirs (types_in types.now)) }
-    ensures taken { OnOk result (types_in order.new.items ≡ types_in order.old.items ++ roots (types_in types.now)) }
-{
-    let mut others = Vec::new(alloc);
-    let done = part_types(alloc, order, &mut others, types);
-    changed(others, done)
-}
-
-/// Adds the types to the order, each behind all that it extends. Answers whether one extends itself, perhaps by way of others:
-/// then the order is of no use.
-pub(crate) fn take_all<'a>(
-    alloc: Global,
-    order: &mut Vec<&'a TypeDeclaration>,
+    named: &NamedTypes<'a>,
+    order: &mut NamedTypes<'a>,
     types: &'a [TypeDeclaration],
 ) -> Result<bool, AllocError>
+    requires none { order.old ≡ [] }
+    requires names { named.now ≡ types.now }
+    requires apart { has_duplicate types.now ≡ false }
     ensures circle { IfOk result (λ circle. circle ≡ has_circle types.now) }
-    ensures taken { OnOk result (has_circle types.now ≡ false
-        → types_in order.new.items ≡ types_in order.old.items ++ taken_within (length types.now) types.now) }
+    ensures order { IfOk result (λ circle. circle ≡ false → IsOrder types.now order.new) }
 {
-    let mut rest = references(alloc, types)?;
-    let mut left = types.len();
-    while left > 0 {
-        let others = take_roots(alloc, order, &rest)?;
-        if others.len() == rest.len() {
-            return Ok(!rest.is_empty());
+    let mut rest = candidates(alloc, named, types)?;
+    while !rest.is_empty() {
+        let mut waiting = Vec::new(alloc);
+        if !take_ready(named, order, &mut waiting, &rest)? {
+            return Ok(!waiting.is_empty());
         }
-        rest = others;
-        left -= 1;
+        rest = waiting;
     }
-    Ok(!rest.is_empty())
+    Ok(false)
+}
+
+/// The types, each behind all that it extends; none where one extends itself, perhaps by way of others.
+pub(crate) fn ordered<'a>(
+    alloc: Global,
+    named: &NamedTypes<'a>,
+    types: &'a [TypeDeclaration],
+) -> Result<Option<Vec<&'a TypeDeclaration>>, AllocError>
+    requires names { named.now ≡ types.now }
+    requires apart { has_duplicate types.now ≡ false }
+    ensures circle { IfOk result (λ order. is_none order ≡ has_circle types.now) }
+    ensures order { IfOk result (λ order. IfSome order (λ refs. IsOrder types.now (types_in refs.items))) }
+{
+    let mut order = NamedTypes::new(alloc);
+    if take_all(alloc, named, &mut order, types)? {
+        return Ok(None);
+    }
+    let refs = order.references(alloc)?;
+    Ok(Some(refs))
 }

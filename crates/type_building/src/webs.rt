@@ -240,6 +240,18 @@ fn place_left(web: &Web, named: &NamedTypes<'_>, types: &[TypeDeclaration]) -> P
     Place { number, member }
 }
 
+/// The numbers of the types that extend no other, and of others behind all that they extend. What a circle leads to is left out.
+pub(crate) fn roots_first(
+    alloc: Global,
+    named: &NamedTypes<'_>,
+    types: &[TypeDeclaration],
+) -> Result<Vec<usize>, AllocError> {
+    let mut web = web_of(alloc, named, types)?;
+    let mut taken = Vec::new(alloc);
+    take_all(&mut web, &mut taken)?;
+    Ok(taken)
+}
+
 /// Where one of the types extends itself, perhaps by way of others: a type in a circle, and what it extends there.
 pub(crate) fn circle_place(
     alloc: Global,

@@ -1,5 +1,5 @@
-use Rattle.std.proofs.Common.{◌≡◌, not, ◌||◌, drop}
-use Rattle.type_building.specs.Places.{place_from, unknown_in, other_in, lacked_in, lacked_from}
+use Rattle.std.proofs.Common.{◌≡◌, drop}
+use Rattle.type_building.specs.Places.{place_from, unknown_in}
 use Rattle.type_building.proofs.faults.unknown_place.Given as goal
 
 abbrev pub invariant-loop-number : goal.invariant-loop-number
