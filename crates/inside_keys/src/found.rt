@@ -10,7 +10,8 @@ use sqlite_items::Boxed;
 #[derive(Drop)]
 pub struct Inside {
     pub parts: Parts,
-    pub wiring: Wiring,
+    /// Large beside all else that a key has as its value, so it stands in a box.
+    pub wiring: Boxed<Wiring>,
 }
 
 /// What a key has as its value.

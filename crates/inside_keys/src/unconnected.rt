@@ -213,7 +213,7 @@ pub fn unconnected(
         alloc,
         declared,
         gates,
-        &inside.wiring,
+        inside.wiring.get(),
         inside.parts.parts.as_slice(),
     )
 }

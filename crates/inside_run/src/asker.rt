@@ -180,9 +180,9 @@ fn on_value<'m, S: Scene>(
         Progress::Joined(_, _, _) => Err(Stop::Fault(Fault::NoGate)),
         Progress::Condition(site, name, reading) => held(alloc, site, name, reading, value),
         Progress::VectorSize(site, name, reading) => sized(alloc, site, name, reading, value),
-        Progress::Posed(posing) => go_on_posed(alloc, posing, value),
-        Progress::Chosen(choosing) => go_on_chosen(alloc, scene, choosing, value),
-        Progress::Carried(carrying) => go_on_carrier(alloc, carrying, value),
+        Progress::Posed(posing) => go_on_posed(alloc, posing.into_inner(), value),
+        Progress::Chosen(choosing) => go_on_chosen(alloc, scene, choosing.into_inner(), value),
+        Progress::Carried(carrying) => go_on_carrier(alloc, carrying.into_inner(), value),
         Progress::Inside(walking) => go_on_inside(alloc, walking.into_inner(), value),
         Progress::Same | Progress::Over => Ok(Moved::Done(Found::Value(value.copy(alloc)?))),
     }

@@ -39,6 +39,7 @@ use parameter_values::scene::{Given, Section as WrittenSection, Written};
 use sim_values::NoMemory;
 use sim_values::text::Text;
 use sim_values::value::Value;
+use sqlite_items::Boxed;
 use std::alloc::Global;
 
 // ---- where a connection is written
@@ -455,7 +456,7 @@ fn carry<'m>(
                 lines: others,
                 carrier,
             };
-            return Ok(Moved::Asks(key, Progress::Carried(carrying)));
+            return Ok(Moved::Asks(key, Progress::Carried(Boxed::new(alloc, carrying)?)));
         }
         rest = others;
     }

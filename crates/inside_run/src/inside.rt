@@ -135,8 +135,14 @@ fn size_of_gate<'m>(
     ensures moves { (s : Setting) (t : standing_type) → gates.now ≡ type_gates s → Moves s result (values.size_of_gate s t gate.now inside.now part) }
     ensures costs { (s : Setting) → Costs s 0 result }
 {
-    let found = gate_named(gates, &inside.parts, inside.wiring.count(), part, gate)?;
-    let size = inside.wiring.size(found.vector);
+    let found = gate_named(
+        gates,
+        &inside.parts,
+        inside.wiring.get().count(),
+        part,
+        gate,
+    )?;
+    let size = inside.wiring.get().size(found.vector);
     Ok(Moved::Done(Found::Value(Value::Whole(i64::from(size)))))
 }
 

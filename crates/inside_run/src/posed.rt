@@ -38,6 +38,7 @@ use parameter_values::scene::{Given, Section as WrittenSection, Written};
 use sim_values::NoMemory;
 use sim_values::text::Text;
 use sim_values::value::Value;
+use sqlite_items::Boxed;
 use std::alloc::Global;
 
 /// An expression that gives a value: where it stands, under which loop variables, and what its value has to be.
@@ -83,7 +84,7 @@ fn pose<'m>(
                 variables,
                 check,
             };
-            Ok(Moved::Asks(key, Progress::Posed(posing)))
+            Ok(Moved::Asks(key, Progress::Posed(Boxed::new(alloc, posing)?)))
         }
     }
 }

@@ -75,7 +75,7 @@ pub struct Walking<'m> {
     pub state: State,
 }
 
-/// A key that is being evaluated, by the value that it waits for.
+/// A key that is being evaluated, by the value that it waits for. It goes from hand to hand at each value, so what is large in it stands in boxes.
 #[derive(Drop)]
 pub enum Progress<'m> {
     /// The type of its module.
@@ -95,11 +95,11 @@ pub enum Progress<'m> {
     /// The value that it has itself.
     Same,
     /// What an expression names.
-    Posed(Posing<'m>),
+    Posed(Boxed<Posing<'m>>),
     /// The same, where it names a type.
-    Chosen(Choosing<'m>),
+    Chosen(Boxed<Choosing<'m>>),
     /// The value of a parameter of a channel.
-    Carried(Carrying<'m>),
+    Carried(Boxed<Carrying<'m>>),
     /// What an inside needs.
     Inside(Boxed<Walking<'m>>),
     /// It has come to its end.

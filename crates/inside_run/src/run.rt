@@ -162,7 +162,6 @@ fn made(state: State) -> Found
         turns: _,
         written: _,
     } = state;
-    let wiring = wiring.into_inner();
     Found::Inside(Inside { parts, wiring })
 }
 

@@ -36,6 +36,7 @@ use parameter_values::scene::{Section as WrittenSection, Written};
 use sim_values::NoMemory;
 use sim_values::text::Text;
 use sim_values::value::Value;
+use sqlite_items::Boxed;
 use std::alloc::Global;
 
 /// Whether it is a kind of types of modules.
@@ -264,7 +265,7 @@ fn choose<'m, S: Scene>(
                 parametric,
                 body,
             };
-            Ok(Moved::Asks(key, Progress::Chosen(choosing)))
+            Ok(Moved::Asks(key, Progress::Chosen(Boxed::new(alloc, choosing)?)))
         }
         Err(stop) => Err(stop),
     }
