@@ -13,8 +13,8 @@ ghost use Rattle.agreement.specs.Narrowing.{Narrows};
 use crate::common::{Common, common_of};
 use crate::same::same_answer;
 use injection_order::injection::Due;
+use model_answers::evaluated::EvaluatedModel;
 use model_answers::plain::PlainAnswers;
-use models::model::Model;
 use question_log::entry::{Entry, first_injection};
 use run_questions::answer::Question;
 use run_questions::record::Record;
@@ -155,8 +155,8 @@ fn agreed_up_to(
 /// None where they differ on a question of event zero.
 pub fn agreement(
     alloc: Global,
-    one: &Model,
-    other: &Model,
+    one: &EvaluatedModel,
+    other: &EvaluatedModel,
     records: &[Record],
     asked: &[Entry],
     last: u64,

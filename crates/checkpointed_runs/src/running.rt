@@ -16,8 +16,8 @@ ghost use Rattle.checkpointed_runs.specs.declared.running.Stood.{Stood};
 use checkpoints::positions::Positions;
 use kernel::kernel::Kernel;
 use kernel::request::Request;
+use model_answers::evaluated::EvaluatedModel;
 use model_answers::plain::PlainAnswers;
-use models::model::Model;
 use module_api::catalogue::Catalogue;
 use module_api::simple_module::SimpleModule;
 use run_semantics::outcome::{Fault, Outcome};
@@ -97,7 +97,7 @@ impl<C: Catalogue> Runner<C> {
     // ---- from setup to the boxes
 
     /// The module that a run which is set up needs a box for, if there is one.
-    fn next_box(&self, alloc: Global, model: &Model) -> Result<Standing, NoMemory>
+    fn next_box(&self, alloc: Global, model: &EvaluatedModel) -> Result<Standing, NoMemory>
         requires filled { let world = world_in SimpleModule-box self.now.kernel in
             IsFilled C.behaviour (answers_of model.now) world }
         ensures stands { let world = world_in SimpleModule-box self.now.kernel in
@@ -115,7 +115,11 @@ impl<C: Catalogue> Runner<C> {
     }
 
     /// Sets the network up anew, as the model answers. All boxes are dropped.
-    fn set_network_up(&mut self, alloc: Global, model: &Model) -> Result<Option<Outcome>, NoMemory>
+    fn set_network_up(
+        &mut self,
+        alloc: Global,
+        model: &EvaluatedModel,
+    ) -> Result<Option<Outcome>, NoMemory>
         requires { HasKinds C.behaviour SimpleModule-box self.old.kernel }
         ensures kinds { HasKinds C.behaviour SimpleModule-box self.new.kernel }
         ensures kept { IsBesideKernel self.old self.new }
@@ -128,7 +132,7 @@ impl<C: Catalogue> Runner<C> {
     }
 
     /// Sets a run up anew, up to its boxes.
-    fn set_up(&mut self, alloc: Global, model: &Model) -> Result<Standing, NoMemory>
+    fn set_up(&mut self, alloc: Global, model: &EvaluatedModel) -> Result<Standing, NoMemory>
         requires { HasKinds C.behaviour SimpleModule-box self.old.kernel }
         ensures kinds { HasKinds C.behaviour SimpleModule-box self.new.kernel }
         ensures kept { IsBesideKernel self.old self.new }
@@ -147,7 +151,7 @@ impl<C: Catalogue> Runner<C> {
     }
 
     /// The end of a run for one of whose modules there is no box.
-    fn declined(&self, alloc: Global, model: &Model) -> Result<Standing, NoMemory>
+    fn declined(&self, alloc: Global, model: &EvaluatedModel) -> Result<Standing, NoMemory>
         requires declined { let world = world_in SimpleModule-box self.now.kernel in
             IsDeclined C.behaviour (answers_of model.now) world }
         ensures stands { IfOk result (λ standing.
@@ -160,7 +164,12 @@ impl<C: Catalogue> Runner<C> {
     }
 
     /// Where a run stands that begins with setup: one that waits goes on, any other is set up.
-    fn stand(&mut self, alloc: Global, model: &Model, phase: Phase) -> Result<Standing, NoMemory>
+    fn stand(
+        &mut self,
+        alloc: Global,
+        model: &EvaluatedModel,
+        phase: Phase,
+    ) -> Result<Standing, NoMemory>
         requires live { let world = world_in SimpleModule-box self.old.kernel in
             IsLive C.behaviour (answers_of model.now) world phase }
         requires kinds { HasKinds C.behaviour SimpleModule-box self.old.kernel }
@@ -218,7 +227,12 @@ impl<C: Catalogue> Runner<C> {
     }
 
     /// Goes back to the last position up to the limit, and gives up those behind it; where there is none, nothing changes.
-    fn go_back(&mut self, alloc: Global, model: &Model, limit: u64) -> Result<Option<u64>, NoMemory>
+    fn go_back(
+        &mut self,
+        alloc: Global,
+        model: &EvaluatedModel,
+        limit: u64,
+    ) -> Result<Option<u64>, NoMemory>
         requires kinds { HasKinds C.behaviour SimpleModule-box self.old.kernel }
         requires good { HasGood C.behaviour (answers_of model.now) SimpleModule-box self.old }
         ensures kinds { HasKinds C.behaviour SimpleModule-box self.new.kernel }
@@ -372,7 +386,7 @@ impl<C: Catalogue> Runner<C> {
     fn begin(
         &mut self,
         alloc: Global,
-        model: &Model,
+        model: &EvaluatedModel,
         phase: Phase,
         limit: u64,
     ) -> Result<Advance, NoMemory>
@@ -407,7 +421,7 @@ impl<C: Catalogue> Runner<C> {
     pub fn carry_on(
         &mut self,
         alloc: Global,
-        model: &Model,
+        model: &EvaluatedModel,
         phase: Phase,
         limit: u64,
     ) -> Result<Advance, NoMemory>

@@ -1,9 +1,10 @@
 //! A session.
 
-ghost use Rattle.std.specs.Prelude.{◌≡◌, ◌↔◌, ◌+◌, ◌≤◌, Some, None, IsSome, OnOk, OnErr, IfOk, IfErr, length, option_map, option_copied};
+ghost use Rattle.std.specs.Prelude.{◌≡◌, ◌↔◌, ◌+◌, ◌≤◌, true, Some, None, IsSome, OnOk, OnErr, IfOk, IfErr, length, option_map, option_copied};
 ghost use Rattle.sim_values.specs.Memory.{no_memory};
 ghost use Rattle.models.specs.declared.model.Model.{Model};
 ghost use Rattle.model_answers.specs.Answering.{answers_of};
+ghost use Rattle.model_settings.specs.Standings.{setting_of};
 ghost use Rattle.result_lines.specs.ScalarText.{scalar_text};
 ghost use Rattle.result_lines.specs.VectorText.{vector_text};
 ghost use Rattle.model_texts.specs.Models.{IsModelOf, IsRuledOut, Refuses};
@@ -19,11 +20,13 @@ ghost use Rattle.kernel.specs.Kernels.{seats_in, world_in, HasKinds};
 ghost use Rattle.checkpoints.specs.Stored.{counts_in, most_stored};
 ghost use Rattle.model_edits.specs.declared.edit.Edit.{Edit};
 
+use crate::values::{evaluated, keeps_values};
 use agreement::agreement::agreement;
 use checkpointed_runs::running::{Advance, Phase, Runner, Stood};
 use checkpoints::positions::Positions;
 use kernel::kernel::Kernel;
 use kernel::request::Request;
+use model_answers::evaluated::EvaluatedModel;
 use model_edits::edit::{Edit, Refusal, edited, number_given};
 use model_texts::begin::{BeginFault, model_of};
 use models::model::Model;
@@ -80,7 +83,7 @@ pub struct Edited {
 /// What an edit changes: the model, and what is told of it.
 #[derive(Drop)]
 pub struct Change {
-    pub model: Model,
+    pub model: EvaluatedModel,
     pub edited: Edited,
 }
 
@@ -122,7 +125,7 @@ pub struct SupplyFault {
 pub struct Session<C: Catalogue> {
     alloc: Global,
     runner: Runner<C>,
-    model: Model,
+    model: EvaluatedModel,
     phase: Phase,
     done: Option<Done>,
     /// The last event of a run of the model whose questions the kernel has, where there is one.
@@ -167,11 +170,14 @@ impl<C: Catalogue> Session<C> {
         ensures complete { IfErr result (λ fault. IsRuledOut texts.now ini.now config.now fault) }
     {
         let model = model_of(alloc, texts, ini, config)?;
-        Ok(Session::of_model(alloc, model, interval))
+        match EvaluatedModel::new(alloc, model) {
+            Ok(model) => Ok(Session::of_model(alloc, model, interval)),
+            Err(error) => Err(BeginFault::NoMemory(error)),
+        }
     }
 
     /// A session of this model, which no call but an accepted edit changes.
-    pub fn of_model(alloc: Global, model: Model, interval: u64) -> Session<C>
+    pub fn of_model(alloc: Global, model: EvaluatedModel, interval: u64) -> Session<C>
         requires { 1 ≤ interval }
         ensures sound { IsSound C.behaviour SimpleModule-box result }
         ensures editing { editing_of SimpleModule-box result ≡ fresh_editing model interval }
@@ -233,24 +239,44 @@ impl<C: Catalogue> Session<C> {
             IfErr result (λ r. IsEditRuledOut before.model edit r) }
     {
         let given = self.number_given(&edit);
-        let model = edited(self.alloc, &self.model, edit)?;
-        match self.valid_to(&model) {
-            Ok(valid_to) => {
-                let injection = last_used(model.last_injection, given);
-                Ok(Change {
-                    model,
-                    edited: Edited {
-                        valid_to,
-                        injection,
-                    },
-                })
-            }
+        let stay = keeps_values(&edit);
+        let model = edited(self.alloc, self.model.model(), edit)?;
+        match self.change_to(model, stay, given) {
+            Ok(change) => Ok(change),
             Err(error) => Err(Refusal::NoMemory(error)),
         }
     }
 
+    /// The change to this model, in which the injection of that number was added, if one was. Where the values of the session's model stay, none is found anew.
+    fn change_to(&self, model: Model, stay: bool, given: Option<u64>) -> Result<Change, NoMemory>
+        requires sound { IsSound C.behaviour SimpleModule-box self.now }
+        requires stay { stay ≡ true → setting_of model ≡ setting_of self.now.model }
+        ensures model { IfOk result (λ change. change.model ≡ model) }
+        ensures injection { IfOk result (λ change. change.edited.injection ≡ last_used model.last_injection given) }
+        ensures valid { let before = editing_of SimpleModule-box self.now in
+            IfOk result (λ change. IsValidTo C.behaviour (answers_of before.model) (answers_of change.model) before.known
+            change.edited.valid_to) }
+        ensures known { IfOk result (λ change.
+            IsKnown C.behaviour (answers_of change.model)
+            (world_in SimpleModule-box self.now.runner.kernel) change.edited.valid_to) }
+        ensures good { let kernel = self.now.runner.kernel in
+            IfOk result (λ change. AreGood C.behaviour (answers_of change.model) (seats_in SimpleModule-box kernel)
+            (world_in SimpleModule-box kernel) (kept_up_to change.edited.valid_to self.now.runner.positions).stored) }
+    {
+        let injection = last_used(model.last_injection, given);
+        let model = evaluated(self.alloc, &self.model, model, stay)?;
+        let valid_to = self.valid_to(&model)?;
+        Ok(Change {
+            model,
+            edited: Edited {
+                valid_to,
+                injection,
+            },
+        })
+    }
+
     /// Up to which event the last run is that of this model too.
-    fn valid_to(&self, model: &Model) -> Result<Option<u64>, NoMemory>
+    fn valid_to(&self, model: &EvaluatedModel) -> Result<Option<u64>, NoMemory>
         requires sound { IsSound C.behaviour SimpleModule-box self.now }
         ensures valid { let before = editing_of SimpleModule-box self.now in
             IfOk result (λ valid. IsValidTo C.behaviour (answers_of before.model) (answers_of model.now) before.known valid) }
@@ -299,7 +325,7 @@ impl<C: Catalogue> Session<C> {
         ensures { let editing = editing_of SimpleModule-box self.now in
             result ≡ number_given edit.now editing.model }
     {
-        number_given(&self.model, edit)
+        number_given(self.model.model(), edit)
     }
 
     /// Gives up a run that waits, and what is kept of the last one that is done.
@@ -315,7 +341,7 @@ impl<C: Catalogue> Session<C> {
     pub fn config(&self) -> &[u8]
         ensures { result.now ≡ (editing_of SimpleModule-box self.now).model.config }
     {
-        self.model.config.as_bytes()
+        self.model.model().config.as_bytes()
     }
 
     /// Runs the model for at most so many events, from the greatest stored position up to there, or from setup, or goes on with the run

@@ -7,6 +7,7 @@ use crate::sites::{tell_fault_inside, tell_misplaced};
 use ini_entries::constants::is_constant;
 use ini_texts::entries::value_for;
 use ini_texts::entry::EntryValue;
+use model_answers::evaluated::EvaluatedModel;
 use model_answers::plain::PlainAnswers;
 use model_texts::begin::model_of;
 use models::model::Model;
@@ -484,11 +485,12 @@ fn tell_found(
 fn tell_fault(
     told: &mut Explanation,
     sources: &Sources<'_>,
-    model: &Model,
+    model: Model,
     fault: ToldFault<'_>,
     classes: &[&[u8]],
 ) -> Result<(), NoMemory> {
-    let answers = PlainAnswers::new(told.alloc(), model)?;
+    let model = EvaluatedModel::new(told.alloc(), model)?;
+    let answers = PlainAnswers::new(told.alloc(), &model)?;
     let found = found_at(told.alloc(), &answers, fault.path.as_bytes())?;
     tell_found(told, sources, &answers, found, fault, classes)
 }
@@ -503,7 +505,7 @@ fn tell_run(
     let config = sources.config.as_bytes();
     match model_of(told.alloc(), sources.texts, sources.ini, config) {
         Ok(model) => {
-            if let Err(error) = tell_fault(told, sources, &model, fault, classes) {
+            if let Err(error) = tell_fault(told, sources, model, fault, classes) {
                 told.refuse(error);
             }
         }

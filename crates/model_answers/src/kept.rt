@@ -1,4 +1,4 @@
-//! Values that are kept between answers: the insides of all compound modules, or the types of modules, and what these rest on.
+//! Values that are kept between answers: the insides of all compound modules, and what these rest on.
 
 ghost use Rattle.answer_engine.specs.Tables.{IsKept};
 ghost use Rattle.inside_keys.specs.Values.{rules_of};
@@ -9,13 +9,12 @@ use crate::insides::child_path;
 use crate::reading::module_of;
 use answer_engine::table::Table;
 use inside_keys::found::Found;
-use inside_keys::key::{Key, Module, What};
+use inside_keys::key::{Key, What};
 use inside_parts::parts::Part;
 use inside_run::scene::Scene;
 use inside_run::values::{empty_table, value_of};
 use model_settings::setting::ModelSetting;
 use ned_trees::declarations::{TypeDeclaration, TypeKind};
-use run_questions::record::{Record, path_of};
 use sim_values::NoMemory;
 use sim_values::text::Text;
 use std::alloc::Global;
@@ -120,53 +119,5 @@ pub fn kept_values(alloc: Global, setting: &ModelSetting<'_>) -> Result<Table<Ke
         pending.push(network.name.copy(alloc)?)?;
     }
     keep_all(alloc, setting, &mut kept, &mut pending)?;
-    Ok(kept)
-}
-
-/// Keeps the type of the module of that path, where it has one.
-fn keep_type(
-    alloc: Global,
-    setting: &ModelSetting<'_>,
-    kept: &mut Table<Key, Found>,
-    path: Text,
-) -> Result<(), NoMemory>
-    requires { IsKept (rules_of (setting_of setting.now)) kept.old.entries }
-    ensures { IsKept (rules_of (setting_of setting.now)) kept.new.entries }
-{
-    let site = Module { created: 0, path };
-    let what = What::Type;
-    let _found = value_of(alloc, setting, kept, Key { site, what })?;
-    Ok(())
-}
-
-/// Keeps the types of the modules of these records.
-fn keep_types(
-    alloc: Global,
-    setting: &ModelSetting<'_>,
-    kept: &mut Table<Key, Found>,
-    records: &[Record],
-) -> Result<(), NoMemory>
-    requires { IsKept (rules_of (setting_of setting.now)) kept.old.entries }
-    ensures { IsKept (rules_of (setting_of setting.now)) kept.new.entries }
-{
-    let mut id = 0u32;
-    for _record in records {
-        id = id.saturating_add(1);
-        let path = path_of(alloc, records, id)?;
-        keep_type(alloc, setting, kept, path)?;
-    }
-    Ok(())
-}
-
-/// The types of the modules of these records, and what these rest on.
-pub fn kept_types(
-    alloc: Global,
-    setting: &ModelSetting<'_>,
-    records: &[Record],
-) -> Result<Table<Key, Found>, NoMemory>
-    ensures { IfOk result (λ kept. IsKept (rules_of (setting_of setting.now)) kept.entries) }
-{
-    let mut kept = empty_table(alloc, setting);
-    keep_types(alloc, setting, &mut kept, records)?;
     Ok(kept)
 }

@@ -9,7 +9,7 @@ ghost use Rattle.model_settings.specs.Standings.{setting_of};
 ghost use Rattle.run_questions.specs.Answers.{answer_of, gates_of, parameters_of};
 
 use crate::answering::{answer, gates_of, parameters_of, type_at, type_of_path, value_of_path};
-use crate::kept::{kept_types, kept_values};
+use crate::evaluated::EvaluatedModel;
 use crate::reading::Sources;
 use answer_engine::table::Table;
 use injection_order::injection::Injection;
@@ -26,11 +26,11 @@ use sqlite_items::Items;
 use std::alloc::Global;
 use std::marker;
 
-/// A model that answers. Values that it found at its beginning are kept.
+/// A model that answers, with the values that are known of it.
 pub struct PlainAnswers<'m> {
     setting: ModelSetting<'m>,
-    /// The insides of its compound modules, or types of modules, and what these rest on.
-    kept: Table<Key, Found>,
+    /// The insides of its compound modules, and what these rest on.
+    kept: &'m Table<Key, Found>,
 }
 
 // Written out, so that a crate which drops one need not prove what that does.
@@ -57,29 +57,16 @@ impl<'m> marker::Model for PlainAnswers<'m> {
 
     ghost view = { λ a. a.setting };
 
-    ghost invariant = { λ a. IsKept (rules_of (setting_of a.setting)) a.kept.entries };
+    ghost invariant = { λ a. IsKept (rules_of (setting_of a.setting)) a.kept.now.entries };
 }
 
 impl<'m> PlainAnswers<'m> {
     /// The answers of a model.
-    pub fn new(alloc: Global, model: &'m Model) -> Result<PlainAnswers<'m>, NoMemory>
+    pub fn new(alloc: Global, model: &'m EvaluatedModel) -> Result<PlainAnswers<'m>, NoMemory>
         ensures { IfOk result (λ answers. answers ≡ model.now) }
     {
-        let setting = ModelSetting::new(alloc, model)?;
-        let kept = kept_values(alloc, &setting)?;
-        Ok(PlainAnswers { setting, kept })
-    }
-
-    /// The answers of a model, which keeps the types of the modules of these records, and no inside: for who asks for types alone.
-    pub fn of_types(
-        alloc: Global,
-        model: &'m Model,
-        records: &[Record],
-    ) -> Result<PlainAnswers<'m>, NoMemory>
-        ensures { IfOk result (λ answers. answers ≡ model.now) }
-    {
-        let setting = ModelSetting::new(alloc, model)?;
-        let kept = kept_types(alloc, &setting, records)?;
+        let setting = ModelSetting::new(alloc, model.model())?;
+        let kept = model.values();
         Ok(PlainAnswers { setting, kept })
     }
 
@@ -97,7 +84,7 @@ impl<'m> PlainAnswers<'m> {
     {
         Sources {
             setting: &self.setting,
-            kept: &self.kept,
+            kept: self.kept,
         }
     }
 

@@ -250,8 +250,11 @@ fn push_scalars_at(
     push_statistics_at(found, alloc, member, places)
 }
 
-/// The scalars that a run of the model records that answers so.
-fn scalars_by(
+/// The scalars that a run records, with the modules of these records, of which these were finished,
+/// with what the modules recorded and these emissions: by rising id of the module, first what it
+/// recorded, then, if it was finished, what the options let be recorded of its type's statistics.
+/// See OMNeT++ Simulation Manual, "Result Recording".
+pub fn scalars(
     alloc: Global,
     model: &PlainAnswers<'_>,
     records: &[Record],
@@ -277,23 +280,4 @@ fn scalars_by(
         push_scalars_at(&mut found, alloc, &member, recorded, &places)?;
     }
     Ok(found)
-}
-
-/// The scalars that a run records, with the modules of these records, of which these were finished,
-/// with what the modules recorded and these emissions: by rising id of the module, first what it
-/// recorded, then, if it was finished, what the options let be recorded of its type's statistics.
-/// See OMNeT++ Simulation Manual, "Result Recording".
-pub fn scalars(
-    alloc: Global,
-    model: &Model,
-    records: &[Record],
-    finished: &[u32],
-    recorded: &[Scalar],
-    emissions: &[Emission],
-) -> Result<Items<ScalarLine>, NoMemory>
-    requires few { length records.now < 2 ^ 32 }
-    ensures { IfOk result (λ found. found ≡ scalars_of model.now records.now finished.now recorded.now emissions.now) }
-{
-    let answers = PlainAnswers::of_types(alloc, model, records)?;
-    scalars_by(alloc, &answers, records, finished, recorded, emissions)
 }

@@ -12,7 +12,6 @@ use crate::selection::records_vector;
 use crate::vector_line::VectorLine;
 use crate::wanted::{Output, is_wanted, wanted};
 use model_answers::plain::PlainAnswers;
-use models::model::Model;
 use ned_trees::declarations::Statistic;
 use run_questions::record::{Record, path_of};
 use run_semantics::traces::Emission;
@@ -125,8 +124,10 @@ fn push_wanted_vectors(
     push_vectors_at(found, alloc, member)
 }
 
-/// The vectors that a run of the model records that answers so.
-fn vectors_by(
+/// The vectors that a run records, with the modules of these records and these emissions: all that
+/// the options let be recorded and that hear at least one value, by rising id of the module, then in the order of its type's statistics.
+/// See OMNeT++ Simulation Manual, "Result Recording".
+pub fn vectors(
     alloc: Global,
     model: &PlainAnswers<'_>,
     records: &[Record],
@@ -150,20 +151,4 @@ fn vectors_by(
         push_wanted_vectors(&mut found, alloc, &member, &wanted)?;
     }
     Ok(found)
-}
-
-/// The vectors that a run records, with the modules of these records and these emissions: all that
-/// the options let be recorded and that hear at least one value, by rising id of the module, then in the order of its type's statistics.
-/// See OMNeT++ Simulation Manual, "Result Recording".
-pub fn vectors(
-    alloc: Global,
-    model: &Model,
-    records: &[Record],
-    emissions: &[Emission],
-) -> Result<Items<VectorLine>, NoMemory>
-    requires few { length records.now < 2 ^ 32 }
-    ensures { IfOk result (λ found. found ≡ vectors_of model.now records.now emissions.now) }
-{
-    let answers = PlainAnswers::of_types(alloc, model, records)?;
-    vectors_by(alloc, &answers, records, emissions)
 }

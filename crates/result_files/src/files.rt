@@ -6,7 +6,8 @@ ghost use Rattle.result_lines.specs.ScalarText.{scalar_text};
 ghost use Rattle.result_lines.specs.VectorText.{vector_text};
 ghost use Rattle.result_files.specs.Files.{files_of};
 
-use models::model::Model;
+use model_answers::evaluated::EvaluatedModel;
+use model_answers::plain::PlainAnswers;
 use recorders::scalar_line::ScalarLine;
 use recorders::scalars::scalars;
 use recorders::vector_line::VectorLine;
@@ -47,7 +48,7 @@ impl Drop for ResultFiles {
 /// which those with these ids were finished, with the scalars that they recorded, and with these emissions.
 pub fn prepare(
     alloc: Global,
-    model: &Model,
+    model: &EvaluatedModel,
     records: &[Record],
     finished: &[u32],
     recorded: &[Scalar],
@@ -57,10 +58,11 @@ pub fn prepare(
     ensures { IfOk result (λ files. files
         ≡ files_of model.now records.now finished.now recorded.now emissions.now) }
 {
+    let answers = PlainAnswers::new(alloc, model)?;
     Ok(ResultFiles {
-        header: header(alloc, model)?,
-        scalars: scalars(alloc, model, records, finished, recorded, emissions)?,
-        vectors: vectors(alloc, model, records, emissions)?,
+        header: header(alloc, model.model())?,
+        scalars: scalars(alloc, &answers, records, finished, recorded, emissions)?,
+        vectors: vectors(alloc, &answers, records, emissions)?,
     })
 }
 

@@ -1,5 +1,5 @@
 use Rattle.recorders.proofs.Reading.{scalars_next}
-use Rattle.recorders.proofs.scalars.scalars_by.Goals as goal
+use Rattle.recorders.proofs.scalars.scalars.Goals as goal
 
 pub loop-index-preserved : goal.loop-index-preserved
 loop-index-preserved c =

@@ -1,6 +1,6 @@
 use Rattle.std.proofs.Common.{◌≡◌, ◌+◌, ◌++◌, drop}
 use Rattle.recorders.specs.Scalars.{scalars_from, scalars_of}
-use Rattle.recorders.proofs.scalars.scalars_by.Given as goal
+use Rattle.recorders.proofs.scalars.scalars.Given as goal
 
 abbrev pub invariant-loop-index : goal.invariant-loop-index
 invariant-loop-index l =

@@ -1,6 +1,6 @@
 use Rattle.std.proofs.Common.{◌≡◌, ◌+◌, ◌++◌, drop}
 use Rattle.recorders.specs.Vectors.{vectors_from, vectors_of}
-use Rattle.recorders.proofs.vectors.vectors_by.Given as goal
+use Rattle.recorders.proofs.vectors.vectors.Given as goal
 
 abbrev pub invariant-loop-index : goal.invariant-loop-index
 invariant-loop-index l =
