@@ -41,7 +41,7 @@ use run_semantics::outcome::{Fault, Outcome, Turn};
 use run_semantics::routes::copy_transmissions;
 use run_semantics::traces::{Emission, Instance, Scalar};
 use saved_boxes::boxes_saved::{load_one, save_all};
-use shown_modules::{Shown, ShownModules, lasts};
+use shown_modules::{Shown, ShownModules};
 use sim_values::NoMemory;
 use sim_values::text::Text;
 use std::alloc::{AllocFailed, Global};
@@ -436,9 +436,9 @@ impl<C: Catalogue> Kernel<C> {
             (world_in SimpleModule-box self.new) }
         ensures shown { AreShown (answers_of model.now) (world_in SimpleModule-box self.new).records shown.new }
     {
-        let found = shown.take(alloc, model, self.core.records(), id)?;
-        let lasts = lasts(self.core.records(), id);
-        let call = call_shown(&self.core, id, prompt, found);
+        let lent = shown.take(alloc, model, self.core.records(), id)?;
+        let lasts = lent.lasts;
+        let call = call_shown(&self.core, id, prompt, lent.shown);
         let turn = self.carry_out(alloc, model, Occasion::Event, &call);
         shown.put_back(lasts, id, shown_in(call));
         turn

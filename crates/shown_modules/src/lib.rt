@@ -47,7 +47,7 @@ pub fn shown_of(
 
 /// Whether a module was created, and all that are around it: then calls show the same of it when more modules are created.
 #[tactic(auto, using(crate::proofs::Showing::whole_lasts))]
-pub fn lasts(records: &[Record], id: u32) -> bool
+fn lasts(records: &[Record], id: u32) -> bool
     ensures { result ≡ true → (m : Answers) → IsShown m records.now id (shown_of m records.now id) }
 {
     is_whole(MAX_NESTING, records, id)
@@ -64,6 +64,14 @@ fn is_whole(depth: u32, records: &[Record], id: u32) -> bool
         Some(record) => record.parent == 0 || is_whole(depth - 1, records, record.parent),
         None => false,
     }
+}
+
+/// What calls show of a module, lent for a call.
+#[derive(Drop)]
+pub struct Lent {
+    pub shown: Shown,
+    /// It stays the same when more modules are created.
+    pub lasts: bool,
 }
 
 /// What calls show of some modules of a run. Each entry stands at the number of its module's id, so none is searched for.
@@ -83,22 +91,28 @@ impl ShownModules {
         }
     }
 
-    /// What calls show of the module of that id. The entry is moved out of the table; where there is none, it is found.
+    /// What calls show of the module of that id. The entry is moved out of the table; where there is none, it is found, and whether it lasts.
     pub fn take(
         &mut self,
         alloc: Global,
         model: &PlainAnswers<'_>,
         records: &[Record],
         id: u32,
-    ) -> Result<Shown, NoMemory>
+    ) -> Result<Lent, NoMemory>
         requires { AreShown (answers_of model.now) records.now self.old }
-        ensures found { IfOk result (λ shown. shown ≡ shown_of (answers_of model.now) records.now id) }
+        ensures found { IfOk result (λ lent. lent.shown ≡ shown_of (answers_of model.now) records.now id) }
+        ensures lasts { IfOk result (λ lent. lent.lasts ≡ true
+            → IsShown (answers_of model.now) records.now id (shown_of (answers_of model.now) records.now id)) }
         ensures rest { entries_in self.new ≡ without_box id (entries_in self.old) }
         ensures shown { AreShown (answers_of model.now) records.now self.new }
     {
         match self.entries.take(id) {
-            Some(shown) => Ok(shown),
-            None => shown_of(alloc, model, records, id),
+            Some(shown) => Ok(Lent { shown, lasts: true }),
+            None => {
+                let shown = shown_of(alloc, model, records, id)?;
+                let lasts = lasts(records, id);
+                Ok(Lent { shown, lasts })
+            }
         }
     }
 

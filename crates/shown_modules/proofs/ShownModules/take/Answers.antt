@@ -1,7 +1,7 @@
 use Rattle.model_answers.specs.Answering.{answers_of}
 use Rattle.std.proofs.Common.{sym, ◌∙◌, subst}
 use Rattle.module_tree.specs.Boxes.{Held}
-use Rattle.shown_modules.specs.Tables.{AreEach}
+use Rattle.shown_modules.specs.Tables.{AreEach, IsShown}
 use Rattle.shown_modules.specs.declared.Shown.{Shown}
 use Rattle.shown_modules.proofs.Showing.{one_shown, now_shown, each_without}
 use Rattle.shown_modules.proofs.ShownModules.take.Goals as goal
@@ -16,7 +16,17 @@ returns-in-Some-clause-shown c =
     subst (λ (h : Held Shown). AreEach (answers_of c.args.model.now) c.args.records.now h.seats) (sym c.take.ensures.rest)
     (each_without (answers_of c.args.model.now) c.args.records.now c.args.id c.args.self.now.entries.seats c.requires)
 
-pub returns-in-None-clause-shown : goal.returns-in-None-clause-shown
-returns-in-None-clause-shown c =
+pub returns-in-Some-clause-lasts : goal.returns-in-Some-clause-lasts
+returns-in-Some-clause-lasts c = λ t.
+    let kept = one_shown (answers_of c.args.model.now) c.args.records.now c.args.id c.args.self.now.entries.seats c.in-Some.shown c.requires (sym c.take.ensures.value ∙ c.in-Some.is) in
+    subst (IsShown (answers_of c.args.model.now) c.args.records.now c.args.id) (now_shown (answers_of c.args.model.now) c.args.records.now c.args.id c.in-Some.shown kept) kept
+
+pub returns-in_ok-shown-in-None-clause-shown : goal.returns-in_ok-shown-in-None-clause-shown
+returns-in_ok-shown-in-None-clause-shown c =
+    subst (λ (h : Held Shown). AreEach (answers_of c.args.model.now) c.args.records.now h.seats) (sym c.take.ensures.rest)
+    (each_without (answers_of c.args.model.now) c.args.records.now c.args.id c.args.self.now.entries.seats c.requires)
+
+pub returns-in_err-shown-in-None-clause-shown : goal.returns-in_err-shown-in-None-clause-shown
+returns-in_err-shown-in-None-clause-shown c =
     subst (λ (h : Held Shown). AreEach (answers_of c.args.model.now) c.args.records.now h.seats) (sym c.take.ensures.rest)
     (each_without (answers_of c.args.model.now) c.args.records.now c.args.id c.args.self.now.entries.seats c.requires)
