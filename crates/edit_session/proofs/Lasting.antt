@@ -1,5 +1,5 @@
 -- No value rests on messages from outside.
-use Rattle.std.proofs.Common.{◌≡◌, ◌∙◌, ℕ, Bool, true, false, List, ⊥, absurd, ap, refl}
+use Rattle.std.proofs.Common.{◌≡◌, ◌∙◌, true, false, List, ap, refl}
 use Rattle.injection_order.specs.declared.injection.Injection.{Injection}
 use Rattle.models.specs.declared.model.Model.{Model}
 use Rattle.model_edits.specs.declared.edit.Edit.{Edit}

@@ -1,3 +1,4 @@
 pub mod Positions
 pub mod Growing
 pub mod Lasting
+pub mod Places

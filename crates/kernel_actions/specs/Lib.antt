@@ -1,3 +1,4 @@
 pub mod Lookups
+pub mod Places
 pub mod Upcoming
 pub mod Positions

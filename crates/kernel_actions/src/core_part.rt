@@ -5,7 +5,7 @@ ghost use Rattle.run_questions.specs.Questions.{is_of_modules};
 ghost use Rattle.question_log.specs.Entries.{noted_in};
 ghost use Rattle.run_semantics.specs.World.{empty, asked, timed};
 ghost use Rattle.run_semantics.specs.Perform.{flow_of, deed, scheduled_at, ask_all, ask_noted, question_of, broken};
-ghost use Rattle.run_semantics.specs.Routes.{arriving, is_at, module_at, transmitting};
+ghost use Rattle.run_semantics.specs.Routes.{arriving, hop_by, is_at, module_at, transmitting};
 ghost use Rattle.run_semantics.specs.Ending.{with_finished};
 ghost use Rattle.kernel_actions.specs.Upcoming.{asked_in, first_is_beyond, looked, with_injection_asked, upcoming_of, Begins};
 ghost use Rattle.run_semantics.specs.Upcoming.{Comes, first_due, first_of};
@@ -21,6 +21,7 @@ use crate::events::delivery_at;
 use crate::looks::{Look, LookedAt, Next};
 use crate::position::{Lengths, Position};
 use crate::reads::question_of;
+use crate::record_table::RecordTable;
 use event_set::pending::{Happening, Pending};
 use event_set::set::EventSet;
 use injection_order::injection::{Due, Injection, Turn as InjectionTurn, injection_before};
@@ -34,7 +35,7 @@ use run_questions::answer::{Answer, Built, Question, is_beyond};
 use run_questions::record::{Record, path_of, submodule_path};
 use run_semantics::occasions::{Occasion, is_noted};
 use run_semantics::outcome::{Fault, Outcome, Turn, fault_of};
-use run_semantics::routes::{PlacedGate, Transmission, copy_transmissions, place_of};
+use run_semantics::routes::{NextHop, PlacedGate, Transmission, copy_transmissions, place_of};
 use run_semantics::signals::SignalNames;
 use run_semantics::traces::{Emission, Instance, Scalar};
 use sim_time::SimTime;
@@ -55,7 +56,7 @@ const MAX_RECORDS: usize = 1_000_000;
 pub struct Core {
     clock: SimTime,
     count: u64,
-    records: Items<Record>,
+    records: RecordTable,
     live: Items<u32>,
     started: Items<u32>,
     finished: Items<u32>,
@@ -128,7 +129,7 @@ impl Core {
         Core {
             clock: SimTime::zero(),
             count: 0,
-            records: Items::new(alloc),
+            records: RecordTable::new(alloc),
             live: Items::new(alloc),
             started: Items::new(alloc),
             finished: Items::new(alloc),
@@ -169,6 +170,13 @@ impl Core {
         ensures few { length result.now < 2 ^ 32 }
     {
         self.records.as_slice()
+    }
+
+    /// Where a hop from a gate of the module of that id leads, as was answered.
+    pub fn hop_by(&self, id: u32, answer: Answer) -> Option<NextHop>
+        ensures { result ≡ hop_by self.now.records id answer }
+    {
+        self.records.hop_by(id, answer)
     }
 
     /// What is noted of the questions.
@@ -642,12 +650,13 @@ impl Core {
     {
         match found {
             Answer::Root(name) => {
-                self.records.push(Record {
+                let network = Record {
                     parent: 0,
                     name,
                     index: None,
                     class: None,
-                })?;
+                };
+                self.records.push(alloc, network)?;
                 self.live.push(1)?;
                 Ok(Turn::GoOn)
             }
@@ -664,12 +673,13 @@ impl Core {
         let id = self.records.len() as u32 + 1;
         let name = built.name.copy(alloc)?;
         let class = copy_class(alloc, &built.class)?;
-        self.records.push(Record {
+        let created = Record {
             parent,
             name,
             index: built.index,
             class,
-        })?;
+        };
+        self.records.push(alloc, created)?;
         self.live.push(id)?;
         Ok(())
     }
@@ -783,7 +793,7 @@ impl Core {
     pub fn cut_to(&mut self, lengths: Lengths)
         ensures { self.new ≡ cut_to lengths self.old }
     {
-        cut_items(&mut self.records, lengths.records);
+        self.records.cut(lengths.records);
         cut_items(&mut self.live, lengths.live);
         cut_items(&mut self.started, lengths.started);
         cut_items(&mut self.finished, lengths.finished);

@@ -8,4 +8,5 @@ pub mod laws;
 pub mod looks;
 pub mod position;
 pub mod reads;
+mod record_table;
 pub mod sending;

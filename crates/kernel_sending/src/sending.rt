@@ -23,7 +23,7 @@ use module_api::reply::{Flight, GatePlace, OwnGate};
 use run_questions::answer::{Answer, Question};
 use run_semantics::outcome::{Fault, Turn};
 use run_semantics::routes::{
-    NextHop, PassedHop, PlacedGate, hop_by, is_connected, is_in_gate, is_out_gate, is_simple,
+    NextHop, PassedHop, PlacedGate, is_connected, is_in_gate, is_out_gate, is_simple,
 };
 use sim_time::SimTime;
 use sim_values::NoMemory;
@@ -72,7 +72,7 @@ fn next_hop(
 {
     let question = Question::Hop(gate.id, gate.name.copy(alloc)?, gate.index);
     let found = ask(core, alloc, model, question)?;
-    Ok(hop_by(core.records(), gate.id, found))
+    Ok(core.hop_by(gate.id, found))
 }
 
 /// How many hops a chain has at most.

@@ -3,7 +3,7 @@
 ghost use Rattle.answer_engine.specs.Tables.{IsKept};
 ghost use Rattle.inside_keys.specs.Values.{rules_of};
 ghost use Rattle.model_settings.specs.Standings.{setting_of};
-ghost use Rattle.std.specs.Prelude.{◌≡◌, true, IfOk};
+ghost use Rattle.std.specs.Prelude.{◌≡◌, IfOk};
 
 use crate::kept::kept_values;
 use answer_engine::table::Table;

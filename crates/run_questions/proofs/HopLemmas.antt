@@ -41,7 +41,7 @@ neighbour_more rs more id k (Beside name index) e =
 neighbour_more rs more id k (Inside name index) e = named_more 1 id name index rs more k e
 
 -- the submodule that is found is one of the records
-named_within : (first parent : ℕ) (name : List ℕ) (index : Option ℕ) (rs : List Record) (k : ℕ) → named_from first parent name index rs ≡ Some k → k < first + length rs
+pub named_within : (first parent : ℕ) (name : List ℕ) (index : Option ℕ) (rs : List Record) (k : ℕ) → named_from first parent name index rs ≡ Some k → k < first + length rs
 named_within first parent name index [] k e = cc
 named_within first parent name index (r ∷ rs) k e = by (is_named parent name index r) e (named_within (suc first) parent name index rs k)
   where

@@ -1,13 +1,11 @@
 //! Ways of messages through gates.
 
-ghost use Rattle.std.specs.Prelude.{◌≡◌, ◌<◌, ◌^◌, IfOk, IfSome, length};
-ghost use Rattle.run_questions.specs.Hops.{neighbour_id};
-ghost use Rattle.run_semantics.specs.Routes.{is_output, is_out_gate, is_input, is_in_gate, is_connected, is_simple, hop_by, next_by, is_gate, place_of, busy_at, busy_of, channels_of, transmission_gate};
+ghost use Rattle.std.specs.Prelude.{◌≡◌, ◌<◌, IfOk, IfSome, length};
+ghost use Rattle.run_semantics.specs.Routes.{is_output, is_out_gate, is_input, is_in_gate, is_connected, is_simple, is_gate, place_of, busy_at, busy_of, channels_of, transmission_gate};
 
 use channels::is_transmission;
 use module_api::call::Direction;
-use run_questions::answer::{Answer, Channel, NextGate};
-use run_questions::hops::neighbour_id;
+use run_questions::answer::{Answer, Channel};
 use run_questions::record::{Record, record_at};
 use sim_time::SimTime;
 use sim_values::text::Text;
@@ -143,36 +141,6 @@ pub fn is_simple(records: &[Record], id: u32) -> bool
         Some(record) => record.class.is_some(),
         None => false,
     }
-}
-
-/// Where a hop from a gate of the module of that id leads, as was answered.
-pub fn hop_by(records: &[Record], id: u32, answer: Answer) -> Option<NextHop>
-    requires { length records.now < 2 ^ 32 }
-    ensures { result ≡ hop_by records.now id answer }
-{
-    match answer {
-        Answer::Next(Some(next)) => leading_to(records, id, next),
-        _ => None,
-    }
-}
-
-/// The gate of that module that is named, where the module is there.
-fn leading_to(records: &[Record], id: u32, next: NextGate) -> Option<NextHop>
-    requires { length records.now < 2 ^ 32 }
-    ensures { result ≡ next_by next (neighbour_id records.now id next.neighbour) }
-{
-    let NextGate {
-        neighbour,
-        gate,
-        index,
-        channel,
-    } = next;
-    let to = PlacedGate {
-        id: neighbour_id(records, id, &neighbour)?,
-        name: gate,
-        index,
-    };
-    Some(NextHop { to, channel })
 }
 
 /// Whether both are the same gate.
