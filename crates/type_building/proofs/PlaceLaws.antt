@@ -158,9 +158,6 @@ lacked_told types ts =
 abbrev base_of : Bool → Bool → Bool → Bool → Option TypeFault
 base_of duplicate unknown circle other = if duplicate then Some fault.DuplicateType else (if unknown then Some fault.UnknownType else (if circle then Some fault.InheritanceCircle else (if other then Some fault.KindClash else None)))
 
-base_is : (types : List TypeDeclaration) → base_fault types ≡ base_of (has_duplicate types) (is_unknown_named types types) (has_circle types) (is_other_named types types)
-base_is types = refl
-
 pub unknown_found : (types : List TypeDeclaration) (p : Place) → has_duplicate types ≡ false → place_from (unknown_in types) 0 types ≡ Some p → Builds types (Err (Fault fault.UnknownType p))
 unknown_found types p apart found =
     let unknown = sym (unknown_told types types) ∙ ap is_some found in (

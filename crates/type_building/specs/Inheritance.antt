@@ -49,11 +49,7 @@ extends_one types t = is_base_among types t.base || (is_interface_kind t.kind &&
 abbrev pub heirs : List TypeDeclaration → List TypeDeclaration
 heirs types = filter (λ t. extends_one types t) types
 
--- those that extend none of them
-abbrev pub roots : List TypeDeclaration → List TypeDeclaration
-roots types = filter (λ t. not (extends_one types t)) types
-
--- the types that are left where the roots were taken away so many times
+-- the types that are left where those that extend none of the others were taken away so many times
 abbrev pub left_after : ℕ → List TypeDeclaration → List TypeDeclaration
 left_after zero types = types
 left_after (suc n) types = left_after n (heirs types)
@@ -62,15 +58,10 @@ abbrev pub is_one_left : List TypeDeclaration → Bool
 is_one_left [] = false
 is_one_left (t ∷ ts) = true
 
--- whether a type extends itself, perhaps by way of others: some are left where the roots were taken away as many times as there
--- are types
+-- whether a type extends itself, perhaps by way of others: some are left where those that extend none of the others were taken away
+-- as many times as there are types
 abbrev pub has_circle : List TypeDeclaration → Bool
 has_circle types = is_one_left (left_after (length types) types)
-
--- the types that were taken away, in that order
-abbrev pub taken_within : ℕ → List TypeDeclaration → List TypeDeclaration
-taken_within zero types = []
-taken_within (suc n) types = roots types ++ taken_within n (heirs types)
 
 -- ---- unknown bases
 

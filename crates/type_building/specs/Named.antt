@@ -41,10 +41,6 @@ is_unknown_named types some =
 abbrev pub is_other_named : List TypeDeclaration → List TypeDeclaration → Bool
 is_other_named types some = has_inner_network some || (list_any (λ t. extends_other types t.kind t.base) some || list_any (λ t. keeps_other types t.kind t.interfaces) some)
 
--- these have the names that those have
-abbrev pub HaveNamesOf : List TypeDeclaration → List TypeDeclaration → Type 0
-HaveNamesOf these those = (name : List ℕ) → is_type_named name these ≡ is_type_named name those
-
 -- these have the names that those have, and the name of a type
 abbrev pub AddsName : List TypeDeclaration → List TypeDeclaration → TypeDeclaration → Type 0
 AddsName those these t = (name : List ℕ) → is_type_named name these ≡ (is_type_named name those || bytes_eq t.name name)
