@@ -6,6 +6,7 @@ pub mod Circles
 pub mod GateLaws
 pub mod InterfaceLaws
 pub mod OrderLaws
+pub mod KeptLaws
 pub mod LineLaws
 pub mod SectionLaws
 pub mod PlaceLaws

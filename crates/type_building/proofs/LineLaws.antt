@@ -7,12 +7,13 @@ use Rattle.ned_trees.specs.declared.declarations.TypeDeclaration.{TypeDeclaratio
 use Rattle.ned_types.specs.Types.{has_duplicate, is_interface_kind, is_type_named, type_named}
 use Rattle.ned_types.specs.WellFormed.{IsAmong}
 use Rattle.type_building.specs.Inheritance.{bare, behind_all, flat_interface, gathered, joined_behind, once_behind, reached, types_in, with_members, without_interfaces}
-use Rattle.type_building.specs.Named.{AddsLine, HaveLines, HaveLinesOf, IsBehind, LinesAlong, StandBehind, flat_by_lines, line_at, line_or_none}
+use Rattle.type_building.specs.Named.{AddsLine, HaveLines, HaveLinesOf, IsBehind, LinesAlong, StandBehind, flat_by_lines, is_bare, kept, kept_behind, line_at, line_or_none}
 use Rattle.type_building.specs.Order.{IsOrder}
 use Rattle.type_building.proofs.Circles.{filter_among, less}
 use Rattle.type_building.proofs.WellFormedLaws.{any_is, same_names, names_same, type_is, types_apart}
 use Rattle.type_building.proofs.NamedLaws.{or_joined, or_zero, turned}
 use Rattle.type_building.proofs.OrderLaws.{first_and_rest}
+use Rattle.type_building.proofs.KeptLaws.{kept_gathered, kept_joined, kept_once, found_joined, found_reached}
 use Rattle.indexmap.specs.IndexMap.{insert_entry}
 
 abbrev pub LineEntry : Type 0
@@ -47,7 +48,7 @@ map_same f g h [] = refl
 map_same f g h (x ∷ xs) = ap (λ y. y ∷ map f xs) (h x) ∙ ap (λ ys. g x ∷ ys) (map_same f g h xs)
 
 pub line_added : (before after : List LineEntry) (k : Bor (List ℕ)) (line : List TypeDeclaration) (t : TypeDeclaration) → k.now ≡ t.name → after ≡ insert_entry (λ (x y : Bor (List ℕ)). bytes_eq x.now y.now) before k line
-    → line ≡ once_behind (joined_behind [] (map (line_at before) t.interfaces)) t → AddsLine before after t
+    → line ≡ kept_behind (joined_behind [] (map (line_at before) t.interfaces)) t → AddsLine before after t
 line_added before after k line t named now is = λ name.
     ap (λ (es : List LineEntry). line_at es name) now
     ∙ line_inserted name k line before
@@ -55,7 +56,10 @@ line_added before after k line t named now is = λ name.
     ∙ ap (λ ls. if bytes_eq t.name name then ls else line_at before name) is
 
 pub flat_same : (entries : List LineEntry) (types : List TypeDeclaration) (t : TypeDeclaration) → HaveLines entries types → flat_by_lines entries t ≡ flat_interface types t
-flat_same entries types t have = ap (λ ls. without_interfaces (with_members (gathered (bare t) (joined_behind [] ls)) t)) (map_same (line_at entries) (λ n. reached (length types) types n) have t.interfaces)
+flat_same entries types t have =
+    ap (λ ls. without_interfaces (with_members (gathered (bare t) (joined_behind [] ls)) t)) (map_same (line_at entries) (λ n. kept types (reached (length types) types n)) have t.interfaces)
+    ∙ ap (λ ls. without_interfaces (with_members (gathered (bare t) ls) t)) (sym (kept_joined types (λ n. reached (length types) types n) [] t.interfaces))
+    ∙ ap (λ (x : TypeDeclaration). without_interfaces (with_members x t)) (kept_gathered types (bare t) (joined_behind [] (map (λ n. reached (length types) types n) t.interfaces)) (found_joined types (λ n. reached (length types) types n) (λ n. found_reached types (length types) n) [] tt t.interfaces))
 
 -- ---- names that were seen
 
@@ -107,6 +111,9 @@ map_among : {X Y : Type 0} (f g : X → Y) (xs : List X) → ((x : X) → IsAmon
 map_among f g [] h = refl
 map_among f g (x ∷ xs) h = ap (λ y. y ∷ map f xs) (h x (inl refl)) ∙ ap (λ ys. g x ∷ ys) (map_among f g xs (λ y is. h y (inr is)))
 
+none_kept : (n : ℕ) (types : List TypeDeclaration) (name : List ℕ) → is_type_named name types ≡ false → kept types (reached n types name) ≡ []
+none_kept n types name h = ap (kept types) (none_reached n types name h)
+
 -- one step more from a type
 one_reached : (n : ℕ) (types : List TypeDeclaration) (t : TypeDeclaration) (name : List ℕ) → has_duplicate types ≡ false → IsAmong t types → bytes_eq t.name name ≡ true → reached (suc n) types name ≡ behind_all (λ m. reached n types m) (Some t)
 one_reached n types t name apart is e =
@@ -118,46 +125,48 @@ one_reached n types t name apart is e =
 abbrev pub Within : List TypeDeclaration → List TypeDeclaration → Type 0
 Within seen types = (name : List ℕ) → is_type_named name seen ≡ true → is_type_named name types ≡ true
 
-line_before : (entries : List LineEntry) (types seen : List TypeDeclaration) → HaveLinesOf entries types seen → Within seen types → (n : ℕ) → length seen ≤ n → (name : List ℕ) → (is_type_named name types ≡ true → is_type_named name seen ≡ true) → reached n types name ≡ line_at entries name
+line_before : (entries : List LineEntry) (types seen : List TypeDeclaration) → HaveLinesOf entries types seen → Within seen types → (n : ℕ) → length seen ≤ n → (name : List ℕ) → (is_type_named name types ≡ true → is_type_named name seen ≡ true) → kept types (reached n types name) ≡ line_at entries name
 line_before entries types seen have within n l name behind = by (is_type_named name seen) refl (is_type_named name types) refl
   where
-    by : (b : Bool) → is_type_named name seen ≡ b → (c : Bool) → is_type_named name types ≡ c → reached n types name ≡ line_at entries name
+    by : (b : Bool) → is_type_named name seen ≡ b → (c : Bool) → is_type_named name types ≡ c → kept types (reached n types name) ≡ line_at entries name
     by true e c f = have.0 name e n l
     by false e true f = absurd (false≢true (sym e ∙ behind f))
-    by false e false f = none_reached n types name f ∙ sym (have.1 name e)
+    by false e false f = none_kept n types name f ∙ sym (have.1 name e)
 
 pub line_more : (before after : List LineEntry) (types seen : List TypeDeclaration) (t : TypeDeclaration) → has_duplicate types ≡ false → HaveLinesOf before types seen → Within seen types → IsBehind types seen t → is_interface_kind t.kind ≡ true → AddsLine before after t → HaveLinesOf after types (seen ++ t ∷ [])
 line_more before after types seen t apart have within is kind adds = (λ name there n l. first name there n l (bytes_eq t.name name) refl, λ name none. second name none (bytes_eq t.name name) refl)
   where
-    own : (n : ℕ) → length seen ≤ n → (name : List ℕ) → bytes_eq t.name name ≡ true → reached (suc n) types name ≡ once_behind (joined_behind [] (map (line_at before) t.interfaces)) t
+    own : (n : ℕ) → length seen ≤ n → (name : List ℕ) → bytes_eq t.name name ≡ true → kept types (reached (suc n) types name) ≡ kept_behind (joined_behind [] (map (line_at before) t.interfaces)) t
     own n l name e =
-        one_reached n types t name apart is.0 e
-        ∙ ap (λ b. if b then once_behind (joined_behind [] (map (λ m. reached n types m) t.interfaces)) t else []) kind
-        ∙ ap (λ ls. once_behind (joined_behind [] ls) t) (map_among (λ m. reached n types m) (line_at before) t.interfaces (λ m in-t. line_before before types seen have within n l m (is.1 m kind in-t)))
+        ap (kept types) (one_reached n types t name apart is.0 e)
+        ∙ ap (λ b. kept types (if b then once_behind (joined_behind [] (map (λ m. reached n types m) t.interfaces)) t else [])) kind
+        ∙ kept_once types (joined_behind [] (map (λ m. reached n types m) t.interfaces)) t (type_is types t (types_apart types apart) is.0)
+        ∙ ap (λ ls. kept_behind ls t) (kept_joined types (λ m. reached n types m) [] t.interfaces)
+        ∙ ap (λ ls. kept_behind (joined_behind [] ls) t) (map_among (λ m. kept types (reached n types m)) (line_at before) t.interfaces (λ m in-t. line_before before types seen have within n l m (is.1 m kind in-t)))
 
     of_more : (n : ℕ) → length (seen ++ t ∷ []) ≤ n → suc (length seen) ≤ n
     of_more n l = subst (λ k. k ≤ n) (longer seen t) l
 
-    first : (name : List ℕ) → is_type_named name (seen ++ t ∷ []) ≡ true → (n : ℕ) → length (seen ++ t ∷ []) ≤ n → (b : Bool) → bytes_eq t.name name ≡ b → reached n types name ≡ line_at after name
+    first : (name : List ℕ) → is_type_named name (seen ++ t ∷ []) ≡ true → (n : ℕ) → length (seen ++ t ∷ []) ≤ n → (b : Bool) → bytes_eq t.name name ≡ b → kept types (reached n types name) ≡ line_at after name
     first name there zero l b e = let m = of_more zero l in absurd (omega (arith, m))
     first name there (suc n) l true e =
         let m = of_more (suc n) l in
         own n (omega (arith, m)) name e
-        ∙ sym (ap (λ b. if b then once_behind (joined_behind [] (map (line_at before) t.interfaces)) t else line_at before name) e)
+        ∙ sym (ap (λ b. if b then kept_behind (joined_behind [] (map (line_at before) t.interfaces)) t else line_at before name) e)
         ∙ sym (adds name)
     first name there (suc n) l false e =
         let m = of_more (suc n) l in
         let old : (is_type_named name seen || (bytes_eq t.name name || false)) ≡ true = sym (named_joined name seen (t ∷ [])) ∙ there in
         let in-seen : is_type_named name seen ≡ true = or_either (bytes_eq t.name name || false) (is_type_named name seen) (or_turned (is_type_named name seen) (bytes_eq t.name name || false) old) (ap (λ b. b || false) e) in
         have.0 name in-seen (suc n) (omega (arith, m))
-        ∙ sym (ap (λ b. if b then once_behind (joined_behind [] (map (line_at before) t.interfaces)) t else line_at before name) e)
+        ∙ sym (ap (λ b. if b then kept_behind (joined_behind [] (map (line_at before) t.interfaces)) t else line_at before name) e)
         ∙ sym (adds name)
 
     second : (name : List ℕ) → is_type_named name (seen ++ t ∷ []) ≡ false → (b : Bool) → bytes_eq t.name name ≡ b → line_at after name ≡ []
     second name none true e = absurd (false≢true (sym (neither_second (is_type_named name seen) (bytes_eq t.name name || false) (sym (named_joined name seen (t ∷ [])) ∙ none)) ∙ ap (λ b. b || false) e))
     second name none false e =
         adds name
-        ∙ ap (λ b. if b then once_behind (joined_behind [] (map (line_at before) t.interfaces)) t else line_at before name) e
+        ∙ ap (λ b. if b then kept_behind (joined_behind [] (map (line_at before) t.interfaces)) t else line_at before name) e
         ∙ have.1 name (neither_first (is_type_named name seen) (bytes_eq t.name name || false) (sym (named_joined name seen (t ∷ [])) ∙ none))
 
 -- a type that is no interface leaves the lines
@@ -167,13 +176,13 @@ line_left entries types seen t apart have is kind = (λ name there n l. first na
     of_more : (n : ℕ) → length (seen ++ t ∷ []) ≤ n → suc (length seen) ≤ n
     of_more n l = subst (λ k. k ≤ n) (longer seen t) l
 
-    first : (name : List ℕ) → is_type_named name (seen ++ t ∷ []) ≡ true → (n : ℕ) → length (seen ++ t ∷ []) ≤ n → (b : Bool) → is_type_named name seen ≡ b → reached n types name ≡ line_at entries name
+    first : (name : List ℕ) → is_type_named name (seen ++ t ∷ []) ≡ true → (n : ℕ) → length (seen ++ t ∷ []) ≤ n → (b : Bool) → is_type_named name seen ≡ b → kept types (reached n types name) ≡ line_at entries name
     first name there n l true e = let m = of_more n l in have.0 name e n (omega (arith, m))
     first name there zero l false e = let m = of_more zero l in absurd (omega (arith, m))
     first name there (suc n) l false e =
         let own : (bytes_eq t.name name || false) ≡ true = or_either (is_type_named name seen) (bytes_eq t.name name || false) (sym (named_joined name seen (t ∷ [])) ∙ there) e in
-        one_reached n types t name apart is.0 (sym (or_zero (bytes_eq t.name name)) ∙ own)
-        ∙ ap (λ b. if b then once_behind (joined_behind [] (map (λ m. reached n types m) t.interfaces)) t else []) kind
+        ap (kept types) (one_reached n types t name apart is.0 (sym (or_zero (bytes_eq t.name name)) ∙ own))
+        ∙ ap (λ b. kept types (if b then once_behind (joined_behind [] (map (λ m. reached n types m) t.interfaces)) t else [])) kind
         ∙ sym (have.1 name e)
 
 -- ---- along an order
@@ -253,9 +262,9 @@ lines_fit entries order types have is apart = λ name. by name (is_type_named na
     lines : HaveLinesOf entries types order
     lines = have types apart is.0
 
-    by : (name : List ℕ) (b : Bool) → is_type_named name types ≡ b → line_at entries name ≡ reached (length types) types name
+    by : (name : List ℕ) (b : Bool) → is_type_named name types ≡ b → line_at entries name ≡ kept types (reached (length types) types name)
     by name true e = sym (lines.0 name (is.1 name e) (length types) (order_length types [] order types is.0 (behind_among types [] order is.0)))
-    by name false e = lines.1 name (other name e (is_type_named name order) refl) ∙ sym (none_reached (length types) types name e)
+    by name false e = lines.1 name (other name e (is_type_named name order) refl) ∙ sym (none_kept (length types) types name e)
       where
         other : (name : List ℕ) → is_type_named name types ≡ false → (b : Bool) → is_type_named name order ≡ b → b ≡ false
         other name e true f = absurd (false≢true (sym e ∙ stand_within types [] order is.0 name f))

@@ -3,7 +3,7 @@
 ghost use Rattle.std.specs.Prelude.{◌≡◌, [], map, IfOk, OnOk};
 ghost use Rattle.std.specs.Option.{option_copied};
 ghost use Rattle.type_building.specs.Inheritance.{all_behind, joined_behind, once_behind, types_in};
-ghost use Rattle.type_building.specs.Named.{AddsLine, LinesAlong, line_at};
+ghost use Rattle.type_building.specs.Named.{AddsLine, LinesAlong, is_bare, kept_behind, line_at};
 
 use crate::named::NamedTypes;
 use crate::order::is_interface_kind;
@@ -13,7 +13,7 @@ use ned_types::made::changed;
 use sim_values::text::Text;
 use std::alloc::{AllocError, Global};
 
-/// At the name of each interface those that it extends, and itself behind them.
+/// At the name of each interface those that it extends, and itself behind them: those of them that have members.
 pub(crate) type Lines<'a> = IndexMap<&'a [u8], NamedTypes<'a>>;
 
 /// Adds a type behind the others, unless one of them has its name.
@@ -24,6 +24,28 @@ fn add_once<'a>(line: &mut NamedTypes<'a>, declared: &'a TypeDeclaration) -> Res
         let _new = line.add(declared)?;
     }
     Ok(())
+}
+
+/// Whether a type has no members of its own, and extends no type.
+fn is_bare(declared: &TypeDeclaration) -> bool
+    ensures { result ≡ is_bare declared.now }
+{
+    declared.base.is_none()
+        && (declared.lines.as_slice().len() == 0
+            && (declared.gates.as_slice().len() == 0
+                && (declared.submodules.as_slice().len() == 0
+                    && (declared.connections.items.as_slice().len() == 0
+                        && !declared.connections.allow_unconnected))))
+}
+
+/// Adds a type behind the others, unless it has no members or one of them has its name.
+fn add_kept<'a>(line: &mut NamedTypes<'a>, declared: &'a TypeDeclaration) -> Result<(), AllocError>
+    ensures { OnOk result (line.new ≡ kept_behind line.old declared.now) }
+{
+    if is_bare(declared) {
+        return Ok(());
+    }
+    add_once(line, declared)
 }
 
 /// Adds types behind others, those whose names aren't there.
@@ -73,7 +95,7 @@ pub(crate) fn add_lines_of<'a>(
     Ok(())
 }
 
-/// Adds the line of an interface: those of what it extends, and itself.
+/// Adds the line of an interface: those of what it extends, and itself, where it has members.
 fn add_interface<'a>(
     alloc: Global,
     lines: &mut Lines<'a>,
@@ -83,7 +105,7 @@ fn add_interface<'a>(
 {
     let mut line = NamedTypes::new(alloc);
     add_lines_of(alloc, lines, &mut line, declared.interfaces.as_slice())?;
-    add_once(&mut line, declared)?;
+    add_kept(&mut line, declared)?;
     lines.insert(declared.name.as_bytes(), line)?;
     Ok(())
 }

@@ -1,13 +1,13 @@
 use Rattle.std.proofs.Common.{[], ap, ◌∙◌, map}
-use Rattle.type_building.specs.Inheritance.{joined_behind, once_behind}
-use Rattle.type_building.specs.Named.{line_at}
+use Rattle.type_building.specs.Inheritance.{joined_behind}
+use Rattle.type_building.specs.Named.{kept_behind, line_at}
 use Rattle.type_building.proofs.LineLaws.{line_added}
 use Rattle.type_building.proofs.lines.add_interface.Goals as goal
 
 pub returns : goal.returns
 returns c =
-    line_added c.args.lines.now.entries c.insert.new.self.entries c.as_bytes.result c.add_once.new.line c.args.declared.now c.as_bytes.ensures c.in_ok-insert.ensures.entries
-    (c.in_ok-add_once.ensures
-    ∙ ap (λ ts. once_behind ts c.args.declared.now) (c.in_ok-add_lines_of.ensures
+    line_added c.args.lines.now.entries c.insert.new.self.entries c.as_bytes.result c.add_kept.new.line c.args.declared.now c.as_bytes.ensures c.in_ok-insert.ensures.entries
+    (c.in_ok-add_kept.ensures
+    ∙ ap (λ ts. kept_behind ts c.args.declared.now) (c.in_ok-add_lines_of.ensures
     ∙ ap (λ ts. joined_behind ts (map (line_at c.args.lines.now.entries) c.as_slice.result.now)) c.new-line.ensures
     ∙ ap (λ ns. joined_behind [] (map (line_at c.args.lines.now.entries) ns)) c.as_slice.ensures))
