@@ -5,4 +5,5 @@ pub mod Loads
 pub mod Moves
 pub mod Scopes
 pub mod Steps
+pub mod Submodules
 pub mod Written

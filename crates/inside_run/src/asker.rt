@@ -19,7 +19,7 @@ use crate::keys::{asked_in, begin_type, with_body};
 use crate::posed::go_on_posed;
 use crate::progress::{Moved, Progress};
 use crate::reading::{held, sized};
-use crate::scene::{Scene, Stands};
+use crate::scene::{Scene, Stands, submodule_in};
 use crate::types::{go_on_chosen, type_in};
 use answer_engine::asker::Asker;
 use answer_engine::turn::Turn;
@@ -29,7 +29,6 @@ use inside_parts::fault::{Fault, Stop};
 use inside_walk::submodules::number;
 use inside_wiring::wiring::Carrier;
 use ned_trees::declarations::TypeDeclaration;
-use ned_types::flat::submodule_named;
 use sim_values::NoMemory;
 use sim_values::text::Text;
 use sim_values::value::Value;
@@ -113,8 +112,8 @@ fn type_around<'m, S: Scene>(
     ensures moves { Moves (S.setting scene.now) result (goes_on (S.setting scene.now) (waits.TypeAround site.now around.now name.now) (found_as.Value value.now)) }
     ensures costs { Costs (S.setting scene.now) (type_weight (S.setting scene.now) site.now name.now) result }
 {
-    let (_, declared) = type_found(scene, value)?;
-    let submodule = submodule_named(name.as_bytes(), declared.submodules.as_slice());
+    let (number, declared) = type_found(scene, value)?;
+    let submodule = submodule_in(scene, number, declared, name);
     type_in(alloc, scene, site, around, declared, submodule)
 }
 
@@ -131,8 +130,8 @@ fn body_around<'m, S: Scene>(
     ensures moves { Moves (S.setting scene.now) result (going.typed (S.setting scene.now) (going.body_in (S.setting scene.now) site.now what.now declared.now name.now) (found_as.Value value.now)) }
     ensures costs { Costs (S.setting scene.now) (around_weight (S.setting scene.now) site.now what.now declared.now name.now) result }
 {
-    let (_, around) = type_found(scene, value)?;
-    let submodule = submodule_named(name.as_bytes(), around.submodules.as_slice());
+    let (number, around) = type_found(scene, value)?;
+    let submodule = submodule_in(scene, number, around, name);
     with_body(alloc, scene, site, what, declared, submodule)
 }
 

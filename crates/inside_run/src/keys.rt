@@ -18,7 +18,7 @@ use crate::inside::begin_inside;
 use crate::posed::{begin_posed, condition, gate_size, parameter, vector_size};
 use crate::progress::{Moved, Progress, Reading};
 use crate::reading::read;
-use crate::scene::{Scene, Stands};
+use crate::scene::{Scene, Stands, submodule_in};
 use inside_keys::found::Found;
 use inside_keys::key::{Module, What};
 use inside_keys::sizes::has_vector;
@@ -227,12 +227,14 @@ fn begin_condition<'m, S: Scene>(
     scene: &S,
     site: &Module,
     name: &Text,
+    number: usize,
     declared: &'m TypeDeclaration,
 ) -> Result<Moved<'m>, Stop>
+    requires { slice_get (S.setting scene.now).types number ≡ Some declared.now }
     ensures moves { Moves (S.setting scene.now) result (values.posed_asking (condition_posed (S.setting scene.now) site.now declared.now name.now)) }
     ensures costs { Costs (S.setting scene.now) (posed_weight (condition_posed (S.setting scene.now) site.now declared.now name.now)) result }
 {
-    let submodule = submodule_named(name.as_bytes(), declared.submodules.as_slice());
+    let submodule = submodule_in(scene, number, declared, name);
     let posed = condition(alloc, scene, site, submodule)?;
     begin_posed(alloc, posed)
 }
@@ -243,12 +245,14 @@ fn begin_vector_size<'m, S: Scene>(
     scene: &S,
     site: &Module,
     name: &Text,
+    number: usize,
     declared: &'m TypeDeclaration,
 ) -> Result<Moved<'m>, Stop>
+    requires { slice_get (S.setting scene.now).types number ≡ Some declared.now }
     ensures moves { Moves (S.setting scene.now) result (values.posed_asking (vector_size_posed (S.setting scene.now) site.now declared.now name.now)) }
     ensures costs { Costs (S.setting scene.now) (posed_weight (vector_size_posed (S.setting scene.now) site.now declared.now name.now)) result }
 {
-    let submodule = submodule_named(name.as_bytes(), declared.submodules.as_slice());
+    let submodule = submodule_in(scene, number, declared, name);
     let posed = vector_size(alloc, scene, site, submodule)?;
     begin_posed(alloc, posed)
 }
@@ -285,8 +289,8 @@ pub fn asked_in<'m, S: Scene>(
 {
     match what {
         What::Param(x) => begin_with_body(alloc, scene, site, What::Param(x), declared),
-        What::Condition(sub) => begin_condition(alloc, scene, &site, &sub, declared),
-        What::VectorSize(sub) => begin_vector_size(alloc, scene, &site, &sub, declared),
+        What::Condition(sub) => begin_condition(alloc, scene, &site, &sub, number, declared),
+        What::VectorSize(sub) => begin_vector_size(alloc, scene, &site, &sub, number, declared),
         What::Declared(g) => begin_with_body(alloc, scene, site, What::Declared(g), declared),
         What::GateSize(g) => finished_size(alloc, scene, &site, g),
         What::Sizeof(g) => size_of(alloc, site, g, declared),

@@ -1,17 +1,19 @@
 //! What a model tells of its modules.
 
-ghost use Rattle.std.specs.Prelude.{◌≡◌, ◌<◌, ◌^◌, IfOk, IfSome, slice_get};
+ghost use Rattle.std.specs.Prelude.{◌≡◌, ◌<◌, ◌^◌, IfOk, IfSome, Some, slice_get};
 ghost use Rattle.std.specs.Option.{option_copied};
 ghost use Rattle.inside_parts.specs.Names.{position_of};
 ghost use Rattle.inside_keys.specs.Settings.{Setting, type_gates, type_names};
 ghost use Rattle.inside_run.specs.Scenes.{names_in, standing_by};
+ghost use Rattle.ned_types.specs.Flat.{submodule_named};
 
 use ini_texts::entry::EntryValue;
 use inside_keys::key::Module;
 use inside_parts::gates::TypeGates;
 use inside_parts::names::Names;
 use ned_channels::built_in::BuiltInChannels;
-use ned_trees::declarations::TypeDeclaration;
+use ned_trees::declarations::{Submodule, TypeDeclaration};
+use ned_types::flat::submodule_named;
 use sim_values::NoMemory;
 use sim_values::text::Text;
 use std::alloc::Global;
@@ -73,4 +75,22 @@ pub trait Scene {
     /// What the first entry of the ini text says that matches the full path of a parameter.
     fn entry(&self, alloc: Global, path: &[u8]) -> Result<Option<&EntryValue>, NoMemory>
         ensures { IfOk result (λ found. option_copied found ≡ (setting self.now).entry path.now) };
+}
+
+/// The submodule of that name that the type of that number declares, found by hashing. Only a name that isn't there is looked for by going through all.
+pub fn submodule_in<'m, S: Scene>(
+    scene: &S,
+    number: usize,
+    declared: &'m TypeDeclaration,
+    name: &Text,
+) -> Option<&'m Submodule>
+    requires { slice_get (S.setting scene.now).types number ≡ Some declared.now }
+    ensures { option_copied result ≡ submodule_named name.now declared.now.submodules }
+{
+    if let Some(names) = scene.submodules(number) {
+        if let Some(place) = names.position(name) {
+            return declared.submodules.get(place);
+        }
+    }
+    submodule_named(name.as_bytes(), declared.submodules.as_slice())
 }

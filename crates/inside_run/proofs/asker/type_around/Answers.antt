@@ -1,4 +1,4 @@
-use Rattle.std.proofs.Common.{ap, ◌∙◌}
+use Rattle.std.proofs.Common.{ap}
 use Rattle.ned_types.specs.Flat.{submodule_named}
 use Rattle.inside_run.specs.Weights.{chosen_weight}
 use Rattle.inside_run.proofs.Moves.{costs_as, costs_more, most_of}
@@ -7,7 +7,7 @@ use Rattle.inside_run.proofs.asker.type_around.Goals as goal
 pub returns-clause-costs : goal.returns-clause-costs
 returns-clause-costs g c =
     let s = g.S.Scene.setting c.args.scene.now in
-    let found = c.submodule_named-submodule.ensures ∙ ap (λ b. submodule_named b c.as_slice.result.now) c.as_bytes.ensures ∙ ap (submodule_named c.args.name.now) c.as_slice.ensures in
+    let found = c.submodule_in-submodule.ensures in
     costs_more s c.type_in.result _ _
-    (most_of (λ u. chosen_weight s c.args.site.now (submodule_named c.args.name.now u.submodules)) s.types c.in_ok-declared.field-0-0 c.in_ok-declared.declared.now c.in_ok-declared.ensures.there)
+    (most_of (λ u. chosen_weight s c.args.site.now (submodule_named c.args.name.now u.submodules)) s.types c.in_ok-number.number c.in_ok-number.declared.now c.in_ok-number.ensures.there)
     (costs_as s c.type_in.result _ _ (ap (chosen_weight s c.args.site.now) found) c.type_in.ensures.costs)
