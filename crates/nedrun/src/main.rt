@@ -1,7 +1,7 @@
 //! Runs a network of modules from its files, and writes the result files of the run.
 #![tactic(auto)]
 
-ghost use Rattle.std.specs.Prelude.{◌≡◌, ◌≢◌, ◌≤◌, [], Some, Ok, Err, IsErrAnd, IsSomeAnd, IfErr, IfOk, OnOk, string_bytes};
+ghost use Rattle.std.specs.Prelude.{◌≡◌, ◌≢◌, ◌≤◌, ◌⊎◌, [], Some, Ok, Err, IsErrAnd, IsSomeAnd, IfErr, IfOk, OnOk, string_bytes};
 ghost use Rattle.models.specs.declared.model.Model.{Model};
 ghost use Rattle.model_texts.specs.Models.{IsModelOf, IsRuledOut, Refuses};
 ghost use Rattle.stock_modules.specs.Stock.{stock};
@@ -42,10 +42,10 @@ fn serve_user<'a, R: Files + Input + Print + Eprint + AllocGlobal>(
         × IsModelOf sources.now.texts.now sources.now.ini.now (string_bytes words.now.config) model
         × Ends stock (fresh_machine model words.now.interval) r.0.dialogue.transcript.asked r.0.dialogue.transcript.heard r.1) }
     // What is asked: the run of the words, then to write its files, then the lines of standard input;
-    ensures asked { IfOk result (λ r. AsksInOrder words.now.limit r.0.dialogue.ask r.0.dialogue.transcript.asked
+    ensures asked { IfOk result (λ r. AsksInOrder words.now.limit r.0.dialogue.at_terminal r.0.dialogue.ask r.0.dialogue.transcript.asked
         r.0.dialogue.lines.source.given.bytes r.0.dialogue.lines.buffer) }
-    // and nothing that it gave is left unasked, unless the user can't go on, or a device fails, and knows why.
-    ensures stopped { IfOk result (λ r. at_stop ((r.0.dialogue.ask ≡ ask.Line) × (r.0.dialogue.lines.buffer.bytes ≡ []))
+    // and nothing that it gave is left unasked up to `quit`, unless the user can't go on, or a device fails, and knows why.
+    ensures stopped { IfOk result (λ r. at_stop (((r.0.dialogue.ask ≡ ask.Line) × (r.0.dialogue.lines.buffer.bytes ≡ [])) ⊎ (r.0.dialogue.ask ≡ ask.Nothing))
         (IsSomeAnd r.0.stop (IsReason r.0.dialogue.lines.buffer)) (λ _ _. IsSomeAnd r.0.stop IsLost) r.1) }
     // It is refused only where the texts are, and for that reason.
     ensures refused { IfErr result (λ fault.

@@ -1,9 +1,10 @@
 //! What the program asks, one thing after the other, and what it hears.
 
-ghost use Rattle.std.specs.Prelude.{◌≡◌, [], ◌∷◌, ◌++◌, IfOk, OnErr, IfErr, codes};
+ghost use Rattle.std.specs.Prelude.{◌≡◌, [], ◌∷◌, ◌++◌, IfOk, OnErr, IfErr, codes, true};
 ghost use Rattle.std.specs.Fmt.{decimal};
 ghost use Rattle.program_stops.specs.Stops.{IsFailed, IsOutOfMemory};
 ghost use Rattle.program_dialogue.specs.Asking.{Asks, IsInOrder, IsUnread};
+ghost use Rattle.program_dialogue.specs.Typing.{IsTyped};
 ghost use Rattle.program_dialogue.specs.declared.dialogue.Ask.TheVariants as ask;
 ghost use Rattle.transcripts.specs.Heard as heards;
 
@@ -31,6 +32,8 @@ enum Ask {
     Write,
     /// A line of standard input.
     Line,
+    /// Nothing more: the line `quit` was read.
+    Nothing,
 }
 
 /// The line that asks for a run to that limit.
@@ -57,21 +60,40 @@ fn unread_line(alloc: Global, error: io::Error) -> Stop
     )
 }
 
-/// What the program asks at its desk: the run to a limit, then to write its files, and then what the lines of standard input ask for;
-/// and what it hears of that.
+/// A line that was typed at a terminal, without the blanks at its end; as it is where memory runs out.
+fn without_blanks(alloc: Global, line: Text) -> Text
+    ensures { IsTyped true result line }
+{
+    match Text::from_bytes(alloc, line.as_bytes().trim_ascii_end()) {
+        Ok(trimmed) => trimmed,
+        Err(_) => line,
+    }
+}
+
+/// Whether the blanks at the end of a line are of the text that it gives, which may have no other bytes.
+fn has_own_blanks(line: &[u8]) -> bool {
+    line.starts_with(b"ini insert ") || line.starts_with(b"ini replace ")
+}
+
+/// What the program asks at its desk: the run to a limit, then to write its files, and then what the lines of standard input ask for,
+/// up to the line `quit`; and what it hears of that.
 #[derive(Drop)]
 pub struct Dialogue<I> {
     /// The limit of the first run, in events.
     limit: u64,
     ask: Ask,
     lines: LineReader<NotedReader<I>>,
+    /// Whether the lines are typed at a terminal, where blanks at the end of a line are no part of it.
+    at_terminal: bool,
     transcript: Transcript,
 }
 
 impl<I: Read> Dialogue<I> {
-    /// A dialogue in which nothing was asked yet: with that limit of its first run, in events, and lines of that input, which was not read yet.
-    pub fn new(alloc: Global, limit: u64, input: I) -> Dialogue<I>
+    /// A dialogue in which nothing was asked yet: with that limit of its first run, in events, and lines of that input, which was not read yet, and
+    /// is a terminal or not.
+    pub fn new(alloc: Global, limit: u64, input: I, at_terminal: bool) -> Dialogue<I>
         ensures limit { result.limit ≡ limit }
+        ensures at_terminal { result.at_terminal ≡ at_terminal }
         ensures unasked { result.transcript.asked ≡ [] }
         ensures unheard { result.transcript.heard ≡ [] }
         ensures kept { IsInOrder result }
@@ -80,6 +102,7 @@ impl<I: Read> Dialogue<I> {
             limit,
             ask: Ask::Run,
             lines: LineReader::new(alloc, NotedReader::new(input)),
+            at_terminal,
             transcript: Transcript::new(),
         }
     }
@@ -90,6 +113,7 @@ impl<I: Read> Dialogue<I> {
             ++ heards.Answer answer.now ∷ [] }
         ensures asked { self.new.transcript.asked ≡ self.old.transcript.asked }
         ensures limit { self.new.limit ≡ self.old.limit }
+        ensures at_terminal { self.new.at_terminal ≡ self.old.at_terminal }
         ensures ask { self.new.ask ≡ self.old.ask }
         ensures lines { self.new.lines ≡ self.old.lines }
     {
@@ -102,6 +126,7 @@ impl<I: Read> Dialogue<I> {
             ++ heards.Files config.now.bytes scalars.now.bytes vectors.now.bytes ∷ [] }
         ensures asked { self.new.transcript.asked ≡ self.old.transcript.asked }
         ensures limit { self.new.limit ≡ self.old.limit }
+        ensures at_terminal { self.new.at_terminal ≡ self.old.at_terminal }
         ensures ask { self.new.ask ≡ self.old.ask }
         ensures lines { self.new.lines ≡ self.old.lines }
     {
@@ -114,6 +139,7 @@ impl<I: Read> Dialogue<I> {
             ++ heards.Read path.now text.now ∷ [] }
         ensures asked { self.new.transcript.asked ≡ self.old.transcript.asked }
         ensures limit { self.new.limit ≡ self.old.limit }
+        ensures at_terminal { self.new.at_terminal ≡ self.old.at_terminal }
         ensures ask { self.new.ask ≡ self.old.ask }
         ensures lines { self.new.lines ≡ self.old.lines }
     {
@@ -126,6 +152,7 @@ impl<I: Read> Dialogue<I> {
             ++ heards.OutOfMemory ∷ [] }
         ensures asked { self.new.transcript.asked ≡ self.old.transcript.asked }
         ensures limit { self.new.limit ≡ self.old.limit }
+        ensures at_terminal { self.new.at_terminal ≡ self.old.at_terminal }
         ensures ask { self.new.ask ≡ self.old.ask }
         ensures lines { self.new.lines ≡ self.old.lines }
     {
@@ -166,7 +193,17 @@ impl<I: Read> Dialogue<I> {
         }
     }
 
-    /// Asks what the next line of standard input asks for.
+    /// What is asked for a line of standard input.
+    fn typed(&self, alloc: Global, line: Text) -> Text
+        ensures { IsTyped self.now.at_terminal result line }
+    {
+        if self.at_terminal && !has_own_blanks(line.as_bytes()) {
+            return without_blanks(alloc, line);
+        }
+        line
+    }
+
+    /// Asks what the next line of standard input asks for. Behind the line `quit` nothing is asked.
     fn ask_line(&mut self, alloc: Global) -> Result<Option<Asked>, Stop>
         requires typed { self.old.ask ≡ ask.Line }
         requires kept { IsInOrder self.old }
@@ -177,6 +214,11 @@ impl<I: Read> Dialogue<I> {
     {
         match self.lines.next() {
             Ok(NextLine::Line(line)) => {
+                let line = self.typed(alloc, line);
+                if line.is(b"quit") {
+                    self.ask = Ask::Nothing;
+                    return Ok(None);
+                }
                 self.transcript.asks_line(line.as_bytes());
                 Ok(Some(Asked::Line(line)))
             }
@@ -191,7 +233,7 @@ impl<I: Read> Dialogue<I> {
         }
     }
 
-    /// Asks the next thing, or nothing more: standard input is at its end then, and all that it gave was asked. Fails where memory
+    /// Asks the next thing, or nothing more: standard input is at its end then, and all that it gave was asked; or the line `quit` was read. Fails where memory
     /// runs out, where standard input failed, or where as many lines were read as are; then nothing is asked.
     pub fn next(&mut self, alloc: Global) -> Result<Option<Asked>, Stop>
         requires kept { IsInOrder self.old }
@@ -201,6 +243,7 @@ impl<I: Read> Dialogue<I> {
             Ask::Run => self.ask_run(alloc),
             Ask::Write => self.ask_write(alloc),
             Ask::Line => self.ask_line(alloc),
+            Ask::Nothing => Ok(None),
         }
     }
 }

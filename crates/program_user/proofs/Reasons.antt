@@ -84,6 +84,7 @@ reason_unasked : (a : Ask) (failures failures' : ℕ) (waiting : Waiting) (s : S
 reason_unasked ask.Run failures failures' waiting s h = reason_out_of_memory waiting s h
 reason_unasked ask.Write failures failures' waiting s h = reason_out_of_memory waiting s h
 reason_unasked ask.Line failures failures' waiting s h = reason_unread failures failures' waiting s h
+reason_unasked ask.Nothing failures failures' waiting s h = absurd h
 
 reason_unmade : (directory : List ℕ) (waiting : Waiting) (s : Stop) → IsUnmade directory s → IsReason waiting s
 reason_unmade directory waiting stop.Spent h = absurd h

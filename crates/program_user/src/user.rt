@@ -71,7 +71,7 @@ impl<'a, R: Files + Input + Print + Eprint + AllocGlobal> User<'a, R> {
             rt,
             words,
             sources,
-            dialogue: Dialogue::new(rt.alloc(), words.limit, rt.reader()),
+            dialogue: Dialogue::new(rt.alloc(), words.limit, rt.reader(), at_terminal),
             has_folder: false,
             heard_any: false,
             notes: Notes::new(),
@@ -159,6 +159,7 @@ impl<'a, R: Files + Input + Print + Eprint + AllocGlobal> User<'a, R> {
             ++ heards.Files pages.now.config.bytes pages.now.scalars.content.bytes pages.now.vectors.content.bytes ∷ [] }
         ensures asked { self.new.dialogue.transcript.asked ≡ self.old.dialogue.transcript.asked }
         ensures words { self.new.words ≡ self.old.words }
+        ensures at_terminal { self.new.dialogue.at_terminal ≡ self.old.dialogue.at_terminal }
         ensures limit { self.new.dialogue.limit ≡ self.old.dialogue.limit }
         ensures ask { self.new.dialogue.ask ≡ self.old.dialogue.ask }
         ensures lines { self.new.dialogue.lines ≡ self.old.dialogue.lines }

@@ -20,7 +20,7 @@ const MORE: &str = "Examples:
   nedrun -o results omnetpp.ini network.ned
   nedrun --config Fast --limit 1000 omnetpp.ini network.ned more.ned
 
-Behind the run it reads commands from standard input, a line each, and answers each with a line; < /dev/null gives it none.
+Behind the run it reads commands from standard input, a line each, and answers each with a line, until its end or the line quit; < /dev/null gives it none.
 
 Exit status: 0 at the end of standard input, whatever the answers were; 1 a file or a stream failed, memory ran out, or 1000000 lines were read; 2 the words or the texts are refused.
 docs/REFUSALS.md says what each refusal and fault means, and what to change.";

@@ -26,6 +26,7 @@ withdraw K                               message K is taken back
 positions                                after which events the state is stored
 held                                     how many simple modules there are
 help                                     this list
+quit                                     ends the session
 ";
 
 /// What a command lists: the lines, for a person, and the answer.

@@ -4,7 +4,7 @@ use text_explanations::explanation::Explanation;
 use text_explanations::names::shown;
 
 /// The first words of commands, with how they are written.
-const USAGES: [(&str, &str); 13] = [
+const USAGES: [(&str, &str); 14] = [
     ("run", "'run N'"),
     ("write", "'write'"),
     (
@@ -21,6 +21,7 @@ const USAGES: [(&str, &str); 13] = [
     ("held", "'held'"),
     ("configs", "'configs'"),
     ("help", "'help'"),
+    ("quit", "'quit'"),
 ];
 
 /// The word with which a line begins.

@@ -1,4 +1,4 @@
-use Rattle.std.proofs.Common.{◌≡◌, []}
+use Rattle.std.proofs.Common.{◌≡◌, ◌⊎◌, []}
 use Rattle.model_texts.specs.Models.{IsModelOf, Refuses}
 use Rattle.stock_modules.specs.Stock.{stock}
 use Rattle.stock_desk.specs.Served.{fresh_machine}
@@ -18,6 +18,6 @@ returns-clause-served g c =
 pub returns-clause-early : goal.returns-clause-early
 returns-clause-early g c =
     session_ends c.serve_user.result c.ended.result (λ user. user.stop) (λ user. user.dialogue.lines.buffer)
-    (λ user. (user.dialogue.ask ≡ ask.Line) × (user.dialogue.lines.buffer.bytes ≡ []))
+    (λ user. ((user.dialogue.ask ≡ ask.Line) × (user.dialogue.lines.buffer.bytes ≡ [])) ⊎ (user.dialogue.ask ≡ ask.Nothing))
     (λ fault. Refuses c.args.sources.now.texts.now c.args.sources.now.ini.now (string_bytes c.args.words.now.config) fault)
     c.serve_user.ensures.stopped c.serve_user.ensures.refused c.ended.ensures.over c.ended.ensures.stuck c.ended.ensures.refused
