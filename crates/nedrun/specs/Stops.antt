@@ -1,5 +1,5 @@
 -- Why the program ends early.
-use Rattle.std.specs.Prelude.{◌≡◌, ◌⊎◌, ℕ, List}
+use Rattle.std.specs.Prelude.{◌≡◌, ◌⊎◌, ℕ, Bool, true, false, List, Result, Ok, Err}
 use Rattle.desk.specs.Answers.{refusal_text}
 use Rattle.line_reading.specs.Waits.{Waiting}
 use Rattle.model_texts.specs.Models.{Refuses}
@@ -20,7 +20,14 @@ abbrev pub IsStopOf : BeginFault → Stop → Type 0
 IsStopOf (fault.NoMemory error) s = s ≡ stop.NoMemory error
 IsStopOf f s = IsNamed f s
 
--- WHY A SESSION ENDS EARLY: the texts are refused, for that reason and with the text that says so; or the user can't go on
-abbrev pub EndsEarly : List (List ℕ) → List ℕ → List ℕ → Stop → Type 0
-EndsEarly texts ini config s =
-    ((fault : BeginFault) × Refuses texts ini config fault × IsStopOf fault s) ⊎ ((waiting : Waiting) × IsReason waiting s)
+-- what becomes of a session at its end, where a fault of its last run is told or not
+abbrev pub end_of : Bool → Result Unit Stop
+end_of true = Err stop.Fault
+end_of false = Ok tt
+
+-- WHY A SESSION ENDS EARLY: the texts are refused, for that reason and with the text that says so; or the user can't go on; or, where the words
+-- want that told, the last run ended in a fault
+abbrev pub EndsEarly : List (List ℕ) → List ℕ → List ℕ → Bool → Stop → Type 0
+EndsEarly texts ini config strict s =
+    ((fault : BeginFault) × Refuses texts ini config fault × IsStopOf fault s)
+    ⊎ (((waiting : Waiting) × IsReason waiting s) ⊎ ((strict ≡ true) × (s ≡ stop.Fault)))

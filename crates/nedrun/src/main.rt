@@ -1,7 +1,7 @@
 //! Runs a network of modules from its files, and writes the result files of the run.
 #![tactic(auto)]
 
-ghost use Rattle.std.specs.Prelude.{◌≡◌, ◌≢◌, ◌≤◌, ◌⊎◌, [], Some, Ok, Err, IsErrAnd, IsSomeAnd, IfErr, IfOk, OnOk, string_bytes};
+ghost use Rattle.std.specs.Prelude.{◌≡◌, ◌≢◌, ◌≤◌, ◌⊎◌, ◌&&◌, [], Some, Err, IsErrAnd, IsSomeAnd, IfErr, IfOk, OnOk, string_bytes};
 ghost use Rattle.models.specs.declared.model.Model.{Model};
 ghost use Rattle.model_texts.specs.Models.{IsModelOf, IsRuledOut, Refuses};
 ghost use Rattle.stock_modules.specs.Stock.{stock};
@@ -9,9 +9,10 @@ ghost use Rattle.stock_desk.specs.Served.{fresh_machine};
 ghost use Rattle.stock_desk.specs.Serving.{Ends};
 ghost use Rattle.desk_clients.specs.Stops.{at_stop};
 ghost use Rattle.desk_clients.specs.declared.clients.Stop.TheVariants as why;
-ghost use Rattle.nedrun.specs.Stops.{EndsEarly, IsStopOf};
+ghost use Rattle.nedrun.specs.Stops.{EndsEarly, IsStopOf, end_of};
 ghost use Rattle.program_user.specs.Stops.{IsLost, IsReason};
 ghost use Rattle.program_dialogue.specs.Typing.{AsksInOrder};
+ghost use Rattle.program_dialogue.specs.Faults.{ends_in_fault};
 ghost use Rattle.program_dialogue.specs.declared.dialogue.Ask.TheVariants as ask;
 ghost use Rattle.program_stops.specs.declared.stops.Stop.{Stop as StopValue};
 
@@ -47,6 +48,8 @@ fn serve_user<'a, R: Files + Input + Print + Eprint + AllocGlobal>(
     // and nothing that it gave is left unasked up to `quit`, unless the user can't go on, or a device fails, and knows why.
     ensures stopped { IfOk result (λ r. at_stop (((r.0.dialogue.ask ≡ ask.Line) × (r.0.dialogue.lines.buffer.bytes ≡ [])) ⊎ (r.0.dialogue.ask ≡ ask.Nothing))
         (IsSomeAnd r.0.stop (IsReason r.0.dialogue.lines.buffer)) (λ _ _. IsSomeAnd r.0.stop IsLost) r.1) }
+    // The user knows whether the last run ended in a fault.
+    ensures fault { IfOk result (λ r. r.0.dialogue.has_fault ≡ ends_in_fault r.0.dialogue.transcript.heard) }
     // It is refused only where the texts are, and for that reason.
     ensures refused { IfErr result (λ fault.
         Refuses sources.now.texts.now sources.now.ini.now (string_bytes words.now.config) fault) }
@@ -65,19 +68,32 @@ fn serve_user<'a, R: Files + Input + Print + Eprint + AllocGlobal>(
     )
 }
 
+/// What becomes of a session at its end, where a fault of its last run is told or not.
+fn at_end(tells_fault: bool) -> Result<(), Stop>
+    ensures { result ≡ end_of tells_fault }
+{
+    if tells_fault {
+        Err(Stop::Fault)
+    } else {
+        Ok(())
+    }
+}
+
 /// Why the program ends early, where it does, behind a user who was served so.
 fn ended<R: Files + Input + Print + Eprint + AllocGlobal>(
     rt: &R,
+    words: &Words,
     sources: &Sources<'_>,
     served: Result<(User<'_, R>, clients::Stop), BeginFault>,
 ) -> Result<(), Stop>
-    ensures over { IfOk served.entry (λ r. r.1 ≡ why.End → result ≡ Ok tt) }
+    ensures over { IfOk served.entry (λ r. r.1 ≡ why.End
+        → result ≡ end_of (words.now.strict && r.0.dialogue.has_fault)) }
     ensures stuck { IfOk served.entry (λ r. r.1 ≢ why.End
         → (stop : StopValue) → r.0.stop ≡ Some stop → result ≡ Err stop) }
     ensures refused { IfErr served.entry (λ fault. IsErrAnd result (IsStopOf fault)) }
 {
     match served {
-        Ok((_, clients::Stop::End)) => Ok(()),
+        Ok((user, clients::Stop::End)) => at_end(words.strict && user.dialogue.has_fault),
         Ok((user, _)) => Err(user.into_stop()),
         Err(fault) => Err(refusals::refused(rt.alloc(), fault, sources)),
     }
@@ -94,9 +110,10 @@ fn session<R: Files + Input + Print + Eprint + AllocGlobal>(
     ensures served { OnOk result ((model : Model)
         × IsModelOf sources.now.texts.now sources.now.ini.now (string_bytes words.now.config) model) }
     ensures early { IfErr result (EndsEarly
-        sources.now.texts.now sources.now.ini.now (string_bytes words.now.config)) }
+        sources.now.texts.now sources.now.ini.now (string_bytes words.now.config) words.now.strict) }
 {
-    ended(rt, sources, serve_user(rt, words, sources, at_terminal))
+    let served = serve_user(rt, words, sources, at_terminal);
+    ended(rt, words, sources, served)
 }
 
 /// Does what the words ask for, at a terminal or not.

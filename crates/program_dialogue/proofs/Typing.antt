@@ -42,8 +42,12 @@ line_says t typed given given' ends ends' before after line text h n says =
     let lines = lines_more t typed given before.bytes n.more h in
     let it = n.answers in
     subst (λ all. AreLines t (typed ++ asked.Line text ∷ []) all after.bytes) (sym n.gives.gave) (one_line_more t typed (given ++ n.more) (before.bytes ++ n.more) after.bytes (asked.Line text) lines
-        (record { line = it.line; begins = begins_of (before.bytes ++ n.more) it.line after.bytes ends ends' it.is_line.ended; one = it.is_line.one;
-            told = (subst (λ xs. IsTyped t text xs) it.told.0 says, it.told.1) }))
+    (record {
+      line = it.line;
+      begins = begins_of (before.bytes ++ n.more) it.line after.bytes ends ends' it.is_line.ended;
+      one = it.is_line.one;
+      told = (subst (λ xs. IsTyped t text xs) it.told.0 says, it.told.1);
+    }))
 
 -- it is asked
 pub asks_line : (limit : ℕ) (t : Bool) (asks : List Asked) (given given' : List ℕ) (ends ends' : ℕ) (before after : Waiting) (line text : List ℕ)

@@ -65,5 +65,7 @@ module _ {I : Type 0} where
     -- the limit is that from before, and the terminal
     pub limit : after.limit ≡ before.limit
     pub at_terminal : after.at_terminal ≡ before.at_terminal
+    -- nothing is known of a further run
+    pub has_fault : after.has_fault ≡ before.has_fault
     -- nothing more is heard
     pub heard : after.transcript.heard ≡ before.transcript.heard

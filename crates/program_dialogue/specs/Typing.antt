@@ -1,7 +1,7 @@
 -- What was asked.
 use Rattle.std.specs.Prelude.{◌≡◌, ◌⊎◌, ℕ, ◌<◌, ◌≤◌, Bool, true, false, List, [], ◌∷◌, ◌++◌, Option, Some, None, Result, Ok, Err, codes, length}
 use Rattle.std.specs.Fmt.{decimal}
-use Rattle.core.specs.Str.{IsTrimAsciiEnd}
+use Rattle.std.specs.Str.{IsTrimAsciiEnd}
 use Rattle.line_reading.specs.Feeds.{has_feed}
 use Rattle.line_reading.specs.Limits.{longest}
 use Rattle.line_reading.specs.Waits.{Waiting}

@@ -4,6 +4,7 @@ ghost use Rattle.std.specs.Prelude.{◌≡◌, [], ◌∷◌, ◌++◌, IfOk, On
 ghost use Rattle.std.specs.Fmt.{decimal};
 ghost use Rattle.program_stops.specs.Stops.{IsFailed, IsOutOfMemory};
 ghost use Rattle.program_dialogue.specs.Asking.{Asks, IsInOrder, IsUnread};
+ghost use Rattle.program_dialogue.specs.Faults.{fault_behind, KnowsFault};
 ghost use Rattle.program_dialogue.specs.Typing.{IsTyped};
 ghost use Rattle.program_dialogue.specs.declared.dialogue.Ask.TheVariants as ask;
 ghost use Rattle.transcripts.specs.Heard as heards;
@@ -75,6 +76,19 @@ fn has_own_blanks(line: &[u8]) -> bool {
     line.starts_with(b"ini insert ") || line.starts_with(b"ini replace ")
 }
 
+/// Whether the last run ended in a fault, behind that answer too.
+fn has_fault_behind(has_fault: bool, answer: &[u8]) -> bool
+    ensures { result ≡ fault_behind has_fault (heards.Answer answer.now) }
+{
+    if answer.starts_with(b"done fault ") {
+        return true;
+    }
+    if answer.starts_with(b"done ") {
+        return false;
+    }
+    has_fault
+}
+
 /// What the program asks at its desk: the run to a limit, then to write its files, and then what the lines of standard input ask for,
 /// up to the line `quit`; and what it hears of that.
 #[derive(Drop)]
@@ -85,6 +99,8 @@ pub struct Dialogue<I> {
     lines: LineReader<NotedReader<I>>,
     /// Whether the lines are typed at a terminal, where blanks at the end of a line are no part of it.
     at_terminal: bool,
+    /// Whether the last run that was heard of ended in a fault.
+    pub has_fault: bool,
     transcript: Transcript,
 }
 
@@ -97,18 +113,23 @@ impl<I: Read> Dialogue<I> {
         ensures unasked { result.transcript.asked ≡ [] }
         ensures unheard { result.transcript.heard ≡ [] }
         ensures kept { IsInOrder result }
+        ensures known { KnowsFault result }
     {
         Dialogue {
             limit,
             ask: Ask::Run,
             lines: LineReader::new(alloc, NotedReader::new(input)),
             at_terminal,
+            has_fault: false,
             transcript: Transcript::new(),
         }
     }
 
     /// Hears an answer.
+    #[tactic(auto, using(crate::proofs::Faults::fault_more))]
     pub fn hears(&mut self, answer: &[u8])
+        requires known { KnowsFault self.old }
+        ensures known { KnowsFault self.new }
         ensures heard { self.new.transcript.heard ≡ self.old.transcript.heard
             ++ heards.Answer answer.now ∷ [] }
         ensures asked { self.new.transcript.asked ≡ self.old.transcript.asked }
@@ -117,11 +138,15 @@ impl<I: Read> Dialogue<I> {
         ensures ask { self.new.ask ≡ self.old.ask }
         ensures lines { self.new.lines ≡ self.old.lines }
     {
+        self.has_fault = has_fault_behind(self.has_fault, answer);
         self.transcript.hears(answer);
     }
 
     /// Hears that both files of a run were kept, of these bytes, with the name of the configuration that they are of.
+    #[tactic(auto, using(crate::proofs::Faults::fault_more))]
     pub fn hears_files(&mut self, config: &Noted, scalars: &Noted, vectors: &Noted)
+        requires known { KnowsFault self.old }
+        ensures known { KnowsFault self.new }
         ensures heard { self.new.transcript.heard ≡ self.old.transcript.heard
             ++ heards.Files config.now.bytes scalars.now.bytes vectors.now.bytes ∷ [] }
         ensures asked { self.new.transcript.asked ≡ self.old.transcript.asked }
@@ -134,7 +159,10 @@ impl<I: Read> Dialogue<I> {
     }
 
     /// Hears what the file of that path holds, which was read for a command.
+    #[tactic(auto, using(crate::proofs::Faults::fault_more))]
     pub fn hears_read(&mut self, path: &[u8], text: &[u8])
+        requires known { KnowsFault self.old }
+        ensures known { KnowsFault self.new }
         ensures heard { self.new.transcript.heard ≡ self.old.transcript.heard
             ++ heards.Read path.now text.now ∷ [] }
         ensures asked { self.new.transcript.asked ≡ self.old.transcript.asked }
@@ -147,7 +175,10 @@ impl<I: Read> Dialogue<I> {
     }
 
     /// Hears that memory ran out, with that error.
+    #[tactic(auto, using(crate::proofs::Faults::fault_more))]
     pub fn hears_no_memory(&mut self, error: &NoMemory)
+        requires known { KnowsFault self.old }
+        ensures known { KnowsFault self.new }
         ensures heard { self.new.transcript.heard ≡ self.old.transcript.heard
             ++ heards.OutOfMemory ∷ [] }
         ensures asked { self.new.transcript.asked ≡ self.old.transcript.asked }

@@ -38,4 +38,5 @@ status_of (stop.Words error) = words_status (kind_of error)
 status_of (stop.Refused text line) = 2
 status_of (stop.Failed line error) = 1
 status_of stop.Spent = 1
+status_of stop.Fault = 3
 status_of (stop.NoMemory error) = 1

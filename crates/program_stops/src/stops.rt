@@ -23,6 +23,8 @@ pub enum Stop {
     Failed(String, io::Error),
     /// As many command lines were read as are read at most.
     Spent,
+    /// The last run ended in a fault, and the words want that told by the status.
+    Fault,
     /// Memory ran out.
     NoMemory(NoMemory),
 }
@@ -45,6 +47,7 @@ impl Stop {
         match self {
             Stop::Words(error) => words_status(error),
             Stop::Refused(_, _) => 2,
+            Stop::Fault => 3,
             Stop::Failed(_, _) | Stop::Spent | Stop::NoMemory(_) => 1,
         }
     }

@@ -12,7 +12,7 @@ use text_explanations::names::shown;
 
 /// The status of the program, which says why it ends early where it does: 0 at the end of standard input; 1 where a file or a
 /// stream fails, where memory runs out for what the program says or reads, or where as many lines were read as are; 2 where the
-/// words or the texts are refused.
+/// words or the texts are refused; 3 where the last run ended in a fault, and the words want that told.
 pub fn status<R: Print + Eprint>(rt: &R, ended: Result<(), Stop>) -> ExitCode
     ensures { IsStatus ended (exit_status result) }
 {
@@ -34,6 +34,7 @@ fn tell<R: Print + Eprint>(rt: &R, stop: &Stop) -> io::Result<()> {
         Stop::Spent => eprintln!(rt;
             "nedrun: the limit of {MOST_LINES} command lines is reached: start the program again"
         ),
+        Stop::Fault => eprintln!(rt; "nedrun: the last run ended in a fault"),
         Stop::NoMemory(_) => eprintln!(rt; "nedrun: NoMemory"),
     }
 }

@@ -14,6 +14,7 @@ use Rattle.program_user.specs.Stops.{IsAskless, IsLost, IsOneUnwritable, IsReaso
 
 reason_unsaid : (waiting : Waiting) (s : Stop) → IsUnsaid s → IsReason waiting s
 reason_unsaid waiting stop.Spent h = absurd h
+reason_unsaid waiting stop.Fault h = absurd h
 reason_unsaid waiting (stop.Failed line error) h = inr (inl h)
 reason_unsaid waiting (stop.NoMemory _) h = tt
 reason_unsaid waiting (stop.Words _) h = h
@@ -21,6 +22,7 @@ reason_unsaid waiting (stop.Refused _ _) h = h
 
 reason_unadvised : (waiting : Waiting) (s : Stop) → IsUnadvised s → IsReason waiting s
 reason_unadvised waiting stop.Spent h = absurd h
+reason_unadvised waiting stop.Fault h = absurd h
 reason_unadvised waiting (stop.Failed line error) h = inr (inr (inl h))
 reason_unadvised waiting (stop.NoMemory _) h = tt
 reason_unadvised waiting (stop.Words _) h = h
@@ -32,6 +34,7 @@ reason_untold waiting s (inr h) = reason_unadvised waiting s h
 
 pub reason_unwritable : (path : List ℕ) (waiting : Waiting) (s : Stop) → IsUnwritable path s → IsReason waiting s
 reason_unwritable path waiting stop.Spent h = absurd h
+reason_unwritable path waiting stop.Fault h = absurd h
 reason_unwritable path waiting (stop.Failed line error) h = inr (inr (inr (inl (path, h))))
 reason_unwritable path waiting (stop.NoMemory _) h = tt
 reason_unwritable path waiting (stop.Words _) h = h
@@ -39,6 +42,7 @@ reason_unwritable path waiting (stop.Refused _ _) h = h
 
 pub reason_unreadable : (path : List ℕ) (waiting : Waiting) (s : Stop) → IsUnreadable path s → IsReason waiting s
 reason_unreadable path waiting stop.Spent h = absurd h
+reason_unreadable path waiting stop.Fault h = absurd h
 reason_unreadable path waiting (stop.Failed line error) h = inr (inr (inr (inr (inr (path, h)))))
 reason_unreadable path waiting (stop.NoMemory _) h = tt
 reason_unreadable path waiting (stop.Words _) h = h
@@ -55,6 +59,7 @@ reason_lost waiting s h = reason_unwritable h.0 waiting s h.1
 
 unwritable_short : (path : List ℕ) (s : Stop) → IsShortOf path s → IsUnwritable path s
 unwritable_short path stop.Spent h = h
+unwritable_short path stop.Fault h = absurd h
 unwritable_short path (stop.Failed line error) h = h.0
 unwritable_short path (stop.NoMemory _) h = tt
 unwritable_short path (stop.Words _) h = h
@@ -67,6 +72,7 @@ reason_short directory config waiting s (inr h) = reason_unwritable _ waiting s 
 -- a line is not read
 reason_unread : (failures failures' : ℕ) (waiting : Waiting) (s : Stop) → IsUnread failures failures' waiting s → IsReason waiting s
 reason_unread failures failures' waiting stop.Spent h = h.0
+reason_unread failures failures' waiting stop.Fault h = absurd h
 reason_unread failures failures' waiting (stop.Failed line told) h = inl h.0
 reason_unread failures failures' waiting (stop.NoMemory _) h = tt
 reason_unread failures failures' waiting (stop.Words _) h = h
@@ -74,6 +80,7 @@ reason_unread failures failures' waiting (stop.Refused _ _) h = h
 
 reason_out_of_memory : (waiting : Waiting) (s : Stop) → IsOutOfMemory s → IsReason waiting s
 reason_out_of_memory waiting stop.Spent h = absurd h
+reason_out_of_memory waiting stop.Fault h = absurd h
 reason_out_of_memory waiting (stop.Failed line told) h = absurd h
 reason_out_of_memory waiting (stop.NoMemory _) h = tt
 reason_out_of_memory waiting (stop.Words _) h = h
@@ -88,6 +95,7 @@ reason_unasked ask.Nothing failures failures' waiting s h = absurd h
 
 reason_unmade : (directory : List ℕ) (waiting : Waiting) (s : Stop) → IsUnmade directory s → IsReason waiting s
 reason_unmade directory waiting stop.Spent h = absurd h
+reason_unmade directory waiting stop.Fault h = absurd h
 reason_unmade directory waiting (stop.Failed line error) h = inr (inr (inr (inr (inl (directory, h)))))
 reason_unmade directory waiting (stop.NoMemory _) h = tt
 reason_unmade directory waiting (stop.Words _) h = h

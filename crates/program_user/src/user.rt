@@ -4,7 +4,8 @@ ghost use Rattle.std.specs.Prelude.{◌≡◌, ◌⊎◌, ◌<◌, [], ◌∷◌
 ghost use Rattle.program_user.specs.Devices.{path_of};
 ghost use Rattle.program_user.specs.Stops.{IsAskless, IsLost, IsOneUnwritable, IsReason, IsUntold};
 ghost use Rattle.text_explanations.specs.Names.{shown};
-ghost use Rattle.program_dialogue.specs.Asking.{left_in, HasAskedAll, IsInOrder};
+ghost use Rattle.program_dialogue.specs.Asking.{left_in, HasAskedAll};
+ghost use Rattle.program_dialogue.specs.Faults.{Keeps, KnowsFault};
 ghost use Rattle.program_dialogue.specs.Typing.{AsksNext};
 ghost use Rattle.program_stops.specs.declared.stops.Stop.{Stop as StopValue};
 ghost use Rattle.program_streams.specs.Devices.{taken_by, unwritten};
@@ -65,7 +66,7 @@ impl<'a, R: Files + Input + Print + Eprint + AllocGlobal> User<'a, R> {
         ensures unheard { result.dialogue.transcript.heard ≡ [] }
         ensures words { result.words.now ≡ words.now }
         ensures limit { result.dialogue.limit ≡ words.now.limit }
-        ensures kept { IsInOrder result.dialogue }
+        ensures kept { Keeps result.dialogue }
     {
         User {
             rt,
@@ -115,8 +116,8 @@ impl<'a, R: Files + Input + Print + Eprint + AllocGlobal> User<'a, R> {
     /// What is asked next. The folder of the result files is made before the first thing: only a user who is served asks, so where the
     /// texts are refused none is made.
     fn ask(&mut self) -> Result<Option<Asked>, Stop>
-        requires kept { IsInOrder self.old.dialogue }
-        ensures kept { IsInOrder self.new.dialogue }
+        requires kept { Keeps self.old.dialogue }
+        ensures kept { Keeps self.new.dialogue }
         ensures limit { self.new.dialogue.limit ≡ self.old.dialogue.limit }
         ensures next { AsksNext self.old.dialogue.transcript.asked (left_in self.old.dialogue) result
             self.new.dialogue.transcript.asked (left_in self.new.dialogue) }
@@ -153,8 +154,10 @@ impl<'a, R: Files + Input + Print + Eprint + AllocGlobal> User<'a, R> {
 
     /// Notes that both files are kept, of which nothing is left to write.
     fn note_files(&mut self, pages: &Pages<FileOut<'a, R>>)
+        requires known { KnowsFault self.old.dialogue }
         requires scalars { unwritten pages.now.scalars ≡ [] }
         requires vectors { unwritten pages.now.vectors ≡ [] }
+        ensures known { KnowsFault self.new.dialogue }
         ensures heard { self.new.dialogue.transcript.heard ≡ self.old.dialogue.transcript.heard
             ++ heards.Files pages.now.config.bytes pages.now.scalars.content.bytes pages.now.vectors.content.bytes ∷ [] }
         ensures asked { self.new.dialogue.transcript.asked ≡ self.old.dialogue.transcript.asked }
@@ -308,7 +311,7 @@ impl<'a, R: Files + Input + Print + Eprint + AllocGlobal> Client<FileOut<'a, R>>
 
     ghost left = { λ user. left_in user.dialogue };
 
-    ghost keeps = { λ user. IsInOrder user.dialogue };
+    ghost keeps = { λ user. Keeps user.dialogue };
 
     ghost label = { λ user. user.dialogue.limit };
 
@@ -317,8 +320,8 @@ impl<'a, R: Files + Input + Print + Eprint + AllocGlobal> Client<FileOut<'a, R>>
 
     #[tactic(auto, using(crate::proofs::Reasons::reason_askless))]
     fn next(&mut self) -> Result<Option<Asked>, Gone>
-        requires kept { IsInOrder self.old.dialogue }
-        ensures kept { IsInOrder self.new.dialogue }
+        requires kept { Keeps self.old.dialogue }
+        ensures kept { Keeps self.new.dialogue }
         ensures label { self.new.dialogue.limit ≡ self.old.dialogue.limit }
         ensures asked { IfOk result (λ next. IfSome next (λ a. self.new.dialogue.transcript.asked
             ≡ self.old.dialogue.transcript.asked ++ a ∷ [])) }
@@ -344,8 +347,8 @@ impl<'a, R: Files + Input + Print + Eprint + AllocGlobal> Client<FileOut<'a, R>>
 
     #[tactic(auto, using(crate::proofs::Reasons::reason_untold))]
     fn hear(&mut self, answer: &[u8]) -> Result<(), Gone>
-        requires kept { IsInOrder self.old.dialogue }
-        ensures kept { IsInOrder self.new.dialogue }
+        requires kept { Keeps self.old.dialogue }
+        ensures kept { Keeps self.new.dialogue }
         ensures heard { OnOk result (self.new.dialogue.transcript.heard ≡ self.old.dialogue.transcript.heard
             ++ heards.Answer answer.now ∷ []) }
         ensures gone { OnErr result (self.new.dialogue.transcript.heard ≡ self.old.dialogue.transcript.heard) }
@@ -366,8 +369,8 @@ impl<'a, R: Files + Input + Print + Eprint + AllocGlobal> Client<FileOut<'a, R>>
 
     #[tactic(auto, using(crate::proofs::Reasons::reason_untold))]
     fn hear_no_memory(&mut self, error: NoMemory) -> Result<(), Gone>
-        requires kept { IsInOrder self.old.dialogue }
-        ensures kept { IsInOrder self.new.dialogue }
+        requires kept { Keeps self.old.dialogue }
+        ensures kept { Keeps self.new.dialogue }
         ensures heard { OnOk result (self.new.dialogue.transcript.heard ≡ self.old.dialogue.transcript.heard
             ++ heards.OutOfMemory ∷ []) }
         ensures gone { OnErr result (self.new.dialogue.transcript.heard ≡ self.old.dialogue.transcript.heard) }
@@ -388,8 +391,8 @@ impl<'a, R: Files + Input + Print + Eprint + AllocGlobal> Client<FileOut<'a, R>>
 
     #[tactic(auto, using(crate::proofs::Reasons::reason_unreadable))]
     fn read(&mut self, path: &[u8]) -> Result<Text, Gone>
-        requires kept { IsInOrder self.old.dialogue }
-        ensures kept { IsInOrder self.new.dialogue }
+        requires kept { Keeps self.old.dialogue }
+        ensures kept { Keeps self.new.dialogue }
         ensures heard { IfOk result (λ text. self.new.dialogue.transcript.heard ≡ self.old.dialogue.transcript.heard
             ++ heards.Read path.now text ∷ []) }
         ensures gone { OnErr result (self.new.dialogue.transcript.heard ≡ self.old.dialogue.transcript.heard) }
@@ -411,8 +414,8 @@ impl<'a, R: Files + Input + Print + Eprint + AllocGlobal> Client<FileOut<'a, R>>
 
     #[tactic(auto, using(crate::proofs::Reasons::reason_short))]
     fn open(&mut self, config: &[u8]) -> Result<Pages<FileOut<'a, R>>, Gone>
-        requires kept { IsInOrder self.old.dialogue }
-        ensures kept { IsInOrder self.new.dialogue }
+        requires kept { Keeps self.old.dialogue }
+        ensures kept { Keeps self.new.dialogue }
         ensures config { IfOk result (λ pages. pages.config.bytes ≡ config.now) }
         ensures scalars { IfOk result (λ pages. taken_by pages.scalars ≡ untouched) }
         ensures vectors { IfOk result (λ pages. taken_by pages.vectors ≡ untouched) }
@@ -435,8 +438,8 @@ impl<'a, R: Files + Input + Print + Eprint + AllocGlobal> Client<FileOut<'a, R>>
     }
 
     fn keep(&mut self, pages: Pages<FileOut<'a, R>>) -> Result<(), Gone>
-        requires kept { IsInOrder self.old.dialogue }
-        ensures kept { IsInOrder self.new.dialogue }
+        requires kept { Keeps self.old.dialogue }
+        ensures kept { Keeps self.new.dialogue }
         ensures heard { OnOk result (self.new.dialogue.transcript.heard ≡ self.old.dialogue.transcript.heard
             ++ heards.Files pages.entry.config.bytes pages.entry.scalars.content.bytes pages.entry.vectors.content.bytes ∷ []) }
         ensures gone { OnErr result (self.new.dialogue.transcript.heard ≡ self.old.dialogue.transcript.heard) }
@@ -458,11 +461,11 @@ impl<'a, R: Files + Input + Print + Eprint + AllocGlobal> Client<FileOut<'a, R>>
     }
 
     fn lose(&mut self, pages: Pages<FileOut<'a, R>>, page: Page, _written: u128)
-        requires kept { IsInOrder self.old.dialogue }
+        requires kept { Keeps self.old.dialogue }
         requires failed { HasFailed page _written (taken_by pages.scalars) (taken_by pages.vectors) }
         // The reason names the file of the device that failed.
         ensures named { IsSomeAnd self.new.stop (IsUnwritable (path_of page pages.entry)) }
-        ensures kept { IsInOrder self.new.dialogue }
+        ensures kept { Keeps self.new.dialogue }
         ensures stuck { IsSomeAnd self.new.stop IsLost }
         ensures heard { self.new.dialogue.transcript.heard ≡ self.old.dialogue.transcript.heard }
         ensures label { self.new.dialogue.limit ≡ self.old.dialogue.limit }

@@ -43,6 +43,7 @@ pub record IsGiven (found : Found) (words : Words) : Type 0 where
   pub named : words.names_limit ≡ is_given (option_and_then (λ a. a.source) (matched_of found (codes "limit")))
   pub interval : IsIntervalOf (one_text found (codes "interval")) words.interval
   pub directory : string_bytes words.directory ≡ folder_of (unwrap_or (first_value found (codes "directory")) (codes "."))
+  pub strict : words.strict ≡ is_given (option_and_then (λ a. a.source) (matched_of found (codes "strict")))
   pub ini : string_bytes words.ini ≡ unwrap_or (first_value found (codes "ini")) []
   pub texts : map string_bytes words.texts.items ≡ unwrap_or (option_map raw_values (matched_of found (codes "ned"))) []
 

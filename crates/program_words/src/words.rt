@@ -22,7 +22,7 @@ const MORE: &str = "Examples:
 
 Behind the run it reads commands from standard input, a line each, and answers each with a line, until its end or the line quit; < /dev/null gives it none.
 
-Exit status: 0 at the end of standard input, whatever the answers were; 1 a file or a stream failed, memory ran out, or 1000000 lines were read; 2 the words or the texts are refused.
+Exit status: 0 at the end of standard input, whatever the answers were; 1 a file or a stream failed, memory ran out, or 1000000 lines were read; 2 the words or the texts are refused; 3 with --strict, the last run ended in a fault.
 docs/REFUSALS.md says what each refusal and fault means, and what to change.";
 
 /// What the program is asked for.
@@ -38,6 +38,8 @@ pub struct Words {
     pub interval: u64,
     /// Where the result files are written.
     pub directory: String,
+    /// Whether a fault of the last run is told by the status.
+    pub strict: bool,
     /// The path of the ini file.
     pub ini: String,
     /// The paths of the NED files.
@@ -88,6 +90,14 @@ fn directory_word<'a>(alloc: Global) -> Arg<'a> {
         .help("Where the result files are written")
 }
 
+/// `--strict`.
+fn strict_word<'a>(alloc: Global) -> Arg<'a> {
+    Arg::new(alloc, "strict")
+        .long("strict")
+        .action(ArgAction::SetTrue)
+        .help("The exit status is 3 where the last run ended in a fault")
+}
+
 /// `INI`.
 fn ini_word<'a>(alloc: Global) -> Arg<'a> {
     Arg::new(alloc, "ini")
@@ -106,12 +116,13 @@ fn ned_word<'a>(alloc: Global) -> Arg<'a> {
         .help("The NED files")
 }
 
-/// A command with the options: the configuration, the limit, the interval and the directory.
+/// A command with the options: the configuration, the limit, the interval, the directory, and whether faults are told by the status.
 fn with_options<'a>(alloc: Global, command: Command<'a>) -> Result<Command<'a>, AllocError> {
     let command = command.arg(config_word(alloc))?;
     let command = command.arg(limit_word(alloc))?;
     let command = command.arg(interval_word(alloc))?;
-    command.arg(directory_word(alloc))
+    let command = command.arg(directory_word(alloc))?;
+    command.arg(strict_word(alloc))
 }
 
 /// A command with the files: the ini file, and the NED files.
@@ -136,12 +147,12 @@ fn given_limit(matches: &ArgMatches<'_>) -> u64
     matches.get_one::<u64>("limit").unwrap_or(1000000)
 }
 
-/// Whether a limit was given.
-fn names_limit(matches: &ArgMatches<'_>) -> bool
+/// Whether the word of that name was given.
+fn names(matches: &ArgMatches<'_>, name: &str) -> bool
     ensures { result ≡ is_given (option_and_then (λ a. a.source)
-        (matched_of (found_of matches.now) (codes "limit"))) }
+        (matched_of (found_of matches.now) name.now)) }
 {
-    match matches.value_source("limit") {
+    match matches.value_source(name) {
         Some(ValueSource::CommandLine) => true,
         Some(ValueSource::DefaultValue) | None => false,
     }
@@ -214,12 +225,13 @@ impl Words {
         Ok(Words {
             config: String::from_str(alloc, matches.get_str("config").unwrap_or("General"))?,
             limit: given_limit(matches),
-            names_limit: names_limit(matches),
+            names_limit: names(matches, "limit"),
             interval: given_interval(matches),
             directory: String::from_str(
                 alloc,
                 folder(matches.get_str("directory").unwrap_or(".")),
             )?,
+            strict: names(matches, "strict"),
             ini: String::from_str(alloc, matches.get_str("ini").unwrap_or(""))?,
             texts: given_paths(alloc, matches)?,
         })

@@ -10,14 +10,15 @@ use Rattle.nedrun.proofs.session.Goals as goal
 
 pub returns-clause-served : goal.returns-clause-served
 returns-clause-served g c =
-    session_served c.serve_user.result c.ended.result
+    session_served c.serve_user-served.result c.ended.result
     (λ model. IsModelOf c.args.sources.now.texts.now c.args.sources.now.ini.now (string_bytes c.args.words.now.config) model)
     (λ model r. Ends stock (fresh_machine model c.args.words.now.interval) r.0.dialogue.transcript.asked r.0.dialogue.transcript.heard r.1)
-    c.serve_user.ensures.served c.ended.ensures.refused
+    c.serve_user-served.ensures.served c.ended.ensures.refused
 
 pub returns-clause-early : goal.returns-clause-early
 returns-clause-early g c =
-    session_ends c.serve_user.result c.ended.result (λ user. user.stop) (λ user. user.dialogue.lines.buffer)
+    session_ends c.serve_user-served.result c.ended.result (λ user. user.stop) (λ user. user.dialogue.lines.buffer)
     (λ user. ((user.dialogue.ask ≡ ask.Line) × (user.dialogue.lines.buffer.bytes ≡ [])) ⊎ (user.dialogue.ask ≡ ask.Nothing))
     (λ fault. Refuses c.args.sources.now.texts.now c.args.sources.now.ini.now (string_bytes c.args.words.now.config) fault)
-    c.serve_user.ensures.stopped c.serve_user.ensures.refused c.ended.ensures.over c.ended.ensures.stuck c.ended.ensures.refused
+    c.args.words.now.strict (λ user. user.dialogue.has_fault)
+    c.serve_user-served.ensures.stopped c.serve_user-served.ensures.refused c.ended.ensures.over c.ended.ensures.stuck c.ended.ensures.refused

@@ -13,6 +13,7 @@ returns-else-is-clause-asks g c = record {
   unasked = tt;
   limit = refl;
   at_terminal = refl;
+  has_fault = refl;
   heard = c.asks_line.ensures.heard;
 }
 
@@ -26,6 +27,7 @@ returns-then-is-clause-asks g c = record {
   unasked = tt;
   limit = refl;
   at_terminal = refl;
+  has_fault = refl;
   heard = refl;
 }
 
@@ -39,6 +41,7 @@ returns-in-Ok-TooLong-clause-asks g c = record {
   unasked = tt;
   limit = refl;
   at_terminal = refl;
+  has_fault = refl;
   heard = c.asks_too_long.ensures.heard;
 }
 
@@ -52,6 +55,7 @@ returns-in-Ok-End-clause-asks g c = record {
   unasked = tt;
   limit = refl;
   at_terminal = refl;
+  has_fault = refl;
   heard = refl;
 }
 
@@ -65,6 +69,7 @@ returns-in-Ok-Spent-clause-asks g c = record {
   unasked = search rules;
   limit = refl;
   at_terminal = refl;
+  has_fault = refl;
   heard = refl;
 }
 
@@ -78,6 +83,7 @@ returns-in-Err-Failed-clause-asks g c = record {
   unasked = search rules;
   limit = refl;
   at_terminal = refl;
+  has_fault = refl;
   heard = refl;
 }
 
@@ -91,5 +97,6 @@ returns-in-Err-NoMemory-clause-asks g c = record {
   unasked = search rules;
   limit = refl;
   at_terminal = refl;
+  has_fault = refl;
   heard = refl;
 }
