@@ -6,15 +6,16 @@ ghost use Rattle.std.specs.declared.io.Error.{Error as SystemError};
 ghost use Rattle.sim_values.specs.Counts.{next_count};
 ghost use Rattle.program_stops.specs.Stops.{IsFailed};
 ghost use Rattle.program_streams.specs.Devices.{taken_by, unwritten};
+ghost use Rattle.program_streams.specs.Paths.{part_path};
 ghost use Rattle.result_lines.specs.Taken.{untouched};
 ghost use Rattle.program_streams.specs.Stops.{IsShortOf, IsUnwritable};
 
 use program_stops::stops::Stop;
 use result_lines::writer::{Out, WriteFault};
 use std::fs::File;
-use std::io;
 use std::io::{BufWriter, ErrorKind, Write};
 use std::rt::Files;
+use std::{fs, io};
 use text_files::noted::Noted;
 
 /// A file of the system that is made at the first write.
@@ -41,11 +42,14 @@ impl<R: Files> Write for LateFile<'_, R> {
     }
 }
 
-/// A file as a device. Bytes are gathered before they are written, in room that is there before the first of them.
+/// A file as a device. Bytes are gathered before they are written, in room that is there before the first of them. They are written to another file
+/// beside it, which takes its place when all is written: so a write that fails leaves the file that was there.
 #[derive(Drop)]
 pub struct FileOut<'a, R: Files> {
     rt: &'a R,
     path: String,
+    /// The path of the file beside it.
+    part: String,
     writer: BufWriter<LateFile<'a, R>>,
     content: Noted,
     failures: u64,
@@ -58,21 +62,24 @@ impl<'a, R: Files + AllocGlobal> FileOut<'a, R> {
     pub fn new(rt: &'a R, path: String) -> Result<FileOut<'a, R>, Stop>
         ensures taken { IfOk result (λ out. taken_by out ≡ untouched) }
         ensures path { IfOk result (λ out. out.path ≡ path) }
+        ensures part { IfOk result (λ out. string_bytes out.part ≡ part_path (string_bytes path)) }
         ensures file { IfOk result (λ out.
-            string_bytes (writer_inner out.writer).path ≡ string_bytes path) }
+            string_bytes (writer_inner out.writer).path ≡ part_path (string_bytes path)) }
         ensures unmade { IfOk result (λ out. (writer_inner out.writer).file ≡ None) }
         // Only memory can be wanting: nothing is asked of the system yet.
         ensures failed { IfErr result (IsShortOf (string_bytes path)) }
     {
+        let part = format!(in rt.alloc(); "{path}.part")?;
         let file = LateFile {
             rt,
-            path: String::from_str(rt.alloc(), path.as_str())?,
+            path: String::from_str(rt.alloc(), part.as_str())?,
             file: None,
         };
         match BufWriter::new(rt.alloc(), file) {
             Ok(writer) => Ok(FileOut {
                 rt,
                 path,
+                part,
                 writer,
                 content: Noted::new(),
                 failures: 0,
@@ -86,11 +93,53 @@ impl<'a, R: Files + AllocGlobal> FileOut<'a, R> {
     pub fn finish(&mut self) -> Result<(), Stop>
         ensures written { OnOk result (unwritten self.new ≡ []) }
         ensures content { self.new.content.bytes ≡ self.old.content.bytes }
+        ensures path { self.new.path ≡ self.old.path }
         ensures failed { IfErr result (λ stop. IsUnwritable (string_bytes self.old.path) stop) }
     {
         match self.writer.flush() {
             Ok(()) => Ok(()),
             Err(error) => Err(unwritable(self.rt, self.path.as_str(), error)),
+        }
+    }
+
+    /// Sees to it that the file can take its place: no folder stands there.
+    pub fn look(&self) -> Result<(), Stop>
+        ensures { IfErr result (λ stop. IsUnwritable (string_bytes self.now.path) stop) }
+    {
+        match fs::metadata(self.rt, self.path.as_str()) {
+            Ok(found) if found.is_dir() => {
+                let fault = io::Error::from(ErrorKind::IsADirectory);
+                Err(unwritable(self.rt, self.path.as_str(), fault))
+            }
+            _ => Ok(()),
+        }
+    }
+
+    /// Puts the file, which is written whole, in the place of the one that was there.
+    pub fn take_place(&self) -> Result<(), Stop>
+        requires whole { unwritten self.now ≡ [] }
+        ensures { IfErr result (λ stop. IsUnwritable (string_bytes self.now.path) stop) }
+    {
+        match fs::rename(self.rt, self.part.as_str(), self.path.as_str()) {
+            Ok(()) => Ok(()),
+            Err(error) => Err(unwritable(self.rt, self.path.as_str(), error)),
+        }
+    }
+
+    /// Removes what was written of it and has not taken its place, where something was. What is gathered still is not written.
+    pub fn discard(self) {
+        let FileOut {
+            rt,
+            path: _,
+            part,
+            writer,
+            content: _,
+            failures: _,
+            fault: _,
+        } = self;
+        let (file, _gathered) = writer.into_parts();
+        if file.file.is_some() {
+            let _removed = fs::remove_file(rt, part.as_str());
         }
     }
 

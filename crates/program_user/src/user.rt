@@ -279,7 +279,7 @@ impl<'a, R: Files + Input + Print + Eprint + AllocGlobal> User<'a, R> {
     }
 }
 
-/// Writes what is gathered still of both files.
+/// Writes what is gathered still of both files, and puts them in the place of those that were there: none of them before both are written whole.
 fn finish<R: Files + AllocGlobal>(pages: &mut Pages<FileOut<'_, R>>) -> Result<(), Stop>
     ensures scalars { OnOk result (unwritten pages.new.scalars ≡ []) }
     ensures vectors { OnOk result (unwritten pages.new.vectors ≡ []) }
@@ -291,7 +291,22 @@ fn finish<R: Files + AllocGlobal>(pages: &mut Pages<FileOut<'_, R>>) -> Result<(
         ⊎ ((unwritten pages.new.scalars ≡ []) × IsUnwritable (string_bytes pages.old.vectors.path) stop)) }
 {
     pages.scalars.finish()?;
-    pages.vectors.finish()
+    pages.vectors.finish()?;
+    pages.scalars.look()?;
+    pages.vectors.look()?;
+    pages.scalars.take_place()?;
+    pages.vectors.take_place()
+}
+
+/// Removes what was written of both files and has not taken its place.
+fn discard<R: Files + AllocGlobal>(pages: Pages<FileOut<'_, R>>) {
+    let Pages {
+        config: _,
+        scalars,
+        vectors,
+    } = pages;
+    scalars.discard();
+    vectors.discard();
 }
 
 /// What ends the program where the device of this file failed.
@@ -456,7 +471,10 @@ impl<'a, R: Files + Input + Print + Eprint + AllocGlobal> Client<FileOut<'a, R>>
                 self.note_files(&pages);
                 Ok(())
             }
-            Err(stop) => Err(self.gone(stop)),
+            Err(stop) => {
+                discard(pages);
+                Err(self.gone(stop))
+            }
         }
     }
 
@@ -473,5 +491,6 @@ impl<'a, R: Files + Input + Print + Eprint + AllocGlobal> Client<FileOut<'a, R>>
         ensures left { left_in self.new.dialogue ≡ left_in self.old.dialogue }
     {
         self.stop = Some(lost(&pages, page));
+        discard(pages);
     }
 }
