@@ -8,6 +8,7 @@ mod ini_lines;
 mod insides;
 mod items;
 mod lacking;
+pub mod messages;
 mod modules;
 mod reading;
 pub mod refusals;

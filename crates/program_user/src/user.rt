@@ -75,7 +75,7 @@ impl<'a, R: Files + Input + Print + Eprint + AllocGlobal> User<'a, R> {
             dialogue: Dialogue::new(rt.alloc(), words.limit, rt.reader(), at_terminal),
             has_folder: false,
             heard_any: false,
-            notes: Notes::new(),
+            notes: Notes::new(rt.alloc()),
             at_terminal,
             stop: None,
         }

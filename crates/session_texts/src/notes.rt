@@ -6,6 +6,7 @@ use crate::own::{Own, own_of};
 use crate::refused::{why_refused_command, why_refused_edit};
 use crate::texts::SessionTexts;
 use command_lines::commands::{Command, command_of};
+use explanations::messages::discarded_line;
 use explanations::runs::fault_line;
 use model_edits::edit::Edit;
 use sim_values::NoMemory;
@@ -28,7 +29,12 @@ pub struct Notes {
     texts: Option<SessionTexts>,
     /// How often something was asked.
     count: u64,
+    /// The paths of messages that were looked at since the texts changed.
+    looked_at: Vec<Text>,
 }
+
+/// Of how many paths of messages it is said that nobody stands there, between two changes of the texts.
+const MOST_PATHS: usize = 1000;
 
 /// Whether a command changes or looks at texts.
 fn is_of_texts(command: &Command) -> bool {
@@ -53,13 +59,14 @@ fn bytes_in(text: &Option<Text>) -> Option<&[u8]> {
 
 impl Notes {
     /// Nothing was asked yet.
-    pub fn new() -> Notes {
+    pub fn new(alloc: Global) -> Notes {
         Notes {
             asked: None,
             read: None,
             short: None,
             texts: None,
             count: 0,
+            looked_at: Vec::new(alloc),
         }
     }
 
@@ -132,6 +139,7 @@ impl Notes {
             return Ok(());
         }
         let read = self.read.take();
+        self.looked_at.clear();
         let texts = self.texts(alloc, sources)?;
         match (command, read) {
             (Command::Edit(edit), _) => texts.take(&edit),
@@ -180,6 +188,35 @@ impl Notes {
             }
             None => fault_line(alloc, answer, sources, classes),
         }
+    }
+
+    /// Whether a path of a message is looked at no more: it was since the texts changed, or so many others were.
+    fn is_looked_at(&self, path: &Text) -> bool {
+        for it in self.looked_at.as_slice() {
+            if it.is(path.as_bytes()) {
+                return true;
+            }
+        }
+        self.looked_at.len() >= MOST_PATHS
+    }
+
+    /// That the message which was put in is discarded, where it is. It is said once for each path, until the texts change.
+    fn why_discarded(&mut self, alloc: Global, sources: &Sources<'_>) -> Result<String, NoMemory> {
+        let Command::Edit(Edit::Inject(path, _, _, _, _)) = self.command(alloc)? else {
+            return Ok(String::new(alloc));
+        };
+        if self.is_looked_at(&path) {
+            return Ok(String::new(alloc));
+        }
+        let line = match &self.texts {
+            Some(texts) => {
+                let ini = bytes_of(alloc, &texts.ini)?;
+                discarded_line(alloc, &texts.sources(ini.as_slice()), path.as_bytes())?
+            }
+            None => discarded_line(alloc, sources, path.as_bytes())?,
+        };
+        self.looked_at.push(path)?;
+        Ok(line)
     }
 
     /// The program's own command that was asked last, where it is one and the session answered that it knows no such command.
@@ -231,6 +268,7 @@ impl Notes {
         let answer_text = shown(answer);
         if answer_text.starts_with("edited ") {
             self.follow(alloc, sources)?;
+            return self.why_discarded(alloc, sources);
         }
         if answer_text.starts_with("done fault ") {
             return self.why_fault(alloc, sources, answer, classes);
