@@ -21,8 +21,9 @@ mod refusals;
 use desk_clients::clients;
 use model_texts::begin::BeginFault;
 use program_stops::stops::Stop;
-use program_streams::{endings, files};
+use program_streams::{endings, files, folders};
 use program_user::user::User;
+use program_words::other_words::instead_of_words;
 use program_words::words::Words;
 use std::io::IsTerminal;
 use std::process::ExitCode;
@@ -117,11 +118,14 @@ fn session<R: Files + Input + Print + Eprint + AllocGlobal>(
 }
 
 /// Does what the words ask for, at a terminal or not.
-fn work<R: Files + Env + Input + Print + Eprint + AllocGlobal>(
+fn work<R: Files + Env + Input + Print + Eprint + AllocGlobal + Clone + Drop>(
     rt: &R,
     at_terminal: bool,
 ) -> Result<(), Stop> {
-    let words = Words::read(rt)?;
+    let mut words = Words::read(rt)?;
+    if let Some(folders) = words.folders.take() {
+        folders::add_ned_paths(rt, folders.as_str(), &mut words.texts)?;
+    }
     let ini = files::read_text(rt, words.ini.as_str())?;
     let texts = files::read_texts(rt, words.texts.as_slice())?;
     let sources = Sources {
@@ -135,7 +139,24 @@ fn work<R: Files + Env + Input + Print + Eprint + AllocGlobal>(
     session(rt, &words, &sources, at_terminal)
 }
 
+/// How a word of OMNeT++'s own is called that the words were refused for, and what serves instead.
+fn instead<R: Env + AllocGlobal>(
+    rt: &R,
+    ended: &Result<(), Stop>,
+) -> Option<(&'static str, &'static str)> {
+    match ended {
+        Err(Stop::Words(error)) => instead_of_words(rt, error),
+        _ => None,
+    }
+}
+
 fn main(rt: HostRuntime) -> ExitCode {
     let at_terminal = rt.stdin().is_terminal();
-    endings::status(&rt, work(&rt, at_terminal))
+    let ended = work(&rt, at_terminal);
+    let instead = instead(&rt, &ended);
+    let status = endings::status(&rt, ended);
+    if let Some((word, other)) = instead {
+        let _said = eprintln!(rt; "{word} is OMNeT++'s own, and not of this program: {other}");
+    }
+    status
 }

@@ -35,6 +35,10 @@ IsUnadvised s = Fails (codes "a warning can't be printed") (codes "standard erro
 abbrev pub IsUnreadable : List ℕ → Stop → Type 0
 IsUnreadable path s = Fails (codes "this file can't be read") path s
 
+-- a folder can't be read
+abbrev pub IsUnlisted : Stop → Type 0
+IsUnlisted s = (path : List ℕ) × Fails (codes "this folder can't be read") path s
+
 -- one of the files of these paths can't be read
 abbrev pub IsOneUnreadable : {A : Type 0} → List (String A) → Stop → Type 0
 IsOneUnreadable {A} paths (stop.Failed line error) =

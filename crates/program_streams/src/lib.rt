@@ -4,4 +4,5 @@
 pub mod devices;
 pub mod endings;
 pub mod files;
+pub mod folders;
 pub mod output;

@@ -1,6 +1,7 @@
 -- What the program is asked for.
-use Rattle.std.specs.Prelude.{◌≡◌, ◌<◌, ◌^◌, ℕ, Bool, true, false, List, [], ◌∷◌, Option, Some, None, codes, unwrap_or, option_and_then, option_map, map}
+use Rattle.std.specs.Prelude.{◌≡◌, ◌<◌, ◌^◌, ◌==◌, ◌++◌, ℕ, Bool, not, true, false, if◌then◌else◌, List, [], ◌∷◌, Option, Some, None, codes, unwrap_or, option_and_then, option_map, map}
 use Rattle.std.specs.String.{string_bytes}
+use Rattle.std.specs.List.{ends_with}
 use Rattle.std.specs.Str.Parse.{IsNumeral, digits_value, without_leading_plus}
 use Rattle.clap.specs.Matches.{first_value, matched_of, one_text, raw_values}
 use Rattle.clap.specs.declared.parser.matches.Found.{Found}
@@ -36,6 +37,43 @@ abbrev pub folder_of : List ℕ → List ℕ
 folder_of [] = codes "."
 folder_of (b ∷ bs) = b ∷ bs
 
+-- all that was found of the word of that name
+abbrev pub values_of : Found → List ℕ → List (List ℕ)
+values_of found name = unwrap_or (option_map raw_values (matched_of found name)) []
+
+-- the files behind the options
+abbrev pub files_of : Found → List (List ℕ)
+files_of found = values_of found (codes "ini") ++ values_of found (codes "ned")
+
+-- the name of a NED file
+abbrev pub is_ned : List ℕ → Bool
+is_ned name = ends_with (λ a b. a == b) name (codes ".ned")
+
+-- the first of these files is an ini file
+abbrev pub begins_with_ini : List (List ℕ) → Bool
+begins_with_ini [] = false
+begins_with_ini (file ∷ files) = not (is_ned file)
+
+-- the first of these files, if it is an ini file; or else the one that is taken where none is named
+abbrev pub first_ini : List (List ℕ) → List ℕ
+first_ini [] = codes "omnetpp.ini"
+first_ini (file ∷ files) = if is_ned file then codes "omnetpp.ini" else file
+
+-- the NED files among these files, of which the first may be an ini file
+abbrev pub ned_files : List (List ℕ) → List (List ℕ)
+ned_files [] = []
+ned_files (file ∷ files) = if is_ned file then file ∷ files else files
+
+-- THE INI FILE is the one that the word for it names; or else the first of the files
+abbrev pub ini_of : Option (List ℕ) → List (List ℕ) → List ℕ
+ini_of (Some named) files = named
+ini_of None files = first_ini files
+
+-- THE NED FILES are all of the files, where the word for the ini file names that; or else those behind it
+abbrev pub texts_of : Option (List ℕ) → List (List ℕ) → List (List ℕ)
+texts_of (Some named) files = files
+texts_of None files = ned_files files
+
 -- WHAT THE PROGRAM IS ASKED FOR is what its words say, each by its name.
 pub record IsGiven (found : Found) (words : Words) : Type 0 where
   pub config : string_bytes words.config ≡ unwrap_or (first_value found (codes "config")) (codes "General")
@@ -44,8 +82,9 @@ pub record IsGiven (found : Found) (words : Words) : Type 0 where
   pub interval : IsIntervalOf (one_text found (codes "interval")) words.interval
   pub directory : string_bytes words.directory ≡ folder_of (unwrap_or (first_value found (codes "directory")) (codes "."))
   pub strict : words.strict ≡ is_given (option_and_then (λ a. a.source) (matched_of found (codes "strict")))
-  pub ini : string_bytes words.ini ≡ unwrap_or (first_value found (codes "ini")) []
-  pub texts : map string_bytes words.texts.items ≡ unwrap_or (option_map raw_values (matched_of found (codes "ned"))) []
+  pub ini : string_bytes words.ini ≡ ini_of (first_value found (codes "file")) (files_of found)
+  pub texts : map string_bytes words.texts.items ≡ texts_of (first_value found (codes "file")) (files_of found)
+  pub folders : option_map string_bytes words.folders ≡ first_value found (codes "folders")
 
 -- why the words aren't there: they can't be had; they are not as they should be, or ask for help; or memory ran out
 abbrev pub AreUnreadWords : Stop → Type 0

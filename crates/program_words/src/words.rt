@@ -1,10 +1,11 @@
 //! What the program is asked for.
 
-ghost use Rattle.std.specs.Prelude.{◌≡◌, ◌≤◌, [], IfErr, IfOk, codes, map, option_and_then, option_map, unwrap_or, string_bytes};
-ghost use Rattle.clap.specs.Matches.{found_of, matched_of, one_text, raw_values};
+ghost use Rattle.std.specs.Prelude.{◌≡◌, ◌≤◌, ◌++◌, IfErr, IfOk, OnOk, codes, map, option_and_then, option_map, string_bytes};
+ghost use Rattle.clap.specs.Matches.{first_value, found_of, matched_of, one_text};
 ghost use Rattle.program_stops.specs.Stops.{Fails};
-ghost use Rattle.program_words.specs.Words.{folder_of, is_given, AreUnreadWords, IsGiven, IsIntervalOf, IsLimitOf};
+ghost use Rattle.program_words.specs.Words.{begins_with_ini, files_of, folder_of, ini_of, is_given, is_ned, texts_of, values_of, AreUnreadWords, IsGiven, IsIntervalOf, IsLimitOf};
 
+use clap::error::ErrorKind;
 use clap::parser::ValueSource;
 use clap::{Arg, ArgAction, ArgMatches, Command, value_parser};
 use program_stops::stops::Stop;
@@ -14,6 +15,9 @@ use std::rt::Env;
 
 /// The version of the program.
 const VERSION: &str = "0.1.0";
+
+/// The user interfaces.
+const INTERFACES: [&str; 1] = ["Cmdenv"];
 
 /// What `--help` says at its end.
 const MORE: &str = "Examples:
@@ -42,8 +46,10 @@ pub struct Words {
     pub strict: bool,
     /// The path of the ini file.
     pub ini: String,
-    /// The paths of the NED files.
+    /// The paths of the NED files that are named.
     pub texts: Vec<String>,
+    /// Folders, with `:` or `;` between them, below which all NED files are taken besides.
+    pub folders: Option<String>,
 }
 
 /// `-c CONFIG`.
@@ -98,19 +104,51 @@ fn strict_word<'a>(alloc: Global) -> Arg<'a> {
         .help("The exit status is 3 where the last run ended in a fault")
 }
 
+/// `-f FILE`.
+fn file_word<'a>(alloc: Global) -> Arg<'a> {
+    Arg::new(alloc, "file").short('f').value_name("FILE").help(
+        "The ini file, so that all files behind the options are NED files; omnetpp.ini where only NED files are named",
+    )
+}
+
+/// `-n DIR`.
+fn folders_word<'a>(alloc: Global) -> Arg<'a> {
+    Arg::new(alloc, "folders").short('n').value_name("DIR").help(
+        "All NED files below this folder; several have ':' between them",
+    )
+}
+
+/// `-u UI`.
+fn interface_word<'a>(alloc: Global) -> Arg<'a> {
+    Arg::new(alloc, "interface")
+        .short('u')
+        .value_name("UI")
+        .value_parser(INTERFACES.as_slice())
+        .help("The user interface, of which there is this one")
+}
+
+/// `-r RUN`.
+fn run_word<'a>(alloc: Global) -> Arg<'a> {
+    Arg::new(alloc, "run")
+        .short('r')
+        .value_name("RUN")
+        .value_parser(value_parser!(u64).range(0..=0))
+        .help("The number of the run, of which there is 0 alone")
+}
+
 /// `INI`.
-fn ini_word<'a>(alloc: Global) -> Arg<'a> {
+fn ini_word<'a>(alloc: Global, is_wanted: bool) -> Arg<'a> {
     Arg::new(alloc, "ini")
         .value_name("INI")
-        .required(true)
+        .required(is_wanted)
         .help("The ini file")
 }
 
 /// `NED..`.
-fn ned_word<'a>(alloc: Global) -> Arg<'a> {
+fn ned_word<'a>(alloc: Global, is_wanted: bool) -> Arg<'a> {
     Arg::new(alloc, "ned")
         .value_name("NED")
-        .required(true)
+        .required(is_wanted)
         .action(ArgAction::Append)
         .num_args(1..)
         .help("The NED files")
@@ -125,19 +163,32 @@ fn with_options<'a>(alloc: Global, command: Command<'a>) -> Result<Command<'a>, 
     command.arg(strict_word(alloc))
 }
 
-/// A command with the files: the ini file, and the NED files.
-fn with_files<'a>(alloc: Global, command: Command<'a>) -> Result<Command<'a>, AllocError> {
-    let command = command.arg(ini_word(alloc))?;
-    command.arg(ned_word(alloc))
+/// A command with the words that the program has in common with OMNeT++'s own: an ini file, folders, the user interface and the run.
+fn with_common<'a>(alloc: Global, command: Command<'a>) -> Result<Command<'a>, AllocError> {
+    let command = command.arg(file_word(alloc))?;
+    let command = command.arg(folders_word(alloc))?;
+    let command = command.arg(interface_word(alloc))?;
+    command.arg(run_word(alloc))
 }
 
-/// The words that the program takes.
-fn command<'a>(alloc: Global) -> Result<Command<'a>, AllocError> {
+/// A command with the files: the ini file, and the NED files. They are wanted, or may be left out.
+fn with_files<'a>(
+    alloc: Global,
+    command: Command<'a>,
+    are_wanted: bool,
+) -> Result<Command<'a>, AllocError> {
+    let command = command.arg(ini_word(alloc, are_wanted))?;
+    command.arg(ned_word(alloc, are_wanted))
+}
+
+/// The words that the program takes, among which both kinds of files are wanted or not.
+fn command<'a>(alloc: Global, wants_files: bool) -> Result<Command<'a>, AllocError> {
     let command = Command::new(alloc, "nedrun");
     let command = command.about("Runs a network of modules and writes its result files");
     let command = command.version(VERSION).after_help(MORE);
     let command = with_options(alloc, command)?;
-    with_files(alloc, command)
+    let command = with_common(alloc, command)?;
+    with_files(alloc, command, wants_files)
 }
 
 /// The limit that was given.
@@ -176,26 +227,122 @@ fn folder(name: &str) -> &str
     if name.is_empty() { "." } else { name }
 }
 
-/// Texts of their own, in the same order.
-fn copies(alloc: Global, texts: &[&str]) -> Result<Vec<String>, AllocError>
-    ensures { IfOk result (λ copies.
-        map string_bytes copies.items ≡ map (λ text. text.now) texts.now) }
+/// Whether that is the name of a NED file.
+fn is_ned(name: &str) -> bool
+    ensures { result ≡ is_ned name.now }
 {
-    let mut copies = Vec::new(alloc);
+    name.as_bytes().ends_with(b".ned")
+}
+
+/// Adds texts of their own behind others, in the same order.
+fn add_copies(alloc: Global, copies: &mut Vec<String>, texts: &[&str]) -> Result<(), AllocError>
+    ensures { OnOk result (map string_bytes copies.new.items
+        ≡ map string_bytes copies.old.items ++ map (λ text. text.now) texts.now) }
+{
     for text in texts {
         copies.push(String::from_str(alloc, text)?)?;
     }
-    Ok(copies)
+    Ok(())
 }
 
-/// The paths of the NED files that were given.
-fn given_paths(alloc: Global, matches: &ArgMatches<'_>) -> Result<Vec<String>, AllocError>
-    ensures { IfOk result (λ paths. map string_bytes paths.items
-        ≡ unwrap_or (option_map raw_values (matched_of (found_of matches.now) (codes "ned"))) []) }
+/// Adds what was found of the word of that name behind other texts.
+fn add_found(
+    alloc: Global,
+    copies: &mut Vec<String>,
+    matches: &ArgMatches<'_>,
+    name: &str,
+) -> Result<(), AllocError>
+    ensures { OnOk result (map string_bytes copies.new.items
+        ≡ map string_bytes copies.old.items ++ values_of (found_of matches.now) name.now) }
 {
-    match matches.get_strs("ned") {
-        Some(paths) => copies(alloc, paths),
-        None => Ok(Vec::new(alloc)),
+    match matches.get_strs(name) {
+        Some(texts) => add_copies(alloc, copies, texts),
+        None => Ok(()),
+    }
+}
+
+/// The paths of files that were given behind the options.
+fn given_files(alloc: Global, matches: &ArgMatches<'_>) -> Result<Vec<String>, AllocError>
+    ensures { IfOk result (λ files. map string_bytes files.items ≡ files_of (found_of matches.now)) }
+{
+    let mut files = Vec::new(alloc);
+    add_found(alloc, &mut files, matches, "ini")?;
+    add_found(alloc, &mut files, matches, "ned")?;
+    Ok(files)
+}
+
+/// Whether the first of these files is an ini file.
+fn begins_with_ini(files: &[String]) -> bool
+    ensures { result ≡ begins_with_ini (map string_bytes files.now) }
+{
+    match files.first() {
+        Some(first) => !is_ned(first.as_str()),
+        None => false,
+    }
+}
+
+/// Takes the path of the ini file out of the files, where it is among them: the one that the word for it names goes before that.
+fn take_ini(
+    alloc: Global,
+    files: &mut Vec<String>,
+    named: Option<&str>,
+) -> Result<String, AllocError>
+    ensures ini { IfOk result (λ ini. string_bytes ini
+        ≡ ini_of (option_map (λ s. s.now) named.entry) (map string_bytes files.old.items)) }
+    ensures texts { OnOk result (map string_bytes files.new.items
+        ≡ texts_of (option_map (λ s. s.now) named.entry) (map string_bytes files.old.items)) }
+{
+    match named {
+        Some(path) => String::from_str(alloc, path),
+        None if begins_with_ini(files.as_slice()) => Ok(files.remove(0)),
+        None => String::from_str(alloc, "omnetpp.ini"),
+    }
+}
+
+/// The folders that were given.
+fn given_folders(alloc: Global, matches: &ArgMatches<'_>) -> Result<Option<String>, AllocError>
+    ensures { IfOk result (λ folders. option_map string_bytes folders
+        ≡ first_value (found_of matches.now) (codes "folders")) }
+{
+    match matches.get_str("folders") {
+        Some(folders) => Ok(Some(String::from_str(alloc, folders)?)),
+        None => Ok(None),
+    }
+}
+
+/// Whether words that lack an ini file or NED files name enough: a folder of NED files, or NED files alone.
+fn names_enough(matches: &ArgMatches<'_>) -> bool {
+    if matches.contains_id("folders") {
+        return true;
+    }
+    match matches.get_str("ini") {
+        Some(first) => matches.contains_id("file") || is_ned(first),
+        None => false,
+    }
+}
+
+/// What `clap` makes of words that lack an ini file or NED files, which it refused with that error.
+fn parsed_without<'a>(
+    alloc: Global,
+    given: &'a [String],
+    error: clap::Error,
+) -> Result<ArgMatches<'a>, clap::Error> {
+    let matches = command(alloc, false)?.try_get_matches_from(given)?;
+    if names_enough(&matches) {
+        Ok(matches)
+    } else {
+        Err(error)
+    }
+}
+
+/// What `clap` makes of the words.
+fn parsed<'a>(alloc: Global, given: &'a [String]) -> Result<ArgMatches<'a>, clap::Error> {
+    match command(alloc, true)?.try_get_matches_from(given) {
+        Ok(matches) => Ok(matches),
+        Err(error) if error.kind() == ErrorKind::MissingRequiredArgument => {
+            parsed_without(alloc, given, error)
+        }
+        Err(error) => Err(error),
     }
 }
 
@@ -222,6 +369,8 @@ impl Words {
         ensures given { IfOk result (λ words. IsGiven (found_of matches.now) words) }
         ensures interval { IfOk result (λ words. 1 ≤ words.interval) }
     {
+        let mut files = given_files(alloc, matches)?;
+        let ini = take_ini(alloc, &mut files, matches.get_str("file"))?;
         Ok(Words {
             config: String::from_str(alloc, matches.get_str("config").unwrap_or("General"))?,
             limit: given_limit(matches),
@@ -232,8 +381,9 @@ impl Words {
                 folder(matches.get_str("directory").unwrap_or(".")),
             )?,
             strict: names(matches, "strict"),
-            ini: String::from_str(alloc, matches.get_str("ini").unwrap_or(""))?,
-            texts: given_paths(alloc, matches)?,
+            ini,
+            texts: files,
+            folders: given_folders(alloc, matches)?,
         })
     }
 
@@ -244,7 +394,7 @@ impl Words {
     {
         let alloc = rt.alloc();
         let given = given_words(rt)?;
-        let matches = command(alloc)?.try_get_matches_from(given.as_slice())?;
+        let matches = parsed(alloc, given.as_slice())?;
         Ok(Words::given(alloc, &matches)?)
     }
 }
