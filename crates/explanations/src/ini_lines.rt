@@ -3,6 +3,7 @@
 use ini_config::parse::key_and_value;
 use ini_entries::reason::Reason;
 use text_explanations::explanation::Explanation;
+use text_explanations::foreign::{has_mark, tell_braces, tell_foreign, tell_mark, tell_mode};
 
 /// The line of that number, counted from 1, without its end.
 pub fn line_at(bytes: &[u8], number: usize) -> &[u8] {
@@ -37,6 +38,29 @@ fn tell_value(told: &mut Explanation, line: &[u8]) {
     told.say(
         " is neither the word default nor an expression of literals (a whole number, a quantity as 5s, true, false, a text in quotes), operators, min and max; names, other functions and random numbers are not supported",
     );
+    if let Ok((_, value)) = key_and_value(line) {
+        tell_braces(told, value);
+        tell_foreign(told, value);
+    }
+}
+
+/// Says that a line is no entry, of which the first may begin with a byte order mark.
+fn tell_no_entry(told: &mut Explanation, line: &[u8]) {
+    if has_mark(line) {
+        return tell_mark(told);
+    }
+    told.say("this is no entry: it is written KEY = VALUE, a comment begins with #");
+}
+
+/// Says that the value of a line is no list of recording modes, and which of them is OMNeT++'s own.
+fn tell_modes(told: &mut Explanation, line: &[u8]) {
+    told.say(MODES);
+    let Ok((_, value)) = key_and_value(line) else {
+        return;
+    };
+    for mode in value.split(|byte| *byte == b',' || *byte == b'+' || *byte == b'-') {
+        tell_mode(told, mode.trim_ascii());
+    }
 }
 
 /// How a section is written.
@@ -52,16 +76,16 @@ pub fn tell_ini_line(told: &mut Explanation, line: &[u8], reason: Reason) {
     let words = match reason {
         Reason::BadPattern => return tell_key(told, line),
         Reason::BadExpression => return tell_value(told, line),
+        Reason::NotAnEntry => return tell_no_entry(told, line),
+        Reason::BadModes => return tell_modes(told, line),
         Reason::NotASection => SECTION,
         Reason::Indented =>
             "an entry can't begin with a blank: continuation lines are not supported",
-        Reason::NotAnEntry =>
-            "this is no entry: it is written KEY = VALUE, a comment begins with #",
         Reason::Include => "include is not supported: put the lines of that file here",
         Reason::NoKey => "there is no key before '='",
         Reason::BadKey => "a key is of ASCII characters, without blanks",
         Reason::NoValue => "there is no value behind '='",
-        Reason::BadValue => "the value is not UTF-8",
+        Reason::BadValue => "the value is not UTF-8: save the file as UTF-8",
         Reason::Continued =>
             "continuation lines are not supported: write the whole entry on one line",
         Reason::Study => "parameter studies (${..}) are not supported: write one value",
@@ -76,7 +100,6 @@ pub fn tell_ini_line(told: &mut Explanation, line: &[u8], reason: Reason) {
         Reason::Unsupported => "this option is not supported",
         Reason::Repeated => "only 'repeat = 1' is supported",
         Reason::Resolution => "only 'simtime-resolution = ps' is supported",
-        Reason::BadModes => MODES,
         Reason::NotATruth => "the value is true or false",
     };
     told.say(words);

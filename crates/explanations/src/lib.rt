@@ -4,12 +4,14 @@
 #![tactic(auto)]
 
 mod configurations;
+mod foreign;
 mod ini_lines;
 mod insides;
 mod items;
 mod lacking;
 pub mod messages;
 mod modules;
+mod options;
 mod reading;
 pub mod refusals;
 pub mod runs;

@@ -63,7 +63,7 @@ fn tell_refusal(told: &mut Explanation, fault: BeginFault, sources: &Sources<'_>
         BeginFault::NedSyntax(file, line) => {
             told.say_place(sources.path(file), line);
             told.say(": ");
-            tell_syntax(told, sources.text(file));
+            tell_syntax(told, sources.text(file), line);
         }
         BeginFault::IniSyntax(line, reason) => {
             told.say_place(sources.ini_path, line);

@@ -1,5 +1,7 @@
 //! Why a text is no NED.
 
+use crate::foreign::{Own, own_of, tell_own};
+use crate::ini_lines::line_at;
 use ned_syntax::parse::tokens_left;
 use ned_tokens::lines::tokenize;
 use ned_tokens::token::Token;
@@ -7,6 +9,7 @@ use sim_values::NoMemory;
 use sqlite_items::Items;
 use std::alloc::Global;
 use text_explanations::explanation::Explanation;
+use text_explanations::foreign::{has_mark, tell_mark};
 use text_explanations::tokens::{tell_token, token_of};
 
 /// What a text can go on with, as it is written: words and marks, `1` for an expression, `+` for an operator and `x` for a name.
@@ -157,20 +160,54 @@ fn tell_tokens(told: &mut Explanation, tokens: &mut Items<Token>, left: usize) {
     }
 }
 
-/// Says what is wrong with tokens that are no NED.
-fn tell_list(told: &mut Explanation, tokens: &mut Items<Token>) {
+/// Whether the tokens can go on with that.
+fn wants(told: &mut Explanation, tokens: &mut Items<Token>, written: &'static str) -> bool {
+    match found_behind(told.alloc(), tokens, written) {
+        Ok(found) => !found.is_empty(),
+        Err(error) => {
+            told.refuse(error);
+            false
+        }
+    }
+}
+
+/// Whether something of OMNeT++'s own is in place: where a unit is wanted, or a value in braces, the tokens can go on with a property, or a value.
+fn wants_own(
+    told: &mut Explanation,
+    tokens: &mut Items<Token>,
+    own: &Result<Own, NoMemory>,
+) -> bool {
+    match own {
+        Ok(Own::Double) => wants(told, tokens, "@"),
+        Ok(Own::Braces) => wants(told, tokens, "1"),
+        _ => true,
+    }
+}
+
+/// Says what is wrong with tokens that are no NED, and what of the line on which they stop is OMNeT++'s own.
+fn tell_list(told: &mut Explanation, tokens: &mut Items<Token>, line: &[u8]) {
     match tokens_left(told.alloc(), tokens.as_slice()) {
-        Ok(left) => tell_tokens(told, tokens, left.unwrap_or(0)),
+        Ok(left) => {
+            let left = left.unwrap_or(0);
+            let own = own_of(told.alloc(), tokens.as_slice(), left, line);
+            tell_tokens(told, tokens, left);
+            if wants_own(told, tokens, &own) {
+                tell_own(told, own, line);
+            }
+        }
         Err(error) => told.refuse(NoMemory::from(error)),
     }
 }
 
-/// Says what is wrong with a text that is no NED, and what could stand there.
-pub fn tell_syntax(told: &mut Explanation, text: &[u8]) {
+/// Says what is wrong with a text that is no NED, and what could stand there. It can't go on at the line of that number.
+pub fn tell_syntax(told: &mut Explanation, text: &[u8], number: usize) {
+    if has_mark(text) {
+        return tell_mark(told);
+    }
     match tokenize(told.alloc(), text) {
         Ok(list) => {
             let mut list = list;
-            tell_list(told, &mut list.tokens);
+            tell_list(told, &mut list.tokens, line_at(text, number));
         }
         Err(error) => told.refuse(NoMemory::from(error)),
     }

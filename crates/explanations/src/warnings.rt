@@ -1,6 +1,7 @@
 //! Lines of an ini text that have no effect.
 
 use crate::configurations::{chain_of, is_among, lines_of};
+use crate::options::instead_of_option;
 use crate::reading::read_types;
 use crate::sections::{Numbered, Sections, sections_of};
 use ini_pattern::Pattern;
@@ -325,6 +326,29 @@ fn tell_useless(told: &mut Explanation, sources: &Sources<'_>, line: usize, key:
     told.say(why);
 }
 
+/// Says that there is no such option; of one of OMNeT++'s own what serves instead.
+fn tell_no_option(
+    told: &mut Explanation,
+    sources: &Sources<'_>,
+    line: usize,
+    key: &[u8],
+    option: &[u8],
+) {
+    match instead_of_option(shown(option)) {
+        Some(instead) => {
+            tell_useless(
+                told,
+                sources,
+                line,
+                key,
+                "it is OMNeT++'s own, and not of this profile: ",
+            );
+            told.say(instead);
+        }
+        None => tell_useless(told, sources, line, key, "there is no such option here"),
+    }
+}
+
 /// Says that an entry for objects has no effect, where it has none.
 fn tell_object(
     told: &mut Explanation,
@@ -336,7 +360,7 @@ fn tell_object(
 ) {
     let option = object.option.as_bytes();
     if matches!(object.says, ObjectOption::Other) {
-        tell_useless(told, sources, line, key, "there is no such option here");
+        tell_no_option(told, sources, line, key, option);
         told.say_near(option, OBJECT_OPTIONS.as_slice());
         told.say("\n");
         return;
@@ -366,7 +390,7 @@ fn tell_entry(
     let key = entry.key.as_bytes();
     match &entry.meaning {
         EntryMeaning::Other if !is_among(key, OPTIONS.as_slice()) => {
-            tell_useless(told, sources, line, key, "there is no such option here");
+            tell_no_option(told, sources, line, key, key);
             told.say_near(key, OPTIONS.as_slice());
             told.say("\n");
         }

@@ -6,6 +6,7 @@
 pub mod bases;
 pub mod connections;
 pub mod explanation;
+pub mod foreign;
 mod heads;
 mod interfaces;
 mod members;

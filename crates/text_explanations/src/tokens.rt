@@ -45,7 +45,7 @@ fn is_written(alloc: Global, token: &Token, written: &str) -> Result<bool, NoMem
 }
 
 /// How a word or a mark is written.
-fn written_as(alloc: Global, token: &Token) -> Result<&'static str, NoMemory> {
+pub fn written_as(alloc: Global, token: &Token) -> Result<&'static str, NoMemory> {
     for written in WRITTEN.split(' ') {
         if is_written(alloc, token, written)? {
             return Ok(written);
@@ -64,7 +64,10 @@ fn tell_word(told: &mut Explanation, token: &Token) {
 
 /// Says a byte that begins no token.
 fn tell_stray(told: &mut Explanation, byte: u8) {
-    if byte.is_ascii_graphic() {
+    if byte == b'0' {
+        // (a digit begins a token, so that this one stands for a number that is none)
+        told.say("number");
+    } else if byte.is_ascii_graphic() {
         told.say("character ");
         told.say_name(&[byte]);
     } else {
