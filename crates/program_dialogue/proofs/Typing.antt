@@ -7,7 +7,7 @@ use Rattle.sim_values.specs.Counts.{next_count}
 use Rattle.transcripts.specs.declared.asked.Asked.{Asked}
 use Rattle.transcripts.specs.declared.asked.Asked.TheVariants as asked
 use Rattle.program_dialogue.specs.declared.dialogue.Ask.TheVariants as ask
-use Rattle.program_dialogue.specs.Typing.{AreLines, AsksInOrder, BeginsWithLine, IsFirstLine, IsTyped}
+use Rattle.program_dialogue.specs.Typing.{AreLines, AsksInOrder, BeginsWithLine, IsFirstLine, IsMeant, IsTyped}
 
 -- more bytes come
 begins_more : (all line rest more : List ℕ) → BeginsWithLine all line rest → BeginsWithLine (all ++ more) line (rest ++ more)
@@ -35,10 +35,10 @@ begins_of all line rest ends ends' (inl h) = inl h.0
 begins_of all line rest ends ends' (inr h) = inr (h.0 ∙ sym (append-nil line) ∙ ap (λ xs. line ++ xs) (sym h.2), h.1)
 
 -- a line was read, and this is the one that it says
-line_says : (t : Bool) (typed : List Asked) (given given' : List ℕ) (ends ends' : ℕ) (before after : Waiting) (line text : List ℕ)
-    → AreLines t typed given before.bytes → IsNext given ends before (answers.Line line) given' ends' after → IsTyped t text line
+line_says : (t : Bool) (typed : List Asked) (given given' : List ℕ) (ends ends' : ℕ) (before after : Waiting) (line said text : List ℕ)
+    → AreLines t typed given before.bytes → IsNext given ends before (answers.Line line) given' ends' after → IsTyped t said line → IsMeant text said
     → AreLines t (typed ++ asked.Line text ∷ []) given' after.bytes
-line_says t typed given given' ends ends' before after line text h n says =
+line_says t typed given given' ends ends' before after line said text h n says meant =
     let lines = lines_more t typed given before.bytes n.more h in
     let it = n.answers in
     subst (λ all. AreLines t (typed ++ asked.Line text ∷ []) all after.bytes) (sym n.gives.gave) (one_line_more t typed (given ++ n.more) (before.bytes ++ n.more) after.bytes (asked.Line text) lines
@@ -46,27 +46,27 @@ line_says t typed given given' ends ends' before after line text h n says =
       line = it.line;
       begins = begins_of (before.bytes ++ n.more) it.line after.bytes ends ends' it.is_line.ended;
       one = it.is_line.one;
-      told = (subst (λ xs. IsTyped t text xs) it.told.0 says, it.told.1);
+      told = (said, subst (λ xs. IsTyped t said xs) it.told.0 says, meant, it.told.1);
     }))
 
 -- it is asked
-pub asks_line : (limit : ℕ) (t : Bool) (asks : List Asked) (given given' : List ℕ) (ends ends' : ℕ) (before after : Waiting) (line text : List ℕ)
-    → AsksInOrder limit t ask.Line asks given before → IsNext given ends before (answers.Line line) given' ends' after → IsTyped t text line
+pub asks_line : (limit : ℕ) (t : Bool) (asks : List Asked) (given given' : List ℕ) (ends ends' : ℕ) (before after : Waiting) (line said text : List ℕ)
+    → AsksInOrder limit t ask.Line asks given before → IsNext given ends before (answers.Line line) given' ends' after → IsTyped t said line → IsMeant text said
     → AsksInOrder limit t ask.Line (asks ++ asked.Line text ∷ []) given' after
-asks_line limit t asks given given' ends ends' before after line text h n says = (
+asks_line limit t asks given given' ends ends' before after line said text h n says meant = (
   h.0 ++ asked.Line text ∷ [],
   ap (λ xs. xs ++ asked.Line text ∷ []) h.1,
-  line_says t h.0 given given' ends ends' before after line text h.2 n says,
+  line_says t h.0 given given' ends ends' before after line said text h.2 n says meant,
 )
 
 -- it says `quit`, and nothing more is asked
-pub asks_quit : (limit : ℕ) (t : Bool) (asks : List Asked) (given given' : List ℕ) (ends ends' : ℕ) (before after : Waiting) (line text : List ℕ)
-    → AsksInOrder limit t ask.Line asks given before → IsNext given ends before (answers.Line line) given' ends' after → IsTyped t text line
-    → text ≡ codes "quit" → AsksInOrder limit t ask.Nothing asks given' after
-asks_quit limit t asks given given' ends ends' before after line text h n says quits = (
+pub asks_quit : (limit : ℕ) (t : Bool) (asks : List Asked) (given given' : List ℕ) (ends ends' : ℕ) (before after : Waiting) (line said : List ℕ)
+    → AsksInOrder limit t ask.Line asks given before → IsNext given ends before (answers.Line line) given' ends' after → IsTyped t said line
+    → said ≡ codes "quit" → AsksInOrder limit t ask.Nothing asks given' after
+asks_quit limit t asks given given' ends ends' before after line said h n says quits = (
   h.0,
   h.1,
-  subst (λ xs. AreLines t (h.0 ++ asked.Line xs ∷ []) given' after.bytes) quits (line_says t h.0 given given' ends ends' before after line text h.2 n says),
+  subst (λ xs. AreLines t (h.0 ++ asked.Line xs ∷ []) given' after.bytes) quits (line_says t h.0 given given' ends ends' before after line said said h.2 n says (inl refl)),
 )
 
 pub asks_too_long : (limit : ℕ) (t : Bool) (asks : List Asked) (given given' : List ℕ) (ends ends' : ℕ) (before after : Waiting)

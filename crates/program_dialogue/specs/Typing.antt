@@ -21,9 +21,14 @@ abbrev pub IsTyped : Bool → List ℕ → List ℕ → Type 0
 IsTyped true text line = (text ≡ line) ⊎ IsTrimAsciiEnd line text
 IsTyped false text line = text ≡ line
 
+-- what is asked for what a line says: that; or, in the place of `undo`, a command of the program's own
+abbrev pub IsMeant : List ℕ → List ℕ → Type 0
+IsMeant text said = (text ≡ said) ⊎ (said ≡ codes "undo")
+
 -- what the line says is asked, where it is not too long
 abbrev pub IsAskedAs : Bool → Asked → List ℕ → Type 0
-IsAskedAs at_terminal (asked.Line text) line = IsTyped at_terminal text line × (length line ≤ longest)
+IsAskedAs at_terminal (asked.Line text) line =
+    (said : List ℕ) × IsTyped at_terminal said line × IsMeant text said × (length line ≤ longest)
 IsAskedAs at_terminal asked.TooLong line = longest < length line
 
 -- a line is asked that stands at the front of these bytes

@@ -5,7 +5,7 @@ ghost use Rattle.std.specs.Fmt.{decimal};
 ghost use Rattle.program_stops.specs.Stops.{IsFailed, IsOutOfMemory};
 ghost use Rattle.program_dialogue.specs.Asking.{Asks, IsInOrder, IsUnread};
 ghost use Rattle.program_dialogue.specs.Faults.{fault_behind, KnowsFault};
-ghost use Rattle.program_dialogue.specs.Typing.{IsTyped};
+ghost use Rattle.program_dialogue.specs.Typing.{IsMeant, IsTyped};
 ghost use Rattle.program_dialogue.specs.declared.dialogue.Ask.TheVariants as ask;
 ghost use Rattle.transcripts.specs.Heard as heards;
 
@@ -76,6 +76,22 @@ fn has_own_blanks(line: &[u8]) -> bool {
     line.starts_with(b"ini insert ") || line.starts_with(b"ini replace ")
 }
 
+/// What is asked for a line, and whether that takes an edit back: the line itself, or in the place of `undo` the command that does, where there is one.
+fn meant(alloc: Global, said: Text, undo: Option<&Text>) -> (Text, bool)
+    ensures { IsMeant result.0 said }
+{
+    if !said.is(b"undo") {
+        return (said, false);
+    }
+    let Some(command) = undo else {
+        return (said, false);
+    };
+    match command.copy(alloc) {
+        Ok(copy) => (copy, true),
+        Err(_) => (said, false),
+    }
+}
+
 /// Whether the last run ended in a fault, behind that answer too.
 fn has_fault_behind(has_fault: bool, answer: &[u8]) -> bool
     ensures { result ≡ fault_behind has_fault (heards.Answer answer.now) }
@@ -99,6 +115,8 @@ pub struct Dialogue<I> {
     lines: LineReader<NotedReader<I>>,
     /// Whether the lines are typed at a terminal, where blanks at the end of a line are no part of it.
     at_terminal: bool,
+    /// Whether the line that was asked last takes an edit back: it stands in the place of the line `undo`.
+    pub undoes: bool,
     /// Whether the last run that was heard of ended in a fault.
     pub has_fault: bool,
     transcript: Transcript,
@@ -120,6 +138,7 @@ impl<I: Read> Dialogue<I> {
             ask: Ask::Run,
             lines: LineReader::new(alloc, NotedReader::new(input)),
             at_terminal,
+            undoes: false,
             has_fault: false,
             transcript: Transcript::new(),
         }
@@ -234,8 +253,8 @@ impl<I: Read> Dialogue<I> {
         line
     }
 
-    /// Asks what the next line of standard input asks for. Behind the line `quit` nothing is asked.
-    fn ask_line(&mut self, alloc: Global) -> Result<Option<Asked>, Stop>
+    /// Asks what the next line of standard input asks for, with the command that takes the last edit back. Behind the line `quit` nothing is asked.
+    fn ask_line(&mut self, alloc: Global, undo: Option<&Text>) -> Result<Option<Asked>, Stop>
         requires typed { self.old.ask ≡ ask.Line }
         requires kept { IsInOrder self.old }
         ensures asks { Asks self.old result self.new }
@@ -245,11 +264,13 @@ impl<I: Read> Dialogue<I> {
     {
         match self.lines.next() {
             Ok(NextLine::Line(line)) => {
-                let line = self.typed(alloc, line);
-                if line.is(b"quit") {
+                let said = self.typed(alloc, line);
+                if said.is(b"quit") {
                     self.ask = Ask::Nothing;
                     return Ok(None);
                 }
+                let (line, undoes) = meant(alloc, said, undo);
+                self.undoes = undoes;
                 self.transcript.asks_line(line.as_bytes());
                 Ok(Some(Asked::Line(line)))
             }
@@ -264,16 +285,16 @@ impl<I: Read> Dialogue<I> {
         }
     }
 
-    /// Asks the next thing, or nothing more: standard input is at its end then, and all that it gave was asked; or the line `quit` was read. Fails where memory
+    /// Asks the next thing, where `undo` is the command that takes the last edit back; or nothing more: standard input is at its end then, and all that it gave was asked; or the line `quit` was read. Fails where memory
     /// runs out, where standard input failed, or where as many lines were read as are; then nothing is asked.
-    pub fn next(&mut self, alloc: Global) -> Result<Option<Asked>, Stop>
+    pub fn next(&mut self, alloc: Global, undo: Option<&Text>) -> Result<Option<Asked>, Stop>
         requires kept { IsInOrder self.old }
         ensures { Asks self.old result self.new }
     {
         match self.ask {
             Ask::Run => self.ask_run(alloc),
             Ask::Write => self.ask_write(alloc),
-            Ask::Line => self.ask_line(alloc),
+            Ask::Line => self.ask_line(alloc, undo),
             Ask::Nothing => Ok(None),
         }
     }

@@ -135,7 +135,7 @@ impl<'a, R: Files + Input + Print + Eprint + AllocGlobal> User<'a, R> {
         if self.at_terminal && self.notes.is_typed() {
             advice::prompt(self.rt);
         }
-        let next = self.dialogue.next(self.rt.alloc())?;
+        let next = self.dialogue.next(self.rt.alloc(), self.notes.undo_line())?;
         self.note(&next);
         Ok(next)
     }
@@ -146,7 +146,9 @@ impl<'a, R: Files + Input + Print + Eprint + AllocGlobal> User<'a, R> {
         ensures dialogue { self.new.dialogue ≡ self.old.dialogue }
     {
         match next {
-            Some(Asked::Line(line)) => self.notes.asks(self.rt.alloc(), line.as_bytes()),
+            Some(Asked::Line(line)) => self
+                .notes
+                .asks(self.rt.alloc(), line.as_bytes(), self.dialogue.undoes),
             Some(Asked::TooLong) => self.notes.asks_too_long(),
             None => {}
         }
@@ -241,6 +243,18 @@ impl<'a, R: Files + Input + Print + Eprint + AllocGlobal> User<'a, R> {
         match read_text(self.rt, shown(path)) {
             Ok(bytes) => Ok(Text::from_vec(bytes)),
             Err(stop) => Err(stop),
+        }
+    }
+
+    /// What the file of that path holds; or what it held, where an edit is taken back that replaced it.
+    fn asked_text(&mut self, path: &[u8]) -> Result<Text, Stop>
+        ensures failed { IfErr result (IsUnreadable (shown path.now)) }
+        ensures words { self.new.words ≡ self.old.words }
+        ensures dialogue { self.new.dialogue ≡ self.old.dialogue }
+    {
+        match self.notes.take_given() {
+            Some(text) => Ok(text),
+            None => self.text_of(path),
         }
     }
 
@@ -417,7 +431,7 @@ impl<'a, R: Files + Input + Print + Eprint + AllocGlobal> Client<FileOut<'a, R>>
         ensures asked { self.new.dialogue.transcript.asked ≡ self.old.dialogue.transcript.asked }
         ensures left { left_in self.new.dialogue ≡ left_in self.old.dialogue }
     {
-        match self.text_of(path) {
+        match self.asked_text(path) {
             Ok(text) => {
                 self.notes.reads(self.rt.alloc(), text.as_bytes());
                 self.dialogue.hears_read(path, text.as_bytes());

@@ -9,4 +9,5 @@ pub mod notes;
 pub mod own;
 mod refused;
 pub mod texts;
+mod undoing;
 mod usages;

@@ -25,6 +25,7 @@ inject PATH TIME PRIORITY KIND BITS HEX  a message arrives from outside
 withdraw K                               message K is taken back
 positions                                after which events the state is stored
 held                                     how many simple modules there are
+undo                                     takes the last edit back
 help                                     this list
 quit                                     ends the session
 ";
@@ -134,7 +135,7 @@ pub fn listing_of(alloc: Global, texts: &SessionTexts, own: &Own) -> Result<List
     match own {
         Own::Configs => configs(alloc, texts),
         Own::List(from, to) => list(alloc, texts, *from, *to),
-        Own::Help | Own::Save(_) => {
+        Own::Help | Own::Undo | Own::Save(_) => {
             let mut told = Explanation::new(alloc);
             told.say(COMMANDS);
             listed(told)

@@ -5,6 +5,7 @@ use crate::listings::{Listing, listing_of};
 use crate::own::{Own, own_of};
 use crate::refused::{why_refused_command, why_refused_edit};
 use crate::texts::SessionTexts;
+use crate::undoing::{Messages, Undo, undo_of, undo_of_ned};
 use command_lines::commands::{Command, command_of};
 use explanations::messages::discarded_line;
 use explanations::runs::fault_line;
@@ -29,6 +30,12 @@ pub struct Notes {
     texts: Option<SessionTexts>,
     /// How often something was asked.
     count: u64,
+    /// What takes the last edit back.
+    undo: Undo,
+    /// What the file is to be that is named next, where an edit is taken back.
+    given: Option<Text>,
+    /// The messages that were put in.
+    messages: Messages,
     /// The paths of messages that were looked at since the texts changed.
     looked_at: Vec<Text>,
 }
@@ -66,6 +73,9 @@ impl Notes {
             short: None,
             texts: None,
             count: 0,
+            undo: Undo::Not("no edit was made yet"),
+            given: None,
+            messages: Messages::new(alloc),
             looked_at: Vec::new(alloc),
         }
     }
@@ -86,12 +96,41 @@ impl Notes {
         }
     }
 
-    /// This line is asked.
-    pub fn asks(&mut self, alloc: Global, line: &[u8]) {
+    /// This line is asked, which takes the last edit back or not.
+    pub fn asks(&mut self, alloc: Global, line: &[u8], undoes: bool) {
         self.count = self.count.saturating_add(1);
         self.read = None;
         self.short = None;
+        self.given = None;
         self.asked = self.kept(alloc, line);
+        if undoes {
+            self.give_undone(alloc);
+        }
+    }
+
+    /// The file that is named next is to be what it was before the last edit, where that replaced one.
+    fn give_undone(&mut self, alloc: Global) {
+        let copy = match &self.undo {
+            Undo::File(_, text) => text.copy(alloc),
+            _ => return,
+        };
+        match copy {
+            Ok(text) => self.given = Some(text),
+            Err(error) => self.short = Some(NoMemory::from(error)),
+        }
+    }
+
+    /// The command that takes the last edit back.
+    pub fn undo_line(&self) -> Option<&Text> {
+        match &self.undo {
+            Undo::Command(line) | Undo::File(line, _) => Some(line),
+            Undo::Not(_) => None,
+        }
+    }
+
+    /// What the file is to be that the line names which was asked last, where that takes an edit back.
+    pub fn take_given(&mut self) -> Option<Text> {
+        self.given.take()
     }
 
     /// A line is asked that is too long to be kept.
@@ -132,22 +171,67 @@ impl Notes {
         }
     }
 
-    /// Follows the edit that was asked last, which is made.
-    fn follow(&mut self, alloc: Global, sources: &Sources<'_>) -> Result<(), NoMemory> {
-        let command = self.command(alloc)?;
-        if !is_of_texts(&command) || is_of_messages(&command) {
+    /// Follows the edit of messages that was asked last, which is made and answered so.
+    fn follow_message(
+        &mut self,
+        alloc: Global,
+        command: &Command,
+        answer: &str,
+    ) -> Result<(), NoMemory> {
+        if let Command::Edit(Edit::Withdraw(number)) = command {
+            self.undo = self.messages.takes_back(*number);
             return Ok(());
         }
+        let undo = match &self.asked {
+            Some(line) => self.messages.puts_in(alloc, line.as_bytes(), answer)?,
+            None => Undo::Not("the command is not known"),
+        };
+        self.undo = undo;
+        Ok(())
+    }
+
+    /// Follows the edit of texts that was asked last, which is made.
+    fn follow_texts(
+        &mut self,
+        alloc: Global,
+        sources: &Sources<'_>,
+        command: Command,
+    ) -> Result<(), NoMemory> {
         let read = self.read.take();
         self.looked_at.clear();
         let texts = self.texts(alloc, sources)?;
-        match (command, read) {
-            (Command::Edit(edit), _) => texts.take(&edit),
-            (Command::Ned(number, path), Some(text)) => {
-                texts.take_ned(number as usize, path.as_bytes(), text.as_bytes())
+        let undo = match (command, read) {
+            (Command::Edit(edit), _) => {
+                let undo = undo_of(alloc, texts, &edit)?;
+                texts.take(&edit)?;
+                undo
             }
-            _ => Ok(()),
+            (Command::Ned(number, path), Some(text)) => {
+                let undo = undo_of_ned(alloc, texts, number as usize)?;
+                texts.take_ned(number as usize, path.as_bytes(), text.as_bytes())?;
+                undo
+            }
+            _ => return Ok(()),
+        };
+        self.undo = undo;
+        Ok(())
+    }
+
+    /// Follows the edit that was asked last, which is made and answered so.
+    fn follow(
+        &mut self,
+        alloc: Global,
+        sources: &Sources<'_>,
+        answer: &str,
+    ) -> Result<(), NoMemory> {
+        let command = self.command(alloc)?;
+        if is_of_messages(&command) {
+            return self.follow_message(alloc, &command, answer);
         }
+        if is_of_texts(&command) {
+            return self.follow_texts(alloc, sources, command);
+        }
+        Ok(())
     }
 
     /// Why what was asked last is refused with that name.
@@ -238,6 +322,18 @@ impl Notes {
         }
     }
 
+    /// What is listed where nothing takes the last edit back.
+    fn no_undo(&self, alloc: Global) -> Result<Listing, NoMemory> {
+        let why = match &self.undo {
+            Undo::Not(why) => *why,
+            Undo::Command(_) | Undo::File(_, _) => "memory ran out",
+        };
+        Ok(Listing {
+            lines: format!(in alloc; "no edit is taken back: {why}")?,
+            answer: String::from_str(alloc, "refused NoUndo")?,
+        })
+    }
+
     /// What a command of the program's own lists.
     pub fn listing(
         &mut self,
@@ -245,6 +341,9 @@ impl Notes {
         sources: &Sources<'_>,
         own: &Own,
     ) -> Result<Listing, NoMemory> {
+        if let Own::Undo = own {
+            return self.no_undo(alloc);
+        }
         listing_of(alloc, self.texts(alloc, sources)?, own)
     }
 
@@ -267,7 +366,7 @@ impl Notes {
     ) -> Result<String, NoMemory> {
         let answer_text = shown(answer);
         if answer_text.starts_with("edited ") {
-            self.follow(alloc, sources)?;
+            self.follow(alloc, sources, answer_text)?;
             return self.why_discarded(alloc, sources);
         }
         if answer_text.starts_with("done fault ") {

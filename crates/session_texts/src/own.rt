@@ -14,6 +14,8 @@ pub enum Own {
     Configs,
     /// `ini list [FROM [TO]]`: lists the lines of the ini text from one number to another.
     List(u64, u64),
+    /// `undo`, where nothing takes the last edit back.
+    Undo,
     /// `ini save PATH`: writes the ini text to the file of that path.
     Save(Text),
 }
@@ -51,6 +53,9 @@ fn own_of_ini(alloc: Global, rest: &str) -> Result<Option<Own>, AllocError> {
 pub fn own_of(alloc: Global, line: &[u8]) -> Result<Option<Own>, AllocError> {
     if spells(line, b"help") {
         return Ok(Some(Own::Help));
+    }
+    if spells(line, b"undo") {
+        return Ok(Some(Own::Undo));
     }
     if spells(line, b"configs") {
         return Ok(Some(Own::Configs));

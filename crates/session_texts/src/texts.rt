@@ -55,6 +55,29 @@ impl SessionTexts {
         self.ini_path.as_str()
     }
 
+    /// The name of the configuration that is selected.
+    pub fn config(&self) -> &str {
+        self.config.as_str()
+    }
+
+    /// The path of the NED file of that number.
+    pub fn ned_path(&self, number: usize) -> Option<&str> {
+        match self.paths.get(number) {
+            Some(path) => Some(path.as_str()),
+            None => None,
+        }
+    }
+
+    /// The text of the NED file of that number.
+    pub fn ned_text(&self, number: usize) -> Option<&[u8]> {
+        self.texts.get(number)
+    }
+
+    /// Whether connections were put in or taken out, which stand in no text.
+    pub fn has_other_connections(&self) -> bool {
+        self.has_other_connections
+    }
+
     /// Whether the configuration of that name is selected.
     pub fn is_selected(&self, name: &[u8]) -> bool {
         spells(self.config.as_bytes(), name)

@@ -4,7 +4,7 @@ use text_explanations::explanation::Explanation;
 use text_explanations::names::shown;
 
 /// The first words of commands, with how they are written.
-const USAGES: [(&str, &str); 14] = [
+const USAGES: [(&str, &str); 15] = [
     ("run", "'run N'"),
     ("write", "'write'"),
     (
@@ -20,6 +20,7 @@ const USAGES: [(&str, &str); 14] = [
     ("positions", "'positions'"),
     ("held", "'held'"),
     ("configs", "'configs'"),
+    ("undo", "'undo'"),
     ("help", "'help'"),
     ("quit", "'quit'"),
 ];

@@ -7,7 +7,7 @@ pub returns-else-is-clause-asks : goal.returns-else-is-clause-asks
 returns-else-is-clause-asks g c = record {
   kept = rw (c.requires.typed, c.asks_line.ensures.asked, c.as_bytes.ensures)
       (asks_line c.args.self.now.limit c.args.self.now.at_terminal c.args.self.now.transcript.asked c.args.self.now.lines.source.given.bytes c.next.new.self.source.given.bytes c.args.self.now.lines.source.ends c.next.new.self.source.ends
-      c.args.self.now.lines.buffer c.next.new.self.buffer c.in-Ok-Line.line c.typed-line.result (rw c.requires.typed at c.requires.kept) (rw c.in-Ok-Line.field-0-is at c.in-Ok-Line.ensures.answers) c.typed-line.ensures);
+      c.args.self.now.lines.buffer c.next.new.self.buffer c.in-Ok-Line.line c.typed-said.result c.meant-line.result.0 (rw c.requires.typed at c.requires.kept) (rw c.in-Ok-Line.field-0-is at c.in-Ok-Line.ensures.answers) c.typed-said.ensures c.meant-line.ensures);
   next = search rules;
   over = search rules;
   unasked = tt;
@@ -20,8 +20,8 @@ returns-else-is-clause-asks g c = record {
 pub returns-then-is-clause-asks : goal.returns-then-is-clause-asks
 returns-then-is-clause-asks g c = record {
   kept = asks_quit c.args.self.now.limit c.args.self.now.at_terminal c.args.self.now.transcript.asked c.args.self.now.lines.source.given.bytes c.next.new.self.source.given.bytes c.args.self.now.lines.source.ends c.next.new.self.source.ends
-      c.args.self.now.lines.buffer c.next.new.self.buffer c.in-Ok-Line.line c.typed-line.result (rw c.requires.typed at c.requires.kept) (rw c.in-Ok-Line.field-0-is at c.in-Ok-Line.ensures.answers) c.typed-line.ensures
-      ((bytes_eq-Decides c.typed-line.result (codes "quit")).0 (sym c.is.ensures ∙ c.if-is.true));
+      c.args.self.now.lines.buffer c.next.new.self.buffer c.in-Ok-Line.line c.typed-said.result (rw c.requires.typed at c.requires.kept) (rw c.in-Ok-Line.field-0-is at c.in-Ok-Line.ensures.answers) c.typed-said.ensures
+      ((bytes_eq-Decides c.typed-said.result (codes "quit")).0 (sym c.is.ensures ∙ c.if-is.true));
   next = refl;
   over = λ _. inr refl;
   unasked = tt;
