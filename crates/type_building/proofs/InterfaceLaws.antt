@@ -1,8 +1,10 @@
 -- Types lack nothing of their interfaces exactly where they have all members of them.
 use Rattle.std.proofs.Common.{◌≡◌, inl, inr, ℕ, Bool, true, false, not, ◌&&◌, List, [], ◌∷◌, Option, Some, None, refl, sym, ap, subst, ◌∙◌, if◌then◌else◌}
-use Rattle.std.specs.List.{list_any}
+use Rattle.std.specs.List.{list_any, slice_get}
 use Rattle.std.specs.Str.{bytes_eq}
 use Rattle.std.proofs.lemmas.Bool.{false≢true, or_parts}
+use Rattle.std.proofs.lemmas.List.Folds.{list_any_at}
+use Rattle.std.proofs.lemmas.Option.{get_or_from_slice_get, slice_get_within}
 use Rattle.ned_trees.specs.declared.declarations.Declaration.{Declaration}
 use Rattle.ned_trees.specs.declared.declarations.GateDeclaration.{GateDeclaration}
 use Rattle.ned_trees.specs.declared.declarations.GateDirection.{GateDirection}
@@ -130,6 +132,19 @@ gate_made gates d h =
 lacks_no_gate : (gates : List GateLine) (g : GateLine) → ((d : GateDeclaration) → g ≡ gate.Declaration d → HasGate gates d) → i.lacks_gate gates g ≡ false
 lacks_no_gate gates (gate.Declaration d) h = false_not _ (gate_made gates d (h d refl))
 lacks_no_gate gates (gate.Refinement r) h = refl
+
+-- ---- what is looked at
+
+-- a line that is found declares it: one of the lines does
+any_at : {X : Type 0} (test : X → Bool) (xs : List X) (n : ℕ) (x : X) → slice_get xs n ≡ Some x → test x ≡ true → list_any test xs ≡ true
+any_at test xs n x here h =
+    list_any_at test xs n x (slice_get_within xs n x here) (ap test (get_or_from_slice_get xs n x x here) ∙ h)
+
+pub parameter_at : (lines : List SectionLine) (n : ℕ) (l : SectionLine) (d : Declaration) → slice_get lines n ≡ Some l → i.declares_as d l ≡ true → i.has_parameter lines d ≡ true
+parameter_at lines n l d here h = any_at (λ (x : SectionLine). i.declares_as d x) lines n l here h
+
+pub gate_at : (gates : List GateLine) (n : ℕ) (g : GateLine) (d : GateDeclaration) → slice_get gates n ≡ Some g → i.declares_gate_as d g ≡ true → i.has_gate gates d ≡ true
+gate_at gates n g d here h = any_at (λ (x : GateLine). i.declares_gate_as d x) gates n g here h
 
 -- ---- members
 

@@ -247,20 +247,24 @@ fn flat_fault_by(
 {
     match clash_place(alloc, named, types)? {
         Some(place) => Ok(Some((TypeFault::KindClash, place))),
-        None => Ok(later_fault(named, types)),
+        None => later_fault(alloc, named, types),
     }
 }
 
 /// The same of types without a clash.
 #[tactic(auto, using(crate::proofs::PlaceLaws::lacked_tells, crate::proofs::PlaceLaws::none_tells))]
-fn later_fault(named: &NamedTypes<'_>, types: &[TypeDeclaration]) -> Option<(TypeFault, Place)>
+fn later_fault(
+    alloc: Global,
+    named: &NamedTypes<'_>,
+    types: &[TypeDeclaration],
+) -> Result<Option<(TypeFault, Place)>, AllocError>
     requires names { named.now ≡ types.now }
     requires fit { has_clash types.now ≡ false }
-    ensures { TellsFlat types.now result }
+    ensures { IfOk result (TellsFlat types.now) }
 {
-    match broken_place(named, types) {
-        Some(place) => Some((TypeFault::Interface, place)),
-        None => None,
+    match broken_place(alloc, named, types)? {
+        Some(place) => Ok(Some((TypeFault::Interface, place))),
+        None => Ok(None),
     }
 }
 

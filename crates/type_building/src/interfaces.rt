@@ -1,12 +1,14 @@
-//! What interfaces types may keep, and whether they do.
+//! What interfaces types may keep, and whether they do. Where a type declares a member is found by hashing, so each line of an interface is
+//! compared with one of the type.
 
-ghost use Rattle.std.specs.Prelude.{◌≡◌, not};
+ghost use Rattle.std.specs.Prelude.{◌≡◌, true, not, IfOk};
 ghost use Rattle.std.specs.Option.{option_copied};
 ghost use Rattle.type_building.specs.Interfaces.{can_keep, is_interface_for, is_word, declares_as, has_parameter, lacks_parameter, is_direction, are_alike, declares_gate_as, has_gate, lacks_gate};
 ghost use Rattle.type_building.specs.Places.{first_from, is_known, lacked_from, lacked_in, lacked_of, lacked_of_any, place_from};
 ghost use Rattle.ned_types.specs.Types.{is_vector, type_named};
 
 use crate::faults::is_taken;
+use crate::members::{MemberLines, member_lines};
 use crate::named::NamedTypes;
 use crate::places::{Member, Place, placed};
 use ned_trees::declarations::{
@@ -14,6 +16,7 @@ use ned_trees::declarations::{
     TypeDeclaration, TypeKind,
 };
 use sim_values::text::Text;
+use std::alloc::{AllocError, Global};
 
 /// Whether it is the name of a type or of a built-in channel.
 fn is_known(name: &Text, named: &NamedTypes<'_>) -> bool
@@ -96,19 +99,43 @@ fn declares_as(declaration: &Declaration, line: &SectionLine) -> bool
     }
 }
 
-/// Whether one of the lines does.
-fn has_parameter(lines: &[SectionLine], declaration: &Declaration) -> bool
+/// Whether the line of that number does, where there is one.
+#[tactic(auto, using(crate::proofs::InterfaceLaws::parameter_at))]
+fn is_parameter_at(lines: &[SectionLine], at: Option<usize>, declaration: &Declaration) -> bool
+    ensures { result ≡ true → has_parameter lines.now declaration.now ≡ true }
+{
+    let Some(at) = at else {
+        return false;
+    };
+    match lines.get(at) {
+        Some(line) => declares_as(declaration, line),
+        None => false,
+    }
+}
+
+/// Whether one of the lines of a type declares a parameter of that name and word. Looked at is the one that declares the name. All lines are
+/// gone through where that has another word, or there is none: this is the end of the search, since a type that comes here declares a name
+/// once.
+fn has_parameter(
+    members: &MemberLines<'_>,
+    lines: &[SectionLine],
+    declaration: &Declaration,
+) -> bool
     ensures { result ≡ has_parameter lines.now declaration.now }
 {
+    let at = members.parameter(declaration.name.as_bytes());
+    if is_parameter_at(lines, at, declaration) {
+        return true;
+    }
     lines.iter().any(|line| declares_as(declaration, line))
 }
 
-/// Whether the line declares a parameter that these lines lack.
-fn lacks_parameter(lines: &[SectionLine], line: &SectionLine) -> bool
+/// Whether the line declares a parameter that these lines of a type lack.
+fn lacks_parameter(members: &MemberLines<'_>, lines: &[SectionLine], line: &SectionLine) -> bool
     ensures { result ≡ lacks_parameter lines.now line.now }
 {
     match line {
-        SectionLine::Declaration(declaration) => !has_parameter(lines, declaration),
+        SectionLine::Declaration(declaration) => !has_parameter(members, lines, declaration),
         _ => false,
     }
 }
@@ -159,41 +186,68 @@ fn declares_gate_as(gate: &GateDeclaration, line: &GateLine) -> bool
     }
 }
 
-/// Whether one of the lines does.
-fn has_gate(gates: &[GateLine], gate: &GateDeclaration) -> bool
+/// Whether the line of that number does, where there is one.
+#[tactic(auto, using(crate::proofs::InterfaceLaws::gate_at))]
+fn is_gate_at(gates: &[GateLine], at: Option<usize>, gate: &GateDeclaration) -> bool
+    ensures { result ≡ true → has_gate gates.now gate.now ≡ true }
+{
+    let Some(at) = at else {
+        return false;
+    };
+    match gates.get(at) {
+        Some(line) => declares_gate_as(gate, line),
+        None => false,
+    }
+}
+
+/// Whether one of the lines of a type declares a gate of that name and direction, a vector where that is one. They are looked at as those of
+/// parameters are.
+fn has_gate(members: &MemberLines<'_>, gates: &[GateLine], gate: &GateDeclaration) -> bool
     ensures { result ≡ has_gate gates.now gate.now }
 {
+    let at = members.gate(gate.name.as_bytes());
+    if is_gate_at(gates, at, gate) {
+        return true;
+    }
     gates.iter().any(|line| declares_gate_as(gate, line))
 }
 
-/// Whether the line declares a gate that these lines lack.
-fn lacks_gate(gates: &[GateLine], line: &GateLine) -> bool
+/// Whether the line declares a gate that these lines of a type lack.
+fn lacks_gate(members: &MemberLines<'_>, gates: &[GateLine], line: &GateLine) -> bool
     ensures { result ≡ lacks_gate gates.now line.now }
 {
     match line {
-        GateLine::Declaration(gate) => !has_gate(gates, gate),
+        GateLine::Declaration(gate) => !has_gate(members, gates, gate),
         GateLine::Refinement(_) => false,
     }
 }
 
-/// The first of the lines that declares a parameter that the others lack.
-fn first_lacked_parameter(lines: &[SectionLine], wanted: &[SectionLine]) -> Option<usize>
+/// The first of the lines that declares a parameter that the lines of a type lack.
+fn first_lacked_parameter(
+    members: &MemberLines<'_>,
+    lines: &[SectionLine],
+    wanted: &[SectionLine],
+) -> Option<usize>
     ensures { result ≡ first_from (λ l. lacks_parameter lines.now l) 0 wanted.now }
 {
     for (at, line) in wanted.iter().enumerate() {
-        if lacks_parameter(lines, line) {
+        if lacks_parameter(members, lines, line) {
             return Some(at);
         }
     }
     None
 }
 
-/// The first of the lines that declares a gate that the others lack.
-fn first_lacked_gate(gates: &[GateLine], wanted: &[GateLine]) -> Option<usize>
+/// The first of the lines that declares a gate that the lines of a type lack.
+fn first_lacked_gate(
+    members: &MemberLines<'_>,
+    gates: &[GateLine],
+    wanted: &[GateLine],
+) -> Option<usize>
     ensures { result ≡ first_from (λ g. lacks_gate gates.now g) 0 wanted.now }
 {
     for (at, line) in wanted.iter().enumerate() {
-        if lacks_gate(gates, line) {
+        if lacks_gate(members, gates, line) {
             return Some(at);
         }
     }
@@ -202,6 +256,7 @@ fn first_lacked_gate(gates: &[GateLine], wanted: &[GateLine]) -> Option<usize>
 
 /// The first member of an interface that a type lacks, where that is its interface of that number.
 fn lacked_of(
+    members: &MemberLines<'_>,
     declared: &TypeDeclaration,
     number: usize,
     interface: &TypeDeclaration,
@@ -209,10 +264,11 @@ fn lacked_of(
     ensures { result ≡ lacked_of declared.now number interface.now }
 {
     let lines = declared.lines.as_slice();
-    if let Some(at) = first_lacked_parameter(lines, interface.lines.as_slice()) {
+    if let Some(at) = first_lacked_parameter(members, lines, interface.lines.as_slice()) {
         return Some(Member::LacksParameter(number, at));
     }
-    match first_lacked_gate(declared.gates.as_slice(), interface.gates.as_slice()) {
+    let gates = declared.gates.as_slice();
+    match first_lacked_gate(members, gates, interface.gates.as_slice()) {
         Some(at) => Some(Member::LacksGate(number, at)),
         None => None,
     }
@@ -220,6 +276,7 @@ fn lacked_of(
 
 /// The first member of an interface that a type lacks, where there is such an interface.
 fn lacked_of_any(
+    members: &MemberLines<'_>,
     declared: &TypeDeclaration,
     number: usize,
     interface: Option<&TypeDeclaration>,
@@ -227,17 +284,22 @@ fn lacked_of_any(
     ensures { result ≡ lacked_of_any declared.now number (option_copied interface.entry) }
 {
     match interface {
-        Some(interface) => lacked_of(declared, number, interface),
+        Some(interface) => lacked_of(members, declared, number, interface),
         None => None,
     }
 }
 
-/// The first member that a type lacks of its interfaces.
-fn lacked_in(named: &NamedTypes<'_>, declared: &TypeDeclaration) -> Option<Member>
+/// The first member that a type lacks of its interfaces, where its own are found by hashing.
+fn lacked_by(
+    members: &MemberLines<'_>,
+    named: &NamedTypes<'_>,
+    declared: &TypeDeclaration,
+) -> Option<Member>
     ensures { result ≡ lacked_in named.now declared.now }
 {
     for (number, name) in declared.interfaces.as_slice().iter().enumerate() {
-        let member = lacked_of_any(declared, number, named.find(name.as_bytes()));
+        let interface = named.find(name.as_bytes());
+        let member = lacked_of_any(members, declared, number, interface);
         if member.is_some() {
             return member;
         }
@@ -245,15 +307,34 @@ fn lacked_in(named: &NamedTypes<'_>, declared: &TypeDeclaration) -> Option<Membe
     None
 }
 
+/// The first member that a type lacks of its interfaces. Of a type that has none nothing is made.
+fn lacked_in(
+    alloc: Global,
+    named: &NamedTypes<'_>,
+    declared: &TypeDeclaration,
+) -> Result<Option<Member>, AllocError>
+    ensures { IfOk result (λ member. member ≡ lacked_in named.now declared.now) }
+{
+    if declared.interfaces.as_slice().is_empty() {
+        return Ok(None);
+    }
+    let members = member_lines(alloc, declared)?;
+    Ok(lacked_by(&members, named, declared))
+}
+
 /// The first place where one of the types lacks a member of one of its interfaces.
-pub(crate) fn broken_place(named: &NamedTypes<'_>, types: &[TypeDeclaration]) -> Option<Place>
-    ensures { result ≡ place_from (lacked_in named.now) 0 types.now }
+pub(crate) fn broken_place(
+    alloc: Global,
+    named: &NamedTypes<'_>,
+    types: &[TypeDeclaration],
+) -> Result<Option<Place>, AllocError>
+    ensures { IfOk result (λ place. place ≡ place_from (lacked_in named.now) 0 types.now) }
 {
     for (number, declared) in types.iter().enumerate() {
-        let place = placed(number, lacked_in(named, declared));
+        let place = placed(number, lacked_in(alloc, named, declared)?);
         if place.is_some() {
-            return place;
+            return Ok(place);
         }
     }
-    None
+    Ok(None)
 }

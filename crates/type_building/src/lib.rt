@@ -10,6 +10,7 @@ mod inheritance;
 mod interfaces;
 pub mod laws;
 mod lines;
+mod members;
 mod named;
 mod order;
 pub mod places;
