@@ -12,3 +12,4 @@ pub mod SectionLaws
 pub mod PlaceLaws
 pub mod ReadyLaws
 pub mod FlatLaws
+pub mod RepeatedLaws

@@ -8,3 +8,4 @@ pub mod Example
 pub mod Named
 pub mod Order
 pub mod Flats
+pub mod Repeated

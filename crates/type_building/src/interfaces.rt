@@ -1,16 +1,20 @@
 //! What interfaces types may keep, and whether they do. Where a type declares a member is found by hashing, so each line of an interface is
 //! compared with one of the type.
 
-ghost use Rattle.std.specs.Prelude.{◌≡◌, true, not, IfOk};
+ghost use Rattle.std.specs.Prelude.{◌≡◌, [], true, not, None, IfOk};
 ghost use Rattle.std.specs.Option.{option_copied};
 ghost use Rattle.type_building.specs.Interfaces.{can_keep, is_interface_for, is_word, declares_as, has_parameter, lacks_parameter, is_direction, are_alike, declares_gate_as, has_gate, lacks_gate};
 ghost use Rattle.type_building.specs.Places.{first_from, is_known, lacked_from, lacked_in, lacked_of, lacked_of_any, place_from};
+ghost use Rattle.type_building.specs.Repeated.{LacksNothingOf};
+ghost use Rattle.type_building.specs.Seen.{names_in};
 ghost use Rattle.ned_types.specs.Types.{is_vector, type_named};
 
 use crate::faults::is_taken;
 use crate::members::{MemberLines, member_lines};
 use crate::named::NamedTypes;
 use crate::places::{Member, Place, placed};
+use crate::sections::see;
+use indexmap::IndexSet;
 use ned_trees::declarations::{
     Declaration, GateDeclaration, GateDirection, GateLine, GateSize, ParameterWord, SectionLine,
     TypeDeclaration, TypeKind,
@@ -289,22 +293,44 @@ fn lacked_of_any(
     }
 }
 
-/// The first member that a type lacks of its interfaces, where its own are found by hashing.
-fn lacked_by(
+/// The first member that a type lacks of the interface of that name, which is its interface of that number. Of those whose names were seen it lacks
+/// nothing, so these are not looked at once more.
+fn lacked_once<'a>(
+    seen: &mut IndexSet<&'a [u8]>,
     members: &MemberLines<'_>,
     named: &NamedTypes<'_>,
     declared: &TypeDeclaration,
-) -> Option<Member>
-    ensures { result ≡ lacked_in named.now declared.now }
+    number: usize,
+    name: &'a [u8],
+) -> Result<Option<Member>, AllocError>
+    requires { LacksNothingOf named.now declared.now (names_in seen.old.keys) }
+    ensures member { IfOk result (λ member. member ≡ lacked_of_any declared.now number (type_named name.now named.now)) }
+    ensures kept { IfOk result (λ member. member ≡ None → LacksNothingOf named.now declared.now (names_in seen.new.keys)) }
+{
+    if !see(seen, name)? {
+        return Ok(None);
+    }
+    Ok(lacked_of_any(members, declared, number, named.find(name)))
+}
+
+/// The first member that a type lacks of its interfaces, where its own are found by hashing and no interface was seen.
+#[tactic(auto, using(crate::proofs::RepeatedLaws::none_kept))]
+fn lacked_by<'a>(
+    seen: &mut IndexSet<&'a [u8]>,
+    members: &MemberLines<'_>,
+    named: &NamedTypes<'_>,
+    declared: &'a TypeDeclaration,
+) -> Result<Option<Member>, AllocError>
+    requires { seen.old.keys ≡ [] }
+    ensures { IfOk result (λ member. member ≡ lacked_in named.now declared.now) }
 {
     for (number, name) in declared.interfaces.as_slice().iter().enumerate() {
-        let interface = named.find(name.as_bytes());
-        let member = lacked_of_any(members, declared, number, interface);
+        let member = lacked_once(seen, members, named, declared, number, name.as_bytes())?;
         if member.is_some() {
-            return member;
+            return Ok(member);
         }
     }
-    None
+    Ok(None)
 }
 
 /// The first member that a type lacks of its interfaces. Of a type that has none nothing is made.
@@ -319,7 +345,8 @@ fn lacked_in(
         return Ok(None);
     }
     let members = member_lines(alloc, declared)?;
-    Ok(lacked_by(&members, named, declared))
+    let mut seen = IndexSet::new(alloc);
+    lacked_by(&mut seen, &members, named, declared)
 }
 
 /// The first place where one of the types lacks a member of one of its interfaces.

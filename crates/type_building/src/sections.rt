@@ -153,7 +153,7 @@ fn see_fixing<'a>(fixed: &mut IndexSet<&'a [u8]>, line: &'a SectionLine) -> Resu
 }
 
 /// Adds a name. Answers whether it is new.
-fn see<'a>(seen: &mut IndexSet<&'a [u8]>, name: &'a [u8]) -> Result<bool, AllocError>
+pub(crate) fn see<'a>(seen: &mut IndexSet<&'a [u8]>, name: &'a [u8]) -> Result<bool, AllocError>
     ensures new { IfOk result (λ new. new ≡ not (is_in name.now (names_in seen.old.keys))) }
     ensures names { OnOk result (AddsNames (names_in seen.old.keys) (λ n. bytes_eq name.now n) (names_in seen.new.keys)) }
 {
