@@ -96,7 +96,7 @@ fn tell(desk: &mut Desk<Stock>, calls: &Cell<u64>, line: &str) -> Result<Told, F
     calls.set(0);
     match desk.line(line.as_bytes())? {
         DeskTurn::Text(answer) => Ok(Told {
-            answer,
+            answer: answer.into_text(),
             calls: calls.get(),
         }),
         DeskTurn::Want(_) => Err(Fail::from("the run needs another box")),

@@ -88,7 +88,7 @@ fn tell(desk: &mut Desk<Stock>, alloc: Global, line: &str) -> Result<Text, Fail>
     ensures { IsSettled stock (λ b. ⟦<dyn SimpleModule as SimpleModule>⟧ b.vtable) desk.new }
 {
     match desk.line(line.as_bytes())? {
-        DeskTurn::Text(answer) => Ok(answer),
+        DeskTurn::Text(answer) => Ok(answer.into_text()),
         DeskTurn::Want(_) => Ok(Text::from_str(alloc, "a box is wanted")?),
     }
 }

@@ -16,7 +16,7 @@ use Rattle.checkpointed_runs.specs.Positions.{cut, events_behind, positions_afte
 use Rattle.checkpointed_runs.specs.declared.running.Phase.TheVariants.{Idle}
 use Rattle.edit_session.specs.Reuse.{IsValidTo}
 use Rattle.edit_session.specs.Sessions.{editing_of, IsSound, KeepsModel}
-use Rattle.desk.specs.Answers.{done_text, edit_refusal_text, edited_text, held_text, positions_text}
+use Rattle.desk_clients.specs.Answers.{done_text, edit_refusal_text, edited_text, held_text, positions_text, IsTold}
 use Rattle.desk.specs.declared.desk.Desk.{Desk}
 use Rattle.desk.specs.declared.desk.DeskTurn.{DeskTurn}
 use Rattle.desk.specs.declared.desk.DeskTurn.TheVariants as turn
@@ -64,7 +64,7 @@ pub record HasRun (b : Behaviour) (before : Editing) (limit : ℕ) (text : List 
 
 -- WHAT A RUN COMES TO: it is done, and its answer is that of a fresh run; or it waits for a box
 abbrev pub IsRunTurn : Behaviour → Editing → ℕ → DeskTurn → Editing → Type 0
-IsRunTurn b before limit (turn.Text text) after = HasRun b before limit text after
+IsRunTurn b before limit (turn.Text answer) after = HasRun b before limit answer.text after
 IsRunTurn b before limit (turn.Want request) after = WaitsFor before limit request after
 
 -- What want of memory leaves behind a run to that limit: no run is done, and the positions are those that it stored; or this one is done.
@@ -99,19 +99,24 @@ AnswersEdit b before e text after =
 
 -- the answer is a text, of which this holds
 abbrev pub IsTextOf : DeskTurn → (List ℕ → Type 0) → Type 0
-IsTextOf (turn.Text text) P = P text
+IsTextOf (turn.Text answer) P = P answer.text
 IsTextOf (turn.Want request) P = ⊥
+
+-- its text says what it tells
+abbrev pub IsToldIn : DeskTurn → Type 0
+IsToldIn (turn.Text answer) = IsTold answer.told answer.text
+IsToldIn (turn.Want request) = Unit {0}
 
 -- WHAT A COMMAND IS ANSWERED, and what it leaves
 abbrev pub AnswersCommand : Behaviour → Editing → Command → DeskTurn → Editing → Type 0
 AnswersCommand b before (command.Run limit) answer after = IsRunTurn b before limit answer after × (after.model ≡ before.model)
 AnswersCommand b before (command.Edit e) answer after = IsTextOf answer (λ text. AnswersEdit b before e text after)
-AnswersCommand b before (command.Ned number path) answer after = (answer ≡ turn.Text (codes "refused Command")) × (after ≡ before)
-AnswersCommand b before command.Positions answer after = (answer ≡ turn.Text (positions_text before.positions.stored)) × (after ≡ before)
-AnswersCommand b before command.Held answer after = (answer ≡ turn.Text (held_text before.held)) × (after ≡ before)
-AnswersCommand b before command.Write answer after = (answer ≡ turn.Text (codes "refused Command")) × (after ≡ before)
-AnswersCommand b before command.Unknown answer after = (answer ≡ turn.Text (codes "refused Command")) × (after ≡ before)
-AnswersCommand b before command.TooLarge answer after = (answer ≡ turn.Text (codes "refused TooLarge")) × (after ≡ before)
+AnswersCommand b before (command.Ned number path) answer after = IsTextOf answer (λ text. text ≡ codes "refused Command") × (after ≡ before)
+AnswersCommand b before command.Positions answer after = IsTextOf answer (λ text. text ≡ positions_text before.positions.stored) × (after ≡ before)
+AnswersCommand b before command.Held answer after = IsTextOf answer (λ text. text ≡ held_text before.held) × (after ≡ before)
+AnswersCommand b before command.Write answer after = IsTextOf answer (λ text. text ≡ codes "refused Command") × (after ≡ before)
+AnswersCommand b before command.Unknown answer after = IsTextOf answer (λ text. text ≡ codes "refused Command") × (after ≡ before)
+AnswersCommand b before command.TooLarge answer after = IsTextOf answer (λ text. text ≡ codes "refused TooLarge") × (after ≡ before)
 
 abbrev pub AnswersLine : Behaviour → Editing → List ℕ → DeskTurn → Editing → Type 0
 AnswersLine b before line answer after = AnswersCommand b before (command_of line) answer after

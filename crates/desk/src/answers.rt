@@ -1,10 +1,12 @@
-//! The texts of answers.
+//! Answers, and their texts.
 
 ghost use Rattle.std.specs.Prelude.{◌≡◌, ◌++◌, Some, IfOk, OnOk, codes};
 ghost use Rattle.std.specs.Fmt.{decimal};
-ghost use Rattle.desk.specs.Answers.{counts_text, done_text, edit_refusal_text, edited_text, held_text, injection_text, numbers_text, positions_text, valid_text};
-ghost use Rattle.desk.specs.Answers.{fault_detail, fault_name, outcome_text, refusal_name, refusal_place, refusal_text, start_text, type_fault_name};
+ghost use Rattle.desk.specs.Refusals.{refusal_name, refusal_place, refusal_text};
+ghost use Rattle.desk_clients.specs.Answers.{counts_text, done_text, edit_refusal_text, edited_text, held_text, injection_text, numbers_text, positions_text, valid_text};
+ghost use Rattle.desk_clients.specs.Answers.{fault_detail, fault_name, outcome_text, start_text, type_fault_name, IsTold};
 
+use desk_clients::told::Told;
 use edit_session::session::Report;
 use itoa::Buffer as Digits;
 use model_edits::edit::Refusal;
@@ -14,6 +16,31 @@ use sim_values::NoMemory;
 use sim_values::text::Text;
 use std::alloc::{AllocError, Global};
 use type_building::table::TypeFault;
+
+/// What a line is answered.
+pub struct Answer {
+    pub text: Text,
+    /// What the text tells.
+    pub told: Told,
+}
+
+// Written out, so that a crate which drops one need not prove what that does.
+impl Drop for Answer {
+    fn drop(self) {
+        let Answer { text: _, told: _ } = self;
+    }
+}
+
+impl Answer {
+    /// Its text.
+    pub fn into_text(self) -> Text
+        ensures { result ≡ self.text }
+    {
+        let Answer { text, told } = self;
+        drop(told);
+        text
+    }
+}
 
 /// The name of a fault.
 fn fault_name(fault: &Fault) -> &'static [u8]
@@ -109,7 +136,7 @@ fn push_start(text: &mut Vec<u8>, from: Option<u64>) -> Result<(), AllocError>
     }
 }
 
-/// The answer of a run that is done.
+/// The text for a run that is done.
 pub fn done_text(alloc: Global, report: &Report) -> Result<Text, AllocError>
     ensures { IfOk result (λ text. text
         ≡ done_text report.now.outcome report.now.started_from report.now.executed) }
@@ -122,6 +149,19 @@ pub fn done_text(alloc: Global, report: &Report) -> Result<Text, AllocError>
     push(&mut text, b" executed ")?;
     push_number(&mut text, report.executed)?;
     Ok(Text::from_vec(text))
+}
+
+/// The answer of a run that is done.
+pub fn done(alloc: Global, report: Report) -> Result<Answer, AllocError>
+    ensures text { IfOk result (λ answer. answer.text
+        ≡ done_text report.outcome report.started_from report.executed) }
+    ensures told { IfOk result (λ answer. IsTold answer.told answer.text) }
+{
+    let text = done_text(alloc, &report)?;
+    Ok(Answer {
+        text,
+        told: Told::Done(report.outcome),
+    })
 }
 
 /// The name of a refusal.
@@ -194,7 +234,7 @@ fn push_injection(text: &mut Vec<u8>, injection: Option<u64>) -> Result<(), Allo
     Ok(())
 }
 
-/// The answer of an edit that is made.
+/// The text for an edit that is made.
 pub fn edited_text(
     alloc: Global,
     valid_to: Option<u64>,
@@ -209,7 +249,7 @@ pub fn edited_text(
     Ok(Text::from_vec(text))
 }
 
-/// The answer to `held`.
+/// The text for `held`.
 pub fn held_text(alloc: Global, held: usize) -> Result<Text, AllocError>
     ensures { IfOk result (λ text. text ≡ held_text held) }
 {
@@ -240,7 +280,7 @@ fn push_counts(text: &mut Vec<u8>, counts: &[u64]) -> Result<(), AllocError>
     }
 }
 
-/// The answer to `positions`.
+/// The text for `positions`.
 pub fn positions_text(alloc: Global, counts: &[u64]) -> Result<Text, AllocError>
     ensures { IfOk result (λ text. text ≡ positions_text counts.now) }
 {
@@ -250,7 +290,7 @@ pub fn positions_text(alloc: Global, counts: &[u64]) -> Result<Text, AllocError>
     Ok(Text::from_vec(text))
 }
 
-/// The answer `refused NAME`.
+/// The text `refused NAME`.
 pub fn refused_as(alloc: Global, name: &[u8]) -> Result<Text, AllocError>
     ensures { IfOk result (λ text. text ≡ codes "refused " ++ name.now) }
 {
@@ -260,7 +300,7 @@ pub fn refused_as(alloc: Global, name: &[u8]) -> Result<Text, AllocError>
     Ok(Text::from_vec(text))
 }
 
-/// The answer where a line of the changed ini text means nothing.
+/// The text where a line of the changed ini text means nothing.
 fn bad_line(alloc: Global, line: usize) -> Result<Text, AllocError>
     ensures { IfOk result (λ text. text ≡ codes "refused IniSyntax line " ++ decimal line) }
 {
@@ -270,7 +310,7 @@ fn bad_line(alloc: Global, line: usize) -> Result<Text, AllocError>
     Ok(Text::from_vec(text))
 }
 
-/// The answer where a line of a given NED text can't go on.
+/// The text where a line of a given NED text can't go on.
 fn bad_ned_line(alloc: Global, line: usize) -> Result<Text, AllocError>
     ensures { IfOk result (λ text. text ≡ codes "refused NedSyntax line " ++ decimal line) }
 {
@@ -293,7 +333,7 @@ fn type_fault_name(fault: TypeFault) -> &'static [u8]
     }
 }
 
-/// The answer of an edit that is refused. Want of memory is handed on.
+/// The text for an edit that is refused. Want of memory is handed on.
 pub fn edit_refusal_text(alloc: Global, refusal: Refusal) -> Result<Text, NoMemory>
     ensures { IfOk result (λ text. Some text ≡ edit_refusal_text refusal) }
 {
@@ -312,4 +352,16 @@ pub fn edit_refusal_text(alloc: Global, refusal: Refusal) -> Result<Text, NoMemo
         Refusal::NoSuchNetwork => Ok(refused_as(alloc, b"NoSuchNetwork")?),
         Refusal::NoMemory(error) => Err(error),
     }
+}
+
+/// The answer of an edit that is refused. Want of memory is handed on.
+pub fn refused(alloc: Global, refusal: Refusal) -> Result<Answer, NoMemory>
+    ensures text { IfOk result (λ answer. Some answer.text ≡ edit_refusal_text refusal) }
+    ensures told { IfOk result (λ answer. IsTold answer.told answer.text) }
+{
+    let text = edit_refusal_text(alloc, refusal)?;
+    Ok(Answer {
+        text,
+        told: Told::Refused(refusal),
+    })
 }

@@ -7,14 +7,13 @@ ghost use Rattle.edit_session.specs.Sessions.{editing_of, IsSound};
 ghost use Rattle.checkpointed_runs.specs.declared.running.Phase.{Phase};
 ghost use Rattle.edit_session.specs.declared.session.SupplyReason.{SupplyReason};
 ghost use Rattle.command_lines.specs.Commands.{command_of};
-ghost use Rattle.desk.specs.Answers.{held_text, positions_text};
+ghost use Rattle.desk_clients.specs.Answers.{held_text, positions_text, IsTold};
 ghost use Rattle.model_edits.specs.declared.edit.Edit.TheVariants as edits;
-ghost use Rattle.desk.specs.Turns.{editing_at, limit_at, limit_after, AnswersEdit, AnswersLine, Forgoes, IsRunTurn, IsSettled, MayBeDone, StaysSettled};
+ghost use Rattle.desk.specs.Turns.{editing_at, limit_at, limit_after, AnswersEdit, AnswersLine, Forgoes, IsRunTurn, IsSettled, IsToldIn, MayBeDone, StaysSettled};
 
-use crate::answers::{
-    done_text, edit_refusal_text, edited_text, held_text, positions_text, refused_as,
-};
+use crate::answers::{Answer, done, edited_text, held_text, positions_text, refused, refused_as};
 use command_lines::commands::{Command, command_of};
+use desk_clients::told::Told;
 use edit_session::session::{FileFault, NotWanted, Progress, Session, SupplyFault};
 use kernel::request::Request;
 use model_edits::edit::Edit;
@@ -30,7 +29,7 @@ use std::marker::PhantomData;
 /// What the desk answers.
 #[derive(Drop)]
 pub enum DeskTurn {
-    Text(Text),
+    Text(Answer),
     /// A run waits for a box. Supply it or decline it, and then go on.
     Want(Request),
 }
@@ -82,6 +81,7 @@ impl<C: Catalogue> Desk<C> {
         ensures answer { let before = editing_at SimpleModule-box self.old in
             let after = editing_at SimpleModule-box self.new in
             IfOk result (λ turn. AnswersLine C.behaviour before line.now turn after) }
+        ensures told { IfOk result (λ turn. IsToldIn turn) }
         ensures limit { limit_at self.new ≡ limit_after (command_of line.now) (limit_at self.old) }
         ensures memory { let before = editing_at SimpleModule-box self.old in
             let after = editing_at SimpleModule-box self.new in
@@ -92,20 +92,25 @@ impl<C: Catalogue> Desk<C> {
             Command::Edit(edit) => Ok(DeskTurn::Text(self.edit(edit)?)),
             Command::Positions => Ok(DeskTurn::Text(self.positions()?)),
             Command::Held => Ok(DeskTurn::Text(self.held()?)),
-            Command::Write | Command::Unknown | Command::Ned(_, _) => Ok(DeskTurn::Text(refused_as(
-                self.alloc, b"Command",
-            )?)),
-            Command::TooLarge => Ok(DeskTurn::Text(refused_as(self.alloc, b"TooLarge")?)),
+            Command::Write | Command::Unknown | Command::Ned(_, _) => Ok(DeskTurn::Text(Answer {
+                text: refused_as(self.alloc, b"Command")?,
+                told: Told::NoCommand,
+            })),
+            Command::TooLarge => Ok(DeskTurn::Text(Answer {
+                text: refused_as(self.alloc, b"TooLarge")?,
+                told: Told::TooLarge,
+            })),
         }
     }
 
     /// Changes the model as the edit says, or answers why not. Where memory runs out the edit isn't made.
-    pub fn edit(&mut self, edit: Edit) -> Result<Text, NoMemory>
+    pub fn edit(&mut self, edit: Edit) -> Result<Answer, NoMemory>
         requires sound { IsSettled C.behaviour SimpleModule-box self.old }
         ensures sound { IsSettled C.behaviour SimpleModule-box self.new }
         ensures answer { let before = editing_at SimpleModule-box self.old in
             let after = editing_at SimpleModule-box self.new in
-            IfOk result (λ text. AnswersEdit C.behaviour before edit text after) }
+            IfOk result (λ answer. AnswersEdit C.behaviour before edit answer.text after) }
+        ensures told { IfOk result (λ answer. IsTold answer.told answer.text) }
         ensures limit { limit_at self.new ≡ limit_at self.old }
         ensures memory { OnErr result (self.new ≡ self.old) }
     {
@@ -115,19 +120,23 @@ impl<C: Catalogue> Desk<C> {
                 // The answer is made before the change: so where it has no room nothing is changed.
                 let text = edited_text(self.alloc, change.edited.valid_to, number)?;
                 self.session.accept(change);
-                Ok(text)
+                Ok(Answer {
+                    text,
+                    told: Told::Edited(number),
+                })
             }
-            Err(refusal) => edit_refusal_text(self.alloc, refusal),
+            Err(refusal) => refused(self.alloc, refusal),
         }
     }
 
     /// Changes the NED file of that number, counted from 0, to be this text, or answers why not. Where memory runs out the edit isn't made.
-    pub fn ned(&mut self, file: u64, text: Text) -> Result<Text, NoMemory>
+    pub fn ned(&mut self, file: u64, text: Text) -> Result<Answer, NoMemory>
         requires sound { IsSettled C.behaviour SimpleModule-box self.old }
         ensures sound { IsSettled C.behaviour SimpleModule-box self.new }
         ensures answer { let before = editing_at SimpleModule-box self.old in
             let after = editing_at SimpleModule-box self.new in
-            IfOk result (λ told. AnswersEdit C.behaviour before (edits.ReplaceNed file text) told after) }
+            IfOk result (λ answer. AnswersEdit C.behaviour before (edits.ReplaceNed file text) answer.text after) }
+        ensures told { IfOk result (λ answer. IsTold answer.told answer.text) }
         ensures limit { limit_at self.new ≡ limit_at self.old }
         ensures memory { OnErr result (self.new ≡ self.old) }
     {
@@ -143,6 +152,7 @@ impl<C: Catalogue> Desk<C> {
         ensures ran { let before = editing_at SimpleModule-box self.old in
             let after = editing_at SimpleModule-box self.new in
             IfOk result (λ turn. IsRunTurn C.behaviour before limit turn after) }
+        ensures told { IfOk result (λ turn. IsToldIn turn) }
         ensures memory { let before = editing_at SimpleModule-box self.old in
             let after = editing_at SimpleModule-box self.new in
             OnErr result (MayBeDone C.behaviour before limit after) }
@@ -150,7 +160,7 @@ impl<C: Catalogue> Desk<C> {
         self.limit = limit;
         match self.session.run(limit)? {
             Progress::Want(request) => Ok(DeskTurn::Want(request)),
-            Progress::Done(report) => Ok(DeskTurn::Text(done_text(self.alloc, &report)?)),
+            Progress::Done(report) => Ok(DeskTurn::Text(done(self.alloc, report)?)),
         }
     }
 
@@ -162,6 +172,7 @@ impl<C: Catalogue> Desk<C> {
         ensures ran { let before = editing_at SimpleModule-box self.old in
             let after = editing_at SimpleModule-box self.new in
             IfOk result (λ turn. IsRunTurn C.behaviour before (limit_at self.old) turn after) }
+        ensures told { IfOk result (λ turn. IsToldIn turn) }
         ensures memory { let before = editing_at SimpleModule-box self.old in
             let after = editing_at SimpleModule-box self.new in
             OnErr result (MayBeDone C.behaviour before (limit_at self.old) after) }
@@ -205,19 +216,27 @@ impl<C: Catalogue> Desk<C> {
     }
 
     /// Answers after which events a position is stored.
-    pub fn positions(&self) -> Result<Text, NoMemory>
-        ensures { let editing = editing_at SimpleModule-box self.now in
-            IfOk result (λ text. text ≡ positions_text editing.positions.stored) }
+    pub fn positions(&self) -> Result<Answer, NoMemory>
+        ensures text { let editing = editing_at SimpleModule-box self.now in
+            IfOk result (λ answer. answer.text ≡ positions_text editing.positions.stored) }
+        ensures told { IfOk result (λ answer. IsTold answer.told answer.text) }
     {
-        Ok(positions_text(self.alloc, self.session.positions())?)
+        Ok(Answer {
+            text: positions_text(self.alloc, self.session.positions())?,
+            told: Told::Positions,
+        })
     }
 
     /// Answers how many boxes there are.
-    pub fn held(&self) -> Result<Text, NoMemory>
-        ensures { let editing = editing_at SimpleModule-box self.now in
-            IfOk result (λ text. text ≡ held_text editing.held) }
+    pub fn held(&self) -> Result<Answer, NoMemory>
+        ensures text { let editing = editing_at SimpleModule-box self.now in
+            IfOk result (λ answer. answer.text ≡ held_text editing.held) }
+        ensures told { IfOk result (λ answer. IsTold answer.told answer.text) }
     {
-        Ok(held_text(self.alloc, self.session.held())?)
+        Ok(Answer {
+            text: held_text(self.alloc, self.session.held())?,
+            told: Told::Held,
+        })
     }
 
     /// Writes the scalar file of the last run.

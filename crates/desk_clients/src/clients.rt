@@ -2,12 +2,14 @@
 
 ghost use Rattle.std.specs.Prelude.{◌≡◌, ◌<◌, ℕ, List, ◌∷◌, ◌++◌, [], None, OnOk, OnErr, IfOk, IfSome};
 ghost use Rattle.result_lines.specs.Taken.{untouched};
+ghost use Rattle.desk_clients.specs.Answers.{IsTold};
 ghost use Rattle.desk_clients.specs.Devices.{HasFailed};
 ghost use Rattle.desk_clients.specs.declared.clients.Stop.{Stop as StopValue};
 ghost use Rattle.desk_clients.specs.declared.clients.Stop.TheVariants as why;
 ghost use Rattle.transcripts.specs.declared.asked.Asked.{Asked as AskedValue};
 ghost use Rattle.transcripts.specs.Heard.{Heard, Answer, Files, OutOfMemory, Read};
 
+use crate::told::Told;
 use result_lines::writer::Out;
 use sim_values::NoMemory;
 use sim_values::text::Text;
@@ -67,9 +69,10 @@ pub trait Client<O: Out + Drop> {
         ensures gone { OnErr result (asked self.new ≡ asked self.old) }
         ensures heard { heard self.new ≡ heard self.old };
 
-    /// Hears an answer.
-    fn hear(&mut self, answer: &[u8]) -> Result<(), Gone>
+    /// Hears an answer, and what it tells.
+    fn hear(&mut self, answer: &[u8], told: &Told) -> Result<(), Gone>
         requires kept { keeps self.old }
+        requires told { IsTold told.now answer.now }
         ensures kept { keeps self.new }
         ensures label { label self.new ≡ label self.old }
         ensures stuck { OnErr result (stops self.new why.Gone) }

@@ -1,4 +1,5 @@
-//! Who asks at a desk, and why it is served no more.
+//! Who asks at a desk, what it is told, and why it is served no more.
 #![tactic(auto)]
 
 pub mod clients;
+pub mod told;

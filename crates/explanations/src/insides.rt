@@ -1,33 +1,27 @@
 //! What is wrong where a compound module can't be built.
 
 use inside_parts::fault::Fault;
+use run_semantics::outcome;
 use text_explanations::explanation::Explanation;
 
-/// The fault of that name, where it is one that an inside has by itself, and not by a value.
-fn fault_of_parts(name: &str) -> Option<Fault> {
-    Some(match name {
-        "UnknownType" => Fault::UnknownType,
-        "Interface" => Fault::Interface,
-        "GateSize" => Fault::GateSize,
-        "NoGate" => Fault::NoGate,
-        "AlreadyConnected" => Fault::AlreadyConnected,
-        "Unconnected" => Fault::Unconnected,
-        "TooManyTurns" => Fault::TooManyTurns,
-        "TooManyModules" => Fault::TooManyModules,
-        "TooDeep" => Fault::TooDeep,
+/// The fault of an inside that ended a run, where it is one that an inside can have.
+pub fn fault_of(fault: &outcome::Fault) -> Option<Fault> {
+    Some(match fault {
+        outcome::Fault::UnknownType => Fault::UnknownType,
+        outcome::Fault::Interface => Fault::Interface,
+        outcome::Fault::Unassigned => Fault::Unassigned,
+        outcome::Fault::Circle => Fault::Circle,
+        outcome::Fault::Overflow => Fault::Overflow,
+        outcome::Fault::Inexact => Fault::Inexact,
+        outcome::Fault::Mismatch => Fault::Mismatch,
+        outcome::Fault::GateSize => Fault::GateSize,
+        outcome::Fault::NoGate => Fault::NoGate,
+        outcome::Fault::AlreadyConnected => Fault::AlreadyConnected,
+        outcome::Fault::Unconnected => Fault::Unconnected,
+        outcome::Fault::TooManyTurns => Fault::TooManyTurns,
+        outcome::Fault::TooManyModules => Fault::TooManyModules,
+        outcome::Fault::TooDeep => Fault::TooDeep,
         _ => return None,
-    })
-}
-
-/// The fault of that name, where it is one that an inside can have.
-pub fn fault_of(name: &str) -> Option<Fault> {
-    fault_of_parts(name).or(match name {
-        "Unassigned" => Some(Fault::Unassigned),
-        "Circle" => Some(Fault::Circle),
-        "Overflow" => Some(Fault::Overflow),
-        "Inexact" => Some(Fault::Inexact),
-        "Mismatch" => Some(Fault::Mismatch),
-        _ => None,
     })
 }
 

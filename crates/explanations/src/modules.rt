@@ -12,16 +12,17 @@ use model_settings::standings::{around_of, before_last, name_in};
 use ned_trees::declarations::{Submodule, TypeDeclaration};
 use ned_types::flat::submodule_named;
 use run_questions::record::Record;
+use run_semantics::outcome;
 use sim_values::NoMemory;
 use sim_values::text::Text;
 use sqlite_items::Items;
 use std::alloc::Global;
 
-/// A fault as the answer of a run tells it.
+/// The fault of a run, with the path that it is told with.
 #[derive(Clone, Copy)]
 pub struct ToldFault<'a> {
     pub path: &'a str,
-    pub name: &'a str,
+    pub fault: &'a outcome::Fault,
 }
 
 /// A submodule as it is declared, with the type that declares it.

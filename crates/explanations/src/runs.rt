@@ -18,6 +18,7 @@ use ned_trees::expressions::Expression;
 use ned_types::flat::{class_of, last_value};
 use run_questions::answer::{Answer, ModelFault};
 use run_questions::record::path_under;
+use run_semantics::outcome::Fault;
 use sim_values::NoMemory;
 use sim_values::value::Dimension;
 use std::alloc::Global;
@@ -26,15 +27,6 @@ use text_explanations::names::shown;
 use text_explanations::ned_files::Files;
 use text_explanations::sources::Sources;
 use text_explanations::values::{Parameter, tell_place_of_value};
-
-/// The fault that an answer tells, as in `done fault 1 N.t TimeOverflow from start executed 1`.
-fn told_fault(answer: &str) -> Option<ToldFault<'_>> {
-    let rest = answer.strip_prefix("done fault ")?;
-    let (_event, rest) = rest.split_once(' ')?;
-    let (path, rest) = rest.split_once(' ')?;
-    let (name, _rest) = rest.split_once(' ')?;
-    Some(ToldFault { path, name })
-}
 
 /// A module of a model that answers: its path, its type, and its declaration, which the network has none of.
 #[derive(Clone, Copy)]
@@ -126,14 +118,14 @@ fn blamed<'a>(
     Ok(first)
 }
 
-/// The fault of a parameter that has this name.
-fn parameter_fault(name: &str) -> Option<ModelFault> {
-    match name {
-        "Unassigned" => Some(ModelFault::Unassigned),
-        "Overflow" => Some(ModelFault::Overflow),
-        "Inexact" => Some(ModelFault::Inexact),
-        "Mismatch" => Some(ModelFault::Mismatch),
-        "Circle" => Some(ModelFault::Circle),
+/// The fault of a parameter that ended a run, where it is one that a parameter can have.
+fn parameter_fault(fault: &Fault) -> Option<ModelFault> {
+    match fault {
+        Fault::Unassigned => Some(ModelFault::Unassigned),
+        Fault::Overflow => Some(ModelFault::Overflow),
+        Fault::Inexact => Some(ModelFault::Inexact),
+        Fault::Mismatch => Some(ModelFault::Mismatch),
+        Fault::Circle => Some(ModelFault::Circle),
         _ => None,
     }
 }
@@ -363,11 +355,13 @@ fn tell_gates(told: &mut Explanation, of: &TypeDeclaration) {
     told.say(" doesn't declare, or sends a message through one that isn't there or only receives");
 }
 
-/// Whether a fault of that name is one of a module of that type when it is called, and not of its inside.
-fn is_of_call(name: &str, of: &TypeDeclaration) -> bool {
-    match name {
-        "NoParameter" | "UnknownClass" | "TimeOverflow" | "ModuleFailed:" => true,
-        "NoGate" => of.kind == TypeKind::Simple,
+/// Whether a fault is one of a module of that type when it is called, and not of its inside.
+fn is_of_call(fault: &Fault, of: &TypeDeclaration) -> bool {
+    match fault {
+        Fault::NoParameter | Fault::UnknownClass | Fault::TimeOverflow | Fault::ModuleFailed(_) => {
+            true
+        }
+        Fault::NoGate => of.kind == TypeKind::Simple,
         _ => false,
     }
 }
@@ -380,20 +374,20 @@ fn tell_classes(told: &mut Explanation, of: &TypeDeclaration, classes: &[&[u8]])
     told.say_list(classes);
 }
 
-/// What is behind a fault of that name, where it is one of a message that a simple module sends.
-fn why_not_sent(name: &str) -> Option<&'static str> {
-    Some(match name {
-        "NotConnected" =>
+/// What is behind a fault, where it is one of a message that a simple module sends.
+fn why_not_sent(fault: &Fault) -> Option<&'static str> {
+    Some(match fault {
+        Fault::NotConnected =>
             "the connections of the gate through which it sends lead to no simple module",
-        "TooManyHops" =>
+        Fault::TooManyHops =>
             "a message would pass more than 1,000 connections: they lead round in a circle",
-        "TwoTransmissionChannels" =>
+        Fault::TwoTransmissionChannels =>
             "more than one channel on the way of its message has a datarate",
-        "Busy" =>
+        Fault::Busy =>
             "its message reaches a channel before the transmission of an earlier one has ended: a higher datarate, shorter messages or longer gaps",
-        "AlreadyConnected" => "it sends directly to a gate to which something is connected",
-        "NoModule" => "it sends directly to a path at which there is no module",
-        "PayloadTooLarge" => "a message that it sends has more than 4,096 bytes",
+        Fault::AlreadyConnected => "it sends directly to a gate to which something is connected",
+        Fault::NoModule => "it sends directly to a path at which there is no module",
+        Fault::PayloadTooLarge => "a message that it sends has more than 4,096 bytes",
         _ => return None,
     })
 }
@@ -407,11 +401,11 @@ fn tell_call(
 ) {
     told.say(fault.path);
     told.say(": ");
-    match fault.name {
-        "NoParameter" => tell_declared(told, of),
-        "NoGate" => tell_gates(told, of),
-        "UnknownClass" => tell_classes(told, of, classes),
-        "TimeOverflow" => told.say(
+    match fault.fault {
+        Fault::NoParameter => tell_declared(told, of),
+        Fault::NoGate => tell_gates(told, of),
+        Fault::UnknownClass => tell_classes(told, of, classes),
+        Fault::TimeOverflow => told.say(
             "a time is above 9223372.036854775807s: a shorter delay, or a sim-time-limit, ends the run before",
         ),
         _ => told.say("the module can't take the value of the parameter that its message names"),
@@ -425,13 +419,13 @@ fn tell_of_call(
     of: &TypeDeclaration,
     classes: &[&[u8]],
 ) -> bool {
-    if let (TypeKind::Simple, Some(why)) = (of.kind, why_not_sent(fault.name)) {
+    if let (TypeKind::Simple, Some(why)) = (of.kind, why_not_sent(fault.fault)) {
         told.say(fault.path);
         told.say(": ");
         told.say(why);
         return true;
     }
-    if is_of_call(fault.name, of) {
+    if is_of_call(fault.fault, of) {
         tell_call(told, fault, of, classes);
         return true;
     }
@@ -446,10 +440,15 @@ fn tell_own(
     fault: ToldFault<'_>,
     classes: &[&[u8]],
 ) -> Result<bool, NoMemory> {
-    match parameter_fault(fault.name) {
+    match parameter_fault(fault.fault) {
         None => Ok(tell_of_call(told, fault, it.of, classes)),
         Some(found) => tell_parameter(told, sources, fault.path, it, found),
     }
+}
+
+/// Whether a fault is that a gate isn't there.
+fn is_no_gate(fault: &Fault) -> bool {
+    matches!(fault, Fault::NoGate)
 }
 
 /// Says what is behind a fault of the module that was found at its path, if one was.
@@ -463,7 +462,7 @@ fn tell_found(
 ) -> Result<(), NoMemory> {
     let mut of = None;
     if let Some(it) = found {
-        if fault.name == "NoGate" && tell_misplaced(told, sources, answers, fault, it.of)? {
+        if is_no_gate(fault.fault) && tell_misplaced(told, sources, answers, fault, it.of)? {
             return Ok(());
         }
         if tell_own(told, sources, &it, fault, classes)? {
@@ -471,7 +470,7 @@ fn tell_found(
         }
         of = Some(it.of);
     }
-    match fault_of(fault.name) {
+    match fault_of(fault.fault) {
         Some(kind) if sources.has_other_connections => {
             tell_inside(told, fault.path, kind);
             Ok(())
@@ -513,17 +512,17 @@ fn tell_run(
     }
 }
 
-/// What is behind the fault that the answer of a run tells, and what to change: a line for a person. Empty where the
-/// answer tells none, or there is no more to say. `classes` are those that the program has modules of.
+/// What is behind the fault that ended a run, which is told with that path, and what to change: a line for a person. Empty where there is no more
+/// to say. `classes` are those that the program has modules of.
 pub fn fault_line(
     alloc: Global,
-    answer: &[u8],
+    path: &[u8],
+    fault: &Fault,
     sources: &Sources<'_>,
     classes: &[&[u8]],
 ) -> Result<String, NoMemory> {
     let mut told = Explanation::new(alloc);
-    if let Some(fault) = told_fault(shown(answer)) {
-        tell_run(&mut told, sources, fault, classes);
-    }
+    let path = shown(path);
+    tell_run(&mut told, sources, ToldFault { path, fault }, classes);
     told.said()
 }

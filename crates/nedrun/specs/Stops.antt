@@ -1,6 +1,6 @@
 -- Why the program ends early.
 use Rattle.std.specs.Prelude.{◌≡◌, ◌⊎◌, ℕ, Bool, true, false, List, Result, Ok, Err}
-use Rattle.desk.specs.Answers.{refusal_text}
+use Rattle.desk.specs.Refusals.{refusal_text}
 use Rattle.line_reading.specs.Waits.{Waiting}
 use Rattle.model_texts.specs.Models.{Refuses}
 use Rattle.model_texts.specs.declared.begin.BeginFault.{BeginFault}

@@ -1,6 +1,9 @@
 -- Whether the last run ended in a fault, by what was heard.
 use Rattle.std.specs.Prelude.{◌==◌, ℕ, Bool, true, false, List, [], ◌∷◌, codes, if◌then◌else◌, ◌≡◌}
 use Rattle.std.specs.List.{starts_with}
+use Rattle.run_semantics.specs.declared.outcome.Outcome.TheVariants as outcome
+use Rattle.desk_clients.specs.declared.told.Told.{Told}
+use Rattle.desk_clients.specs.declared.told.Told.TheVariants as told
 use Rattle.transcripts.specs.Heard.{Heard, Answer, Files, OutOfMemory, Read}
 use Rattle.program_dialogue.specs.Asking.{IsInOrder}
 use Rattle.program_dialogue.specs.declared.dialogue.Dialogue.{Dialogue}
@@ -15,6 +18,12 @@ fault_behind before (Answer text) = if begins text (codes "done fault ") then tr
 fault_behind before (Files _ _ _) = before
 fault_behind before (Read _ _) = before
 fault_behind before OutOfMemory = before
+
+-- the same by what the answer tells
+abbrev pub fault_told : Bool → Told → Bool
+fault_told before (told.Done (outcome.Fault event path f)) = true
+fault_told before (told.Done _) = false
+fault_told before _ = before
 
 abbrev pub fault_from : Bool → List Heard → Bool
 fault_from before [] = before

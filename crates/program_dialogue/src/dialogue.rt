@@ -2,17 +2,20 @@
 
 ghost use Rattle.std.specs.Prelude.{◌≡◌, [], ◌∷◌, ◌++◌, IfOk, OnErr, IfErr, codes, true};
 ghost use Rattle.std.specs.Fmt.{decimal};
+ghost use Rattle.desk_clients.specs.Answers.{IsTold};
 ghost use Rattle.program_stops.specs.Stops.{IsFailed, IsOutOfMemory};
 ghost use Rattle.program_dialogue.specs.Asking.{Asks, IsInOrder, IsUnread};
-ghost use Rattle.program_dialogue.specs.Faults.{fault_behind, KnowsFault};
+ghost use Rattle.program_dialogue.specs.Faults.{fault_told, KnowsFault};
 ghost use Rattle.program_dialogue.specs.Typing.{IsMeant, IsTyped};
 ghost use Rattle.program_dialogue.specs.declared.dialogue.Ask.TheVariants as ask;
 ghost use Rattle.transcripts.specs.Heard as heards;
 
+use desk_clients::told::Told;
 use itoa::Buffer as Digits;
 use line_reading::line::NextLine;
 use line_reading::reader::LineReader;
 use program_stops::stops::Stop;
+use run_semantics::outcome::Outcome;
 use sim_values::NoMemory;
 use sim_values::text::Text;
 use std::alloc::Global;
@@ -92,17 +95,15 @@ fn meant(alloc: Global, said: Text, undo: Option<&Text>) -> (Text, bool)
     }
 }
 
-/// Whether the last run ended in a fault, behind that answer too.
-fn has_fault_behind(has_fault: bool, answer: &[u8]) -> bool
-    ensures { result ≡ fault_behind has_fault (heards.Answer answer.now) }
+/// Whether the last run ended in a fault, behind an answer too that tells this.
+fn has_fault_behind(has_fault: bool, told: &Told) -> bool
+    ensures { result ≡ fault_told has_fault told.now }
 {
-    if answer.starts_with(b"done fault ") {
-        return true;
+    match told {
+        Told::Done(Outcome::Fault(_, _, _)) => true,
+        Told::Done(_) => false,
+        _ => has_fault,
     }
-    if answer.starts_with(b"done ") {
-        return false;
-    }
-    has_fault
 }
 
 /// What the program asks at its desk: the run to a limit, then to write its files, and then what the lines of standard input ask for,
@@ -144,10 +145,10 @@ impl<I: Read> Dialogue<I> {
         }
     }
 
-    /// Hears an answer.
-    #[tactic(auto, using(crate::proofs::Faults::fault_more))]
-    pub fn hears(&mut self, answer: &[u8])
+    /// Hears an answer, and what it tells.
+    pub fn hears(&mut self, answer: &[u8], told: &Told)
         requires known { KnowsFault self.old }
+        requires told { IsTold told.now answer.now }
         ensures known { KnowsFault self.new }
         ensures heard { self.new.transcript.heard ≡ self.old.transcript.heard
             ++ heards.Answer answer.now ∷ [] }
@@ -157,7 +158,7 @@ impl<I: Read> Dialogue<I> {
         ensures ask { self.new.ask ≡ self.old.ask }
         ensures lines { self.new.lines ≡ self.old.lines }
     {
-        self.has_fault = has_fault_behind(self.has_fault, answer);
+        self.has_fault = has_fault_behind(self.has_fault, told);
         self.transcript.hears(answer);
     }
 

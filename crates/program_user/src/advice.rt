@@ -4,10 +4,12 @@ ghost use Rattle.std.specs.Prelude.{IfErr};
 ghost use Rattle.program_streams.specs.Stops.{IsUnadvised};
 ghost use Rattle.program_user.specs.Stops.{IsUntold};
 
+use desk_clients::told::Told;
 use explanations::warnings::warning_lines;
 use program_stops::stops::Stop;
 use program_streams::output::{advise, say};
 use program_words::words::Words;
+use run_semantics::outcome::Outcome;
 use session_texts::notes::Notes;
 use std::rt::Files;
 use std::{fs, io};
@@ -24,24 +26,33 @@ pub fn warn<R: Eprint + AllocGlobal>(rt: &R, sources: &Sources<'_>) -> Result<()
     advise(rt, lines.as_str())
 }
 
-/// Says what is behind an answer, a refusal or a fault, where there is more to say.
+/// Says what is behind an answer that tells this, a refusal or a fault, where there is more to say.
 pub fn explain<R: Eprint + AllocGlobal>(
     rt: &R,
     sources: &Sources<'_>,
     notes: &mut Notes,
-    answer: &[u8],
+    told: Option<&Told>,
 ) -> Result<(), Stop>
     ensures { IfErr result IsUnadvised }
 {
-    let line = notes.hears(rt.alloc(), sources, answer, CLASSES.as_slice())?;
+    let line = notes.hears(rt.alloc(), sources, told, CLASSES.as_slice())?;
     advise(rt, line.as_str())
 }
 
+/// Whether it is told that a limit of events ended a run.
+fn is_event_limit(told: Option<&Told>) -> bool {
+    matches!(told, Some(Told::Done(Outcome::EventLimit)))
+}
+
 /// Says that the limit ended the run of the words, where they name none and the answer tells so.
-pub fn tell_limit<R: Eprint + AllocGlobal>(rt: &R, words: &Words, answer: &[u8]) -> Result<(), Stop>
+pub fn tell_limit<R: Eprint + AllocGlobal>(
+    rt: &R,
+    words: &Words,
+    told: Option<&Told>,
+) -> Result<(), Stop>
     ensures { IfErr result IsUnadvised }
 {
-    if words.names_limit || !answer.starts_with(b"done event-limit ") {
+    if words.names_limit || !is_event_limit(told) {
         return Ok(());
     }
     let limit = words.limit;

@@ -12,12 +12,14 @@ ghost use Rattle.program_streams.specs.Devices.{taken_by, unwritten};
 ghost use Rattle.program_streams.specs.Paths.{file_path};
 ghost use Rattle.program_streams.specs.Stops.{IsShortOf, IsShortOfRun, IsUnreadable, IsUnsaid, IsUnwritable};
 ghost use Rattle.result_lines.specs.Taken.{untouched};
+ghost use Rattle.desk_clients.specs.Answers.{IsTold};
 ghost use Rattle.desk_clients.specs.Devices.{HasFailed};
 ghost use Rattle.desk_clients.specs.Stops.{at_stop};
 ghost use Rattle.transcripts.specs.Heard as heards;
 
 use crate::advice;
 use desk_clients::clients::{Client, Gone, Page, Pages};
+use desk_clients::told::Told;
 use program_dialogue::dialogue::Dialogue;
 use program_stops::stops::Stop;
 use program_streams::devices::FileOut;
@@ -176,46 +178,46 @@ impl<'a, R: Files + Input + Print + Eprint + AllocGlobal> User<'a, R> {
         );
     }
 
-    /// Prints an answer. A command of the program's own, which the
+    /// Prints an answer that tells this, or that memory ran out where it tells nothing. A command of the program's own, which the
     /// session doesn't know, is answered in place of that. At a terminal a blank line has no answer.
-    fn tell(&mut self, answer: &[u8]) -> Result<(), Stop>
+    fn tell(&mut self, answer: &[u8], told: Option<&Told>) -> Result<(), Stop>
         ensures failed { IfErr result IsUntold }
         ensures words { self.new.words ≡ self.old.words }
         ensures dialogue { self.new.dialogue ≡ self.old.dialogue }
     {
         if !self.heard_any {
-            return self.tell_first(answer);
+            return self.tell_first(answer, told);
         }
-        if self.at_terminal && self.notes.is_blank(answer) {
+        if self.at_terminal && self.notes.is_blank(told) {
             return Ok(());
         }
-        match self.notes.own(self.rt.alloc(), answer)? {
+        match self.notes.own(self.rt.alloc(), told)? {
             Some(own) => self.tell_own(own),
-            None => self.tell_answer(answer),
+            None => self.tell_answer(answer, told),
         }
     }
 
     /// Prints the first answer: warnings before it, and behind it that the limit ended the run, where none was given.
-    fn tell_first(&mut self, answer: &[u8]) -> Result<(), Stop>
+    fn tell_first(&mut self, answer: &[u8], told: Option<&Told>) -> Result<(), Stop>
         ensures failed { IfErr result IsUntold }
         ensures words { self.new.words ≡ self.old.words }
         ensures dialogue { self.new.dialogue ≡ self.old.dialogue }
     {
         self.heard_any = true;
         advice::warn(self.rt, self.sources)?;
-        self.tell_answer(answer)?;
-        advice::tell_limit(self.rt, self.words, answer)?;
+        self.tell_answer(answer, told)?;
+        advice::tell_limit(self.rt, self.words, told)?;
         Ok(())
     }
 
     /// Prints an answer of the session, and an explanation behind a refusal or a fault.
-    fn tell_answer(&mut self, answer: &[u8]) -> Result<(), Stop>
+    fn tell_answer(&mut self, answer: &[u8], told: Option<&Told>) -> Result<(), Stop>
         ensures failed { IfErr result IsUntold }
         ensures words { self.new.words ≡ self.old.words }
         ensures dialogue { self.new.dialogue ≡ self.old.dialogue }
     {
         output::say(self.rt, answer)?;
-        advice::explain(self.rt, self.sources, &mut self.notes, answer)?;
+        advice::explain(self.rt, self.sources, &mut self.notes, told)?;
         Ok(())
     }
 
@@ -375,8 +377,9 @@ impl<'a, R: Files + Input + Print + Eprint + AllocGlobal> Client<FileOut<'a, R>>
     }
 
     #[tactic(auto, using(crate::proofs::Reasons::reason_untold))]
-    fn hear(&mut self, answer: &[u8]) -> Result<(), Gone>
+    fn hear(&mut self, answer: &[u8], told: &Told) -> Result<(), Gone>
         requires kept { Keeps self.old.dialogue }
+        requires told { IsTold told.now answer.now }
         ensures kept { Keeps self.new.dialogue }
         ensures heard { OnOk result (self.new.dialogue.transcript.heard ≡ self.old.dialogue.transcript.heard
             ++ heards.Answer answer.now ∷ []) }
@@ -387,9 +390,9 @@ impl<'a, R: Files + Input + Print + Eprint + AllocGlobal> Client<FileOut<'a, R>>
         ensures asked { self.new.dialogue.transcript.asked ≡ self.old.dialogue.transcript.asked }
         ensures left { left_in self.new.dialogue ≡ left_in self.old.dialogue }
     {
-        match self.tell(answer) {
+        match self.tell(answer, Some(told)) {
             Ok(()) => {
-                self.dialogue.hears(answer);
+                self.dialogue.hears(answer, told);
                 Ok(())
             }
             Err(stop) => Err(self.gone(stop)),
@@ -409,7 +412,7 @@ impl<'a, R: Files + Input + Print + Eprint + AllocGlobal> Client<FileOut<'a, R>>
         ensures asked { self.new.dialogue.transcript.asked ≡ self.old.dialogue.transcript.asked }
         ensures left { left_in self.new.dialogue ≡ left_in self.old.dialogue }
     {
-        match self.tell(b"refused NoMemory".as_slice()) {
+        match self.tell(b"refused NoMemory".as_slice(), None) {
             Ok(()) => {
                 self.dialogue.hears_no_memory(&error);
                 Ok(())

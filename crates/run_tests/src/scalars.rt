@@ -65,7 +65,7 @@ fn answer(desk: &mut Desk<Office>) -> Result<Text, Fail>
     ensures { IsSettled office (λ b. ⟦<dyn SimpleModule as SimpleModule>⟧ b.vtable) desk.new }
 {
     match desk.run(100)? {
-        DeskTurn::Text(text) => Ok(text),
+        DeskTurn::Text(answer) => Ok(answer.into_text()),
         DeskTurn::Want(_) => Err(Fail::from("the run needs another box")),
     }
 }

@@ -9,6 +9,7 @@ ghost use Rattle.transcripts.specs.Heard as heards;
 use crate::scenario::{Scenario, file_in};
 use desk::answers::refusal_text;
 use desk_clients::clients::{Client, Gone, Page, Pages, Stop};
+use desk_clients::told::Told;
 use model_texts::begin::BeginFault;
 use result_lines::buffer::Buffer;
 use sim_values::NoMemory;
@@ -44,6 +45,11 @@ fn file_asked(line: &[u8]) -> Option<Page> {
         b"vectors" => Some(Page::Vectors),
         _ => None,
     }
+}
+
+/// Whether an answer tells that files are written.
+fn is_written(told: &Told) -> bool {
+    matches!(told, Told::Written)
 }
 
 /// Asks the lines of a scenario, and writes down what comes of each.
@@ -109,14 +115,14 @@ impl<'a> Player<'a> {
         }
     }
 
-    /// Writes down an answer. Where a file was asked for, it is there in place of the answer, or there is none.
-    fn tell(&mut self, answer: &[u8]) -> Result<(), NoMemory>
+    /// Writes down an answer, which may tell that files are written. Where a file was asked for, it is there in place of the answer, or there is none.
+    fn tell(&mut self, answer: &[u8], is_written: bool) -> Result<(), NoMemory>
         ensures lines { self.new.lines ≡ self.old.lines }
         ensures transcript { self.new.transcript ≡ self.old.transcript }
     {
         match self.file {
             None => say(&mut self.told, answer),
-            Some(_) if answer == b"written".as_slice() => Ok(()),
+            Some(_) if is_written => Ok(()),
             Some(_) => say(&mut self.told, b"no file".as_slice()),
         }
     }
@@ -171,8 +177,8 @@ impl Client<Buffer> for Player<'_> {
         }
     }
 
-    fn hear(&mut self, answer: &[u8]) -> Result<(), Gone> {
-        match self.tell(answer) {
+    fn hear(&mut self, answer: &[u8], told: &Told) -> Result<(), Gone> {
+        match self.tell(answer, is_written(told)) {
             Ok(()) => {
                 self.transcript.hears(answer);
                 Ok(())
@@ -182,7 +188,7 @@ impl Client<Buffer> for Player<'_> {
     }
 
     fn hear_no_memory(&mut self, error: NoMemory) -> Result<(), Gone> {
-        match self.tell(b"refused NoMemory".as_slice()) {
+        match self.tell(b"refused NoMemory".as_slice(), false) {
             Ok(()) => {
                 self.transcript.hears_no_memory(&error);
                 Ok(())

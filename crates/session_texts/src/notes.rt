@@ -7,13 +7,14 @@ use crate::refused::{why_refused_command, why_refused_edit};
 use crate::texts::SessionTexts;
 use crate::undoing::{Messages, Undo, undo_of, undo_of_ned};
 use command_lines::commands::{Command, command_of};
+use desk_clients::told::Told;
 use explanations::messages::discarded_line;
 use explanations::runs::fault_line;
-use model_edits::edit::Edit;
+use model_edits::edit::{Edit, Refusal};
+use run_semantics::outcome::{Fault, Outcome};
 use sim_values::NoMemory;
-use sim_values::text::{Text, spells};
+use sim_values::text::Text;
 use std::alloc::{AllocError, Global};
-use text_explanations::names::shown;
 use text_explanations::sources::Sources;
 
 /// What is noted of a session: what was asked last, the file that was read for it, and the texts as edits made them. It answers nothing that the
@@ -171,20 +172,21 @@ impl Notes {
         }
     }
 
-    /// Follows the edit of messages that was asked last, which is made and answered so.
+    /// Follows the edit of messages that was asked last, which is made. A message that it put in has that number.
     fn follow_message(
         &mut self,
         alloc: Global,
         command: &Command,
-        answer: &str,
+        injection: Option<u64>,
     ) -> Result<(), NoMemory> {
         if let Command::Edit(Edit::Withdraw(number)) = command {
             self.undo = self.messages.takes_back(*number);
             return Ok(());
         }
-        let undo = match &self.asked {
-            Some(line) => self.messages.puts_in(alloc, line.as_bytes(), answer)?,
-            None => Undo::Not("the command is not known"),
+        let undo = match (&self.asked, injection) {
+            (Some(line), Some(number)) => self.messages.puts_in(alloc, line.as_bytes(), number)?,
+            (None, _) => Undo::Not("the command is not known"),
+            (_, None) => Undo::Not("the number of the message is not known"),
         };
         self.undo = undo;
         Ok(())
@@ -217,16 +219,16 @@ impl Notes {
         Ok(())
     }
 
-    /// Follows the edit that was asked last, which is made and answered so.
+    /// Follows the edit that was asked last, which is made. A message that it put in has that number.
     fn follow(
         &mut self,
         alloc: Global,
         sources: &Sources<'_>,
-        answer: &str,
+        injection: Option<u64>,
     ) -> Result<(), NoMemory> {
         let command = self.command(alloc)?;
         if is_of_messages(&command) {
-            return self.follow_message(alloc, &command, answer);
+            return self.follow_message(alloc, &command, injection);
         }
         if is_of_texts(&command) {
             return self.follow_texts(alloc, sources, command);
@@ -234,43 +236,43 @@ impl Notes {
         Ok(())
     }
 
-    /// Why what was asked last is refused with that name.
-    fn why_refused(
+    /// Why the edit that was asked last is refused.
+    fn why_no_edit(
         &mut self,
         alloc: Global,
         sources: &Sources<'_>,
-        name: &str,
+        refusal: Refusal,
     ) -> Result<String, NoMemory> {
         let command = self.command(alloc)?;
-        if is_of_texts(&command) {
-            self.texts(alloc, sources)?;
-        }
-        match &self.texts {
-            Some(texts) if is_of_texts(&command) => {
-                let read = bytes_in(&self.read).unwrap_or(b"".as_slice());
-                why_refused_edit(alloc, texts, &command, read, name)
-            }
-            _ => {
-                let line = bytes_in(&self.asked).unwrap_or(b"".as_slice());
-                why_refused_command(alloc, &command, line)
-            }
-        }
+        let read = self.read.take();
+        let texts = self.texts(alloc, sources)?;
+        let read = bytes_in(&read).unwrap_or(b"".as_slice());
+        why_refused_edit(alloc, texts, &command, read, refusal)
     }
 
-    /// What is behind the fault that the answer of a run tells, where it tells one.
+    /// Why what was asked last is refused, which is no edit.
+    fn why_no_command(&self, alloc: Global) -> Result<String, NoMemory> {
+        let command = self.command(alloc)?;
+        let line = bytes_in(&self.asked).unwrap_or(b"".as_slice());
+        why_refused_command(alloc, &command, line)
+    }
+
+    /// What is behind the fault that ended a run, which is told with that path.
     fn why_fault(
         &self,
         alloc: Global,
         sources: &Sources<'_>,
-        answer: &[u8],
+        path: &[u8],
+        fault: &Fault,
         classes: &[&[u8]],
     ) -> Result<String, NoMemory> {
         match &self.texts {
             Some(texts) => {
                 let ini = bytes_of(alloc, &texts.ini)?;
-                fault_line(alloc, answer, &texts.sources(ini.as_slice()), classes)
+                let sources = texts.sources(ini.as_slice());
+                fault_line(alloc, path, fault, &sources, classes)
             }
-            None => fault_line(alloc, answer, sources, classes),
+            None => fault_line(alloc, path, fault, sources, classes),
         }
     }
 
@@ -303,9 +305,9 @@ impl Notes {
         Ok(line)
     }
 
-    /// The program's own command that was asked last, where it is one and the session answered that it knows no such command.
-    pub fn own(&self, alloc: Global, answer: &[u8]) -> Result<Option<Own>, NoMemory> {
-        if !spells(answer, b"refused Command") {
+    /// The program's own command that was asked last, where it is one and the session told that it knows no such command.
+    pub fn own(&self, alloc: Global, told: Option<&Told>) -> Result<Option<Own>, NoMemory> {
+        if !is_no_command(told) {
             return Ok(None);
         }
         match bytes_in(&self.asked) {
@@ -314,10 +316,10 @@ impl Notes {
         }
     }
 
-    /// Whether a blank line was asked last, and the session answered that it is no command.
-    pub fn is_blank(&self, answer: &[u8]) -> bool {
+    /// Whether a blank line was asked last, and the session told that it is no command.
+    pub fn is_blank(&self, told: Option<&Told>) -> bool {
         match bytes_in(&self.asked) {
-            Some(line) => spells(answer, b"refused Command") && line.trim_ascii().is_empty(),
+            Some(line) => is_no_command(told) && line.trim_ascii().is_empty(),
             None => false,
         }
     }
@@ -355,34 +357,33 @@ impl Notes {
         }
     }
 
-    /// What is behind an answer, and what to change: a line for a person. Empty where there is no more to say. `sources` are the files as they were
-    /// read, and `classes` those that the program has modules of.
+    /// What is behind an answer that tells this, or that memory ran out where it tells nothing, and what to change: a line for a person. Empty where
+    /// there is no more to say. `sources` are the files as they were read, and `classes` those that the program has modules of.
     pub fn hears(
         &mut self,
         alloc: Global,
         sources: &Sources<'_>,
-        answer: &[u8],
+        told: Option<&Told>,
         classes: &[&[u8]],
     ) -> Result<String, NoMemory> {
-        let answer_text = shown(answer);
-        if answer_text.starts_with("edited ") {
-            self.follow(alloc, sources, answer_text)?;
-            return self.why_discarded(alloc, sources);
-        }
-        if answer_text.starts_with("done fault ") {
-            return self.why_fault(alloc, sources, answer, classes);
-        }
-        match answer_text.strip_prefix("refused ") {
-            Some("NoMemory") | None => Ok(String::new(alloc)),
-            Some(name) => self.why_refused(alloc, sources, name_of(name)),
+        match told {
+            Some(Told::Edited(injection)) => {
+                self.follow(alloc, sources, *injection)?;
+                self.why_discarded(alloc, sources)
+            }
+            Some(Told::Done(Outcome::Fault(_, path, fault))) => {
+                self.why_fault(alloc, sources, path.as_bytes(), fault, classes)
+            }
+            Some(Told::Refused(refusal)) => self.why_no_edit(alloc, sources, *refusal),
+            Some(Told::NoCommand) | Some(Told::TooLarge) | Some(Told::NotDone) => {
+                self.why_no_command(alloc)
+            }
+            _ => Ok(String::new(alloc)),
         }
     }
 }
 
-/// The name with which a refusal begins.
-fn name_of(refusal: &str) -> &str {
-    match refusal.split_once(' ') {
-        Some((name, _place)) => name,
-        None => refusal,
-    }
+/// Whether it is told that a line is no command.
+fn is_no_command(told: Option<&Told>) -> bool {
+    matches!(told, Some(Told::NoCommand))
 }

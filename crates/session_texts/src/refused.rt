@@ -7,13 +7,14 @@ use command_lines::commands::{Command, MAX_LINE};
 use explanations::refusals::{bad_connection, bad_line, why_refused};
 use ini_config::error::EditError;
 use ini_texts::lines::IniText;
-use model_edits::edit::{Edit, MAX_INJECTIONS, MAX_PAYLOAD};
+use model_edits::edit::{Edit, MAX_INJECTIONS, MAX_PAYLOAD, Refusal};
 use sim_values::NoMemory;
 use sim_values::text::MAX_LENGTH;
 use std::alloc::Global;
 use text_explanations::explanation::Explanation;
 use text_explanations::names::shown;
 use text_explanations::sources::Sources;
+use type_building::table::TypeFault;
 
 /// Why there is no model of the texts with that ini text in place of their own.
 fn why_not_with(alloc: Global, texts: &SessionTexts, ini: &IniText) -> Result<String, NoMemory> {
@@ -69,31 +70,32 @@ fn why_not_selected(alloc: Global, texts: &SessionTexts, name: &[u8]) -> Result<
 }
 
 /// Says what is wrong with the types behind an edit of a connection.
-fn tell_types(told: &mut Explanation, name: &str) {
-    told.say(match name {
-        "UnknownType" => "the connection names a channel that no file declares",
-        "KindClash" =>
+fn tell_types(told: &mut Explanation, refusal: Refusal) {
+    told.say(match refusal {
+        Refusal::Types(TypeFault::UnknownType) =>
+            "the connection names a channel that no file declares",
+        Refusal::Types(TypeFault::KindClash) =>
             "what the connection names as its channel is none, or it gives that a parameter or a value which the channel can't have",
         _ => "the connection doesn't go with the types of the files",
     });
 }
 
 /// Says why a connection can't be added or taken out, which is none of its text.
-fn tell_connection(told: &mut Explanation, of: &[u8], name: &str) {
-    match name {
-        "NoSuchType" => {
+fn tell_connection(told: &mut Explanation, of: &[u8], refusal: Refusal) {
+    match refusal {
+        Refusal::NoSuchType => {
             told.say("no file declares a module or a network ");
             told.say_name(of);
             told.say(" outside of another type; a name has no dots");
         }
-        "NoSuchConnection" => {
+        Refusal::NoSuchConnection => {
             told.say_name(of);
             told.say(
                 " has no connection of that place in its own section: places count from 0, and a group is one; 'connect' takes one more",
             );
         }
-        "TooLarge" => told.say("the text of the connection is longer than 1 MiB"),
-        _ => tell_types(told, name),
+        Refusal::TooLarge => told.say("the text of the connection is longer than 1 MiB"),
+        _ => tell_types(told, refusal),
     }
 }
 
@@ -109,10 +111,10 @@ fn tell_injection(told: &mut Explanation) {
 }
 
 /// Says why an edit is refused that is none of the ini text.
-fn tell_other_edit(told: &mut Explanation, edit: &Edit, name: &str) {
+fn tell_other_edit(told: &mut Explanation, edit: &Edit, refusal: Refusal) {
     match edit {
         Edit::AddConnection(of, _, _) | Edit::RemoveConnection(of, _) => {
-            tell_connection(told, of.as_bytes(), name)
+            tell_connection(told, of.as_bytes(), refusal)
         }
         Edit::Inject(_, _, _, _, _) => tell_injection(told),
         Edit::Withdraw(_) => told.say(
@@ -127,14 +129,16 @@ fn why_no_other(
     alloc: Global,
     texts: &SessionTexts,
     edit: &Edit,
-    name: &str,
+    refusal: Refusal,
 ) -> Result<String, NoMemory> {
-    match (edit, name) {
+    match (edit, refusal) {
         (Edit::SelectConfig(config), _) => why_not_selected(alloc, texts, config.as_bytes()),
-        (Edit::AddConnection(_, _, text), "NedSyntax") => bad_connection(alloc, text.as_bytes()),
+        (Edit::AddConnection(_, _, text), Refusal::NedSyntax(_)) => {
+            bad_connection(alloc, text.as_bytes())
+        }
         _ => {
             let mut told = Explanation::new(alloc);
-            tell_other_edit(&mut told, edit, name);
+            tell_other_edit(&mut told, edit, refusal);
             told.said()
         }
     }
@@ -145,12 +149,12 @@ fn why_no_edit(
     alloc: Global,
     texts: &SessionTexts,
     edit: &Edit,
-    name: &str,
+    refusal: Refusal,
 ) -> Result<String, NoMemory> {
     match changed_ini(alloc, &texts.ini, edit) {
         Some(Ok(changed)) => why_not_with(alloc, texts, &changed),
         Some(Err(error)) => why_no_ini(alloc, texts, edit, error),
-        None => why_no_other(alloc, texts, edit, name),
+        None => why_no_other(alloc, texts, edit, refusal),
     }
 }
 
@@ -225,17 +229,17 @@ pub fn why_refused_command(
     told.said()
 }
 
-/// Why a command is refused with that name that is an edit of these texts, and what would be right: a line for a person. Empty where there is no more
+/// Why a command is refused that is an edit of these texts, and what would be right: a line for a person. Empty where there is no more
 /// to say. `read` is what was read of the file that it names.
 pub fn why_refused_edit(
     alloc: Global,
     texts: &SessionTexts,
     command: &Command,
     read: &[u8],
-    name: &str,
+    refusal: Refusal,
 ) -> Result<String, NoMemory> {
     match command {
-        Command::Edit(edit) => why_no_edit(alloc, texts, edit, name),
+        Command::Edit(edit) => why_no_edit(alloc, texts, edit, refusal),
         Command::Ned(number, path) => {
             why_no_ned(alloc, texts, *number as usize, path.as_bytes(), read)
         }

@@ -2,7 +2,6 @@
 
 use crate::texts::SessionTexts;
 use command_lines::commands::MAX_LINE;
-use command_lines::numbers::number_of;
 use model_edits::edit::Edit;
 use sim_values::NoMemory;
 use sim_values::text::Text;
@@ -98,12 +97,6 @@ pub fn undo_of_ned(alloc: Global, before: &SessionTexts, number: usize) -> Resul
     ))
 }
 
-/// The number of the message that an answer tells, as in `edited valid 2 injection 1`.
-fn number_in(answer: &str) -> Option<u64> {
-    let (_, number) = answer.split_once(" injection ")?;
-    number_of(number.as_bytes())
-}
-
 impl Messages {
     /// None.
     pub fn new(alloc: Global) -> Messages {
@@ -112,11 +105,8 @@ impl Messages {
         }
     }
 
-    /// A message was put in by that command, which was answered so. Answers what takes it back.
-    pub fn puts_in(&mut self, alloc: Global, line: &[u8], answer: &str) -> Result<Undo, NoMemory> {
-        let Some(number) = number_in(answer) else {
-            return Ok(Undo::Not("the number of the message is not known"));
-        };
+    /// The message of that number was put in by that command. Answers what takes it back.
+    pub fn puts_in(&mut self, alloc: Global, line: &[u8], number: u64) -> Result<Undo, NoMemory> {
         self.held.push(Message {
             number,
             command: Text::from_bytes(alloc, line)?,

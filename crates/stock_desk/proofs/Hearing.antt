@@ -9,7 +9,7 @@ use Rattle.checkpointed_runs.specs.declared.running.Stood.{Stood}
 use Rattle.checkpoints.specs.Stored.{Timeline}
 use Rattle.checkpointed_runs.specs.Positions.{cut, last_count, HasStored}
 use Rattle.edit_session.specs.Files.{scalars_of_run, vectors_of_run}
-use Rattle.desk.specs.Answers.{held_text, positions_text}
+use Rattle.desk_clients.specs.Answers.{held_text, positions_text}
 use Rattle.desk.specs.Turns.{AnswersEdit, HasRun, IsDone, IsMade, IsRefused, MayBeDone}
 use Rattle.model_edits.specs.declared.edit.Edit.{Edit}
 use Rattle.model_edits.specs.declared.edit.Edit.TheVariants as edit

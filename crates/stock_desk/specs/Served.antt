@@ -14,7 +14,7 @@ use Rattle.edit_session.specs.Files.{scalars_of_run, vectors_of_run}
 use Rattle.checkpointed_runs.specs.declared.running.Stood.{Stood}
 use Rattle.checkpoints.specs.Stored.{begun, Timeline}
 use Rattle.checkpointed_runs.specs.Positions.{cut, last_count, positions_after, HasStored}
-use Rattle.desk.specs.Answers.{held_text, positions_text}
+use Rattle.desk_clients.specs.Answers.{held_text, positions_text}
 use Rattle.desk.specs.Turns.{run_answer, IsMade, IsRefused}
 use Rattle.transcripts.specs.Heard.{Answer, Files, Heard, OutOfMemory, Read}
 use Rattle.transcripts.specs.declared.asked.Asked.{Asked}

@@ -12,12 +12,14 @@ ghost use Rattle.stock_desk.specs.Served.{command_asked};
 ghost use Rattle.stock_desk.specs.Serving.{AreFilled, ComesTo, Ends, HearsNext, IsMetIn, IsNextServing, IsReady, IsRunIn, IsServer, IsServingTurn, MayStopAt, MayStopIn, Serves, Tells};
 ghost use Rattle.result_lines.specs.Taken.{untouched};
 ghost use Rattle.transcripts.specs.Heard.{Answer, OutOfMemory};
+ghost use Rattle.desk_clients.specs.Answers.{IsTold};
 ghost use Rattle.desk_clients.specs.Devices.{HasFailed};
 ghost use Rattle.desk_clients.specs.declared.clients.Stop.TheVariants as why;
 
 use command_lines::commands::{Command, command_of};
 use desk::desk::{Desk, DeskTurn};
 use desk_clients::clients::{Client, Gone, Page, Pages, Stop};
+use desk_clients::told::Told;
 use edit_session::session::{FileFault, Session, SupplyReason};
 use kernel::request::Request;
 use model_edits::edit::Edit;
@@ -63,13 +65,14 @@ struct Server<O, K> {
 }
 
 impl<O: Out + Drop, K: Client<O> + Drop> Server<O, K> {
-    /// The client hears an answer to this command.
-    fn hear(&mut self, answer: &[u8]) -> Next
-        requires { K.keeps self.old.client }
+    /// The client hears an answer to this command, and what it tells.
+    fn hear(&mut self, answer: &[u8], told: &Told) -> Next
+        requires kept { K.keeps self.old.client }
+        requires told { IsTold told.now answer.now }
         ensures { Tells K.asked K.heard K.left K.keeps K.label K.stops
             (Answer answer.now) self.old.running self.old self.new result }
     {
-        match self.client.hear(answer) {
+        match self.client.hear(answer, told) {
             Ok(()) => Next::GoOn,
             Err(Gone) => Next::Stop(Stop::Gone),
         }
@@ -102,9 +105,9 @@ impl<O: Out + Drop, K: Client<O> + Drop> Server<O, K> {
             MayStopIn (IsRunIn stock limit) self.old self.new result }
     {
         match self.desk.run(limit) {
-            Ok(DeskTurn::Text(text)) => {
+            Ok(DeskTurn::Text(answer)) => {
                 self.running = None;
-                Turn::Over(self.hear(text.as_bytes()))
+                Turn::Over(self.hear(answer.text.as_bytes(), &answer.told))
             }
             Ok(DeskTurn::Want(request)) => {
                 self.running = Some(limit);
@@ -134,7 +137,7 @@ impl<O: Out + Drop, K: Client<O> + Drop> Server<O, K> {
             MayStopAt (HearsNext stock (commands.Edit edit)) self.old self.new result }
     {
         match self.desk.edit(edit) {
-            Ok(text) => self.hear(text.as_bytes()),
+            Ok(answer) => self.hear(answer.text.as_bytes(), &answer.told),
             Err(error) => self.out_of_memory(error),
         }
     }
@@ -158,7 +161,7 @@ impl<O: Out + Drop, K: Client<O> + Drop> Server<O, K> {
             MayStopAt (HearsNext stock commands.Positions) self.old self.new result }
     {
         match self.desk.positions() {
-            Ok(text) => self.hear(text.as_bytes()),
+            Ok(answer) => self.hear(answer.text.as_bytes(), &answer.told),
             Err(error) => self.out_of_memory(error),
         }
     }
@@ -170,7 +173,7 @@ impl<O: Out + Drop, K: Client<O> + Drop> Server<O, K> {
             MayStopAt (HearsNext stock commands.Held) self.old self.new result }
     {
         match self.desk.held() {
-            Ok(text) => self.hear(text.as_bytes()),
+            Ok(answer) => self.hear(answer.text.as_bytes(), &answer.told),
             Err(error) => self.out_of_memory(error),
         }
     }
@@ -182,7 +185,7 @@ impl<O: Out + Drop, K: Client<O> + Drop> Server<O, K> {
             MayStopAt (HearsNext stock commands.Write) self.old self.new result }
     {
         if self.desk.outcome().is_none() {
-            return self.hear(b"refused NotDone".as_slice());
+            return self.hear(b"refused NotDone".as_slice(), &Told::NotDone);
         }
         match self.client.open(self.desk.config()) {
             Ok(pages) => self.fill(pages),
@@ -204,7 +207,7 @@ impl<O: Out + Drop, K: Client<O> + Drop> Server<O, K> {
         let mut pages = pages;
         match self.write_both(&mut pages) {
             Ok(()) => match self.client.keep(pages) {
-                Ok(()) => self.hear(b"written".as_slice()),
+                Ok(()) => self.hear(b"written".as_slice(), &Told::Written),
                 Err(Gone) => Next::Stop(Stop::Gone),
             },
             Err((page, written)) => {
@@ -251,8 +254,14 @@ impl<O: Out + Drop, K: Client<O> + Drop> Server<O, K> {
             Command::Positions => Turn::Over(self.positions()),
             Command::Held => Turn::Over(self.held()),
             Command::Write => Turn::Over(self.write()),
-            Command::Unknown => Turn::Over(self.hear(b"refused Command".as_slice())),
-            Command::TooLarge => Turn::Over(self.hear(b"refused TooLarge".as_slice())),
+            Command::Unknown => Turn::Over(self.hear(
+                b"refused Command".as_slice(),
+                &Told::NoCommand,
+            )),
+            Command::TooLarge => Turn::Over(self.hear(
+                b"refused TooLarge".as_slice(),
+                &Told::TooLarge,
+            )),
         }
     }
 

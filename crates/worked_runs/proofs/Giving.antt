@@ -7,7 +7,7 @@ use Rattle.checkpointed_runs.specs.Running.{fresh_run}
 use Rattle.checkpointed_runs.specs.Positions.{events_behind, start_of}
 use Rattle.result_files.specs.Files.{scalar_text_of, vector_text_of}
 use Rattle.edit_session.specs.Files.{scalars_of_run, vectors_of_run}
-use Rattle.desk.specs.Answers.{done_text}
+use Rattle.desk_clients.specs.Answers.{done_text}
 use Rattle.desk.specs.Turns.{run_answer}
 use Rattle.stock_modules.specs.Stock.{stock}
 use Rattle.worked_runs.specs.Runs.{Gives}

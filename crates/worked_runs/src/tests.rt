@@ -138,8 +138,8 @@ fn tell<C: Catalogue>(desk: &mut Desk<C>, line: &[u8], told: &mut Vec<u8>) -> Re
     requires { IsSettled C.behaviour (λ b. ⟦<dyn SimpleModule as SimpleModule>⟧ b.vtable) desk.old }
     ensures { IsSettled C.behaviour (λ b. ⟦<dyn SimpleModule as SimpleModule>⟧ b.vtable) desk.new }
 {
-    if let DeskTurn::Text(text) = desk.line(line)? {
-        told.extend_from_slice(text.as_bytes())?;
+    if let DeskTurn::Text(answer) = desk.line(line)? {
+        told.extend_from_slice(answer.text.as_bytes())?;
         told.push(b'\n')?;
     }
     Ok(())

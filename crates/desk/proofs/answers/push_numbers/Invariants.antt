@@ -1,5 +1,5 @@
 use Rattle.std.proofs.Common.{◌≡◌, ◌++◌, drop}
-use Rattle.desk.specs.Answers.{numbers_text}
+use Rattle.desk_clients.specs.Answers.{numbers_text}
 use Rattle.desk.proofs.answers.push_numbers.Given as goal
 
 -- what is added, and what is left to be added

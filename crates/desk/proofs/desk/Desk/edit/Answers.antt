@@ -6,4 +6,4 @@ use Rattle.desk.proofs.desk.Desk.edit.Goals as goal
 pub returns-in-Err-clause-answer : goal.returns-in-Err-clause-answer
 returns-in-Err-clause-answer g c =
     refusing g.C.Catalogue.behaviour (editing_at (λ b. (g.dyn-1.0.entry b.vtable).1) c.args.self.now) (editing_at (λ b. (g.dyn-1.0.entry b.vtable).1) c.args.self.now) c.args.edit c.in-Err.refusal
-    c.edit_refusal_text.result refl c.in-Err.ensures.refused c.in-Err.ensures.complete c.edit_refusal_text.ensures
+    c.refused.result refl c.in-Err.ensures.refused c.in-Err.ensures.complete c.refused.ensures.text

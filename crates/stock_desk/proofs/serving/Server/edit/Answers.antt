@@ -8,7 +8,7 @@ use Rattle.stock_desk.proofs.serving.Server.edit.Goals as goal
 
 pub returns-in-Ok : goal.returns-in-Ok
 returns-in-Ok g c = serves_told c.hear.ensures c.hear.ensures.stops c.edit.ensures.sound (search rules)
-    (tells_edit stock c.args.edit _ (seen_in (λ b. (g.dyn-1.0.entry b.vtable).1) g.K.Client.asked g.K.Client.heard g.K.Client.left c.hear.new.self) c.in-Ok.text c.hear.result c.hear.ensures.asked c.hear.ensures.left
+    (tells_edit stock c.args.edit _ (seen_in (λ b. (g.dyn-1.0.entry b.vtable).1) g.K.Client.asked g.K.Client.heard g.K.Client.left c.hear.new.self) c.in-Ok.answer.text c.hear.result c.hear.ensures.asked c.hear.ensures.left
     (c.hear.ensures.running ∙ c.requires.idle) (rw c.hear.ensures.desk c.in-Ok.ensures.answer) (rw c.as_bytes.ensures at c.hear.ensures.heard))
 
 pub returns-in-Err : goal.returns-in-Err

@@ -9,8 +9,8 @@ use Rattle.stock_desk.proofs.serving.Server.positions.Goals as goal
 pub returns-in-Ok : goal.returns-in-Ok
 returns-in-Ok g c = serves_told c.hear.ensures c.hear.ensures.stops (search rules) (search rules)
     (tells_positions stock (seen_in (λ b. (g.dyn-1.0.entry b.vtable).1) g.K.Client.asked g.K.Client.heard g.K.Client.left c.args.self.now)
-    (seen_in (λ b. (g.dyn-1.0.entry b.vtable).1) g.K.Client.asked g.K.Client.heard g.K.Client.left c.hear.new.self) c.in-Ok.text c.hear.result c.hear.ensures.asked c.hear.ensures.left
-    (c.hear.ensures.running ∙ c.requires.idle) (ap (editing_at (λ b. (g.dyn-1.0.entry b.vtable).1)) c.hear.ensures.desk) c.in-Ok.ensures (rw c.as_bytes.ensures at c.hear.ensures.heard))
+    (seen_in (λ b. (g.dyn-1.0.entry b.vtable).1) g.K.Client.asked g.K.Client.heard g.K.Client.left c.hear.new.self) c.in-Ok.answer.text c.hear.result c.hear.ensures.asked c.hear.ensures.left
+    (c.hear.ensures.running ∙ c.requires.idle) (ap (editing_at (λ b. (g.dyn-1.0.entry b.vtable).1)) c.hear.ensures.desk) c.in-Ok.ensures.text (rw c.as_bytes.ensures at c.hear.ensures.heard))
 
 pub returns-in-Err : goal.returns-in-Err
 returns-in-Err g c = serves_told c.out_of_memory.ensures c.out_of_memory.ensures.stops (search rules) (search rules)

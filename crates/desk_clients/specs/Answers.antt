@@ -1,16 +1,16 @@
--- The texts of answers.
-use Rattle.std.specs.Prelude.{ℕ, List, [], ◌∷◌, ◌++◌, Option, Some, None, codes}
+-- The texts of answers, and what they tell.
+use Rattle.std.specs.Prelude.{◌≡◌, ℕ, List, [], ◌∷◌, ◌++◌, Option, Some, None, codes}
 use Rattle.std.specs.Fmt.{decimal}
 use Rattle.model_edits.specs.declared.edit.Refusal.{Refusal}
 use Rattle.model_edits.specs.declared.edit.Refusal.TheVariants as edit
-use Rattle.model_texts.specs.declared.begin.BeginFault.{BeginFault}
-use Rattle.model_texts.specs.declared.begin.BeginFault.TheVariants as refusal
 use Rattle.type_building.specs.declared.table.TypeFault.{TypeFault}
 use Rattle.type_building.specs.declared.table.TypeFault.TheVariants as types
 use Rattle.run_semantics.specs.declared.outcome.Fault.{Fault}
 use Rattle.run_semantics.specs.declared.outcome.Fault.TheVariants as fault
 use Rattle.run_semantics.specs.declared.outcome.Outcome.{Outcome}
 use Rattle.run_semantics.specs.declared.outcome.Outcome.TheVariants as outcome
+use Rattle.desk_clients.specs.declared.told.Told.{Told}
+use Rattle.desk_clients.specs.declared.told.Told.TheVariants as told
 
 -- the name of a fault
 abbrev pub fault_name : Fault → List ℕ
@@ -66,33 +66,6 @@ abbrev pub done_text : Outcome → Option ℕ → ℕ → List ℕ
 done_text o from executed =
     codes "done " ++ (outcome_text o ++ (codes " from " ++ (start_text from ++ (codes " executed " ++ decimal executed))))
 
--- ---- refusals
-
--- the name of a refusal
-abbrev pub refusal_name : BeginFault → List ℕ
-refusal_name refusal.TooLarge = codes "TooLarge"
-refusal_name (refusal.NedSyntax file line) = codes "NedSyntax"
-refusal_name (refusal.IniSyntax line reason) = codes "IniSyntax"
-refusal_name refusal.DuplicateType = codes "DuplicateType"
-refusal_name refusal.UnknownType = codes "UnknownType"
-refusal_name refusal.InheritanceCircle = codes "InheritanceCircle"
-refusal_name refusal.KindClash = codes "KindClash"
-refusal_name refusal.Interface = codes "Interface"
-refusal_name refusal.NoSuchConfig = codes "NoSuchConfig"
-refusal_name refusal.ChainFault = codes "ChainFault"
-refusal_name refusal.NoSuchNetwork = codes "NoSuchNetwork"
-refusal_name (refusal.NoMemory _) = codes "NoMemory"
-
--- where what is refused stands: the file, counted from 0, and the line, counted from 1
-abbrev pub refusal_place : BeginFault → List ℕ
-refusal_place (refusal.NedSyntax file line) = codes " file " ++ (decimal file ++ (codes " line " ++ decimal line))
-refusal_place (refusal.IniSyntax line reason) = codes " line " ++ decimal line
-refusal_place _ = []
-
--- THE TEXT of a refusal
-abbrev pub refusal_text : BeginFault → List ℕ
-refusal_text f = refusal_name f ++ refusal_place f
-
 -- ---- edits
 
 -- THE ANSWER of an edit that is made: up to which event the last run stays valid, and the number of the injection that is added
@@ -146,3 +119,18 @@ edit_refusal_text edit.NoSuchConfig = Some (codes "refused NoSuchConfig")
 edit_refusal_text edit.ChainFault = Some (codes "refused ChainFault")
 edit_refusal_text edit.NoSuchNetwork = Some (codes "refused NoSuchNetwork")
 edit_refusal_text (edit.NoMemory _) = None
+
+-- ---- what an answer tells
+
+-- THE TEXT TELLS THAT: of a run how it ended, of an edit the number of the message that it put in, or why it is refused; of another command its text is
+-- what such a command is answered
+abbrev pub IsTold : Told → List ℕ → Type 0
+IsTold (told.Done o) text = (from : Option ℕ) × (executed : ℕ) × (text ≡ done_text o from executed)
+IsTold (told.Edited injection) text = (valid_to : Option ℕ) × (text ≡ edited_text valid_to injection)
+IsTold (told.Refused why) text = Some text ≡ edit_refusal_text why
+IsTold told.NoCommand text = text ≡ codes "refused Command"
+IsTold told.TooLarge text = text ≡ codes "refused TooLarge"
+IsTold told.NotDone text = text ≡ codes "refused NotDone"
+IsTold told.Written text = text ≡ codes "written"
+IsTold told.Positions text = (counts : List ℕ) × (text ≡ positions_text counts)
+IsTold told.Held text = (held : ℕ) × (text ≡ held_text held)
