@@ -343,7 +343,7 @@ fn tell_selection(
     let Some(name) = network_entry(lines, chain) else {
         told.say(sources.ini_path);
         told.say(": there is no entry 'network = NAME' in [");
-        told.say(sources.config);
+        told.say_front(sources.config.as_bytes());
         told.say("] or what it extends");
         return tell_networks(told, types);
     };

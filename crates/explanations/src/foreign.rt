@@ -23,8 +23,10 @@ pub enum Own {
     Kind(String),
     /// A filter, or an expression in `source`.
     Filter,
-    /// A value for a path or a pattern.
+    /// A value for a pattern.
     Pattern,
+    /// A value for a path.
+    Path,
     /// A `double` without a unit.
     Double,
     /// A line that is not UTF-8.
@@ -79,7 +81,7 @@ fn own_mark(
         "(" | "int" | "double" | "bool" | "string" => Own::Value,
         "{" | "[" => Own::Braces,
         "*" => Own::Pattern,
-        "." if is_behind_name => Own::Pattern,
+        "." if is_behind_name => Own::Path,
         ";" if is_of_double(line) => Own::Double,
         _ => Own::Nothing,
     };
@@ -103,20 +105,21 @@ pub fn own_of(alloc: Global, tokens: &[Token], left: usize, line: &[u8]) -> Resu
     }
 }
 
-/// Says what is OMNeT++'s own in a line at which a text can't go on, where that is.
-pub fn tell_own(told: &mut Explanation, own: Result<Own, NoMemory>, line: &[u8]) {
+/// Says what is OMNeT++'s own in a line at which a text can't go on, where that is. Answers whether it is.
+pub fn tell_own(told: &mut Explanation, own: Result<Own, NoMemory>, line: &[u8]) -> bool {
     match own {
-        Ok(Own::Nothing) => {}
-        Ok(Own::Value) => tell_foreign(told, line),
-        Ok(Own::Braces) => tell_braces(told, b"{".as_slice()),
-        Ok(Own::Mode(mode)) => tell_mode(told, mode.as_bytes()),
+        Ok(Own::Nothing) => return false,
+        Ok(Own::Value) => return tell_foreign(told, line),
+        Ok(Own::Braces) => return tell_braces(told, b"{".as_slice()),
+        Ok(Own::Mode(mode)) => return tell_mode(told, mode.as_bytes()),
         Ok(Own::Kind(kind)) => tell_kind(told, kind.as_bytes()),
         Ok(Own::Filter) => tell_filter(told),
-        Ok(Own::Pattern) => tell_pattern(told),
+        Ok(Own::Pattern | Own::Path) => tell_pattern(told),
         Ok(Own::Double) => tell_double(told),
         Ok(Own::Bytes) => tell_bytes(told, line),
         Err(error) => told.refuse(error),
     }
+    true
 }
 
 /// Says that a line is not UTF-8, where it is not.

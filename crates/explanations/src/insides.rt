@@ -45,11 +45,11 @@ fn words_of(fault: Fault) -> &'static str {
         Fault::GateSize =>
             "a gate vector would have fewer than 0 or more than 65536 gates, or a connection takes a gate outside of a vector, or by '++' one more than the module's own vector has: declare another size, or connect fewer gates",
         Fault::NoGate =>
-            "a connection names a submodule or a gate that isn't there, a gate of another direction, an index where there is no vector, or none where there is one: name a gate that the submodule's type declares",
+            "a connection names a submodule or a gate that isn't there, a gate of another direction, an index if there is no vector, or none if there is one: name a gate that the submodule's type declares",
         Fault::AlreadyConnected =>
             "two connections take the same gate: leave one of them out, or let it take another gate",
         Fault::Unconnected =>
-            "a gate stands in no connection: connect it, or write 'connections allowunconnected:', or '@loose' behind the gate",
+            "a gate stands in no connection: connect it, or write 'connections allowunconnected:', or '@loose' after the gate",
         Fault::TooManyTurns =>
             "the loops of the connections make more than 1000000 turns: let them run over fewer numbers",
         Fault::TooManyModules =>
@@ -61,7 +61,7 @@ fn words_of(fault: Fault) -> &'static str {
 
 /// Says what is wrong with the inside of the compound module of that path, or with its submodule, and what would be right.
 pub fn tell_inside(told: &mut Explanation, path: &str, fault: Fault) {
-    told.say(path);
+    told.say_front(path.as_bytes());
     told.say(": ");
     told.say(words_of(fault));
 }

@@ -5,13 +5,16 @@
 
 mod configurations;
 mod foreign;
+mod given;
 mod ini_lines;
 mod insides;
 mod items;
+mod kinds;
 mod lacking;
 pub mod messages;
 mod modules;
 mod options;
+mod paths;
 mod reading;
 pub mod refusals;
 pub mod runs;

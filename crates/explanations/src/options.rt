@@ -1,14 +1,14 @@
 //! Options of OMNeT++'s that have no effect here, with what serves instead.
 
 /// Beginnings of options, each with what serves instead of them.
-const OPTIONS: [(&str, &str); 24] = [
+const OPTIONS: [(&str, &str); 25] = [
     ("bin-recording", "each value of a vector is written"),
     ("cmdenv-", "nothing is printed while a run goes on"),
     (
         "cpu-time-limit",
-        "the word -l of the program ends a run behind so many events",
+        "the word -l of the program ends a run after so many events",
     ),
-    ("debug", "a fault is told with the module and the event"),
+    ("debug", "a fault is reported with the module and the event"),
     (
         "description",
         "write it into a comment, which begins with #",
@@ -22,7 +22,7 @@ const OPTIONS: [(&str, &str); 24] = [
     ),
     (
         "ned-p",
-        "name the NED files behind the options, or a folder of them by the word -n",
+        "name the NED files after the options, or a folder of them by the word -n",
     ),
     (
         "num-rngs",
@@ -41,7 +41,7 @@ const OPTIONS: [(&str, &str); 24] = [
     ("qtenv-", "there are no graphics"),
     (
         "real-time-limit",
-        "the word -l of the program ends a run behind so many events",
+        "the word -l of the program ends a run after so many events",
     ),
     ("record-eventlog", "there is no event log"),
     (
@@ -61,6 +61,10 @@ const OPTIONS: [(&str, &str); 24] = [
     (
         "vector-recording-intervals",
         "a vector is recorded from the start of the run on, or not at all",
+    ),
+    (
+        "warmup-period",
+        "values are recorded from the start of the run on: leave the line out",
     ),
 ];
 

@@ -1,18 +1,21 @@
 //! Why a run ended with a fault.
 
+use crate::given::entry_giving;
 use crate::insides::{fault_of, tell_inside};
+use crate::kinds::{kind_of, kind_of_value, literal_in, say_unit};
 use crate::modules::{Declared, ToldFault, declared_at};
 use crate::reading::read_types;
 use crate::sites::{tell_fault_inside, tell_misplaced};
 use ini_entries::constants::is_constant;
 use ini_texts::entries::value_for;
-use ini_texts::entry::EntryValue;
+use ini_texts::entry::{EntryMeaning, EntryValue};
+use ini_texts::lines::Entry;
 use model_answers::evaluated::EvaluatedModel;
 use model_answers::plain::PlainAnswers;
 use model_texts::begin::model_of;
 use models::model::Model;
 use ned_trees::declarations::{
-    Declaration, ParameterValue, ParameterWord, SectionLine, TypeDeclaration, TypeKind,
+    Declaration, ParameterValue, SectionLine, TypeDeclaration, TypeKind,
 };
 use ned_trees::expressions::Expression;
 use ned_types::flat::{class_of, last_value};
@@ -20,7 +23,6 @@ use run_questions::answer::{Answer, ModelFault};
 use run_questions::record::path_under;
 use run_semantics::outcome::Fault;
 use sim_values::NoMemory;
-use sim_values::value::Dimension;
 use std::alloc::Global;
 use text_explanations::explanation::Explanation;
 use text_explanations::names::shown;
@@ -68,18 +70,6 @@ fn given<'a>(it: &Found<'a>, name: &[u8]) -> Option<&'a ParameterValue> {
     match last_value(name, body_of(it)) {
         Some(value) => Some(value),
         None => last_value(name, it.of.lines.as_slice()),
-    }
-}
-
-/// What values a parameter takes.
-fn kind_of(declaration: &Declaration) -> &'static str {
-    match (declaration.word, declaration.unit) {
-        (ParameterWord::Bool, _) => "true or false",
-        (ParameterWord::Text, _) => "a text in quotes",
-        (_, Some(Dimension::Time)) => "a time, as 5s",
-        (_, Some(Dimension::Rate)) => "a rate, as 10Mbps",
-        (_, Some(Dimension::Length)) => "a length, as 100B",
-        (_, None) => "a whole number",
     }
 }
 
@@ -167,59 +157,102 @@ struct Faulty<'a> {
 
 /// Says the path of a parameter.
 fn say_path(told: &mut Explanation, it: Faulty<'_>) {
-    told.say(it.path);
+    told.say_front(it.path.as_bytes());
     told.say(".");
     told.say_front(it.declaration.name.as_bytes());
 }
 
-/// Says that something is so of the value of a parameter.
-fn say_of_value(told: &mut Explanation, before: &str, it: Faulty<'_>, what: &str) {
+/// Says that something is so of the value of a parameter, which an entry of the ini text gives where there is one.
+fn say_of_value(
+    told: &mut Explanation,
+    before: &str,
+    it: Faulty<'_>,
+    entry: Option<&Entry>,
+    what: &str,
+) {
     told.say(before);
-    told.say("the value of '");
+    told.say("the value ");
+    if let Some(entry) = entry {
+        told.say_name(entry.value.as_bytes());
+        told.say(" ");
+    }
+    told.say("of '");
     say_path(told, it);
     told.say("' ");
     told.say(what);
 }
 
-/// Says that a parameter takes other values.
-fn say_mismatch(told: &mut Explanation, it: Faulty<'_>) {
+/// Says what a value is that is no literal.
+const OTHER_KIND: &str = " of another kind, or an operator in it has operands of a wrong kind";
+
+/// Says that a parameter takes other values than the one that it has.
+fn say_mismatch(
+    told: &mut Explanation,
+    it: Faulty<'_>,
+    entry: Option<&Entry>,
+    value: Option<&Expression>,
+) {
     told.say("'");
     say_path(told, it);
     told.say("' takes ");
     told.say(kind_of(it.declaration));
-    told.say(
-        ", and its value is of another kind, or an operator in it has operands of a wrong kind",
-    );
+    told.say("; ");
+    match entry {
+        Some(entry) => told.say_name(entry.value.as_bytes()),
+        None => told.say("its value"),
+    }
+    told.say(" is ");
+    match value.and_then(literal_in) {
+        Some((is_negative, value)) => {
+            told.say(kind_of_value(value));
+            say_unit(told, it.declaration, is_negative, value);
+        }
+        None => {
+            told.say("an expression");
+            told.say(OTHER_KIND);
+        }
+    }
 }
 
-/// Says that a parameter has no value.
-fn say_unassigned(told: &mut Explanation, it: Faulty<'_>) {
+/// Says that a parameter has no value, though an entry of the ini text stands for the one in the NED file, or none does.
+fn say_unassigned(told: &mut Explanation, it: Faulty<'_>, entry: Option<&Entry>) {
     told.say("'");
     say_path(told, it);
-    told.say("' has no value: write '");
+    told.say("' has no value");
+    if entry.is_some() {
+        told.say(", as 'default' is the one in the NED file, and there is none");
+    }
+    told.say(": write '");
     say_path(told, it);
     told.say(" = VALUE' with ");
     told.say(kind_of(it.declaration));
     told.say(", or a default in the NED file");
 }
 
-/// Says what is wrong with the value of a parameter.
-fn tell_wrong(told: &mut Explanation, it: Faulty<'_>) {
+/// Says what is wrong with the value of a parameter, which an entry of the ini text or that expression gives.
+fn tell_wrong(
+    told: &mut Explanation,
+    it: Faulty<'_>,
+    entry: Option<&Entry>,
+    value: Option<&Expression>,
+) {
     match it.fault {
         ModelFault::Overflow => say_of_value(
             told,
             "a number in ",
             it,
+            entry,
             "is outside -9223372036854775808 to 9223372036854775807, or something is shifted by less than 0 or more than 63",
         ),
         ModelFault::Inexact => say_of_value(
             told,
             "in ",
             it,
+            entry,
             "a division leaves a remainder or is by zero, or an exponent is negative",
         ),
-        ModelFault::Mismatch => say_mismatch(told, it),
-        _ => say_unassigned(told, it),
+        ModelFault::Mismatch => say_mismatch(told, it, entry, value),
+        _ => say_unassigned(told, it, entry),
     }
 }
 
@@ -230,21 +263,58 @@ fn tell_wrong_in_ned(told: &mut Explanation, it: Faulty<'_>, expression: &Expres
             told,
             "",
             it,
+            None,
             "refers to something that has no value: in a type 'x' and 'this.x' are its own parameter x, in a body 'x' is one of the module around it, and 'parent.x' is so in both; 'sub.x' is one of a submodule that is there",
         ),
         ModelFault::Circle => say_of_value(
             told,
             "",
             it,
+            None,
             "rests on itself, by the parameters that it refers to: give one of them a value that refers to none of the others",
         ),
         _ => {
-            tell_wrong(told, it);
+            tell_wrong(told, it, None, Some(expression));
             if !is_constant(expression) {
                 told.say("; or this is so of a parameter that it refers to");
             }
         }
     }
+}
+
+/// The expression that an entry gives as a value.
+fn expression_in(entry: &Entry) -> Option<&Expression> {
+    match &entry.meaning {
+        EntryMeaning::Parameter(it) => match &it.value {
+            EntryValue::Given(expression) => Some(expression),
+            EntryValue::Default => None,
+        },
+        _ => None,
+    }
+}
+
+/// Says what is wrong with the value of a parameter that no NED file gives: with that of an entry of the ini text, where there is one, and its line.
+fn tell_wrong_in_ini(
+    told: &mut Explanation,
+    sources: &Sources<'_>,
+    it: &Found<'_>,
+    faulty: Faulty<'_>,
+) -> Result<(), NoMemory> {
+    let alloc = told.alloc();
+    let path = path_under(alloc, it.path, faulty.declaration.name.as_bytes())?;
+    let model = it.answers.model();
+    let lines = model.ini.lines();
+    let found = entry_giving(alloc, lines, model.chain.as_slice(), shown(path.as_bytes()))?;
+    let Some(found) = found else {
+        told.say(sources.ini_path);
+        told.say(": ");
+        tell_wrong(told, faulty, None, None);
+        return Ok(());
+    };
+    told.say_place(sources.ini_path, found.line);
+    told.say(": ");
+    tell_wrong(told, faulty, Some(found.entry), expression_in(found.entry));
+    Ok(())
 }
 
 /// Says where the type of that name, or what it extends, gives a parameter its value: `path:line: `.
@@ -285,17 +355,14 @@ fn tell_faulty(
     it: &Found<'_>,
     faulty: Faulty<'_>,
     given: Option<&Expression>,
-) {
+) -> Result<(), NoMemory> {
     match given {
         Some(expression) => {
             tell_place(told, sources, it, faulty.declaration.name.as_bytes());
             tell_wrong_in_ned(told, faulty, expression);
+            Ok(())
         }
-        None => {
-            told.say(sources.ini_path);
-            told.say(": ");
-            tell_wrong(told, faulty);
-        }
+        None => tell_wrong_in_ini(told, sources, it, faulty),
     }
 }
 
@@ -317,7 +384,7 @@ fn tell_parameter(
         declaration,
         fault,
     };
-    tell_faulty(told, sources, it, faulty, given);
+    tell_faulty(told, sources, it, faulty, given)?;
     Ok(true)
 }
 
@@ -399,7 +466,7 @@ fn tell_call(
     of: &TypeDeclaration,
     classes: &[&[u8]],
 ) {
-    told.say(fault.path);
+    told.say_front(fault.path.as_bytes());
     told.say(": ");
     match fault.fault {
         Fault::NoParameter => tell_declared(told, of),
@@ -420,7 +487,7 @@ fn tell_of_call(
     classes: &[&[u8]],
 ) -> bool {
     if let (TypeKind::Simple, Some(why)) = (of.kind, why_not_sent(fault.fault)) {
-        told.say(fault.path);
+        told.say_front(fault.path.as_bytes());
         told.say(": ");
         told.say(why);
         return true;

@@ -163,12 +163,12 @@ fn tell_unconnected(
         return Ok(false);
     };
     tell_gate_place(told, it, of, &gate)?;
-    told.say(it.told.path);
+    told.say_front(it.told.path.as_bytes());
     told.say(": the gate ");
     let its = it.answers.type_at_path(alloc, gate.path.as_bytes())?;
     say_gate(told, its.unwrap_or(of), &gate);
     say_whose(told, &gate);
-    told.say(": connect it, or write 'connections allowunconnected:', or '@loose' behind the gate");
+    told.say(": connect it, or write 'connections allowunconnected:', or '@loose' after the gate");
     Ok(true)
 }
 
@@ -184,7 +184,7 @@ fn misplaced_in<'a>(
 
 /// Says that a size is given to what is no gate vector of a type.
 fn say_misplaced(told: &mut Explanation, path: &str, of: &TypeDeclaration, name: &[u8]) {
-    told.say(path);
+    told.say_front(path.as_bytes());
     told.say(": a size is given to ");
     told.say_name(name);
     told.say(", which is no gate vector of the type ");

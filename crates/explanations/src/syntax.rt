@@ -4,7 +4,7 @@ use crate::foreign::{Own, own_of, tell_own};
 use crate::ini_lines::line_at;
 use ned_syntax::parse::tokens_left;
 use ned_tokens::lines::tokenize;
-use ned_tokens::token::Token;
+use ned_tokens::token::{Mark, Token};
 use sim_values::NoMemory;
 use sqlite_items::Items;
 use std::alloc::Global;
@@ -171,31 +171,152 @@ fn wants(told: &mut Explanation, tokens: &mut Items<Token>, written: &'static st
     }
 }
 
-/// Whether something of OMNeT++'s own is in place: where a unit is wanted, or a value in braces, the tokens can go on with a property, or a value.
+/// Whether something of OMNeT++'s own is in place: a unit or a pattern where the tokens can go on with a property, a value in braces where they can with a value, and one for a
+/// path where they can with that of a parameter.
 fn wants_own(
     told: &mut Explanation,
     tokens: &mut Items<Token>,
     own: &Result<Own, NoMemory>,
 ) -> bool {
     match own {
-        Ok(Own::Double) => wants(told, tokens, "@"),
+        Ok(Own::Double | Own::Pattern) => wants(told, tokens, "@"),
+        Ok(Own::Path) => wants(told, tokens, "="),
         Ok(Own::Braces) => wants(told, tokens, "1"),
         _ => true,
     }
 }
 
+/// Whether a token is an operator, or begins a part of an expression.
+fn is_of_expression(token: &Token) -> bool {
+    matches!(
+        token,
+        Token::Mark(
+            Mark::LeftParen
+                | Mark::LeftBracket
+                | Mark::Less
+                | Mark::Greater
+                | Mark::Dot
+                | Mark::Plus
+                | Mark::Minus
+                | Mark::Star
+                | Mark::Slash
+                | Mark::Percent
+                | Mark::Caret
+                | Mark::Bang
+                | Mark::Tilde
+                | Mark::Question
+                | Mark::Bar
+                | Mark::Ampersand
+                | Mark::Hash
+                | Mark::Equal
+                | Mark::NotEqual
+                | Mark::AtMost
+                | Mark::AtLeast
+                | Mark::ShiftLeft
+                | Mark::ShiftRight
+                | Mark::And
+                | Mark::Or
+                | Mark::Xor
+        )
+    )
+}
+
+/// Whether an expression that begins before a token ends before it.
+fn ends_expression(token: &Token) -> bool {
+    matches!(
+        token,
+        Token::Mark(Mark::Open | Mark::Close | Mark::Semi | Mark::Equals)
+    )
+}
+
+/// How many operators and parentheses stand in the expression with which the tokens end.
+fn parts_at_end(tokens: &[Token]) -> usize {
+    let mut count = 0usize;
+    for token in tokens.iter().rev() {
+        if ends_expression(token) {
+            break;
+        }
+        if is_of_expression(token) {
+            count = count.saturating_add(1);
+        }
+    }
+    count
+}
+
+/// How deep an expression is nested at most.
+const MOST_DEEP: usize = 64;
+
+/// Whether it may be that tokens can't go on, of which so many are left, as an expression would be nested too deep: an operator or a parenthesis stands there, behind
+/// as many others.
+fn may_be_deep(tokens: &[Token], left: usize) -> bool {
+    let place = tokens.len().saturating_sub(left);
+    let (Some(before), Some(blamed)) = (tokens.get(..place), tokens.get(place)) else {
+        return false;
+    };
+    is_of_expression(blamed) && parts_at_end(before).saturating_add(1) >= MOST_DEEP
+}
+
+/// Says how deep an expression is nested at most.
+fn tell_deep(told: &mut Explanation) {
+    told.say("; an expression is nested at most ");
+    told.say_number(MOST_DEEP);
+    told.say(" deep: give a part of it to a parameter of its own, or write its value");
+}
+
+/// Says what of a line is OMNeT++'s own, where it is in place behind the tokens; or else that an expression is nested too deep, where that may be.
+fn tell_why(
+    told: &mut Explanation,
+    tokens: &mut Items<Token>,
+    own: Result<Own, NoMemory>,
+    line: &[u8],
+    is_deep: bool,
+) {
+    let is_told = wants_own(told, tokens, &own) && tell_own(told, own, line);
+    if !is_told && is_deep {
+        tell_deep(told);
+    }
+}
+
+/// Says what is wrong with tokens that are no NED, of which so many are left at the first that can't go on, and what of the line on which they stop is OMNeT++'s own.
+fn tell_stopped(told: &mut Explanation, tokens: &mut Items<Token>, left: usize, line: &[u8]) {
+    let own = own_of(told.alloc(), tokens.as_slice(), left, line);
+    let is_deep = may_be_deep(tokens.as_slice(), left);
+    tell_tokens(told, tokens, left);
+    tell_why(told, tokens, own, line, is_deep);
+}
+
 /// Says what is wrong with tokens that are no NED, and what of the line on which they stop is OMNeT++'s own.
 fn tell_list(told: &mut Explanation, tokens: &mut Items<Token>, line: &[u8]) {
     match tokens_left(told.alloc(), tokens.as_slice()) {
-        Ok(left) => {
-            let left = left.unwrap_or(0);
-            let own = own_of(told.alloc(), tokens.as_slice(), left, line);
-            tell_tokens(told, tokens, left);
-            if wants_own(told, tokens, &own) {
-                tell_own(told, own, line);
-            }
-        }
+        Ok(left) => tell_stopped(told, tokens, left.unwrap_or(0), line),
         Err(error) => told.refuse(NoMemory::from(error)),
+    }
+}
+
+/// What stands before a value in a file.
+const BEFORE_VALUE: &[u8] = b"simple A { int a = ";
+
+/// The tokens of a file that ends behind a text.
+fn tokens_behind(alloc: Global, before: &[u8], text: &[u8]) -> Result<Items<Token>, NoMemory> {
+    let mut bytes = Vec::from_slice(alloc, before)?;
+    bytes.extend_from_slice(text)?;
+    let list = tokenize(alloc, bytes.as_slice())?;
+    Ok(list.tokens)
+}
+
+/// Whether it may be that a value can't be read as it is nested too deep.
+fn is_deep_value(alloc: Global, value: &[u8]) -> Result<bool, NoMemory> {
+    let tokens = tokens_behind(alloc, BEFORE_VALUE, value)?;
+    let left = tokens_left(alloc, tokens.as_slice())?;
+    Ok(may_be_deep(tokens.as_slice(), left.unwrap_or(0)))
+}
+
+/// Says how deep an expression is nested at most, where a value can't be read that may be deeper.
+pub fn tell_depth_of_value(told: &mut Explanation, value: &[u8]) {
+    match is_deep_value(told.alloc(), value) {
+        Ok(true) => tell_deep(told),
+        Ok(false) => {}
+        Err(error) => told.refuse(error),
     }
 }
 
@@ -215,14 +336,6 @@ pub fn tell_syntax(told: &mut Explanation, text: &[u8], number: usize) {
 
 /// What stands before a connection in a file.
 const BEFORE: &[u8] = b"module M { connections: ";
-
-/// The tokens of a file that ends behind the text of a connection.
-fn tokens_of_connection(alloc: Global, text: &[u8]) -> Result<Items<Token>, NoMemory> {
-    let mut bytes = Vec::from_slice(alloc, BEFORE)?;
-    bytes.extend_from_slice(text)?;
-    let list = tokenize(alloc, bytes.as_slice())?;
-    Ok(list.tokens)
-}
 
 /// How often a byte is in a text.
 fn count_of(text: &[u8], wanted: u8) -> usize {
@@ -248,7 +361,7 @@ fn wanted_of_connection(
     Ok(found)
 }
 
-/// Says what is wrong with the text of a connection, of these tokens.
+/// Says what is wrong with the text of a connection, of these tokens, and what of it is OMNeT++'s own.
 fn tell_tokens_of_connection(
     told: &mut Explanation,
     text: &[u8],
@@ -256,12 +369,15 @@ fn tell_tokens_of_connection(
 ) -> Result<(), NoMemory> {
     let alloc = told.alloc();
     let left = tokens_left(alloc, tokens.as_slice())?.unwrap_or(0);
+    let own = own_of(alloc, tokens.as_slice(), left, text);
+    let is_deep = may_be_deep(tokens.as_slice(), left);
     let before = tokens.len().saturating_sub(left);
     tell_blamed(told, tokens.get(before));
     cut(tokens, before);
     let open = count_of(text, b'{').saturating_sub(count_of(text, b'}'));
     let wanted = wanted_of_connection(alloc, tokens, open)?;
     tell_wanted(told, wanted.as_slice());
+    tell_why(told, tokens, own, text, is_deep);
     Ok(())
 }
 
@@ -270,7 +386,7 @@ pub fn tell_connection(told: &mut Explanation, text: &[u8]) {
     if count_of(text, b'}') > count_of(text, b'{') {
         return told.say("a '}' closes nothing");
     }
-    match tokens_of_connection(told.alloc(), text) {
+    match tokens_behind(told.alloc(), BEFORE, text) {
         Ok(tokens) => {
             let mut tokens = tokens;
             if let Err(error) = tell_tokens_of_connection(told, text, &mut tokens) {

@@ -2,25 +2,28 @@
 
 use crate::configurations::{chain_of, is_among, lines_of};
 use crate::options::instead_of_option;
+use crate::paths::{MOST_TRIES, Paths, Recorded, Standing, before_option, without_mode};
 use crate::reading::read_types;
 use crate::sections::{Numbered, Sections, sections_of};
+use indexmap::IndexMap;
 use ini_pattern::Pattern;
 use ini_texts::entries::network_entry;
 use ini_texts::entry::{EntryMeaning, ObjectEntry, ObjectOption};
 use ini_texts::lines::{Entry, IniLine, IniText};
 use ini_texts::speaks::last_name;
 use model_settings::standings::before_last;
-use ned_trees::declarations::{SectionLine, Submodule, SubmoduleType, TypeDeclaration, TypeKind};
-use ned_types::flat::type_name;
+use ned_trees::declarations::{SectionLine, Submodule, TypeDeclaration};
+use ned_types::flat::{last_value, submodule_named, type_name};
+use ned_types::given::{fixes, name_in};
 use sim_values::NoMemory;
 use sim_values::text::Text;
 use std::alloc::Global;
-use std::fmt::Write;
 use text_explanations::bases::with_bases;
 use text_explanations::explanation::Explanation;
 use text_explanations::names::shown;
-use text_explanations::ned_files::type_named;
+use text_explanations::ned_files::{Files, type_named};
 use text_explanations::sources::Sources;
+use text_explanations::values::{Parameter, tell_line_of_value};
 
 /// The options that have an effect, or whose only value has.
 const OPTIONS: [&[u8]; 5] = [
@@ -39,282 +42,16 @@ const OBJECT_OPTIONS: [&[u8]; 4] = [
     b"statistic-recording",
 ];
 
-/// Keys are compared with the names of a network at most so often.
-const MOST_TRIES: usize = 4_000_000;
+/// Of how many fixed values the line in the NED file is looked for, at most.
+const MOST_PLACES: usize = 16;
 
-/// What a key can be for, each on a line: paths in a network of simple modules alone, or else the names that types declare, as the paths of
-/// modules in vectors and in one another are known only when the network is built.
-#[derive(Drop)]
-struct Paths {
-    parameters: String,
-    statistics: String,
-    count: usize,
-    /// They are paths, and not names.
-    exact: bool,
-    /// A submodule leaves its type open.
-    open: bool,
-}
-
-/// Whether a submodule leaves its type open.
-fn is_open(it: &Submodule) -> bool {
-    matches!(it.submodule_type, SubmoduleType::Like(_))
-}
-
-/// Whether one of the types has a submodule that leaves its type open.
-fn has_open(types: &[TypeDeclaration]) -> bool {
-    for of in types {
-        for it in of.submodules.as_slice() {
-            if is_open(it) {
-                return true;
-            }
-        }
-    }
-    false
-}
-
-/// Whether a submodule is one simple module, as it is declared.
-fn is_plain(types: &[TypeDeclaration], it: &Submodule) -> bool {
-    match type_named(types, type_name(it)) {
-        Some(of) => of.kind == TypeKind::Simple && it.size.is_none() && !is_open(it),
-        None => false,
-    }
-}
-
-/// Whether a network has simple modules alone, and no channels.
-fn is_flat(types: &[TypeDeclaration], along: &[&TypeDeclaration]) -> bool {
-    for of in along {
-        if !of.connections.items.is_empty() {
-            return false;
-        }
-        for it in of.submodules.as_slice() {
-            if !is_plain(types, it) {
-                return false;
-            }
-        }
-    }
-    true
-}
-
-/// Whether a name has a character that patterns read otherwise than as itself.
-fn is_pattern(name: &[u8]) -> bool {
-    for byte in name {
-        if matches!(*byte, b'*' | b'?' | b'{' | b'[' | b'\\') {
-            return true;
-        }
-    }
-    false
-}
-
-/// Whether one of these lines is that name, which a pattern may be too.
-fn is_named(lines: &str, name: &[u8]) -> bool {
-    if is_pattern(name) {
-        return true;
-    }
-    for line in lines.lines() {
-        if line.as_bytes() == name {
-            return true;
-        }
-    }
-    false
-}
-
-/// The name of a statistic without what stands behind a colon.
-fn without_mode(name: &[u8]) -> &[u8] {
-    for (at, byte) in name.iter().enumerate() {
-        if *byte == b':' {
-            return &name[..at];
-        }
-    }
-    name
-}
-
-impl Paths {
-    /// Adds what a line of a type declares, at that path.
-    fn push_line(&mut self, path: &str, line: &SectionLine) -> Result<(), NoMemory> {
-        match line {
-            SectionLine::Declaration(it) => {
-                writeln!(self.parameters, "{path}.{}", shown(it.name.as_bytes()))?
-            }
-            SectionLine::Statistic(it) => {
-                writeln!(self.statistics, "{path}.{}", shown(it.name.as_bytes()))?
-            }
-            _ => return Ok(()),
-        }
-        self.count = self.count.saturating_add(1);
-        Ok(())
-    }
-
-    /// Adds what types have at a path.
-    fn push_lines(&mut self, path: &str, along: &[&TypeDeclaration]) -> Result<(), NoMemory> {
-        for it in along {
-            for line in it.lines.as_slice() {
-                self.push_line(path, line)?;
-            }
-        }
-        Ok(())
-    }
-
-    /// Adds what a type and those that it extends have at a path.
-    fn push_type(
-        &mut self,
-        alloc: Global,
-        types: &[TypeDeclaration],
-        path: &str,
-        of: &TypeDeclaration,
-    ) -> Result<(), NoMemory> {
-        let along = with_bases(alloc, types, of)?;
-        self.push_lines(path, along.as_slice())
-    }
-
-    /// Adds what a submodule has in the network of that name.
-    fn push_submodule(
-        &mut self,
-        alloc: Global,
-        types: &[TypeDeclaration],
-        root: &str,
-        it: &Submodule,
-    ) -> Result<(), NoMemory> {
-        let Some(of) = type_named(types, type_name(it)) else {
-            return Ok(());
-        };
-        let path = format!(in alloc; "{root}.{}", shown(it.name.as_bytes()))?;
-        self.push_type(alloc, types, path.as_str(), of)
-    }
-
-    /// Adds what a network and its submodules have, of which these are the type and those that it extends.
-    fn push_network(
-        &mut self,
-        alloc: Global,
-        types: &[TypeDeclaration],
-        along: &[&TypeDeclaration],
-    ) -> Result<(), NoMemory> {
-        let Some(network) = along.first() else {
-            return Ok(());
-        };
-        let root = shown(network.name.as_bytes());
-        self.push_lines(root, along)?;
-        for declared in along {
-            for it in declared.submodules.as_slice() {
-                self.push_submodule(alloc, types, root, it)?;
-            }
-        }
-        Ok(())
-    }
-
-    /// Adds the name that a line declares.
-    fn push_name(&mut self, line: &SectionLine) -> Result<(), NoMemory> {
-        match line {
-            SectionLine::Declaration(it) => {
-                writeln!(self.parameters, "{}", shown(it.name.as_bytes()))?
-            }
-            SectionLine::Statistic(it) => {
-                writeln!(self.statistics, "{}", shown(it.name.as_bytes()))?
-            }
-            _ => return Ok(()),
-        }
-        self.count = self.count.saturating_add(1);
-        Ok(())
-    }
-
-    /// Adds the names that types declare, and those of the parameters of the built-in channels.
-    fn push_names(&mut self, types: &[TypeDeclaration]) -> Result<(), NoMemory> {
-        self.parameters
-            .push_str("delay\ndisabled\ndatarate\nber\nper\n")?;
-        for it in types {
-            for line in it.lines.as_slice() {
-                self.push_name(line)?;
-            }
-        }
-        Ok(())
-    }
-
-    /// Adds what a network of these types and its modules have.
-    fn push_all(
-        &mut self,
-        alloc: Global,
-        types: &[TypeDeclaration],
-        network: &TypeDeclaration,
-    ) -> Result<(), NoMemory> {
-        let along = with_bases(alloc, types, network)?;
-        self.open = has_open(types);
-        if is_flat(types, along.as_slice()) {
-            return self.push_network(alloc, types, along.as_slice());
-        }
-        self.exact = false;
-        self.push_names(types)
-    }
-
-    /// Whether there may be a parameter for that key, which has that pattern.
-    fn has_parameter(&self, key: &[u8], pattern: &Pattern) -> bool {
-        if !self.exact {
-            return is_named(self.parameters.as_str(), last_name(key));
-        }
-        for path in self.parameters.lines() {
-            if pattern.matches(path) {
-                return true;
-            }
-        }
-        false
-    }
-
-    /// Whether there may be a statistic for that key with that option behind it, which has that pattern.
-    fn has_statistic(
-        &self,
-        alloc: Global,
-        key: &[u8],
-        pattern: &Pattern,
-        option: &str,
-    ) -> Result<bool, NoMemory> {
-        if !self.exact {
-            let name = match before_last(key) {
-                Some(path) => last_name(path),
-                None => key,
-            };
-            return Ok(is_named(self.statistics.as_str(), without_mode(name)));
-        }
-        for path in self.statistics.lines() {
-            if is_for_statistic(alloc, pattern, path, option)? {
-                return Ok(true);
-            }
-        }
-        Ok(false)
-    }
-
-    /// Says the first parameter whose name is near, as a question.
-    fn say_near(&self, told: &mut Explanation, name: &[u8]) {
-        for path in self.parameters.lines() {
-            if told.say_if_near(name, last_name(path.as_bytes())) {
-                return;
-            }
-        }
-    }
-}
-
-/// Whether a pattern is for that mode of a statistic, and the option.
-fn is_for_mode(
-    alloc: Global,
-    pattern: &Pattern,
-    path: &str,
-    mode: &str,
-    option: &str,
-) -> Result<bool, NoMemory> {
-    let name = format!(in alloc; "{path}{mode}.{option}")?;
-    Ok(pattern.matches(name.as_str()))
-}
-
-/// Whether a pattern is for what stands behind a statistic's path: it, or one of its modes, and the option.
-fn is_for_statistic(
-    alloc: Global,
-    pattern: &Pattern,
-    path: &str,
-    option: &str,
-) -> Result<bool, NoMemory> {
-    for mode in ["", ":count", ":sum", ":min", ":max", ":last", ":vector"] {
-        if is_for_mode(alloc, pattern, path, mode, option)? {
-            return Ok(true);
-        }
-    }
-    Ok(false)
+/// What entries are compared with.
+#[derive(Clone, Copy)]
+struct Case<'a> {
+    sources: &'a Sources<'a>,
+    types: &'a [TypeDeclaration],
+    network: &'a TypeDeclaration,
+    paths: &'a Paths,
 }
 
 /// Says that the entry of that key has no effect, and why.
@@ -349,110 +86,315 @@ fn tell_no_option(
     }
 }
 
+/// Says under which names an option is for statistics, and how the key is written then.
+fn tell_misnamed(
+    told: &mut Explanation,
+    sources: &Sources<'_>,
+    line: usize,
+    key: &[u8],
+    option: &str,
+) {
+    let (why, ending) = match option {
+        "scalar-recording" => (
+            "the scalars of a statistic are named by it and the mode: write '",
+            ":*",
+        ),
+        "vector-recording" => (
+            "the vector of a statistic is named by it and ':vector': write '",
+            ":vector",
+        ),
+        _ => ("the option is for the statistic as a whole: write '", ""),
+    };
+    tell_useless(told, sources, line, key, why);
+    told.say_front(without_mode(before_option(key)));
+    told.say(ending);
+    told.say(".");
+    told.say(option);
+    told.say("'\n");
+}
+
 /// Says that an entry for objects has no effect, where it has none.
 fn tell_object(
     told: &mut Explanation,
-    sources: &Sources<'_>,
-    paths: &Paths,
+    it: Case<'_>,
     line: usize,
     key: &[u8],
     object: &ObjectEntry,
 ) {
     let option = object.option.as_bytes();
     if matches!(object.says, ObjectOption::Other) {
-        tell_no_option(told, sources, line, key, option);
+        tell_no_option(told, it.sources, line, key, option);
         told.say_near(option, OBJECT_OPTIONS.as_slice());
         told.say("\n");
         return;
     }
-    match paths.has_statistic(told.alloc(), key, &object.pattern, shown(option)) {
-        Ok(true) => {}
-        Ok(false) => {
-            let why = if paths.exact {
+    let option = shown(option);
+    match it
+        .paths
+        .statistic_for(told.alloc(), key, &object.pattern, option)
+    {
+        Ok(Recorded::There) => {}
+        Ok(Recorded::Misnamed) => tell_misnamed(told, it.sources, line, key, option),
+        Ok(Recorded::Nowhere) => {
+            let why = if it.paths.exact {
                 "no statistic of the network has that path\n"
             } else {
                 "no type declares a statistic of that name\n"
             };
-            tell_useless(told, sources, line, key, why);
+            tell_useless(told, it.sources, line, key, why);
         }
         Err(error) => told.refuse(error),
+    }
+}
+
+/// Says where a type gives a parameter a value, or what it extends: `path:line`. Answers whether it does.
+fn tell_value_of(
+    told: &mut Explanation,
+    it: Case<'_>,
+    of: &TypeDeclaration,
+    parameter: Parameter<'_>,
+) -> bool {
+    let files = Files {
+        sources: it.sources,
+        types: it.types,
+    };
+    tell_line_of_value(told, &files, of.name.as_bytes(), parameter)
+}
+
+/// Says where the type of a submodule of the network, or its body, gives the parameter of that name a value: `path:line`. Answers whether one does.
+fn tell_value_within(
+    told: &mut Explanation,
+    it: Case<'_>,
+    submodule: &Submodule,
+    name: &[u8],
+) -> bool {
+    if last_value(name, submodule.body.lines.as_slice()).is_some() {
+        let parameter = Parameter {
+            submodule: Some(submodule.name.as_bytes()),
+            name,
+        };
+        return tell_value_of(told, it, it.network, parameter);
+    }
+    let parameter = Parameter {
+        submodule: None,
+        name,
+    };
+    match type_named(it.types, type_name(submodule)) {
+        Some(of) => tell_value_of(told, it, of, parameter),
+        None => false,
+    }
+}
+
+/// The submodule of that name of the network or what it extends.
+fn submodule_within<'a>(along: &[&'a TypeDeclaration], name: &[u8]) -> Option<&'a Submodule> {
+    for of in along {
+        if let Some(found) = submodule_named(name, of.submodules.as_slice()) {
+            return Some(found);
+        }
+    }
+    None
+}
+
+/// Says where a NED file gives the parameter of that path a value, in a network of simple modules alone: `path:line`. Answers whether one does.
+fn tell_value_at(told: &mut Explanation, it: Case<'_>, path: &[u8]) -> Result<bool, NoMemory> {
+    let name = last_name(path);
+    let module = before_last(path).unwrap_or(b"".as_slice());
+    let along = with_bases(told.alloc(), it.types, it.network)?;
+    match submodule_within(along.as_slice(), last_name(module)) {
+        Some(submodule) if before_last(module).is_some() => {
+            Ok(tell_value_within(told, it, submodule, name))
+        }
+        _ => {
+            let parameter = Parameter {
+                submodule: None,
+                name,
+            };
+            Ok(tell_value_of(told, it, it.network, parameter))
+        }
+    }
+}
+
+/// Whether one of the lines declares a parameter of that name with a fixed value.
+fn declares_fixed(lines: &[SectionLine], name: &[u8]) -> bool {
+    for line in lines {
+        if matches!(line, SectionLine::Declaration(_)) && fixes(line) && name_in(line) == name {
+            return true;
+        }
+    }
+    false
+}
+
+/// Says where a type declares the parameter of that name with a fixed value: `path:line`. Answers whether one does.
+fn tell_value_named(told: &mut Explanation, it: Case<'_>, name: &[u8]) -> bool {
+    for of in it.types {
+        if declares_fixed(of.lines.as_slice(), name) {
+            let parameter = Parameter {
+                submodule: None,
+                name,
+            };
+            return tell_value_of(told, it, of, parameter);
+        }
+    }
+    false
+}
+
+/// Says where a NED file gives the parameter of that path or name a fixed value: `path:line`. Answers whether it is known.
+fn tell_fixed_place(told: &mut Explanation, it: Case<'_>, path: &str) -> bool {
+    if !it.paths.exact {
+        return tell_value_named(told, it, path.as_bytes());
+    }
+    match tell_value_at(told, it, path.as_bytes()) {
+        Ok(found) => found,
+        Err(error) => {
+            told.refuse(error);
+            false
+        }
+    }
+}
+
+/// Says that an entry has no effect as the NED files give the parameter of that path or name a fixed value; and where, for the first few such entries.
+fn tell_fixed(
+    told: &mut Explanation,
+    it: Case<'_>,
+    line: usize,
+    key: &[u8],
+    path: &str,
+    places: &mut usize,
+) {
+    tell_useless(told, it.sources, line, key, "");
+    let mut found = false;
+    if *places > 0 {
+        *places -= 1;
+        found = tell_fixed_place(told, it, path);
+    }
+    if !found {
+        told.say("a NED file");
+    }
+    told.say(" gives '");
+    told.say_front(path.as_bytes());
+    told.say("' a fixed value; with default(..) there an entry could change it\n");
+}
+
+/// Says that no parameter has the path or the name of an entry.
+fn tell_nowhere(told: &mut Explanation, it: Case<'_>, line: usize, key: &[u8]) {
+    let why = if it.paths.exact {
+        "no parameter of the network has that path"
+    } else {
+        "no type declares a parameter of that name"
+    };
+    tell_useless(told, it.sources, line, key, why);
+    it.paths.say_near(told, last_name(key));
+    told.say("\n");
+}
+
+/// Says that an entry for parameters has no effect, where it has none.
+fn tell_parameter(
+    told: &mut Explanation,
+    it: Case<'_>,
+    line: usize,
+    key: &[u8],
+    pattern: &Pattern,
+    places: &mut usize,
+) {
+    match it.paths.parameter_for(key, pattern) {
+        Standing::Open => {}
+        Standing::Fixed(path) => tell_fixed(told, it, line, key, path, places),
+        Standing::Nowhere => tell_nowhere(told, it, line, key),
     }
 }
 
 /// Says that an entry has no effect, where it has none.
 fn tell_entry(
     told: &mut Explanation,
-    sources: &Sources<'_>,
-    paths: &Paths,
+    it: Case<'_>,
     line: usize,
     entry: &Entry,
+    places: &mut usize,
 ) {
     let key = entry.key.as_bytes();
     match &entry.meaning {
         EntryMeaning::Other if !is_among(key, OPTIONS.as_slice()) => {
-            tell_no_option(told, sources, line, key, key);
+            tell_no_option(told, it.sources, line, key, key);
             told.say_near(key, OPTIONS.as_slice());
             told.say("\n");
         }
-        EntryMeaning::Parameter(it) if !paths.has_parameter(key, &it.pattern) => {
-            let why = if paths.exact {
-                "no parameter of the network has that path"
-            } else {
-                "no type declares a parameter of that name"
-            };
-            tell_useless(told, sources, line, key, why);
-            paths.say_near(told, last_name(key));
-            told.say("\n");
+        EntryMeaning::Parameter(entry) => {
+            tell_parameter(told, it, line, key, &entry.pattern, places)
         }
-        EntryMeaning::Type(_) if !paths.open => {
+        EntryMeaning::Type(_) if !it.paths.open => {
             let why = "no submodule leaves its type open\n";
-            tell_useless(told, sources, line, key, why);
+            tell_useless(told, it.sources, line, key, why);
         }
-        EntryMeaning::Object(object) => tell_object(told, sources, paths, line, key, object),
+        EntryMeaning::Object(object) => tell_object(told, it, line, key, object),
         _ => {}
     }
 }
 
-/// Says a line for each of these entries that has no effect.
+/// The lines of the first entries of keys.
+type FirstLines<'a> = IndexMap<&'a [u8], usize>;
+
+/// The line of the first entry of a section that has the key of this one: its own, where no other is noted. One of an option without effect is not noted.
+fn first_line<'a>(lines: &mut FirstLines<'a>, it: Numbered<'a>) -> Result<usize, NoMemory> {
+    if matches!(it.entry.meaning, EntryMeaning::Other) {
+        return Ok(it.line);
+    }
+    let key = it.entry.key.as_bytes();
+    match lines.get(key).copied() {
+        Some(line) => Ok(line),
+        None => {
+            lines.insert(key, it.line)?;
+            Ok(it.line)
+        }
+    }
+}
+
+/// Says that an entry has no effect, as the one in that line of its section has the same key.
+fn tell_repeated(told: &mut Explanation, sources: &Sources<'_>, it: Numbered<'_>, first: usize) {
+    tell_useless(told, sources, it.line, it.entry.key.as_bytes(), "line ");
+    told.say_number(first);
+    told.say(" has the same key in the same section, and the first one counts\n");
+}
+
+/// Says a line for each of the entries of a section that has no effect. Where the names are too many, only for those whose key is repeated.
 fn tell_section(
     told: &mut Explanation,
-    sources: &Sources<'_>,
-    paths: &Paths,
+    it: Case<'_>,
     entries: &[Numbered<'_>],
+    looks: bool,
+    places: &mut usize,
 ) {
-    for it in entries {
-        tell_entry(told, sources, paths, it.line, it.entry);
+    let mut lines = IndexMap::new(told.alloc());
+    for entry in entries {
+        match first_line(&mut lines, *entry) {
+            Ok(first) if first != entry.line => tell_repeated(told, it.sources, *entry, first),
+            Ok(_) if looks => tell_entry(told, it, entry.line, entry.entry, places),
+            Ok(_) => {}
+            Err(error) => told.refuse(error),
+        }
     }
 }
 
 /// Says a line for each entry of a chain of these sections that has no effect.
 fn tell_sections(
     told: &mut Explanation,
-    sources: &Sources<'_>,
-    paths: &Paths,
+    it: Case<'_>,
     sections: &Sections<'_>,
     chain: &[Text],
+    looks: bool,
 ) {
+    let mut places = MOST_PLACES;
     for name in chain {
         if let Some(entries) = sections.entries_under(name.as_bytes()) {
-            tell_section(told, sources, paths, entries);
+            tell_section(told, it, entries, looks, &mut places);
         }
     }
 }
 
-/// Says a line for each entry of a chain that has no effect, where these are few enough.
-fn tell_chain(
-    told: &mut Explanation,
-    sources: &Sources<'_>,
-    paths: &Paths,
-    lines: &[IniLine],
-    chain: &[Text],
-) {
-    if paths.count.saturating_mul(lines.len()) > MOST_TRIES {
-        return;
-    }
+/// Says a line for each entry of a chain that has no effect; where the names are too many for the lines, only for those whose key is repeated.
+fn tell_chain(told: &mut Explanation, it: Case<'_>, lines: &[IniLine], chain: &[Text]) {
+    let looks = it.paths.count.saturating_mul(lines.len()) <= MOST_TRIES;
     match sections_of(told.alloc(), lines) {
-        Ok(sections) => tell_sections(told, sources, paths, &sections, chain),
+        Ok(sections) => tell_sections(told, it, &sections, chain, looks),
         Err(error) => told.refuse(error),
     }
 }
@@ -476,17 +418,17 @@ fn tell_network(
     network: &TypeDeclaration,
 ) {
     let alloc = told.alloc();
-    let mut paths = Paths {
-        parameters: String::new(alloc),
-        statistics: String::new(alloc),
-        count: 0,
-        exact: true,
-        open: false,
-    };
-    match paths.push_all(alloc, types, network) {
-        Ok(()) => tell_chain(told, sources, &paths, lines, chain),
-        Err(error) => told.refuse(error),
+    let mut paths = Paths::new(alloc);
+    if let Err(error) = paths.push_all(alloc, types, network) {
+        return told.refuse(error);
     }
+    let it = Case {
+        sources,
+        types,
+        network,
+        paths: &paths,
+    };
+    tell_chain(told, it, lines, chain);
 }
 
 /// Says a line for each entry without effect of a chain of these lines.
@@ -518,9 +460,9 @@ fn tell_text(told: &mut Explanation, sources: &Sources<'_>, text: &IniText) {
     }
 }
 
-/// Lines for a person on the entries of the configuration that have no effect at all: unknown options, and keys that no
-/// parameter or statistic of the network has; where modules stand in vectors or in one another, or are connected, those whose last name no type declares. The
-/// files make a model. Of very large models nothing is said.
+/// Lines for a person on the entries of the configuration that have no effect at all: unknown options; keys that no
+/// parameter or statistic of the network has, or only parameters with a fixed value; and keys that an earlier entry of the same section has. Where modules stand in vectors or in one another, or are connected, those
+/// whose last name no type declares, or each only with a fixed value. The files make a model. Of very large models only repeated keys are told.
 pub fn warning_lines(alloc: Global, sources: &Sources<'_>) -> Result<String, NoMemory> {
     let mut told = Explanation::new(alloc);
     match lines_of(alloc, sources) {

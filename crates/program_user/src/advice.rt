@@ -13,6 +13,7 @@ use run_semantics::outcome::Outcome;
 use session_texts::notes::Notes;
 use std::rt::Files;
 use std::{fs, io};
+use text_explanations::names::{front_shown, shown};
 use text_explanations::sources::Sources;
 
 /// The classes that the program has modules of.
@@ -57,7 +58,7 @@ pub fn tell_limit<R: Eprint + AllocGlobal>(
     }
     let limit = words.limit;
     let line = format!(in rt.alloc();
-        "the limit of {limit} events ended the run, which is the one where none is given: -l LIMIT gives another"
+        "the limit of {limit} events ended the run, which is the one if none is given: -l LIMIT gives another"
     )?;
     advise(rt, line.as_str())
 }
@@ -67,7 +68,7 @@ pub fn prompt<R: Eprint>(rt: &R) {
     let _shown = eprint!(rt; "> ");
 }
 
-/// Answers that a file can't be saved, and says why.
+/// Answers that a file can't be saved, and says why, of a long path with the front.
 fn unsaved<R: Print + Eprint + AllocGlobal>(
     rt: &R,
     path: &str,
@@ -76,7 +77,8 @@ fn unsaved<R: Print + Eprint + AllocGlobal>(
     ensures { IfErr result IsUntold }
 {
     say(rt, b"refused NotSaved".as_slice())?;
-    let line = format!(in rt.alloc(); "{path}: this file can't be written: {error}")?;
+    let front = shown(front_shown(path.as_bytes()));
+    let line = format!(in rt.alloc(); "{front}: this file can't be written: {error}")?;
     advise(rt, line.as_str())?;
     Ok(())
 }

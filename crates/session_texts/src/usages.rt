@@ -59,7 +59,7 @@ pub fn tell_no_command(told: &mut Explanation, line: &[u8]) {
         Some(usage) => {
             told.say("this is no command: it is written ");
             told.say(usage);
-            told.say(", with one space between words, none behind the last, and numbers in digits");
+            told.say(", with one space between words, none after the last, and numbers in digits");
         }
         None => {
             told.say_name(word.as_bytes());

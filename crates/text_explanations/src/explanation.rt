@@ -5,6 +5,9 @@ use sim_values::NoMemory;
 use std::alloc::Global;
 use std::fmt::Write;
 
+/// How many names of a list are said, at most.
+const MOST_LISTED: usize = 100;
+
 /// What is said to a person so far. A call that says more never fails: where memory runs out, `said` answers that, and
 /// nothing of the text.
 #[derive(Drop)]
@@ -70,16 +73,22 @@ impl Explanation {
         self.say_number(line);
     }
 
-    /// Says names, with commas between them; `none` where there are none.
+    /// Says names, with commas between them, and how many more there are than are said; `none` where there are none.
     pub fn say_list(&mut self, names: &[&[u8]]) {
         if names.is_empty() {
             self.say("none");
         }
+        let listed = names.len().min(MOST_LISTED);
         let mut before = "";
-        for name in names {
+        for name in &names[..listed] {
             self.say(before);
             self.say_front(name);
             before = ", ";
+        }
+        if listed < names.len() {
+            self.say(" and ");
+            self.say_number(names.len() - listed);
+            self.say(" more");
         }
     }
 

@@ -3,7 +3,9 @@
 use crate::explanation::Explanation;
 use ned_tokens::lines::tokenize;
 use ned_tokens::token::Token;
+use ned_tokens::unit_of;
 use sim_values::NoMemory;
+use sim_values::value::Dimension;
 use std::alloc::Global;
 
 /// What is said of a thing that is OMNeT++'s own, before what to write instead.
@@ -12,6 +14,13 @@ const FOREIGN: &str = "OMNeT++'s own, and not of this profile: ";
 /// The units.
 const UNITS: &str =
     "there are d, h, min, s, ms, us, ns and ps, bps, kbps, Mbps and Gbps, b, B, KiB and MiB";
+
+/// Units of OMNeT++'s that are not there.
+const OTHER_UNITS: &str =
+    "as fs m km cm mm um nm mps kmps kmph kmh mph C K degC degK Hz mHz kHz MHz GHz THz W kW MW GW mW uW nW pW fW Wh kWh mWh Ws J kJ MJ GJ mJ uJ nJ pJ fJ V kV mV uV nV A kA mA uA nA pA fA Ah mAh As mAs Ohm mOhm kOhm MOhm F mF uF nF pF dB dBW dBm dBmW dBV dBmV dBA dBmA kB MB GB TB PB GiB TiB PiB kb Mb Gb Tb Kib Mib Gib Tib Bps kBps MBps GBps Tbps Kibps Mibps Gibps deg rad mol kg g mg pct percent ratio x";
+
+/// What is said of a whole number that is not read.
+const LARGE: &str = " is too large: a number is at most 9223372036854775807, which is 2^63 - 1";
 
 /// Functions of OMNeT++'s that draw random numbers.
 const RANDOM: &str =
@@ -121,121 +130,273 @@ fn is_called(rest: &[u8]) -> bool {
     rest.trim_ascii_start().starts_with(b"(")
 }
 
-/// Whether digits of an exponent are behind a number that ends with `e`, with a sign.
-fn has_exponent(number: &[u8], rest: &[u8]) -> bool {
-    (number.ends_with(b"e") || number.ends_with(b"E"))
-        && (rest.starts_with(b"-") || rest.starts_with(b"+"))
-        && name_length(behind(rest, 1)) > 0
+/// How many bytes at the front are digits.
+fn digits_length(bytes: &[u8]) -> usize {
+    let mut count = 0usize;
+    for byte in bytes {
+        if !byte.is_ascii_digit() {
+            return count;
+        }
+        count = count.saturating_add(1);
+    }
+    count
 }
 
-/// How long a number is that has so many bytes at least: its exponent may have a sign.
-fn with_exponent(bytes: &[u8], length: usize) -> usize {
-    let rest = behind(bytes, length);
-    if !has_exponent(front(bytes, length), rest) {
+/// How many bytes at the front are letters.
+fn letters_length(bytes: &[u8]) -> usize {
+    let mut count = 0usize;
+    for byte in bytes {
+        if !byte.is_ascii_alphabetic() {
+            return count;
+        }
+        count = count.saturating_add(1);
+    }
+    count
+}
+
+/// How many bytes at the front are blanks, as they may stand between quantities.
+fn blanks_length(bytes: &[u8]) -> usize {
+    let mut count = 0usize;
+    for byte in bytes {
+        if *byte != b' ' && *byte != b'\t' {
+            return count;
+        }
+        count = count.saturating_add(1);
+    }
+    count
+}
+
+/// Whether a digit stands at the front.
+fn begins_number(bytes: &[u8]) -> bool {
+    bytes.first().is_some_and(|byte| byte.is_ascii_digit())
+}
+
+/// Whether hexadecimal digits are to follow.
+fn is_hexadecimal(number: &[u8]) -> bool {
+    number.starts_with(b"0x") || number.starts_with(b"0X")
+}
+
+/// The digits of a number, perhaps with a point and digits behind it: how long they are.
+fn amount_length(bytes: &[u8]) -> usize {
+    let whole = digits_length(bytes);
+    let rest = behind(bytes, whole);
+    let fraction = digits_length(behind(rest, 1));
+    if !rest.starts_with(b".") || fraction == 0 {
+        return whole;
+    }
+    whole.saturating_add(1).saturating_add(fraction)
+}
+
+/// Whether the `e` of an exponent and its digits, with a sign or without, stand at the front.
+fn begins_exponent(bytes: &[u8]) -> bool {
+    if letters_length(bytes) != 1 || !(bytes.starts_with(b"e") || bytes.starts_with(b"E")) {
+        return false;
+    }
+    let rest = behind(bytes, 1);
+    if rest.starts_with(b"-") || rest.starts_with(b"+") {
+        return begins_number(behind(rest, 1));
+    }
+    begins_number(rest)
+}
+
+/// How long the exponent at the front is, with a unit behind it.
+fn exponent_length(bytes: &[u8]) -> usize {
+    let before = if begins_number(behind(bytes, 1)) {
+        1usize
+    } else {
+        2usize
+    };
+    before.saturating_add(name_length(behind(bytes, before)))
+}
+
+/// How long the number at the front is: digits behind `0x`, or an amount with a unit, an exponent or neither.
+fn number_length(bytes: &[u8]) -> usize {
+    if is_hexadecimal(bytes) {
+        return name_length(bytes);
+    }
+    let amount = amount_length(bytes);
+    let rest = behind(bytes, amount);
+    if begins_exponent(rest) {
+        return amount.saturating_add(exponent_length(rest));
+    }
+    amount.saturating_add(letters_length(rest))
+}
+
+/// Whether a number is a quantity, behind which another may stand: it has a unit, or a point.
+fn is_quantity(number: &[u8]) -> bool {
+    !is_hexadecimal(number) && digits_length(number) < number.len()
+}
+
+/// How long the number at the front is, or the quantities, which may stand in a row with blanks between them.
+fn row_length(bytes: &[u8]) -> usize {
+    let mut length = number_length(bytes);
+    if !is_quantity(front(bytes, length)) {
         return length;
     }
-    length
-        .saturating_add(1)
-        .saturating_add(name_length(behind(rest, 1)))
-}
-
-/// How long the number at the front is that may have a point and a unit, or an exponent.
-fn number_length(bytes: &[u8]) -> usize {
-    let whole = name_length(bytes);
-    let rest = behind(bytes, whole);
-    let fraction = name_length(behind(rest, 1));
-    if !rest.starts_with(b".") || fraction == 0 {
-        return with_exponent(bytes, whole);
+    for _number in 0..bytes.len() {
+        let rest = behind(bytes, length);
+        let blanks = blanks_length(rest);
+        let next = behind(rest, blanks);
+        if !begins_number(next) {
+            break;
+        }
+        length = length
+            .saturating_add(blanks)
+            .saturating_add(number_length(next));
     }
-    with_exponent(bytes, whole.saturating_add(1).saturating_add(fraction))
+    length
 }
 
-/// Whether a number is read.
+/// Whether a number, or quantities in a row, are read.
 fn is_read(alloc: Global, number: &[u8]) -> Result<bool, NoMemory> {
     let list = tokenize(alloc, number)?;
     Ok(!matches!(list.tokens.get(0), Some(Token::Stray(_))))
 }
 
-/// The unit of a number, which is none where the number is real or has an exponent.
+/// What is behind the amount of a number.
 fn unit_in(number: &[u8]) -> &[u8] {
-    let mut count = 0usize;
-    for byte in number {
-        if !byte.is_ascii_digit() && *byte != b'.' {
-            break;
+    behind(number, amount_length(number))
+}
+
+/// Whether the digits behind the point of a number make a whole number of ps, bps or b with its unit.
+fn is_whole_behind_point(alloc: Global, number: &[u8]) -> Result<bool, NoMemory> {
+    let mut part = Vec::from_slice(alloc, b"0".as_slice())?;
+    part.extend_from_slice(behind(number, digits_length(number)))?;
+    is_read(alloc, part.as_slice())
+}
+
+/// Of what a quantity is a whole number.
+fn parts_of(dimension: Dimension) -> &'static str {
+    match dimension {
+        Dimension::Time => "picoseconds",
+        Dimension::Rate => "bits per second",
+        Dimension::Length => "bits",
+    }
+}
+
+/// The largest quantity.
+fn largest_of(dimension: Dimension) -> &'static str {
+    match dimension {
+        Dimension::Time => "a time is at most 9223372.036854775807s",
+        Dimension::Rate => "a rate is at most 9223372036854775807bps",
+        Dimension::Length => "a length is at most 9223372036854775807b",
+    }
+}
+
+/// Says why a number with a unit that is known is not read.
+fn tell_amount(told: &mut Explanation, number: &[u8], dimension: Dimension) {
+    match is_whole_behind_point(told.alloc(), number) {
+        Ok(true) => {
+            told.say(" is too large: ");
+            told.say(largest_of(dimension));
         }
-        count = count.saturating_add(1);
-    }
-    let unit = behind(number, count);
-    if unit.starts_with(b"e") || unit.starts_with(b"E") || unit.starts_with(b"x") {
-        return b"".as_slice();
-    }
-    unit
-}
-
-/// Whether a number has digits alone, or those of another base behind `0x`.
-fn is_whole(number: &[u8]) -> bool {
-    for byte in number {
-        if !byte.is_ascii_digit() && !number.starts_with(b"0x") {
-            return false;
-        }
-    }
-    true
-}
-
-/// Whether a unit is read.
-fn is_unit(alloc: Global, unit: &[u8]) -> Result<bool, NoMemory> {
-    let mut number = Vec::from_slice(alloc, b"1".as_slice())?;
-    number.extend_from_slice(unit)?;
-    is_read(alloc, number.as_slice())
-}
-
-/// Says what is wrong with a number that is not read and has this unit, and what to write instead.
-fn tell_unit(told: &mut Explanation, unit: &[u8]) {
-    match is_unit(told.alloc(), unit) {
-        Ok(true) => told.say(" is no whole number of ps, bps or b below 2^63"),
         Ok(false) => {
-            told.say(" has a unit that is ");
-            told.say(FOREIGN);
-            told.say(UNITS);
-            told.say("; write a number without a unit");
+            told.say(" is not a whole number of ");
+            told.say(parts_of(dimension));
         }
         Err(error) => told.refuse(error),
     }
 }
 
-/// Says what a number is that is not read.
-fn tell_number(told: &mut Explanation, number: &[u8]) {
-    let unit = unit_in(number);
-    told.say("; ");
-    told.say_name(number);
-    if !unit.is_empty() {
-        return tell_unit(told, unit);
+/// Says that there is no such unit, and which there are.
+fn tell_unit(told: &mut Explanation, unit: &[u8]) {
+    if has_word(OTHER_UNITS, unit) {
+        told.say(" has a unit that is ");
+        told.say(FOREIGN);
+    } else {
+        told.say(" has no unit that is known: ");
     }
-    if is_whole(number) {
-        return told.say(" is too large: a number is below 2^63");
-    }
+    told.say(UNITS);
+    told.say("; write a number without a unit");
+}
+
+/// Says that a number is a real one.
+fn tell_real(told: &mut Explanation) {
     told.say(" is a real number, which is ");
     told.say(FOREIGN);
     told.say("write a whole number, or a quantity as 500ms");
 }
 
+/// Says why a number is not read that begins with `0x` or `0X`.
+fn tell_hexadecimal(told: &mut Explanation, number: &[u8]) {
+    let digits = behind(number, 2);
+    if number.starts_with(b"0X") || !digits.first().is_some_and(|byte| byte.is_ascii_hexdigit()) {
+        return told.say(" is no number: hexadecimal digits stand after 0x");
+    }
+    told.say(LARGE);
+}
+
+/// Says why a number is not read.
+fn tell_number(told: &mut Explanation, number: &[u8]) {
+    told.say("; ");
+    told.say_name(number);
+    if is_hexadecimal(number) {
+        return tell_hexadecimal(told, number);
+    }
+    let unit = unit_in(number);
+    if begins_exponent(unit) {
+        return tell_real(told);
+    }
+    match unit_of(unit) {
+        Some((dimension, _)) => tell_amount(told, number, dimension),
+        None if !unit.is_empty() => tell_unit(told, unit),
+        None if is_quantity(number) => tell_real(told),
+        None => told.say(LARGE),
+    }
+}
+
+/// Says why quantities in a row are not read, of which each is by itself.
+fn tell_row(told: &mut Explanation, row: &[u8]) {
+    told.say("; ");
+    told.say_name(row);
+    told.say(
+        " is no quantity: of several in a row each has a unit, all are times, all rates or all lengths, and the sum is below 2^63",
+    );
+}
+
+/// The first of the numbers in a row that is not read by itself.
+fn unread_in(alloc: Global, row: &[u8]) -> Result<Option<&[u8]>, NoMemory> {
+    let mut rest = row;
+    for _number in 0..row.len() {
+        let number = front(rest, number_length(rest));
+        if number.is_empty() {
+            break;
+        }
+        if !is_read(alloc, number)? {
+            return Ok(Some(number));
+        }
+        let after = behind(rest, number.len());
+        rest = behind(after, blanks_length(after));
+    }
+    Ok(None)
+}
+
+/// Says why a number, or quantities in a row, are not read.
+fn tell_numbers(told: &mut Explanation, row: &[u8]) {
+    match unread_in(told.alloc(), row) {
+        Ok(Some(number)) => tell_number(told, number),
+        Ok(None) => tell_row(told, row),
+        Err(error) => told.refuse(error),
+    }
+}
+
 /// Says what is foreign at the front of an expression, which begins with a digit or a letter. Answers how many bytes that is, and whether it was said.
 fn tell_front(told: &mut Explanation, text: &[u8]) -> (usize, bool) {
-    if !text.first().is_some_and(|byte| byte.is_ascii_digit()) {
+    if !begins_number(text) {
         let length = name_length(text);
         let is_told = is_called(behind(text, length)) && tell_function(told, front(text, length));
         return (length, is_told);
     }
-    let number = front(text, number_length(text));
-    match is_read(told.alloc(), number) {
-        Ok(true) => (number.len(), false),
+    let row = front(text, row_length(text));
+    match is_read(told.alloc(), row) {
+        Ok(true) => (row.len(), false),
         Ok(false) => {
-            tell_number(told, number);
-            (number.len(), true)
+            tell_numbers(told, row);
+            (row.len(), true)
         }
         Err(error) => {
             told.refuse(error);
-            (number.len(), true)
+            (row.len(), true)
         }
     }
 }
@@ -252,12 +413,12 @@ fn quoted_length(text: &[u8]) -> usize {
     count
 }
 
-/// Says the first thing in an expression that is OMNeT++'s own, and what to write instead. Nothing where there is none.
-pub fn tell_foreign(told: &mut Explanation, expression: &[u8]) {
+/// Says the first thing in an expression that is OMNeT++'s own, with what to write instead, or the first number in it that is not read, and why. Answers whether there is one.
+pub fn tell_foreign(told: &mut Explanation, expression: &[u8]) -> bool {
     let mut rest = expression;
     for _byte in 0..expression.len() {
         let Some(byte) = rest.first() else {
-            return;
+            return false;
         };
         let (length, is_told) = match *byte {
             b'"' => (quoted_length(rest), false),
@@ -265,30 +426,35 @@ pub fn tell_foreign(told: &mut Explanation, expression: &[u8]) {
             _ => (1, false),
         };
         if is_told {
-            return;
+            return true;
         }
         rest = behind(rest, length.max(1));
     }
+    false
 }
 
-/// Says that a list or an object is OMNeT++'s own, where a value is one.
-pub fn tell_braces(told: &mut Explanation, value: &[u8]) {
-    if value.starts_with(b"{") || value.starts_with(b"[") {
+/// Says that a list or an object is OMNeT++'s own, where a value is one. Answers whether it is.
+pub fn tell_braces(told: &mut Explanation, value: &[u8]) -> bool {
+    let is_one = value.starts_with(b"{") || value.starts_with(b"[");
+    if is_one {
         told.say("; values with braces or brackets are ");
         told.say(FOREIGN);
         told.say("a parameter is a truth value, a number, a quantity or a text");
     }
+    is_one
 }
 
-/// Says that a recording mode is OMNeT++'s own, where this one is.
-pub fn tell_mode(told: &mut Explanation, mode: &[u8]) {
-    if has_word(MODES, mode) {
+/// Says that a recording mode is OMNeT++'s own, where this one is. Answers whether it is.
+pub fn tell_mode(told: &mut Explanation, mode: &[u8]) -> bool {
+    let is_one = has_word(MODES, mode);
+    if is_one {
         told.say("; the recording mode ");
         told.say_name(mode);
         told.say(" is ");
         told.say(FOREIGN);
         told.say("record sum and count, or a vector, and compute it from these");
     }
+    is_one
 }
 
 /// Says that a kind of parameters is OMNeT++'s own, where this is its word.

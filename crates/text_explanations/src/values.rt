@@ -51,18 +51,37 @@ fn spot_in<'a>(it: &TypeDeclaration, of: Parameter<'a>) -> Option<Spot<'a>> {
     })
 }
 
-/// Says where the first of the types that gives the parameter a value does: `path:line: `.
+/// Says where the first of the types that gives the parameter a value does: `path:line`. Answers whether one does.
 fn tell_first(
     told: &mut Explanation,
     files: &Files<'_>,
     along: &[&TypeDeclaration],
     of: Parameter<'_>,
-) {
+) -> bool {
     for it in along {
         if let Some(spot) = spot_in(*it, of) {
             files.tell_place(told, *it, spot);
-            told.say(": ");
-            return;
+            return true;
+        }
+    }
+    false
+}
+
+/// Says where the type of that name, or what it extends, gives a parameter its value: `path:line`. Answers whether one of them does.
+pub fn tell_line_of_value(
+    told: &mut Explanation,
+    files: &Files<'_>,
+    name: &[u8],
+    of: Parameter<'_>,
+) -> bool {
+    let Some(it) = type_named(files.types, name) else {
+        return false;
+    };
+    match with_bases(told.alloc(), files.types, it) {
+        Ok(along) => tell_first(told, files, along.as_slice(), of),
+        Err(error) => {
+            told.refuse(error);
+            false
         }
     }
 }
@@ -74,11 +93,7 @@ pub fn tell_place_of_value(
     name: &[u8],
     of: Parameter<'_>,
 ) {
-    let Some(it) = type_named(files.types, name) else {
-        return;
-    };
-    match with_bases(told.alloc(), files.types, it) {
-        Ok(along) => tell_first(told, files, along.as_slice(), of),
-        Err(error) => told.refuse(error),
+    if tell_line_of_value(told, files, name, of) {
+        told.say(": ");
     }
 }

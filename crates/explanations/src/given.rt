@@ -1,0 +1,46 @@
+//! Which entry of an ini text gives a parameter its value.
+
+use crate::sections::{Numbered, sections_of};
+use ini_texts::entry::EntryMeaning;
+use ini_texts::lines::{Entry, IniLine};
+use ini_texts::speaks::last_name;
+use sim_values::NoMemory;
+use sim_values::text::{Text, spells};
+use std::alloc::Global;
+
+/// Whether an entry gives the parameter of that path a value, where no entry before it does.
+fn gives(entry: &Entry, path: &str) -> bool {
+    match &entry.meaning {
+        EntryMeaning::Parameter(it) => !spells(last_name(path.as_bytes()), b"typename")
+            && it.pattern.matches(path),
+        _ => false,
+    }
+}
+
+/// The first of the entries of a section that gives the parameter of that path a value.
+fn giving_in<'a>(entries: &[Numbered<'a>], path: &str) -> Option<Numbered<'a>> {
+    for it in entries {
+        if gives(it.entry, path) {
+            return Some(*it);
+        }
+    }
+    None
+}
+
+/// The entry of these lines that gives the parameter of that path its value: the first along the chain that matches.
+pub fn entry_giving<'a>(
+    alloc: Global,
+    lines: &'a [IniLine],
+    chain: &[Text],
+    path: &str,
+) -> Result<Option<Numbered<'a>>, NoMemory> {
+    let sections = sections_of(alloc, lines)?;
+    for name in chain {
+        if let Some(entries) = sections.entries_under(name.as_bytes()) {
+            if let Some(found) = giving_in(entries, path) {
+                return Ok(Some(found));
+            }
+        }
+    }
+    Ok(None)
+}
