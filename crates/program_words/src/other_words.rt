@@ -7,7 +7,7 @@ use std::rt::Env;
 /// The words, each with what serves instead.
 const OTHERS: [(&str, &str); 22] = [
     ("-a", "'configs' in a session lists the configurations"),
-    ("-e", "help is behind --help"),
+    ("-e", "--help prints the help"),
     ("-g", "there is no event log and no debugging"),
     ("-i", "there are no graphics"),
     (
@@ -20,22 +20,22 @@ const OTHERS: [(&str, &str); 22] = [
     ("-x", "name the NED files that are wanted one by one"),
     (
         "--cpu-time-limit",
-        "-l LIMIT ends a run behind so many events",
+        "-l LIMIT ends a run after so many events",
     ),
     (
         "--debug-on-errors",
-        "a fault is told with the module and the event, and there is no debugger",
+        "a fault is reported with the module and the event, and there is no debugger",
     ),
     (
         "--debugger-attach-on-error",
-        "a fault is told with the module and the event, and there is no debugger",
+        "a fault is reported with the module and the event, and there is no debugger",
     ),
-    ("--help-topics", "help is behind --help"),
+    ("--help-topics", "--help prints the help"),
     ("--ned-path", "-n DIR takes all NED files below a folder"),
     ("--network", "write 'network = NAME' into the ini file"),
     (
         "--real-time-limit",
-        "-l LIMIT ends a run behind so many events",
+        "-l LIMIT ends a run after so many events",
     ),
     ("--record-eventlog", "there is no event log"),
     (

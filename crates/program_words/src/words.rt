@@ -24,7 +24,7 @@ const MORE: &str = "Examples:
   nedrun -o results omnetpp.ini network.ned
   nedrun --config Fast --limit 1000 omnetpp.ini network.ned more.ned
 
-Behind the run it reads commands from standard input, a line each, and answers each with a line, until its end or the line quit; < /dev/null gives it none.
+After the run it reads commands from standard input, a line each, and answers each with a line, until its end or the line quit; < /dev/null gives it none.
 
 Exit status: 0 at the end of standard input, whatever the answers were; 1 a file or a stream failed, memory ran out, or 1000000 lines were read; 2 the words or the texts are refused; 3 with --strict, the last run ended in a fault.
 docs/REFUSALS.md says what each refusal and fault means, and what to change.";
@@ -82,7 +82,7 @@ fn interval_word<'a>(alloc: Global) -> Arg<'a> {
         .value_parser(value_parser!(u64).range(1..=1000000))
         .default_value("1000")
         .help(
-            "After each multiple of how many events the state is stored, to which a run behind an edit can go back: 1 to 1000000",
+            "After each multiple of how many events the state is stored, to which a run after an edit can go back: 1 to 1000000",
         )
 }
 
@@ -101,13 +101,13 @@ fn strict_word<'a>(alloc: Global) -> Arg<'a> {
     Arg::new(alloc, "strict")
         .long("strict")
         .action(ArgAction::SetTrue)
-        .help("The exit status is 3 where the last run ended in a fault")
+        .help("The exit status is 3 if the last run ended in a fault")
 }
 
 /// `-f FILE`.
 fn file_word<'a>(alloc: Global) -> Arg<'a> {
     Arg::new(alloc, "file").short('f').value_name("FILE").help(
-        "The ini file, so that all files behind the options are NED files; omnetpp.ini where only NED files are named",
+        "The ini file, so that all files after the options are NED files; omnetpp.ini if only NED files are named",
     )
 }
 
