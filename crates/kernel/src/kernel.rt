@@ -42,6 +42,7 @@ use run_semantics::routes::copy_transmissions;
 use run_semantics::traces::{Emission, Instance, Scalar};
 use saved_boxes::boxes_saved::{load_one, save_all};
 use shown_modules::{Shown, ShownModules};
+use sim_time::SimTime;
 use sim_values::NoMemory;
 use sim_values::text::Text;
 use std::alloc::{AllocFailed, Global};
@@ -89,6 +90,13 @@ impl<C: Catalogue> Kernel<C> {
         ensures { result ≡ (world_in SimpleModule-box self.now).count }
     {
         self.core.count()
+    }
+
+    /// The time of the last event; zero before the first one.
+    pub fn clock(&self) -> SimTime
+        ensures { result ≡ (world_in SimpleModule-box self.now).clock }
+    {
+        self.core.clock()
     }
 
     /// The modules that were created.
