@@ -7,6 +7,7 @@ ghost use Rattle.edit_session.specs.Editing.{wanted_of, IsFor};
 ghost use Rattle.stock_modules.specs.Stock.{stock};
 
 use crate::counted::Counted;
+use checkpointed_runs::observer::Unobserved;
 use desk::desk::{Desk, DeskTurn};
 use edit_session::session::Session;
 use module_api::simple_module::SimpleModule;
@@ -64,7 +65,7 @@ pub fn supply(desk: &mut Desk<Stock>, held: Box<dyn SimpleModule>) -> Result<(),
     requires sound { IsSettled stock (λ b. ⟦<dyn SimpleModule as SimpleModule>⟧ b.vtable) desk.old }
     ensures { IsSettled stock (λ b. ⟦<dyn SimpleModule as SimpleModule>⟧ b.vtable) desk.new }
 {
-    match desk.run(100)? {
+    match desk.run(100, &mut Unobserved)? {
         DeskTurn::Text(_) => Err(Fail::from("the run needs no box")),
         DeskTurn::Want(request) => {
             if !request.kind.is(b"Tick".as_slice()) {
@@ -94,7 +95,7 @@ fn tell(desk: &mut Desk<Stock>, calls: &Cell<u64>, line: &str) -> Result<Told, F
     ensures { IsSettled stock (λ b. ⟦<dyn SimpleModule as SimpleModule>⟧ b.vtable) desk.new }
 {
     calls.set(0);
-    match desk.line(line.as_bytes())? {
+    match desk.line(line.as_bytes(), &mut Unobserved)? {
         DeskTurn::Text(answer) => Ok(Told {
             answer: answer.into_text(),
             calls: calls.get(),

@@ -7,6 +7,7 @@ ghost use Rattle.stock_modules.specs.Stock.{stock};
 
 use crate::calls::{desk_of, supply};
 use crate::refusing::Refusing;
+use checkpointed_runs::observer::Unobserved;
 use desk::desk::{Desk, DeskTurn};
 use module_api::simple_module::SimpleModule;
 use sim_values::text::Text;
@@ -87,7 +88,7 @@ fn tell(desk: &mut Desk<Stock>, alloc: Global, line: &str) -> Result<Text, Fail>
     requires { IsSettled stock (λ b. ⟦<dyn SimpleModule as SimpleModule>⟧ b.vtable) desk.old }
     ensures { IsSettled stock (λ b. ⟦<dyn SimpleModule as SimpleModule>⟧ b.vtable) desk.new }
 {
-    match desk.line(line.as_bytes())? {
+    match desk.line(line.as_bytes(), &mut Unobserved)? {
         DeskTurn::Text(answer) => Ok(answer.into_text()),
         DeskTurn::Want(_) => Ok(Text::from_str(alloc, "a box is wanted")?),
     }
@@ -98,7 +99,7 @@ fn starve(desk: &mut Desk<Stock>) -> Result<(), Fail>
     requires { IsSettled stock (λ b. ⟦<dyn SimpleModule as SimpleModule>⟧ b.vtable) desk.old }
     ensures { IsSettled stock (λ b. ⟦<dyn SimpleModule as SimpleModule>⟧ b.vtable) desk.new }
 {
-    match desk.line(b"run 20".as_slice()) {
+    match desk.line(b"run 20".as_slice(), &mut Unobserved) {
         Ok(_) => Err(Fail::from("the run is done")),
         Err(_) => Ok(()),
     }

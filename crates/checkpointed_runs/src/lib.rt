@@ -2,4 +2,5 @@
 #![tactic(auto)]
 
 pub mod laws;
+pub mod observer;
 pub mod running;

@@ -13,6 +13,7 @@ ghost use Rattle.checkpointed_runs.specs.Positions.{last_count, positions_after,
 ghost use Rattle.checkpointed_runs.specs.declared.running.Phase.{Phase};
 ghost use Rattle.checkpointed_runs.specs.declared.running.Stood.{Stood};
 
+use crate::observer::Observer;
 use checkpoints::positions::Positions;
 use kernel::kernel::Kernel;
 use kernel::request::Request;
@@ -288,13 +289,19 @@ impl<C: Catalogue> Runner<C> {
 
     // ---- events
 
-    /// Goes on to the limit or to an end. After each event whose number is a multiple of the interval as it is then, a position is
-    /// stored.
-    fn go_on(
+    /// Tells the observer how many events are executed, and when the last one was.
+    fn tell<W: Observer>(&self, observer: &mut W) {
+        observer.event(self.kernel.count(), self.kernel.clock());
+    }
+
+    /// Goes on to the limit or to an end, and tells the observer of each event. After each one whose number is a multiple of the interval as it
+    /// is then, a position is stored.
+    fn go_on<W: Observer>(
         &mut self,
         alloc: Global,
         model: &PlainAnswers<'_>,
         limit: u64,
+        observer: &mut W,
     ) -> Result<Outcome, NoMemory>
         requires going { IsGoing C.behaviour (answers_of model.now) SimpleModule-box limit self.old }
         requires kinds { HasKinds C.behaviour SimpleModule-box self.old.kernel }
@@ -316,18 +323,21 @@ impl<C: Catalogue> Runner<C> {
             if let Some(outcome) = self.kernel.step(alloc, model, last_time, &mut shown)? {
                 return Ok(outcome);
             }
+            self.tell(observer);
             let due = is_multiple(self.positions.interval(), self.kernel.count());
             self.keep_if(alloc, due)?;
         }
         Ok(self.kernel.outcome_of(None))
     }
 
-    /// Goes on to the limit or to an end, and ends the run. A position is stored after its last event too, unless that ended in a fault.
-    fn run_on(
+    /// Goes on to the limit or to an end, and ends the run. A position is stored after its last event too, unless that ended in a fault. The
+    /// observer is told where it begins, and of each event.
+    fn run_on<W: Observer>(
         &mut self,
         alloc: Global,
         model: &PlainAnswers<'_>,
         limit: u64,
+        observer: &mut W,
     ) -> Result<Outcome, NoMemory>
         requires going { IsGoing C.behaviour (answers_of model.now) SimpleModule-box limit self.old }
         requires kinds { HasKinds C.behaviour SimpleModule-box self.old.kernel }
@@ -343,7 +353,8 @@ impl<C: Catalogue> Runner<C> {
             self.new.positions }
     {
         let from = self.kernel.count();
-        let outcome = self.go_on(alloc, model, limit)?;
+        observer.begin(from, limit);
+        let outcome = self.go_on(alloc, model, limit, observer)?;
         let last = self.kernel.count();
         let due = is_owed(from, outcome.is_fault(), last, self.positions.ends_at(last));
         self.keep_if(alloc, due)?;
@@ -352,11 +363,12 @@ impl<C: Catalogue> Runner<C> {
     }
 
     /// A whole run from where each module has its box: its events, and its end.
-    fn complete(
+    fn complete<W: Observer>(
         &mut self,
         alloc: Global,
         model: &PlainAnswers<'_>,
         limit: u64,
+        observer: &mut W,
     ) -> Result<Outcome, NoMemory>
         requires ready { let world = world_in SimpleModule-box self.old.kernel in
             On world ≡ ready C.behaviour (answers_of model.now) }
@@ -377,18 +389,19 @@ impl<C: Catalogue> Runner<C> {
             Some(outcome) => self.kernel.finish(alloc, model, outcome),
             None => {
                 self.keep_if(alloc, true)?;
-                self.run_on(alloc, model, limit)
+                self.run_on(alloc, model, limit, observer)
             }
         }
     }
 
     /// Runs from setup, or finds the box that is needed first. There is no position behind which it could begin.
-    fn begin(
+    fn begin<W: Observer>(
         &mut self,
         alloc: Global,
         model: &EvaluatedModel,
         phase: Phase,
         limit: u64,
+        observer: &mut W,
     ) -> Result<Advance, NoMemory>
         requires live { let world = world_in SimpleModule-box self.old.kernel in
             IsLive C.behaviour (answers_of model.now) world phase }
@@ -411,19 +424,21 @@ impl<C: Catalogue> Runner<C> {
             Standing::Missing(request) => Ok(Advance::Waits(request)),
             Standing::Ready => {
                 let answers = PlainAnswers::new(alloc, model)?;
-                let outcome = self.complete(alloc, &answers, limit)?;
+                let outcome = self.complete(alloc, &answers, limit, observer)?;
                 Ok(Advance::Ends(None, outcome))
             }
         }
     }
 
-    /// Runs the model for at most so many events, from the last position up to there or from setup, or finds the box that is needed first.
-    pub fn carry_on(
+    /// Runs the model for at most so many events, from the last position up to there or from setup, or finds the box that is needed first. The
+    /// observer is told of each event that is executed.
+    pub fn carry_on<W: Observer>(
         &mut self,
         alloc: Global,
         model: &EvaluatedModel,
         phase: Phase,
         limit: u64,
+        observer: &mut W,
     ) -> Result<Advance, NoMemory>
         requires live { let world = world_in SimpleModule-box self.old.kernel in
             IsLive C.behaviour (answers_of model.now) world phase }
@@ -443,13 +458,13 @@ impl<C: Catalogue> Runner<C> {
         match self.go_back(alloc, model, limit)? {
             Some(start) => {
                 let answers = PlainAnswers::new(alloc, model)?;
-                let outcome = self.run_on(alloc, &answers, limit)?;
+                let outcome = self.run_on(alloc, &answers, limit, observer)?;
                 Ok(Advance::Ends(Some(start), outcome))
             }
             None => {
                 self.positions.clear();
                 self.stood = Stood::Before;
-                self.begin(alloc, model, phase, limit)
+                self.begin(alloc, model, phase, limit, observer)
             }
         }
     }

@@ -12,6 +12,7 @@ ghost use Rattle.model_edits.specs.declared.edit.Edit.TheVariants as edits;
 ghost use Rattle.desk.specs.Turns.{editing_at, limit_at, limit_after, AnswersEdit, AnswersLine, Forgoes, IsRunTurn, IsSettled, IsToldIn, MayBeDone, StaysSettled};
 
 use crate::answers::{Answer, done, edited_text, held_text, positions_text, refused, refused_as};
+use checkpointed_runs::observer::Observer;
 use command_lines::commands::{Command, command_of};
 use desk_clients::told::Told;
 use edit_session::session::{FileFault, NotWanted, Progress, Session, SupplyFault};
@@ -75,7 +76,7 @@ impl<C: Catalogue> Desk<C> {
     /// Answers a command line. One that asks to write files, or names a file that is to be read, is no command here: who asks does
     /// these. Where memory runs out the line has no answer: the model is what it was, and a line that asks for no
     /// run changed nothing; one that asks for a run left what that left.
-    pub fn line(&mut self, line: &[u8]) -> Result<DeskTurn, NoMemory>
+    pub fn line<W: Observer>(&mut self, line: &[u8], observer: &mut W) -> Result<DeskTurn, NoMemory>
         requires sound { IsSettled C.behaviour SimpleModule-box self.old }
         ensures sound { IsSettled C.behaviour SimpleModule-box self.new }
         ensures answer { let before = editing_at SimpleModule-box self.old in
@@ -88,7 +89,7 @@ impl<C: Catalogue> Desk<C> {
             OnErr result (Forgoes C.behaviour (command_of line.now) before after) }
     {
         match command_of(self.alloc, line)? {
-            Command::Run(limit) => self.run(limit),
+            Command::Run(limit) => self.run(limit, observer),
             Command::Edit(edit) => Ok(DeskTurn::Text(self.edit(edit)?)),
             Command::Positions => Ok(DeskTurn::Text(self.positions()?)),
             Command::Held => Ok(DeskTurn::Text(self.held()?)),
@@ -144,8 +145,9 @@ impl<C: Catalogue> Desk<C> {
     }
 
     /// Runs the model for at most so many events, from the greatest stored position up to there or from setup, or goes on with the
-    /// run that waits. Where memory runs out there is no answer: no run is done, or this one is.
-    pub fn run(&mut self, limit: u64) -> Result<DeskTurn, NoMemory>
+    /// run that waits. The observer is told of each event that is executed. Where memory runs out there is no answer: no run is done, or this
+    /// one is.
+    pub fn run<W: Observer>(&mut self, limit: u64, observer: &mut W) -> Result<DeskTurn, NoMemory>
         requires sound { IsSettled C.behaviour SimpleModule-box self.old }
         ensures kept { StaysSettled C.behaviour SimpleModule-box self.old self.new }
         ensures limit { limit_at self.new ≡ limit }
@@ -158,14 +160,14 @@ impl<C: Catalogue> Desk<C> {
             OnErr result (MayBeDone C.behaviour before limit after) }
     {
         self.limit = limit;
-        match self.session.run(limit)? {
+        match self.session.run(limit, observer)? {
             Progress::Want(request) => Ok(DeskTurn::Want(request)),
             Progress::Done(report) => Ok(DeskTurn::Text(done(self.alloc, report)?)),
         }
     }
 
     /// Goes on with the last run. Where memory runs out there is no answer: no run is done, or this one is.
-    pub fn go_on(&mut self) -> Result<DeskTurn, NoMemory>
+    pub fn go_on<W: Observer>(&mut self, observer: &mut W) -> Result<DeskTurn, NoMemory>
         requires sound { IsSettled C.behaviour SimpleModule-box self.old }
         ensures kept { StaysSettled C.behaviour SimpleModule-box self.old self.new }
         ensures limit { limit_at self.new ≡ limit_at self.old }
@@ -177,7 +179,7 @@ impl<C: Catalogue> Desk<C> {
             let after = editing_at SimpleModule-box self.new in
             OnErr result (MayBeDone C.behaviour before (limit_at self.old) after) }
     {
-        self.run(self.limit)
+        self.run(self.limit, observer)
     }
 
     /// Gives the module that the run waits for its box, or hands the box back.

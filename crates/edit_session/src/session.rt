@@ -22,6 +22,7 @@ ghost use Rattle.model_edits.specs.declared.edit.Edit.{Edit};
 
 use crate::values::{evaluated, keeps_values};
 use agreement::agreement::agreement;
+use checkpointed_runs::observer::Observer;
 use checkpointed_runs::running::{Advance, Phase, Runner, Stood};
 use checkpoints::positions::Positions;
 use kernel::kernel::Kernel;
@@ -345,8 +346,9 @@ impl<C: Catalogue> Session<C> {
     }
 
     /// Runs the model for at most so many events, from the greatest stored position up to there, or from setup, or goes on with the run
-    /// that waits; or answers which module needs a box first, of those without one the one of the least id.
-    pub fn run(&mut self, limit: u64) -> Result<Progress, NoMemory>
+    /// that waits; or answers which module needs a box first, of those without one the one of the least id. The observer is told of each
+    /// event that is executed.
+    pub fn run<W: Observer>(&mut self, limit: u64, observer: &mut W) -> Result<Progress, NoMemory>
         requires sound { IsSound C.behaviour SimpleModule-box self.old }
         ensures kept { KeepsModel C.behaviour SimpleModule-box self.old self.new }
 
@@ -371,7 +373,7 @@ impl<C: Catalogue> Session<C> {
             OnErr result (HasStored C.behaviour (answers_of before.model) limit before.positions
             (stood_in self.new) after.positions) }
     {
-        match self.run_through(limit) {
+        match self.run_through(limit, observer) {
             Ok(progress) => Ok(progress),
             Err(error) => {
                 self.give_up();
@@ -382,7 +384,11 @@ impl<C: Catalogue> Session<C> {
     }
 
     /// The same, but that after want of memory nothing is said of what is known.
-    fn run_through(&mut self, limit: u64) -> Result<Progress, NoMemory>
+    fn run_through<W: Observer>(
+        &mut self,
+        limit: u64,
+        observer: &mut W,
+    ) -> Result<Progress, NoMemory>
         requires sound { IsSound C.behaviour SimpleModule-box self.old }
         ensures model { self.new.model ≡ self.old.model }
         ensures kinds { HasKinds C.behaviour SimpleModule-box self.new.runner.kernel }
@@ -402,7 +408,10 @@ impl<C: Catalogue> Session<C> {
     {
         let phase = self.phase;
         self.give_up();
-        match self.runner.carry_on(self.alloc, &self.model, phase, limit)? {
+        match self
+            .runner
+            .carry_on(self.alloc, &self.model, phase, limit, observer)?
+        {
             Advance::Waits(request) => {
                 self.phase = Phase::Waiting;
                 Ok(Progress::Want(request))

@@ -18,6 +18,7 @@ ghost use Rattle.program_stops.specs.declared.stops.Stop.{Stop as StopValue};
 
 mod refusals;
 
+use checkpointed_runs::observer::Unobserved;
 use desk_clients::clients;
 use model_texts::begin::BeginFault;
 use program_stops::stops::Stop;
@@ -66,6 +67,7 @@ fn serve_user<'a, R: Files + Input + Print + Eprint + AllocGlobal>(
         words.config.as_bytes(),
         words.interval,
         user,
+        &mut Unobserved,
     )
 }
 

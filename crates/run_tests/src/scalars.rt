@@ -8,6 +8,7 @@ ghost use Rattle.run_tests.specs.Clerk.{office};
 
 mod clerk;
 
+use checkpointed_runs::observer::Unobserved;
 use clerk::{Clerk, Office};
 use desk::desk::{Desk, DeskTurn};
 use edit_session::session::Session;
@@ -35,7 +36,7 @@ fn supply(desk: &mut Desk<Office>, kind: &[u8], held: Box<dyn SimpleModule>) -> 
     requires sound { IsSettled office (λ b. ⟦<dyn SimpleModule as SimpleModule>⟧ b.vtable) desk.old }
     ensures { IsSettled office (λ b. ⟦<dyn SimpleModule as SimpleModule>⟧ b.vtable) desk.new }
 {
-    match desk.run(100)? {
+    match desk.run(100, &mut Unobserved)? {
         DeskTurn::Text(_) => Err(Fail::from("the run needs no box")),
         DeskTurn::Want(request) => {
             if !request.kind.is(kind) {
@@ -64,7 +65,7 @@ fn answer(desk: &mut Desk<Office>) -> Result<Text, Fail>
     requires { IsSettled office (λ b. ⟦<dyn SimpleModule as SimpleModule>⟧ b.vtable) desk.old }
     ensures { IsSettled office (λ b. ⟦<dyn SimpleModule as SimpleModule>⟧ b.vtable) desk.new }
 {
-    match desk.run(100)? {
+    match desk.run(100, &mut Unobserved)? {
         DeskTurn::Text(answer) => Ok(answer.into_text()),
         DeskTurn::Want(_) => Err(Fail::from("the run needs another box")),
     }

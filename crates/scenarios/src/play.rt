@@ -7,6 +7,7 @@ ghost use Rattle.desk_clients.specs.Stops.{at_stop};
 ghost use Rattle.transcripts.specs.Heard as heards;
 
 use crate::scenario::{Scenario, file_in};
+use checkpointed_runs::observer::Unobserved;
 use desk::answers::refusal_text;
 use desk_clients::clients::{Client, Gone, Page, Pages, Stop};
 use desk_clients::told::Told;
@@ -300,6 +301,7 @@ pub fn play(alloc: Global, scenario: &Scenario<'_>) -> Result<Vec<u8>, NoMemory>
         scenario.config.as_bytes(),
         scenario.interval,
         player,
+        &mut Unobserved,
     ) {
         Ok((player, stop)) => told_by(player, stop),
         Err(fault) => refused(alloc, fault),

@@ -16,6 +16,7 @@ ghost use Rattle.desk_clients.specs.Answers.{IsTold};
 ghost use Rattle.desk_clients.specs.Devices.{HasFailed};
 ghost use Rattle.desk_clients.specs.declared.clients.Stop.TheVariants as why;
 
+use checkpointed_runs::observer::Observer;
 use command_lines::commands::{Command, command_of};
 use desk::desk::{Desk, DeskTurn};
 use desk_clients::clients::{Client, Gone, Page, Pages, Stop};
@@ -98,13 +99,13 @@ impl<O: Out + Drop, K: Client<O> + Drop> Server<O, K> {
     }
 
     /// Begins the run to that limit, or goes on with it.
-    fn run(&mut self, alloc: Global, limit: u64) -> Turn
+    fn run<W: Observer>(&mut self, alloc: Global, limit: u64, observer: &mut W) -> Turn
         requires sound { IsServer stock SimpleModule-box self.old }
         requires kept { K.keeps self.old.client }
         ensures { Serves stock SimpleModule-box K.asked K.heard K.left K.keeps K.label K.stops
             MayStopIn (IsRunIn stock limit) self.old self.new result }
     {
-        match self.desk.run(limit) {
+        match self.desk.run(limit, observer) {
             Ok(DeskTurn::Text(answer)) => {
                 self.running = None;
                 Turn::Over(self.hear(answer.text.as_bytes(), &answer.told))
@@ -242,13 +243,13 @@ impl<O: Out + Drop, K: Client<O> + Drop> Server<O, K> {
     }
 
     /// Does what a command asks for.
-    fn command(&mut self, alloc: Global, command: Command) -> Turn
+    fn command<W: Observer>(&mut self, alloc: Global, command: Command, observer: &mut W) -> Turn
         requires { IsReady stock SimpleModule-box K.keeps self.old }
         ensures { Serves stock SimpleModule-box K.asked K.heard K.left K.keeps K.label K.stops
             MayStopIn (ComesTo stock command) self.old self.new result }
     {
         match command {
-            Command::Run(limit) => self.run(alloc, limit),
+            Command::Run(limit) => self.run(alloc, limit, observer),
             Command::Edit(edit) => Turn::Over(self.edit(edit)),
             Command::Ned(number, path) => Turn::Over(self.ned(number, path)),
             Command::Positions => Turn::Over(self.positions()),
@@ -266,32 +267,32 @@ impl<O: Out + Drop, K: Client<O> + Drop> Server<O, K> {
     }
 
     /// Does what was asked.
-    fn answer(&mut self, alloc: Global, asked: Asked) -> Turn
+    fn answer<W: Observer>(&mut self, alloc: Global, asked: Asked, observer: &mut W) -> Turn
         requires { IsReady stock SimpleModule-box K.keeps self.old }
         ensures { Serves stock SimpleModule-box K.asked K.heard K.left K.keeps K.label K.stops
             MayStopIn (ComesTo stock (command_asked asked)) self.old self.new result }
     {
         match asked {
             Asked::Line(text) => match command_of(alloc, text.as_bytes()) {
-                Ok(command) => self.command(alloc, command),
+                Ok(command) => self.command(alloc, command, observer),
                 Err(error) => Turn::Over(self.out_of_memory(error)),
             },
-            Asked::TooLong => self.command(alloc, Command::TooLarge),
+            Asked::TooLong => self.command(alloc, Command::TooLarge, observer),
         }
     }
 
     /// Goes on with the run, or does what the client asks next.
-    fn turn(&mut self, alloc: Global) -> Turn
+    fn turn<W: Observer>(&mut self, alloc: Global, observer: &mut W) -> Turn
         requires sound { IsServer stock SimpleModule-box self.old }
         requires kept { K.keeps self.old.client }
         ensures { Serves stock SimpleModule-box K.asked K.heard K.left K.keeps K.label K.stops
             MayStopIn (IsServingTurn stock) self.old self.new result }
     {
         if let Some(limit) = self.running {
-            return self.run(alloc, limit);
+            return self.run(alloc, limit, observer);
         }
         match self.client.next() {
-            Ok(Some(asked)) => self.answer(alloc, asked),
+            Ok(Some(asked)) => self.answer(alloc, asked, observer),
             Ok(None) => Turn::Over(Next::Stop(Stop::End)),
             Err(Gone) => Turn::Over(Next::Stop(Stop::Gone)),
         }
@@ -335,14 +336,15 @@ impl<O: Out + Drop, K: Client<O> + Drop> Server<O, K> {
 
 /// Serves a client at a desk of the model that these texts make with the configuration of that name, with boxes of the stock modules,
 /// until it asks nothing more, can't go on, or a device of a file fails. A run leaves a position after each multiple of `interval`
-/// events. Answers the client, and why; or why the texts make no model.
-pub fn serve<O: Out + Drop, K: Client<O> + Drop>(
+/// events. The observer is told of the events of each run. Answers the client, and why; or why the texts make no model.
+pub fn serve<O: Out + Drop, K: Client<O> + Drop, W: Observer>(
     alloc: Global,
     texts: &NedTexts,
     ini: &[u8],
     config: &[u8],
     interval: u64,
     client: K,
+    observer: &mut W,
 ) -> Result<(K, Stop), BeginFault>
     requires interval { 1 ≤ interval }
     requires unasked { K.asked client ≡ [] }
@@ -371,7 +373,7 @@ pub fn serve<O: Out + Drop, K: Client<O> + Drop>(
         holds: PhantomData,
     };
     'turns: loop {
-        let next = match server.turn(alloc) {
+        let next = match server.turn(alloc, observer) {
             Turn::Need(made) => match Box::new(alloc, made) {
                 Ok(held) => {
                     let held: Box<dyn SimpleModule> = held;

@@ -1,6 +1,7 @@
 ghost use Rattle.std.specs.Prelude.{IfOk};
 ghost use Rattle.desk.specs.Turns.{IsSettled};
 
+use checkpointed_runs::observer::Unobserved;
 use desk::desk::{Desk, DeskTurn};
 use edit_session::session::{FileFault, Session};
 use model_texts::begin::BeginFault;
@@ -104,7 +105,7 @@ fn is_done<C: Catalogue>(desk: &mut Desk<C>) -> bool
     requires { IsSettled C.behaviour (λ b. ⟦<dyn SimpleModule as SimpleModule>⟧ b.vtable) desk.old }
     ensures { IsSettled C.behaviour (λ b. ⟦<dyn SimpleModule as SimpleModule>⟧ b.vtable) desk.new }
 {
-    matches!(desk.run(100), Ok(DeskTurn::Text(_)))
+    matches!(desk.run(100, &mut Unobserved), Ok(DeskTurn::Text(_)))
 }
 
 /// What a desk at the network of these texts answers to devices.
@@ -138,7 +139,7 @@ fn tell<C: Catalogue>(desk: &mut Desk<C>, line: &[u8], told: &mut Vec<u8>) -> Re
     requires { IsSettled C.behaviour (λ b. ⟦<dyn SimpleModule as SimpleModule>⟧ b.vtable) desk.old }
     ensures { IsSettled C.behaviour (λ b. ⟦<dyn SimpleModule as SimpleModule>⟧ b.vtable) desk.new }
 {
-    if let DeskTurn::Text(answer) = desk.line(line)? {
+    if let DeskTurn::Text(answer) = desk.line(line, &mut Unobserved)? {
         told.extend_from_slice(answer.text.as_bytes())?;
         told.push(b'\n')?;
     }
@@ -168,7 +169,8 @@ fn goes_on<C: Catalogue>(desk: &mut Desk<C>) -> bool
     requires { IsSettled C.behaviour (λ b. ⟦<dyn SimpleModule as SimpleModule>⟧ b.vtable) desk.old }
     ensures { IsSettled C.behaviour (λ b. ⟦<dyn SimpleModule as SimpleModule>⟧ b.vtable) desk.new }
 {
-    matches!(desk.go_on(), Ok(DeskTurn::Text(_))) && desk.config() == b"General".as_slice()
+    matches!(desk.go_on(&mut Unobserved), Ok(DeskTurn::Text(_)))
+        && desk.config() == b"General".as_slice()
 }
 
 /// What a desk says to lines.
