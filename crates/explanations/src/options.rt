@@ -3,7 +3,10 @@
 /// Beginnings of options, each with what serves instead of them.
 const OPTIONS: [(&str, &str); 25] = [
     ("bin-recording", "each value of a vector is written"),
-    ("cmdenv-", "nothing is printed while a run goes on"),
+    (
+        "cmdenv-",
+        "the word --progress of the program reports every two seconds how far a run is",
+    ),
     (
         "cpu-time-limit",
         "the word -l of the program ends a run after so many events",

@@ -16,28 +16,31 @@ ghost use Rattle.program_dialogue.specs.Faults.{ends_in_fault};
 ghost use Rattle.program_dialogue.specs.declared.dialogue.Ask.TheVariants as ask;
 ghost use Rattle.program_stops.specs.declared.stops.Stop.{Stop as StopValue};
 
+mod observed;
 mod refusals;
 
-use checkpointed_runs::observer::Unobserved;
 use desk_clients::clients;
 use model_texts::begin::BeginFault;
+use observed::Reporter;
 use program_stops::stops::Stop;
+use program_streams::progress::Progress;
 use program_streams::{endings, files, folders};
 use program_user::user::User;
 use program_words::other_words::instead_of_words;
 use program_words::words::Words;
 use std::io::IsTerminal;
 use std::process::ExitCode;
-use std::rt::{Env, Files};
+use std::rt::{Clock, Env, Files};
 use stock_desk::serving::serve;
 use text_explanations::sources::Sources;
 
-/// Serves the user at a desk of the model that the files make, until the user asks nothing more or can't go on.
-fn serve_user<'a, R: Files + Input + Print + Eprint + AllocGlobal>(
+/// Serves the user at a desk of the model that the files make, until the user asks nothing more or can't go on. It is reported how far runs are, or not.
+fn serve_user<'a, R: Files + Input + Print + Eprint + Clock + AllocGlobal>(
     rt: &'a R,
     words: &'a Words,
     sources: &'a Sources<'a>,
     at_terminal: bool,
+    reports_progress: bool,
 ) -> Result<(User<'a, R>, clients::Stop), BeginFault>
     requires interval { 1 ≤ words.now.interval }
     // What the user hears is what the plain machine says to what the user asks.
@@ -60,6 +63,9 @@ fn serve_user<'a, R: Files + Input + Print + Eprint + AllocGlobal>(
         sources.now.ini.now (string_bytes words.now.config) fault) }
 {
     let user = User::new(rt, words, sources, at_terminal);
+    let mut reporter = Reporter {
+        progress: Progress::new(rt, reports_progress),
+    };
     serve(
         rt.alloc(),
         sources.texts,
@@ -67,7 +73,7 @@ fn serve_user<'a, R: Files + Input + Print + Eprint + AllocGlobal>(
         words.config.as_bytes(),
         words.interval,
         user,
-        &mut Unobserved,
+        &mut reporter,
     )
 }
 
@@ -103,11 +109,12 @@ fn ended<R: Files + Input + Print + Eprint + AllocGlobal>(
 }
 
 /// Serves the user, and tells why it ended early where it did.
-fn session<R: Files + Input + Print + Eprint + AllocGlobal>(
+fn session<R: Files + Input + Print + Eprint + Clock + AllocGlobal>(
     rt: &R,
     words: &Words,
     sources: &Sources<'_>,
     at_terminal: bool,
+    reports_progress: bool,
 ) -> Result<(), Stop>
     requires interval { 1 ≤ words.now.interval }
     ensures served { OnOk result ((model : Model)
@@ -115,14 +122,15 @@ fn session<R: Files + Input + Print + Eprint + AllocGlobal>(
     ensures early { IfErr result (EndsEarly
         sources.now.texts.now sources.now.ini.now (string_bytes words.now.config) words.now.strict) }
 {
-    let served = serve_user(rt, words, sources, at_terminal);
+    let served = serve_user(rt, words, sources, at_terminal, reports_progress);
     ended(rt, words, sources, served)
 }
 
-/// Does what the words ask for, at a terminal or not.
-fn work<R: Files + Env + Input + Print + Eprint + AllocGlobal + Clone + Drop>(
+/// Does what the words ask for, with standard input at a terminal or not, and standard error.
+fn work<R: Files + Env + Input + Print + Eprint + Clock + AllocGlobal + Clone + Drop>(
     rt: &R,
     at_terminal: bool,
+    tells_terminal: bool,
 ) -> Result<(), Stop> {
     let mut words = Words::read(rt)?;
     if let Some(folders) = words.folders.take() {
@@ -138,7 +146,8 @@ fn work<R: Files + Env + Input + Print + Eprint + AllocGlobal + Clone + Drop>(
         config: words.config.as_str(),
         has_other_connections: false,
     };
-    session(rt, &words, &sources, at_terminal)
+    let reports_progress = words.progress || tells_terminal;
+    session(rt, &words, &sources, at_terminal, reports_progress)
 }
 
 /// How a word of OMNeT++'s own is called that the words were refused for, and what serves instead.
@@ -154,7 +163,8 @@ fn instead<R: Env + AllocGlobal>(
 
 fn main(rt: HostRuntime) -> ExitCode {
     let at_terminal = rt.stdin().is_terminal();
-    let ended = work(&rt, at_terminal);
+    let tells_terminal = rt.stderr().is_terminal();
+    let ended = work(&rt, at_terminal, tells_terminal);
     let instead = instead(&rt, &ended);
     let status = endings::status(&rt, ended);
     if let Some((word, other)) = instead {

@@ -6,3 +6,4 @@ pub mod endings;
 pub mod files;
 pub mod folders;
 pub mod output;
+pub mod progress;

@@ -82,6 +82,7 @@ pub record IsGiven (found : Found) (words : Words) : Type 0 where
   pub interval : IsIntervalOf (one_text found (codes "interval")) words.interval
   pub directory : string_bytes words.directory ≡ folder_of (unwrap_or (first_value found (codes "directory")) (codes "."))
   pub strict : words.strict ≡ is_given (option_and_then (λ a. a.source) (matched_of found (codes "strict")))
+  pub progress : words.progress ≡ is_given (option_and_then (λ a. a.source) (matched_of found (codes "progress")))
   pub ini : string_bytes words.ini ≡ ini_of (first_value found (codes "file")) (files_of found)
   pub texts : map string_bytes words.texts.items ≡ texts_of (first_value found (codes "file")) (files_of found)
   pub folders : option_map string_bytes words.folders ≡ first_value found (codes "folders")

@@ -64,7 +64,7 @@ const OTHERS: [(&str, &str); 22] = [
 const ENTRIES: &str = "write 'KEY = VALUE' into the ini file";
 
 /// What serves instead of words for what is printed while a run goes on.
-const PROGRESS: &str = "nothing is printed while a run goes on";
+const PROGRESS: &str = "--progress reports every two seconds how far a run is";
 
 /// What stands before the sign of a value, of a word of a long name; the first letter, of another.
 fn name_of(word: &str) -> &str {

@@ -44,6 +44,8 @@ pub struct Words {
     pub directory: String,
     /// Whether a fault of the last run is told by the status.
     pub strict: bool,
+    /// Whether it is reported how far a run is, where standard error is no terminal too.
+    pub progress: bool,
     /// The path of the ini file.
     pub ini: String,
     /// The paths of the NED files that are named.
@@ -104,6 +106,14 @@ fn strict_word<'a>(alloc: Global) -> Arg<'a> {
         .help("The exit status is 3 if the last run ended in a fault")
 }
 
+/// `--progress`.
+fn progress_word<'a>(alloc: Global) -> Arg<'a> {
+    Arg::new(alloc, "progress")
+        .long("progress")
+        .action(ArgAction::SetTrue)
+        .help("While a run goes on, a line every two seconds on standard error, as at a terminal")
+}
+
 /// `-f FILE`.
 fn file_word<'a>(alloc: Global) -> Arg<'a> {
     Arg::new(alloc, "file").short('f').value_name("FILE").help(
@@ -154,13 +164,15 @@ fn ned_word<'a>(alloc: Global, is_wanted: bool) -> Arg<'a> {
         .help("The NED files")
 }
 
-/// A command with the options: the configuration, the limit, the interval, the directory, and whether faults are told by the status.
+/// A command with the options: the configuration, the limit, the interval, the directory, whether faults are told by the status, and whether it is
+/// reported how far a run is.
 fn with_options<'a>(alloc: Global, command: Command<'a>) -> Result<Command<'a>, AllocError> {
     let command = command.arg(config_word(alloc))?;
     let command = command.arg(limit_word(alloc))?;
     let command = command.arg(interval_word(alloc))?;
     let command = command.arg(directory_word(alloc))?;
-    command.arg(strict_word(alloc))
+    let command = command.arg(strict_word(alloc))?;
+    command.arg(progress_word(alloc))
 }
 
 /// A command with the words that the program has in common with OMNeT++'s own: an ini file, folders, the user interface and the run.
@@ -381,6 +393,7 @@ impl Words {
                 folder(matches.get_str("directory").unwrap_or(".")),
             )?,
             strict: names(matches, "strict"),
+            progress: names(matches, "progress"),
             ini,
             texts: files,
             folders: given_folders(alloc, matches)?,
