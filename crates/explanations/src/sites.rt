@@ -1,5 +1,6 @@
 //! Where the NED files say what is wrong with the inside of a compound module.
 
+use crate::given::entry_giving;
 use crate::insides::tell_inside;
 use crate::items::{Faulted, item_at_fault};
 use crate::lacking::{Lacking, lacking_gate};
@@ -9,7 +10,10 @@ use inside_keys::sizes::misplaced;
 use inside_parts::fault::Fault;
 use inside_parts::gates::gates_of;
 use model_answers::plain::PlainAnswers;
-use ned_trees::declarations::{GateDeclaration, GateLine, GateSize, TypeDeclaration, TypeKind};
+use ned_trees::declarations::{
+    GateDeclaration, GateLine, GateSize, ParameterValue, SubmoduleType, TypeDeclaration, TypeKind,
+};
+use run_questions::record::path_under;
 use sim_values::NoMemory;
 use sim_values::text::Text;
 use std::alloc::Global;
@@ -18,6 +22,7 @@ use text_explanations::connections::{
     tell_place_of_gate, tell_place_of_item, tell_place_of_submodule,
 };
 use text_explanations::explanation::Explanation;
+use text_explanations::names::shown;
 use text_explanations::ned_files::{Files, type_named};
 use text_explanations::sources::Sources;
 
@@ -230,6 +235,35 @@ fn tell_misplaced_of(
     Ok(true)
 }
 
+/// Whether a fault is one of the type that is chosen for a submodule.
+fn is_of_choice(fault: Fault) -> bool {
+    matches!(fault, Fault::UnknownType | Fault::Interface)
+}
+
+/// Whether an entry of the ini text may choose the type of a submodule.
+fn is_open(declared: Declared<'_>) -> bool {
+    match &declared.submodule.submodule_type {
+        SubmoduleType::Like(it) => !matches!(it.given, Some(ParameterValue::Fixed(_))),
+        SubmoduleType::Named(_) => false,
+    }
+}
+
+/// Says which entry of the ini text chooses the type of the submodule of the fault's path, where one does.
+fn tell_choice(told: &mut Explanation, it: Case<'_>) -> Result<(), NoMemory> {
+    let alloc = told.alloc();
+    let path = path_under(alloc, it.told.path.as_bytes(), b"typename")?;
+    let model = it.answers.model();
+    let lines = model.ini.lines();
+    let found = entry_giving(alloc, lines, model.chain.as_slice(), shown(path.as_bytes()))?;
+    if let Some(found) = found {
+        told.say("; ");
+        told.say_place(it.files.sources.ini_path, found.line);
+        told.say(" chooses ");
+        told.say_name(found.entry.value.as_bytes());
+    }
+    Ok(())
+}
+
 /// Says what is wrong with the inside of a compound module, or with a submodule of one: `path:line: `, the module, and what would be right.
 fn tell_case(
     told: &mut Explanation,
@@ -244,7 +278,10 @@ fn tell_case(
     }
     tell_place(told, it, of, declared)?;
     tell_inside(told, it.told.path, it.fault);
-    Ok(())
+    match declared {
+        Some(declared) if is_of_choice(it.fault) && is_open(declared) => tell_choice(told, it),
+        _ => Ok(()),
+    }
 }
 
 /// Says where a size is given to what is no gate vector of the module of a fault's path, which has that type, and whether one is.
