@@ -333,29 +333,87 @@ fn tell_entry(
 /// The lines of the first entries of keys.
 type FirstLines<'a> = IndexMap<&'a [u8], usize>;
 
-/// The line of the first entry of a section that has the key of this one: its own, where no other is noted. One of an option without effect is not noted.
-fn first_line<'a>(lines: &mut FirstLines<'a>, it: Numbered<'a>) -> Result<usize, NoMemory> {
+/// An entry before another one of its section that takes the effect of it, by its line.
+#[derive(Clone, Copy)]
+enum Earlier {
+    /// It has the same key.
+    Same(usize),
+    /// Its key is `**.` and the last name of the other's.
+    Wider(usize),
+}
+
+/// What stands before the last name in a key that is for everything of that name.
+const ANYWHERE: &[u8] = b"**.";
+
+/// The key that is for everything of the last name of this one.
+fn widest_key(alloc: Global, key: &[u8]) -> Result<Vec<u8>, NoMemory> {
+    let mut wide = Vec::from_slice(alloc, ANYWHERE)?;
+    wide.extend_from_slice(last_name(key))?;
+    Ok(wide)
+}
+
+/// Whether an entry is for parameters, types or statistics by a pattern, and not an option of the run.
+fn has_pattern(entry: &Entry) -> bool {
+    matches!(
+        entry.meaning,
+        EntryMeaning::Parameter(_) | EntryMeaning::Type(_) | EntryMeaning::Object(_)
+    )
+}
+
+/// The line of the first entry with the key that is for everything of the last name of an entry's, where it has a pattern.
+fn line_of_wider(
+    alloc: Global,
+    lines: &FirstLines<'_>,
+    entry: &Entry,
+) -> Result<Option<usize>, NoMemory> {
+    if !has_pattern(entry) {
+        return Ok(None);
+    }
+    let wide = widest_key(alloc, entry.key.as_bytes())?;
+    Ok(lines.get(wide.as_slice()).copied())
+}
+
+/// The entry of a section before this one that takes its effect. Where there is none this one is noted. One of an option without effect is not noted.
+fn entry_before<'a>(
+    alloc: Global,
+    lines: &mut FirstLines<'a>,
+    it: Numbered<'a>,
+) -> Result<Option<Earlier>, NoMemory> {
     if matches!(it.entry.meaning, EntryMeaning::Other) {
-        return Ok(it.line);
+        return Ok(None);
     }
     let key = it.entry.key.as_bytes();
-    match lines.get(key).copied() {
-        Some(line) => Ok(line),
-        None => {
-            lines.insert(key, it.line)?;
-            Ok(it.line)
+    if let Some(line) = lines.get(key).copied() {
+        return Ok(Some(Earlier::Same(line)));
+    }
+    if let Some(line) = line_of_wider(alloc, lines, it.entry)? {
+        return Ok(Some(Earlier::Wider(line)));
+    }
+    lines.insert(key, it.line)?;
+    Ok(None)
+}
+
+/// Says that an entry has no effect, as an earlier one of its section takes it.
+fn tell_earlier(told: &mut Explanation, sources: &Sources<'_>, it: Numbered<'_>, first: Earlier) {
+    let key = it.entry.key.as_bytes();
+    tell_useless(told, sources, it.line, key, "line ");
+    match first {
+        Earlier::Same(line) => {
+            told.say_number(line);
+            told.say(" has the same key in the same section, and the first one counts\n");
+        }
+        Earlier::Wider(line) => {
+            told.say_number(line);
+            told.say(" has '**.");
+            told.say_front(last_name(key));
+            told.say(
+                "' in the same section, which is for all of that name, and the first one that matches counts: write this one before it\n",
+            );
         }
     }
 }
 
-/// Says that an entry has no effect, as the one in that line of its section has the same key.
-fn tell_repeated(told: &mut Explanation, sources: &Sources<'_>, it: Numbered<'_>, first: usize) {
-    tell_useless(told, sources, it.line, it.entry.key.as_bytes(), "line ");
-    told.say_number(first);
-    told.say(" has the same key in the same section, and the first one counts\n");
-}
-
-/// Says a line for each of the entries of a section that has no effect. Where the names are too many, only for those whose key is repeated.
+/// Says a line for each of the entries of a section that has no effect. Where the names are too many, only for those whose effect an earlier one takes.
 fn tell_section(
     told: &mut Explanation,
     it: Case<'_>,
@@ -365,10 +423,10 @@ fn tell_section(
 ) {
     let mut lines = IndexMap::new(told.alloc());
     for entry in entries {
-        match first_line(&mut lines, *entry) {
-            Ok(first) if first != entry.line => tell_repeated(told, it.sources, *entry, first),
-            Ok(_) if looks => tell_entry(told, it, entry.line, entry.entry, places),
-            Ok(_) => {}
+        match entry_before(told.alloc(), &mut lines, *entry) {
+            Ok(Some(first)) => tell_earlier(told, it.sources, *entry, first),
+            Ok(None) if looks => tell_entry(told, it, entry.line, entry.entry, places),
+            Ok(None) => {}
             Err(error) => told.refuse(error),
         }
     }
@@ -390,7 +448,7 @@ fn tell_sections(
     }
 }
 
-/// Says a line for each entry of a chain that has no effect; where the names are too many for the lines, only for those whose key is repeated.
+/// Says a line for each entry of a chain that has no effect; where the names are too many for the lines, only for those whose effect an earlier one takes.
 fn tell_chain(told: &mut Explanation, it: Case<'_>, lines: &[IniLine], chain: &[Text]) {
     let looks = it.paths.count.saturating_mul(lines.len()) <= MOST_TRIES;
     match sections_of(told.alloc(), lines) {
@@ -461,8 +519,8 @@ fn tell_text(told: &mut Explanation, sources: &Sources<'_>, text: &IniText) {
 }
 
 /// Lines for a person on the entries of the configuration that have no effect at all: unknown options; keys that no
-/// parameter or statistic of the network has, or only parameters with a fixed value; and keys that an earlier entry of the same section has. Where modules stand in vectors or in one another, or are connected, those
-/// whose last name no type declares, or each only with a fixed value. The files make a model. Of very large models only repeated keys are told.
+/// parameter or statistic of the network has, or only parameters with a fixed value; and entries of which an earlier one of the same section takes the effect, as it has the same key, or `**.` and the same last name. Where modules stand in vectors or in one another, or are connected, those
+/// whose last name no type declares, or each only with a fixed value. The files make a model. Of very large models only the last of these are told.
 pub fn warning_lines(alloc: Global, sources: &Sources<'_>) -> Result<String, NoMemory> {
     let mut told = Explanation::new(alloc);
     match lines_of(alloc, sources) {
