@@ -6,6 +6,7 @@ pub mod NameLaws
 pub mod NumberLaws
 pub mod NumberedLaws
 pub mod OnceLaws
+pub mod PartLaws
 pub mod RowLaws
 pub mod SaidLaws
 pub mod ScanLaws

@@ -239,7 +239,7 @@ HaveLines text names lines row = (b : ℕ) → Contains row b → (b < length na
 have_rest : (text : List IniLine) (names : List Bytes) (lines : List (List ℕ)) (x : ℕ) (xs : List ℕ) → HaveLines text names lines (x ∷ xs) → HaveLines text names lines xs
 have_rest text names lines x xs have b c = have b (Contains-append_right (x ∷ []) xs b c)
 
-have_first : (text : List IniLine) (names : List Bytes) (lines : List (List ℕ)) (x : ℕ) (xs : List ℕ) → HaveLines text names lines (x ∷ xs) → (x < length names) × IsNumberLine text names x (line_at lines x)
+pub have_first : (text : List IniLine) (names : List Bytes) (lines : List (List ℕ)) (x : ℕ) (xs : List ℕ) → HaveLines text names lines (x ∷ xs) → (x < length names) × IsNumberLine text names x (line_at lines x)
 have_first text names lines x xs have = have x (Contains-append_left (x ∷ []) xs x (Contains-push [] x))
 
 have_below : (text : List IniLine) (names : List Bytes) (lines : List (List ℕ)) (row : List ℕ) → HaveLines text names lines row → AreAllBelow (length names) (map (line_at lines) row)

@@ -6,6 +6,7 @@ pub mod Names
 pub mod Numbered
 pub mod Numbers
 pub mod Once
+pub mod Parts
 pub mod Said
 pub mod Scans
 pub mod Sections

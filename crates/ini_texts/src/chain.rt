@@ -10,6 +10,7 @@ ghost use Rattle.ini_texts.specs.declared.lines.IniLine.{IniLine as LineSaid};
 ghost use Rattle.ini_texts.specs.Counts.{AreBelow, AreAllBelow, HoldsZeros, ZerosBehind};
 ghost use Rattle.ini_texts.specs.Numbers.{name_at, names_behind, bases_at, AreLast, AreRows, FitRows, IsOrdered, IsReached};
 ghost use Rattle.ini_texts.specs.Numbered.{line_at, SettlesLine, SettlesRow, SettlesNumbered, SettlesChain};
+ghost use Rattle.ini_texts.specs.Parts.{IsFirstOnce};
 ghost use Rattle.ini_texts.specs.Sections.{general, is_section_line, is_section, IsChain, RefusesChain, AnswersChain};
 ghost use Rattle.ini_texts.specs.Words.{Bytes};
 
@@ -19,6 +20,7 @@ use crate::lines::{IniLine, IniText, LineMeaning};
 use crate::merge::{Rest, merge};
 use crate::names::{SectionNames, section_names};
 use crate::order::{bases_at, order_behind};
+use crate::parts::{are_alone, line_at, stand_once, whole_of};
 use sim_values::text::Text;
 use sqlite_items::Items;
 use std::alloc::{AllocError, Global};
@@ -45,16 +47,6 @@ fn is_section(lines: &[IniLine], name: &[u8]) -> bool
     ensures { result ≡ is_section name.now lines.now }
 {
     is_general(name) || begins_section(lines, name)
-}
-
-/// The line of that number.
-fn line_at(lines: &[Items<usize>], number: usize) -> &[usize]
-    ensures { result.now ≡ line_at lines.now number }
-{
-    match lines.get(number) {
-        Some(line) => line.as_slice(),
-        None => &[],
-    }
 }
 
 /// What is merged behind a section: the lines of those that it extends, and the list of these.
@@ -92,6 +84,16 @@ fn line_before(
     }
 }
 
+/// A number, and then these.
+fn line_with(alloc: Global, number: usize, behind: &[usize]) -> Result<Items<usize>, AllocError>
+    ensures { IfOk result (λ line. line ≡ number ∷ behind.now) }
+{
+    let mut line = Vec::new(alloc);
+    line.push(number)?;
+    line.extend_from_slice(behind)?;
+    Ok(Items::from_vec(line))
+}
+
 /// The line of a section, if it has one, where those that it extends have these.
 fn line_of(
     alloc: Global,
@@ -102,9 +104,16 @@ fn line_of(
 ) -> Result<Option<Items<usize>>, AllocError>
     requires below { AreAllBelow (length waiting.old) (map (line_at lines.now) row.now ++ row.now ∷ []) }
     requires zeros { HoldsZeros waiting.old }
+    requires once { IsFirstOnce lines.now row.now }
     ensures line { SettlesLine number (map (line_at lines.now) row.now ++ row.now ∷ []) result }
     ensures zeros { ZerosBehind waiting.new result }
 {
+    if let Some(whole) = whole_of(lines, row) {
+        return Ok(Some(line_with(alloc, number, whole)?));
+    }
+    if are_alone(lines, row) && stand_once(waiting, row) {
+        return Ok(Some(line_with(alloc, number, row)?));
+    }
     let mut rests = rests_of(alloc, lines, row)?;
     line_before(alloc, number, rests.as_mut_slice(), waiting)
 }
@@ -119,6 +128,7 @@ fn line_in(
 ) -> Result<Option<Items<usize>>, AllocError>
     requires below { AreAllBelow (length waiting.old) (map (line_at lines.now) (bases_at rows.now number) ++ bases_at rows.now number ∷ []) }
     requires zeros { HoldsZeros waiting.old }
+    requires once { IsFirstOnce lines.now (bases_at rows.now number) }
     ensures line { SettlesRow (slice_index_or rows.now number None) number lines.now result }
     ensures zeros { ZerosBehind waiting.new result }
 {

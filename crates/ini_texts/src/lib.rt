@@ -15,5 +15,6 @@ pub mod lines;
 pub mod merge;
 pub mod names;
 pub mod order;
+pub mod parts;
 pub mod scan;
 pub mod speaks;

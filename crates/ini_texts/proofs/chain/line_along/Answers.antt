@@ -6,6 +6,8 @@ use Rattle.std.specs.declared.alloc.AllocError.{AllocError}
 use Rattle.ini_texts.specs.Counts.{AreAllBelow, HoldsZeros, ZerosBehind}
 use Rattle.ini_texts.specs.Numbers.{bases_at}
 use Rattle.ini_texts.specs.Numbered.{line_at, SettlesRow, IsNumberLine}
+use Rattle.ini_texts.specs.Parts.{IsFirstOnce}
+use Rattle.ini_texts.proofs.PartLaws.{first_once}
 use Rattle.ini_texts.proofs.NumberedLaws.{sections_of, have_lines, merged_below, found_kept, found_more, row_settled, row_faults, no_line_above, read_at}
 use Rattle.ini_texts.proofs.chain.line_along.Goals as goal
 
@@ -17,6 +19,13 @@ line_in-requires-clause-below c =
     let below = merged_below c.args.text.now c.args.names.now c.loop-place.lines (bases_at rows number) have in
     subst (λ (ls : List (List ℕ)). AreAllBelow (length c.loop-place.waiting) (map (line_at ls) (bases_at rows number) ++ bases_at rows number ∷ [])) (sym c.as_slice.ensures)
     (subst (λ (n : ℕ). AreAllBelow n (map (line_at c.loop-place.lines) (bases_at rows number) ++ bases_at rows number ∷ [])) (sym c.loop-place.invariant.counted) below)
+
+pub line_in-requires-clause-once : goal.line_in-requires-clause-once
+line_in-requires-clause-once c =
+    let rows = c.args.rows.now in
+    let number = get_or c.args.order.now c.loop-place.place 0 in
+    let have = have_lines c.args.text.now c.args.names.now rows c.loop-place.lines c.args.order.now c.in_ok-last.last.items c.args.root c.loop-place.place number c.requires.rows c.requires.ordered c.in_ok-last.ensures c.loop-place-test.true refl c.loop-place.invariant.found in
+    subst (λ (ls : List (List ℕ)). IsFirstOnce ls (bases_at rows number)) (sym c.as_slice.ensures) (first_once c.args.text.now c.args.names.now c.loop-place.lines (bases_at rows number) have)
 
 pub set-requires : goal.set-requires
 set-requires c =
