@@ -12,7 +12,7 @@ use Rattle.agreement.specs.Narrowing.{Narrows}
 pub none_left : (m n : Answers) (rs : List Record) (k : ℕ) → IsAgreement m n rs k [] (Some k)
 none_left m n rs k = (omega arith, tt, λ u l h a. absurd (omega (arith, l, h)))
 
--- ---- some questions of one event, and those behind them
+-- ---- some questions of one event, and those after them
 
 -- they agree on all of one event, where they agree on all up to it or a later one
 on_these : (m n : Answers) (rs : List Record) (event v : ℕ) (these rest : List Asked) → AreOf event these → event ≤ v → AgreesUpTo v m n rs (these ++ rest)

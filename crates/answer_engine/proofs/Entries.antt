@@ -1,4 +1,4 @@
--- What a table has of a key, with more entries behind.
+-- What a table has of a key, with more entries after.
 use Rattle.std.proofs.Common.{ℕ, zero, suc, ◌≡◌, refl, sym, ◌∙◌, ap, Bool, true, false, cond, List, [], ◌∷◌, ◌++◌, length, map, slice_get, Option, Some, None, IsSome, Result, Ok, Err, OnErr, IfOk, Bor}
 use Rattle.std.specs.Option.{option_copied}
 use Rattle.std.specs.Map.{lookup, lookup_key}

@@ -356,7 +356,7 @@ module _ {K V F E : Type 0} (rules : Rules K V F) (resumed : E → V → Asking 
             others ws w.0 h.1,
           )
 
-      -- where memory runs out behind it, the table has it
+      -- where memory runs out after it, the table has it
       pub closed_table : (v : V) (key : K) (ks : List K) (after : Entries K V) → keys ≡ ks ++ key ∷ [] → after ≡ es ++ (key, record { value = v; asked = places }) ∷ []
           → IsGoing rules resumed start asked es begun keys frames places (Done (Ok v)) → IsKept rules after × Begins start after
       closed_table v key ks after p r (k, os, g) =

@@ -15,7 +15,7 @@ module _ {K V F : Type 0} (rules : Rules K V F) (es : Entries K V) where
   abbrev pub asks_for : K → List K
   asks_for k = asked_by (known rules.same es) (rules.asking k)
 
-  -- each key stands behind those that it asks for
+  -- each key stands after those that it asks for
   abbrev pub IsSorted : Type 0
   IsSorted = IsInOrder rules.same asks_for (entry_keys es) []
 

@@ -60,7 +60,7 @@ AreDistinct same [] = Unit {0}
 AreDistinct same (k ∷ ks) = (is_on same k ks ≡ false) × AreDistinct same ks
 
 -- The key `asked` is being evaluated over a table that began as `start`: now k, the last of the keys, whose asking has come
--- to t and asked for the keys at these places, and those that wait, each for the one behind it.
+-- to t and asked for the keys at these places, and those that wait, each for the one after it.
 pub record IsGoingAt {K V F E : Type 0} (rules : Rules K V F) (resumed : E → V → Asking K V F V) (start : Entries K V) (asked : K)
     (es : Entries K V) (begun : ℕ) (keys : List K) (frames : List (Frame E)) (places : List ℕ) (t : Asking K V F V) (k : K) (os : List (Opened K E)) : Type 0 where
   pub stand : Stand keys frames k os

@@ -228,8 +228,8 @@ pub fn empty_table<A: Asker>(alloc: Global, _asker: &A) -> Table<A::Key, A::Valu
 }
 
 /// The value of a key, as its place in the table, or its fault. The table, of which nothing is asked but that it knows
-/// values of this asker, has what it had, and behind that the values that were found on the way; also after a fault, and
-/// after want of memory.
+/// values of this asker, has what it had, and after that the values that were found on the way; also after a fault, and
+/// after lack of memory.
 pub fn value_of<A: Asker>(
     alloc: Global,
     asker: &A,

@@ -11,7 +11,7 @@ pub fn kept_is_closed<K, V, F>()
     ensures { (rules : Rules K V F) (es : Entries K V) → IsExact rules → IsKept rules es → IsClosed rules (known rules.same es) }
 {}
 
-/// In a table that may be kept each key stands behind those that it asked for.
+/// In a table that may be kept each key stands after those that it asked for.
 pub fn kept_is_sorted<K, V, F>()
     ensures { (rules : Rules K V F) (es : Entries K V) → IsExact rules → IsKept rules es → IsSorted rules es }
 {}

@@ -1,4 +1,4 @@
-//! Runs behind edits, with the calls that they take: a desk at a Tick that counts, and lines as a user writes them.
+//! Runs after edits, with the calls that they take: a desk at a Tick that counts, and lines as a user writes them.
 
 ghost use Rattle.std.specs.Prelude.{◌≤◌, IfOk, codes};
 ghost use Rattle.desk.specs.Turns.{editing_at, IsSettled};

@@ -1,4 +1,4 @@
-//! How often modules are called behind an edit.
+//! How often modules are called after an edit.
 #![tactic(auto)]
 
 #[cfg(test)]

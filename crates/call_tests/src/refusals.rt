@@ -1,4 +1,4 @@
-//! Runs for which memory runs out, at each step of their modules in turn: the positions that they leave, and the runs behind them.
+//! Runs for which memory runs out, at each step of their modules in turn: the positions that they leave, and the runs after them.
 
 ghost use Rattle.std.specs.Prelude.{IfOk, codes};
 ghost use Rattle.desk.specs.Turns.{IsSettled};
@@ -18,9 +18,9 @@ use std::rc::Rc;
 use std::test::Fail;
 use stock_modules::stock::Stock;
 
-/// From which step to which: the positions behind a run of twenty events, a position after each third, for which memory runs out at that step, and what
+/// From which step to which: the positions after a run of twenty events, a position after each third, for which memory runs out at that step, and what
 /// the same run is answered then. Step 1 initializes, step 2 saves the state for the position of event zero; each three events come with the position
-/// behind them; steps 27 and 28 are the last two events, 29 saves the state for the last position, and 30 finishes.
+/// after them; steps 27 and 28 are the last two events, 29 saves the state for the last position, and 30 finishes.
 const RULE: &[(u64, u64, &str, &str)] = &[
     (1, 2, "positions none", "a box is wanted"),
     (3, 6, "positions 0", "done event-limit from 0 executed 20"),
@@ -68,14 +68,14 @@ const RULE: &[(u64, u64, &str, &str)] = &[
     ),
 ];
 
-/// What is told behind a run for which memory ran out.
+/// What is told after a run for which memory ran out.
 #[derive(Drop)]
 struct Left {
     positions: Text,
     again: Text,
 }
 
-/// A box of a fresh Tick that meets want of memory there.
+/// A box of a fresh Tick that meets lack of memory there.
 fn boxed(alloc: Global, left: &Rc<Cell<u64>>) -> Result<Box<dyn SimpleModule>, Fail>
     ensures { IfOk result (λ held. IsFresh stock (codes "Tick") (meaning held)) }
 {

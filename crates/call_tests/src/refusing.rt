@@ -18,7 +18,7 @@ use stock_modules::modules::StockModule;
 /// More bytes than there are.
 const TOO_MANY: usize = 1 << 62;
 
-/// A stock module. The last of so many steps, in a counter that it shares with a test, meets want of memory: a step is a call, or to save the state.
+/// A stock module. The last of so many steps, in a counter that it shares with a test, meets lack of memory: a step is a call, or to save the state.
 /// Where none is left no step does.
 #[derive(Drop)]
 pub struct Refusing {

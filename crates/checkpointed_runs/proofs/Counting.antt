@@ -227,7 +227,7 @@ left_after from k m f t e h =
 left_at : (m : ℕ) (f : Bool) (t : Timeline ℕ) → f ≡ false → behind (is_left m f) t (numbers_from (suc m) (m - m)) ≡ paid m f m (behind is_multiple t (numbers_from (suc m) (lasting f m - m)))
 left_at m f t e = let z : m - m ≡ 0 = omega arith in rw e (rw (z, less_not m) refl)
 
--- WHAT A RUN LEAVES behind where it went on: those of the multiples up to its last event that did not end in a fault, and the last one, where it is owed
+-- WHAT A RUN LEAVES after where it went on: those of the multiples up to its last event that did not end in a fault, and the last one, where it is owed
 pub left_is : (from m : ℕ) (f : Bool) (t : Timeline ℕ) → from ≤ m → (f ≡ true → from < m) → Below (suc from) t.stored
     → behind (is_left m f) t (numbers_from (suc from) (m - from)) ≡ paid from f m (behind is_multiple t (numbers_from (suc from) (lasting f m - from)))
 left_is from m f t h g below =
@@ -396,7 +396,7 @@ start_within limit counts s e =
     let l = last_below_limit (suc limit) (filter (λ n. nat_le n limit) counts) s (below_up_to_limit limit counts) e in
     omega (arith, l)
 
--- ---- what is stored behind a start
+-- ---- what is stored after a start
 
 pub left_after_start : (b : Behaviour) (m : Answers) (limit s : ℕ) (old : Timeline ℕ) (before new : Timeline Position) → start_of limit old.stored ≡ Some s → counts_in before ≡ cut (Some s) old
     → HasLeft s before new (run_to b m limit) → counts_in new ≡ positions_after b m limit old
@@ -431,7 +431,7 @@ start_stored b m limit s old (stood.Untaken k) before new e c h =
     }
 start_stored b m limit s old stood.Ending before new e c h = left_after_start b m limit s old before new e c h
 
--- where a run can't go back to its start, none is stored behind it
+-- where a run can't go back to its start, none is stored after it
 pub back_stored : (b : Behaviour) (m : Answers) (limit s : ℕ) (old new : Timeline ℕ) → start_of limit old.stored ≡ Some s → CanGoOn b m s → new ≡ cut (Some s) old → HasStored b m limit old (stood.After s) new
 back_stored b m limit s old new e going c =
     let z : suc s - suc s ≡ 0 = omega arith in

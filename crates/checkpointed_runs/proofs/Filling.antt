@@ -73,7 +73,7 @@ over_is_fault (On v) w outcome e = cc
 over_is_fault (Stopped v) w outcome e = cc
 over_is_fault (Broken v path f) w outcome e = let s : outcome ≡ outcomes.Fault v.count path f = cc in rw s refl
 
--- a run that is over behind event zero ended in a fault
+-- a run that is over after event zero ended in a fault
 pub start_is_fault : (b : Behaviour) (m : Answers) (w : World) (outcome : Outcome) → Over w outcome ≡ start b m → is_fault outcome ≡ true
 start_is_fault b m w outcome e = over_is_fault (ready b m >>= initialize_all b m) w outcome e
 

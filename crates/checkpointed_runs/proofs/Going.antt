@@ -62,7 +62,7 @@ going_at b m k w e = subst (λ n. Running w ≡ after b m n) (sym (count_is b m 
 
 -- ---- one event more
 
--- what is stored, behind so many events
+-- what is stored, after so many events
 abbrev pub StoredAt : ℕ → Timeline Position → Timeline Position → ℕ → Type 0
 StoredAt from before t k = counts_in t ≡ behind is_multiple (counts_in before) (numbers_from (suc from) (k - from))
 
@@ -86,7 +86,7 @@ stored_within : (from k n : ℕ) (before t : Timeline Position) → from ≤ k �
 stored_within from k n before t l s b h =
     of_counts n t.stored (subst (λ (u : Timeline ℕ). Below n u.stored) (sym h) (stored_below from (k - from) n (counts_in before) (omega (arith, l, s)) (to_counts (suc from) before.stored b)))
 
--- one more may be stored behind them
+-- one more may be stored after them
 pub below_next : (from k : ℕ) (before t : Timeline Position) → from ≤ k → AreBelow (suc from) before.stored → StoredAt from before t k → AreBelow (suc k) t.stored
 below_next from k before t l b h = stored_within from k (suc k) before t l (omega arith) b h
 
@@ -181,7 +181,7 @@ and_true false t e = absurd (false_true e)
 less_of : (m n : ℕ) → nat_lt m n ≡ true → m < n
 less_of m n e = grind (arith, nat_tests)
 
--- which is behind where the run went on, and none was taken there
+-- which is after where the run went on, and none was taken there
 pub record IsOwedAt (from last : ℕ) (before t : Timeline Position) : Type 0 where
   pub behind_it : from < last
   pub counts : counts_in t ≡ behind is_multiple (counts_in before) (numbers_from (suc from) (last - suc from))

@@ -1,4 +1,4 @@
--- Stored positions stay good: while a run goes on, behind an edit, and where a run goes back.
+-- Stored positions stay good: while a run goes on, after an edit, and where a run goes back.
 use Rattle.std.proofs.Common.{◌≡◌, ℕ, suc, ◌≤◌, ◌<◌, nat_le, Bool, true, false, cond, List, [], ◌∷◌, ◌++◌, Some, map, length, take, refl, sym, ap, ◌∙◌, arith, subst, append-nil, nat_lt, if◌then◌else◌}
 use Rattle.std.proofs.Math.Seq.{take-append_seam}
 use Rattle.std.proofs.lemmas.Bool.Decides.{nat_tests}

@@ -264,7 +264,7 @@ taken_dense n t less h = by (nat_lt most_stored (length (t.stored ++ n ∷ [])))
       few = not_many (length (t.stored ++ n ∷ [])) e;
     }
 
--- behind one event
+-- after one event
 passed_dense : (n : ℕ) (t : Timeline ℕ) → n < 2 ^ 64 → IsDense n t → IsDense (suc n) (passed is_multiple t n)
 passed_dense n t less h = by (is_multiple t.interval n) refl
   where
@@ -299,7 +299,7 @@ record IsEven (t : Timeline ℕ) : Type 0 where
   within : count ≤ 2 ^ 64
   dense : IsDense count t
 
--- behind events of which the last is this one
+-- after events of which the last is this one
 left_even : (first m : ℕ) (f : Bool) (t : Timeline ℕ) → first ≤ 2 ^ 64 → m < 2 ^ 64 → IsDense first t → IsEven (behind (is_left m f) t (numbers_from first (suc m - first)))
 left_even first m f t l less h = ⊎_elim (λ (g : m < first). none g) (λ (g : first ≤ m). some g) (less_or_not m first)
   where

@@ -55,7 +55,7 @@ lasting false last = last
 abbrev pub is_owed : ℕ → Bool → ℕ → List ℕ → Bool
 is_owed from faulted last counts = not faulted && (nat_lt from last && not (ends_at last counts))
 
--- A run went on from so many events to its end: behind the positions that there were stand those of the multiples. Where it did not end in a fault it
+-- A run went on from so many events to its end: after the positions that there were stand those of the multiples. Where it did not end in a fault it
 -- could go on from there.
 pub record HasGoneOn (b : Behaviour) (m : Answers) (from : ℕ) (before new : Timeline Position) (w : World) (outcome : Outcome) : Type 0 where
   pub grew : from ≤ w.count
@@ -63,20 +63,20 @@ pub record HasGoneOn (b : Behaviour) (m : Answers) (from : ℕ) (before new : Ti
   pub lasts : is_fault outcome ≡ false → Running w ≡ after b m w.count
   pub counts : counts_in new ≡ behind is_multiple (counts_in before) (numbers_from (suc from) (lasting (is_fault outcome) w.count - from))
 
--- behind them stand its own; a fault is that of an event behind where it went on
+-- after them stand its own; a fault is that of an event after where it went on
 pub record HasLeft (from : ℕ) (before new : Timeline Position) (ran : Ran) : Type 0 where
   pub grew : from ≤ ran.world.count
   pub faulted : is_fault ran.outcome ≡ true → from < ran.world.count
   pub counts : counts_in new ≡ behind (is_left ran.world.count (is_fault ran.outcome)) (counts_in before) (numbers_from (suc from) (ran.world.count - from))
 
--- It has executed so many events, at least this many and no more than its limit; behind them stand the multiples among so many numbers.
+-- It has executed so many events, at least this many and no more than its limit; after them stand the multiples among so many numbers.
 pub record HasGone (b : Behaviour) (m : Answers) (limit from least k more : ℕ) (before new : Timeline Position) : Type 0 where
   pub going : CanGoOn b m k
   pub limited : k ≤ limit
   pub grew : least ≤ k
   pub counts : counts_in new ≡ behind is_multiple (counts_in before) (numbers_from (suc from) more)
 
--- what stands behind them, by where the run to that limit stands that went on from so many events
+-- what stands after them, by where the run to that limit stands that went on from so many events
 abbrev pub HasBegun : Behaviour → Answers → ℕ → ℕ → Stood → Timeline Position → Timeline Position → Type 0
 HasBegun b m limit from stood.Before before new = ⊥
 HasBegun b m limit from (stood.After k) before new = HasGone b m limit from from k (k - from) before new

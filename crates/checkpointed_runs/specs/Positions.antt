@@ -36,12 +36,12 @@ cut event t = left t (up_to_event event t.stored)
 abbrev pub start_of : ℕ → List ℕ → Option ℕ
 start_of limit counts = last_count (up_to_event (Some limit) counts)
 
--- the first event behind that: of a run from setup that is event zero
+-- the first event after that: of a run from setup that is event zero
 abbrev pub first_behind : Option ℕ → ℕ
 first_behind None = 0
 first_behind (Some event) = suc event
 
--- how many events are executed behind it: event zero, which is setup, is none
+-- how many events are executed after it: event zero, which is setup, is none
 abbrev pub events_behind : Option ℕ → ℕ → ℕ
 events_behind None count = count
 events_behind (Some event) count = count - event
@@ -51,7 +51,7 @@ abbrev pub starts_within : Option ℕ → ℕ → Type 0
 starts_within None count = Unit {0}
 starts_within (Some event) count = event ≤ count
 
--- behind one event: where a position is due there, by the interval as it is then, one is taken
+-- after one event: where a position is due there, by the interval as it is then, one is taken
 abbrev pub passed : (ℕ → ℕ → Bool) → Timeline ℕ → ℕ → Timeline ℕ
 passed due t n = if due t.interval n then with_count n t else t
 
@@ -65,7 +65,7 @@ behind due t (n ∷ ns) = behind due (passed due t n) ns
 abbrev pub is_left : ℕ → Bool → ℕ → ℕ → Bool
 is_left last faulted interval n = if n == last then not faulted else is_multiple interval n
 
--- THE POSITIONS THAT A RUN LEAVES: the old ones are cut to where it began, and behind them its own are taken
+-- THE POSITIONS THAT A RUN LEAVES: the old ones are cut to where it began, and after them its own are taken
 abbrev pub positions_left : Timeline ℕ → Option ℕ → ℕ → Bool → Timeline ℕ
 positions_left old start last faulted =
     behind (is_left last faulted) (cut start old) (numbers_from (first_behind start) (suc last - first_behind start))
@@ -74,7 +74,7 @@ positions_left old start last faulted =
 abbrev pub due_behind : Option ℕ → ℕ → Bool → ℕ → List ℕ
 due_behind start last faulted interval = filter (is_left last faulted interval) (numbers_from (first_behind start) (suc last - first_behind start))
 
--- Where no 65th is taken, all stay: those up to where it began, and its own behind them.
+-- Where no 65th is taken, all stay: those up to where it began, and its own after them.
 abbrev pub AllStay : Timeline ℕ → Option ℕ → ℕ → Bool → Type 0
 AllStay old start last faulted =
     let kept = cut start old in
@@ -112,7 +112,7 @@ HasStored b m limit old stood.Ending new = new ≡ positions_after b m limit old
 
 -- ---- one run and one edit after the other
 
--- WHAT MAY BE STORED, whatever runs and edits came before: nothing at first; of what is stored those up to an event, behind an edit, or none, where a run waits; what a
+-- WHAT MAY BE STORED, whatever runs and edits came before: nothing at first; of what is stored those up to an event, after an edit, or none, where a run waits; what a
 -- run leaves that is done; and what a run leaves that was given up. Each run may be of another model and to another limit.
 pub data CanBeStored : Timeline ℕ → Type 0 where
   begins : (interval : ℕ) → 1 ≤ interval → CanBeStored (begun interval)

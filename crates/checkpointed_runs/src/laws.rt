@@ -4,7 +4,7 @@ ghost use Rattle.std.specs.Prelude.{ℕ, ◌≤◌, Bool, Option, length};
 ghost use Rattle.checkpoints.specs.Stored.{most_stored, Timeline};
 ghost use Rattle.checkpointed_runs.specs.Positions.{AllStay, CanBeStored};
 
-/// Where a run takes no 65th position, all stay: those up to where it began, and behind them those after each multiple of the
+/// Where a run takes no 65th position, all stay: those up to where it began, and after them those after each multiple of the
 /// interval and after its last event, unless that ended in a fault. The interval stays too.
 pub fn few_positions_all_stay()
     ensures { (old : Timeline ℕ) (start : Option ℕ) (last : ℕ) (faulted : Bool) → AllStay old start last faulted }

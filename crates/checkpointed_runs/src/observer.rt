@@ -4,7 +4,7 @@ use sim_time::SimTime;
 
 /// Is told of the events of a run while it goes on. Nothing is asked of it and nothing rests on it: a run does the same whoever observes it.
 pub trait Observer {
-    /// A run goes on behind so many events, up to its limit.
+    /// A run goes on after so many events, up to its limit.
     fn begin(&mut self, count: u64, limit: u64);
 
     /// So many events are executed, the last one at that time.

@@ -227,7 +227,7 @@ impl<C: Catalogue> Runner<C> {
         Ok(())
     }
 
-    /// Goes back to the last position up to the limit, and gives up those behind it; where there is none, nothing changes.
+    /// Goes back to the last position up to the limit, and gives up those after it; where there is none, nothing changes.
     fn go_back(
         &mut self,
         alloc: Global,
@@ -256,7 +256,7 @@ impl<C: Catalogue> Runner<C> {
         Ok(Some(start))
     }
 
-    /// Gives up the positions behind an event, or all of them.
+    /// Gives up the positions after an event, or all of them.
     pub fn keep_up_to(&mut self, event: Option<u64>)
         ensures kernel { self.new.kernel ≡ self.old.kernel }
         ensures positions { self.new.positions ≡ kept_up_to event self.old.positions }
@@ -394,7 +394,7 @@ impl<C: Catalogue> Runner<C> {
         }
     }
 
-    /// Runs from setup, or finds the box that is needed first. There is no position behind which it could begin.
+    /// Runs from setup, or finds the box that is needed first. There is no position after which it could begin.
     fn begin<W: Observer>(
         &mut self,
         alloc: Global,

@@ -90,7 +90,7 @@ thinned count newest t =
     then record { first = t.first; interval = doubled t.interval; stored = filter (λ a. stays (doubled t.interval) newest (count a)) t.stored }
     else t
 
--- ONE MORE IS TAKEN, behind the others
+-- ONE MORE IS TAKEN, after the others
 abbrev pub taken : {A : Type 0} → (A → ℕ) → A → Timeline A → Timeline A
 taken count a t = thinned count (count a) (record { first = t.first; interval = t.interval; stored = t.stored ++ a ∷ [] })
 

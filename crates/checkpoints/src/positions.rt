@@ -67,7 +67,7 @@ impl Positions {
         }
     }
 
-    /// Stores a position behind the others, which are of smaller counts. Where it is one too many, the interval is doubled, up to
+    /// Stores a position after the others, which are of smaller counts. Where it is one too many, the interval is doubled, up to
     /// 2^62, and of all positions those stay that are at its multiples, and this one. After NoMemory it is dropped, and nothing has
     /// changed.
     pub fn take(&mut self, position: Position) -> Result<(), NoMemory>
@@ -81,7 +81,7 @@ impl Positions {
         Ok(())
     }
 
-    /// Stores a position behind the others. After NoMemory it is dropped, and the others stay.
+    /// Stores a position after the others. After NoMemory it is dropped, and the others stay.
     fn push(&mut self, position: Position) -> Result<(), NoMemory>
         requires { AreBelow position.count self.old.stored }
         ensures ok { OnOk result (self.new ≡ record self.old { stored = self.old.stored ++ position ∷ [] }) }

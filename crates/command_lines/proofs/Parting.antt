@@ -1,4 +1,4 @@
--- A line that is parted at its first space, and the words of an injection.
+-- A line that is split at its first space, and the words of an injection.
 use Rattle.std.proofs.Common.{◌≡◌, ◌<◌, ℕ, ◌+◌, Bool, true, false, cond, List, [], ◌∷◌, length, take, drop, position, Option, Some, None, nat_lt, MatchOption, refl, arith}
 use Rattle.std.specs.List.{position_or_len}
 use Rattle.std.proofs.lemmas.Bool.Decides.{nat_tests}

@@ -12,7 +12,7 @@ use Rattle.command_lines.specs.Words.{behind, named, numbered, short_numbered, w
 
 -- ---- edits
 
--- `insert L TEXT`, behind `ini `: TEXT is all the rest, its bytes as they are
+-- `insert L TEXT`, after `ini `: TEXT is all the rest, its bytes as they are
 abbrev pub insertion_of : List ℕ → Option Edit
 insertion_of rest = option_map (λ p. edit.InsertIni p.0 p.1) (option_and_then numbered (behind (codes "insert ") rest))
 
@@ -36,7 +36,7 @@ ini_edit_of rest = or_else (insertion_of rest) (or_else (replacement_of rest) (r
 abbrev pub selection_of : List ℕ → Option Edit
 selection_of line = option_map edit.SelectConfig (option_and_then word_of (behind (codes "config ") line))
 
--- the connection of `TYPE PLACE TEXT`, behind `connect `: TEXT is all the rest, its bytes as they are
+-- the connection of `TYPE PLACE TEXT`, after `connect `: TEXT is all the rest, its bytes as they are
 abbrev pub connection_at : List ℕ × List ℕ → Option Edit
 connection_at p = option_map (λ q. edit.AddConnection p.0 q.0 q.1) (numbered p.1)
 
@@ -44,7 +44,7 @@ connection_at p = option_map (λ q. edit.AddConnection p.0 q.0 q.1) (numbered p.
 abbrev pub addition_of : List ℕ → Option Edit
 addition_of line = option_and_then connection_at (option_and_then named (behind (codes "connect ") line))
 
--- the place of `TYPE PLACE`, behind `disconnect `
+-- the place of `TYPE PLACE`, after `disconnect `
 abbrev pub place_at : List ℕ × List ℕ → Option Edit
 place_at p = option_map (λ place. edit.RemoveConnection p.0 place) (number_of p.1)
 

@@ -31,7 +31,7 @@ begins_unit b = not (is_ascii_digit b || b == 46)
 abbrev pub number_length : List ℕ → ℕ
 number_length word = unwrap_or (position begins_unit word) (length word)
 
--- TIME: a number, and the unit behind it
+-- TIME: a number, and the unit after it
 unfoldable pub time_of : List ℕ → Option ℕ
 time_of word = result_ok (time_of_decimal (take (number_length word) word) (drop (number_length word) word))
 

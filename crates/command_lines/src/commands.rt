@@ -39,7 +39,7 @@ pub enum Command {
 
 // ---- edits
 
-/// The edit of `insert L TEXT`, behind `ini `.
+/// The edit of `insert L TEXT`, after `ini `.
 fn insertion_of(alloc: Global, rest: &[u8]) -> Result<Option<Edit>, AllocError>
     ensures found { IfOk result (λ found. found ≡ insertion_of rest.now) }
     ensures memory { OnErr result (IsSome (insertion_of rest.now)) }
@@ -53,7 +53,7 @@ fn insertion_of(alloc: Global, rest: &[u8]) -> Result<Option<Edit>, AllocError>
     Ok(Some(Edit::InsertIni(number as usize, Text::from_bytes(alloc, text)?)))
 }
 
-/// The edit of `replace L TEXT`, behind `ini `.
+/// The edit of `replace L TEXT`, after `ini `.
 fn replacement_of(alloc: Global, rest: &[u8]) -> Result<Option<Edit>, AllocError>
     ensures found { IfOk result (λ found. found ≡ replacement_of rest.now) }
     ensures memory { OnErr result (IsSome (replacement_of rest.now)) }
@@ -67,7 +67,7 @@ fn replacement_of(alloc: Global, rest: &[u8]) -> Result<Option<Edit>, AllocError
     Ok(Some(Edit::ReplaceIni(number as usize, Text::from_bytes(alloc, text)?)))
 }
 
-/// The edit of `remove L`, behind `ini `.
+/// The edit of `remove L`, after `ini `.
 fn removal_of(rest: &[u8]) -> Option<Edit>
     ensures { result ≡ removal_of rest.now }
 {
@@ -76,7 +76,7 @@ fn removal_of(rest: &[u8]) -> Option<Edit>
     Some(Edit::RemoveIni(number as usize))
 }
 
-/// The edit of `ini ..`, by what stands behind `ini `.
+/// The edit of `ini ..`, by what stands after `ini `.
 fn ini_edit_of(alloc: Global, rest: &[u8]) -> Result<Option<Edit>, AllocError>
     ensures found { IfOk result (λ found. found ≡ ini_edit_of rest.now) }
     ensures memory { OnErr result (IsSome (ini_edit_of rest.now)) }
@@ -104,7 +104,7 @@ fn selection_of(alloc: Global, line: &[u8]) -> Result<Option<Edit>, AllocError>
     Ok(Some(Edit::SelectConfig(Text::from_bytes(alloc, name)?)))
 }
 
-/// The connection of `PLACE TEXT`, behind `connect TYPE `.
+/// The connection of `PLACE TEXT`, after `connect TYPE `.
 fn connection_at(alloc: Global, name: &[u8], rest: &[u8]) -> Result<Option<Edit>, AllocError>
     ensures found { IfOk result (λ found. found ≡ connection_at (name.now, rest.now)) }
     ensures memory { OnErr result (IsSome (connection_at (name.now, rest.now))) }
@@ -131,7 +131,7 @@ fn addition_of(alloc: Global, line: &[u8]) -> Result<Option<Edit>, AllocError>
     connection_at(alloc, name, rest)
 }
 
-/// The place of `PLACE`, behind `disconnect TYPE `.
+/// The place of `PLACE`, after `disconnect TYPE `.
 fn place_at(alloc: Global, name: &[u8], rest: &[u8]) -> Result<Option<Edit>, AllocError>
     ensures found { IfOk result (λ found. found ≡ place_at (name.now, rest.now)) }
     ensures memory { OnErr result (IsSome (place_at (name.now, rest.now))) }

@@ -54,7 +54,7 @@ fn number_length(word: &[u8]) -> usize
     unit_place(word).unwrap_or(word.len())
 }
 
-/// The time that a word says: a number, and the unit behind it.
+/// The time that a word says: a number, and the unit after it.
 #[tactic(auto, unfolding(crate::specs::Injections::time_of))]
 fn time_of(word: &[u8]) -> Option<SimTime>
     ensures { result ≡ time_of word.now }
@@ -110,7 +110,7 @@ fn is_payload(word: &[u8]) -> bool
     is_dash(word) || is_lower_hex(word) && word.len() % 2 == 0
 }
 
-/// The want of memory that the decoder told.
+/// The lack of memory that the decoder told.
 fn want_of_memory(error: FromHexError) -> AllocError
     requires { error ≡ OutOfMemory }
 {
@@ -136,7 +136,7 @@ fn payload_of(alloc: Global, word: &[u8]) -> Result<Text, AllocError>
 
 // ---- edits
 
-/// The words behind `inject `.
+/// The words after `inject `.
 #[derive(Clone, Copy)]
 struct Words<'a> {
     path: &'a [u8],
@@ -147,7 +147,7 @@ struct Words<'a> {
     hex: &'a [u8],
 }
 
-/// The words behind `inject `, where they are six.
+/// The words after `inject `, where they are six.
 fn six_words(rest: &[u8]) -> Option<Words<'_>>
     ensures words { IfSome result (λ w. words_of rest.now
         ≡ w.path.now ∷ w.time.now ∷ w.priority.now ∷ w.kind.now ∷ w.bits.now ∷ w.hex.now ∷ []) }

@@ -1,4 +1,4 @@
-//! Words of command lines: each is parted from the next by one space.
+//! Words of command lines: each is separated from the next by one space.
 
 ghost use Rattle.std.specs.Prelude.{◌≡◌, ◌<◌, [], ◌∷◌, length, position, IfSome, MatchOption, option_map};
 ghost use Rattle.std.specs.List.{list_any};
@@ -9,7 +9,7 @@ ghost use Rattle.command_lines.specs.Words.{behind, is_space, is_word, named, nu
 use crate::numbers::{number_of, short_of};
 use std::str::from_utf8;
 
-/// What stands behind these bytes, where the line begins with them.
+/// What stands after these bytes, where the line begins with them.
 pub(crate) fn behind<'a>(first: &[u8], line: &'a [u8]) -> Option<&'a [u8]>
     ensures { option_copied result ≡ behind first.now line.now }
 {
@@ -27,7 +27,7 @@ fn first_space(bytes: &[u8]) -> Option<usize>
     bytes.iter().position(|b| *b == b' ')
 }
 
-/// The first word, with all that stands behind the space that ends it.
+/// The first word, with all that stands after the space that ends it.
 #[tactic(auto, using(crate::proofs::Parting::one_word, crate::proofs::Parting::more_words))]
 pub(crate) fn parted(bytes: &[u8]) -> Option<(&[u8], &[u8])>
     ensures value { option_map (λ p. (p.0.now, p.1.now)) result ≡ parted bytes.now }
@@ -38,7 +38,7 @@ pub(crate) fn parted(bytes: &[u8]) -> Option<(&[u8], &[u8])>
     Some((&bytes[..at], &bytes[at + 1..]))
 }
 
-/// The number of the first word, with all that stands behind the space that ends it.
+/// The number of the first word, with all that stands after the space that ends it.
 pub(crate) fn numbered(bytes: &[u8]) -> Option<(u64, &[u8])>
     ensures { option_map (λ p. (p.0, p.1.now)) result ≡ numbered bytes.now }
 {
@@ -46,7 +46,7 @@ pub(crate) fn numbered(bytes: &[u8]) -> Option<(u64, &[u8])>
     Some((number_of(word)?, rest))
 }
 
-/// The number of 32 bits of the first word, with all that stands behind the space that ends it.
+/// The number of 32 bits of the first word, with all that stands after the space that ends it.
 pub(crate) fn short_numbered(bytes: &[u8]) -> Option<(u64, &[u8])>
     ensures { option_map (λ p. (p.0, p.1.now)) result ≡ short_numbered bytes.now }
 {
@@ -82,7 +82,7 @@ pub(crate) fn word_of(bytes: &[u8]) -> Option<&[u8]>
     if is_word(bytes) { Some(bytes) } else { None }
 }
 
-/// The first word, where it is UTF-8, and all that stands behind the space that ends it.
+/// The first word, where it is UTF-8, and all that stands after the space that ends it.
 pub(crate) fn named(bytes: &[u8]) -> Option<(&[u8], &[u8])>
     ensures { option_map (λ p. (p.0.now, p.1.now)) result ≡ named bytes.now }
 {

@@ -15,7 +15,7 @@ some_apart : (o : Option (List ℕ)) (text : List ℕ) → Some text ≡ o → o
 some_apart None text p q = cc
 some_apart (Some other) text p q = cc
 
--- a refusal that has a text is not want of memory: so the edit makes no model
+-- a refusal that has a text is not lack of memory: so the edit makes no model
 no_model : (m : Model) (e : Edit) (r : Refusal) (text : List ℕ) → IsRuledOut m e r → Some text ≡ edit_refusal_text r → (new : Model) → IsEditOf m e new → ⊥
 no_model m e r text ruled is new made = some_apart (edit_refusal_text r) text is (ap edit_refusal_text (ruled new made))
 

@@ -40,7 +40,7 @@ module _ {C X : Type 0} {Y : X → Type 0} where
 
 -- ---- runs
 
--- the answer of a fresh run of the model that begins there: how it ends, and how many events are executed behind that
+-- the answer of a fresh run of the model that begins there: how it ends, and how many events are executed after that
 abbrev pub answer_from : Behaviour → Model → ℕ → Option ℕ → List ℕ
 answer_from b m limit start =
     let ran = fresh_run b (answers_of m) limit in
@@ -67,7 +67,7 @@ abbrev pub IsRunTurn : Behaviour → Editing → ℕ → DeskTurn → Editing �
 IsRunTurn b before limit (turn.Text answer) after = HasRun b before limit answer.text after
 IsRunTurn b before limit (turn.Want request) after = WaitsFor before limit request after
 
--- What want of memory leaves behind a run to that limit: no run is done, and the positions are those that it stored; or this one is done.
+-- What lack of memory leaves after a run to that limit: no run is done, and the positions are those that it stored; or this one is done.
 abbrev pub MayBeDone : Behaviour → Editing → ℕ → Editing → Type 0
 MayBeDone b before limit after = IsGivenUp b before limit after ⊎ IsDone b before limit after
 
@@ -121,12 +121,12 @@ AnswersCommand b before command.TooLarge answer after = IsTextOf answer (λ text
 abbrev pub AnswersLine : Behaviour → Editing → List ℕ → DeskTurn → Editing → Type 0
 AnswersLine b before line answer after = AnswersCommand b before (command_of line) answer after
 
--- WHAT WANT OF MEMORY LEAVES behind a command: of a run the model and what it stored; and of all else everything as it was
+-- WHAT LACK OF MEMORY LEAVES after a command: of a run the model and what it stored; and of all else everything as it was
 abbrev pub Forgoes : Behaviour → Command → Editing → Editing → Type 0
 Forgoes b (command.Run limit) before after = MayBeDone b before limit after × (after.model ≡ before.model)
 Forgoes b _ before after = after ≡ before
 
--- the limit of the last run, behind a command
+-- the limit of the last run, after a command
 abbrev pub limit_after : Command → ℕ → ℕ
 limit_after (command.Run limit) before = limit
 limit_after _ before = before

@@ -259,7 +259,7 @@ pub fn held_text(alloc: Global, held: usize) -> Result<Text, AllocError>
     Ok(Text::from_vec(text))
 }
 
-/// Adds numbers, each behind a space.
+/// Adds numbers, each after a space.
 fn push_numbers(text: &mut Vec<u8>, numbers: &[u64]) -> Result<(), AllocError>
     ensures { OnOk result (text.new.items ≡ text.old.items ++ numbers_text numbers.now) }
 {
@@ -333,7 +333,7 @@ fn type_fault_name(fault: TypeFault) -> &'static [u8]
     }
 }
 
-/// The text for an edit that is refused. Want of memory is handed on.
+/// The text for an edit that is refused. Lack of memory is handed on.
 pub fn edit_refusal_text(alloc: Global, refusal: Refusal) -> Result<Text, NoMemory>
     ensures { IfOk result (λ text. Some text ≡ edit_refusal_text refusal) }
 {
@@ -354,7 +354,7 @@ pub fn edit_refusal_text(alloc: Global, refusal: Refusal) -> Result<Text, NoMemo
     }
 }
 
-/// The answer of an edit that is refused. Want of memory is handed on.
+/// The answer of an edit that is refused. Lack of memory is handed on.
 pub fn refused(alloc: Global, refusal: Refusal) -> Result<Answer, NoMemory>
     ensures text { IfOk result (λ answer. Some answer.text ≡ edit_refusal_text refusal) }
     ensures told { IfOk result (λ answer. IsTold answer.told answer.text) }

@@ -44,7 +44,7 @@ fault_name fault.Past = codes "Past"
 fault_name fault.AlreadyScheduled = codes "AlreadyScheduled"
 fault_name (fault.ModuleFailed text) = codes "ModuleFailed"
 
--- and behind the name of ModuleFailed what the module said
+-- and after the name of ModuleFailed what the module said
 abbrev pub fault_detail : Fault → List ℕ
 fault_detail (fault.ModuleFailed text) = codes ": " ++ text
 fault_detail _ = codes ""
@@ -104,7 +104,7 @@ type_fault_name types.InheritanceCircle = codes "InheritanceCircle"
 type_fault_name types.KindClash = codes "KindClash"
 type_fault_name types.Interface = codes "Interface"
 
--- THE ANSWER of an edit that is refused: its name, and the line where it is known. Want of memory has no text: it is handed on.
+-- THE ANSWER of an edit that is refused: its name, and the line where it is known. Lack of memory has no text: it is handed on.
 abbrev pub edit_refusal_text : Refusal → Option (List ℕ)
 edit_refusal_text edit.TooLarge = Some (codes "refused TooLarge")
 edit_refusal_text edit.NoSuchLine = Some (codes "refused NoSuchLine")

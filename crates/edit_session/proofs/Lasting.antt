@@ -19,7 +19,7 @@ with_others : (m : Model) (is : List Injection) → setting_of (record m { injec
 unfolding setting_of
 with_others m is = refl
 
--- WHAT VALUES REST ON stays behind an edit of these alone
+-- WHAT VALUES REST ON stays after an edit of these alone
 pub values_stay : (m new : Model) (e : Edit) → IsEditOf m e new → keeps_values e ≡ true → setting_of new ≡ setting_of m
 values_stay m new (edit.InsertIni line text) h t = absurd (false_true t)
 values_stay m new (edit.ReplaceIni line text) h t = absurd (false_true t)

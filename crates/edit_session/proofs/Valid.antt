@@ -153,7 +153,7 @@ kept_begun b ss w m interval ps some kinds e = rw e (record {
   stored = begins interval some;
 })
 
--- what is kept behind an accepted edit
+-- what is kept after an accepted edit
 pub kept_edited : (b : Behaviour) (ss ts : List Seat) (w u : World) (m n : Model) (phase : Phase) (done : Option Completed) (known valid : Option ℕ) (ps qs : Timeline Position) → IsKept b ss w m phase done known ps → ts ≡ ss → u ≡ w → qs ≡ kept_up_to valid ps
     → IsKnown b (answers_of n) w valid → AreGood b (answers_of n) ss w (kept_up_to valid ps).stored → IsKept b ts u n Idle None valid qs
 kept_edited b ss ts w u m n phase last known valid ps qs kept t e q asked good = rw (t, e, q) (record {

@@ -109,7 +109,7 @@ IsUnknown b None = Unit {0}
 IsUnknown b (Some request) = b.known request.kind ≡ false
 
 -- WHAT A RUN THAT IS DONE TELLS, and what is kept of it: a fresh run of the model. It began at the greatest position up to its limit, or with setup where
--- there is none; behind that it executed all events of the fresh run, and it left its positions. It needs no box, or none that there is.
+-- there is none; after that it executed all events of the fresh run, and it left its positions. It needs no box, or none that there is.
 pub record IsFreshRun (b : Behaviour) (before : Editing) (limit : ℕ) (report : Report) (after : Editing) : Type 0 where
   pub outcome : report.outcome ≡ (fresh_run b (answers_of before.model) limit).outcome
   pub started_from : report.started_from ≡ start_of limit before.positions.stored
@@ -142,7 +142,7 @@ pub record IsChangeBy (b : Behaviour) (before : Editing) (e : Edit) (change : Ch
   pub injection : change.edited.injection ≡ number_given e before.model
 
 -- what it leaves. No run waits and none is done; boxes stay until the next run. Of the last run those events are known that stay valid, and those
--- positions stay that are not behind them.
+-- positions stay that are not after them.
 abbrev pub edited_by : Editing → Change → Editing
 edited_by before change = record {
   model = change.model;
@@ -160,7 +160,7 @@ pub record IsAccepted (b : Behaviour) (before : Editing) (e : Edit) (edited : Ed
   pub told : edited ≡ change.edited
   pub left : after ≡ edited_by before change
 
--- WHAT WANT OF MEMORY LEAVES of a run: none waits, and none is done. The positions are those that it stored behind where it began, up to where it stood,
+-- WHAT LACK OF MEMORY LEAVES of a run: none waits, and none is done. The positions are those that it stored after where it began, up to where it stood,
 -- and nothing is known but the events up to the last of them.
 pub record IsGivenUp (b : Behaviour) (before : Editing) (limit : ℕ) (after : Editing) : Type 0 where
   pub stood : Stood

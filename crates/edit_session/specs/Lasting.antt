@@ -1,4 +1,4 @@
--- The values of a model behind an edit.
+-- The values of a model after an edit.
 use Rattle.std.specs.Prelude.{Bool, true, false}
 use Rattle.model_edits.specs.declared.edit.Edit.{Edit}
 use Rattle.model_edits.specs.declared.edit.Edit.TheVariants as edit

@@ -364,7 +364,7 @@ impl<C: Catalogue> Session<C> {
             IfOk result (λ progress.
             IfWant progress (λ request. WaitsFor before limit request after)) }
 
-        // After want of memory no run waits, and none is done; the positions that it stored stay, up to where it stood.
+        // After lack of memory no run waits, and none is done; the positions that it stored stay, up to where it stood.
         ensures memory { let before = editing_of SimpleModule-box self.old in
             OnErr result (IsGivenUp C.behaviour before limit
             (editing_of SimpleModule-box self.new)) }
@@ -383,7 +383,7 @@ impl<C: Catalogue> Session<C> {
         }
     }
 
-    /// The same, but that after want of memory nothing is said of what is known.
+    /// The same, but that after lack of memory nothing is said of what is known.
     fn run_through<W: Observer>(
         &mut self,
         limit: u64,
@@ -547,7 +547,7 @@ impl<C: Catalogue> Session<C> {
     }
 
     /// The last event whose questions are known, where there is one: of a run that is done its last one, after an edit the one that it
-    /// told, after want of memory that of the last position.
+    /// told, after lack of memory that of the last position.
     pub fn known_to(&self) -> Option<u64>
         ensures { result ≡ (editing_of SimpleModule-box self.now).known }
     {

@@ -1,4 +1,4 @@
-//! The model behind an edit, with its values: those of the model before, or found anew.
+//! The model after an edit, with its values: those of the model before, or found anew.
 
 ghost use Rattle.std.specs.Prelude.{◌≡◌, true, IfOk};
 ghost use Rattle.model_settings.specs.Standings.{setting_of};

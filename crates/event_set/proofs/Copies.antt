@@ -1,4 +1,4 @@
--- Entries that are put behind one another.
+-- Entries that are put after one another.
 use Rattle.std.proofs.Common.{◌≡◌, List, [], ◌∷◌, ◌++◌, refl, sym, ap, ◌∙◌, append_assoc, subst}
 use Rattle.std.specs.declared.cmp.Ordering.TheVariants.{Less, Greater}
 use Rattle.std.specs.Ordering.{ordering_reverse}
@@ -11,12 +11,12 @@ use Rattle.event_set.specs.declared.set.Key.{Key}
 use Rattle.event_set.specs.Keys.{key_order}
 use Rattle.event_set.proofs.Keys.{key_total}
 
--- the first comes before the one behind it
+-- the first comes before the one after it
 first_before : (x k : Key) (e : Entry) (xs rest : List (Key × Entry)) → AllByRecursion (λ q. key_order x q ≡ Less) (keys_of (xs ++ (k, e) ∷ rest)) → key_order x k ≡ Less
 first_before x k e [] rest h = h.0
 first_before x k e (y ∷ ys) rest h = first_before x k e ys rest h.1
 
--- an entry whose key comes behind all others goes to the end
+-- an entry whose key comes after all others goes to the end
 put_last : (k : Key) (e : Entry) (xs rest : List (Key × Entry)) → IsStrictlySortedBy key_order (keys_of (xs ++ (k, e) ∷ rest)) → insert_entry key_order xs k e ≡ xs ++ (k, e) ∷ []
 unfolding IsStrictlySortedBy
 put_last k e [] rest h = refl

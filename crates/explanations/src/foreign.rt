@@ -60,7 +60,7 @@ fn copied(alloc: Global, name: &[u8]) -> Result<String, NoMemory> {
     Ok(String::from_str(alloc, text_explanations::names::shown(name))?)
 }
 
-/// What a name may be at which a text can't go on: behind another name, which declares a parameter; or a recording mode.
+/// What a name may be at which a text can't go on: after another name, which declares a parameter; or a recording mode.
 fn own_name(alloc: Global, before: Option<&Token>, name: &[u8]) -> Result<Own, NoMemory> {
     match before {
         Some(Token::Name(kind)) => Ok(Own::Kind(copied(alloc, kind.as_bytes())?)),

@@ -52,7 +52,7 @@ fn half_of(alloc: Global, gate: &Gate, mark: &[u8]) -> Result<Text, NoMemory> {
     Ok(Text::from_vec(name))
 }
 
-/// Whether nothing is behind a hop.
+/// Whether nothing is after a hop.
 fn leads_nowhere(alloc: Global, it: Seen<'_>, question: &Question) -> Result<bool, NoMemory> {
     match it.answers.answer(alloc, it.records, question)? {
         Answer::Next(None) => Ok(true),

@@ -1,4 +1,4 @@
-//! What is wrong with the files of a run, and what would be right: lines for a person, `path:line: ..`.
+//! What is wrong with the files of a run, and what would be right: diagnostics, `path:line: ..`.
 //!
 //! Everything here looks at the files once more, after they were refused or run. It decides nothing.
 #![tactic(auto)]

@@ -81,7 +81,7 @@ fn is_network(alloc: Global, answers: &PlainAnswers<'_>, name: &[u8]) -> Result<
     }
 }
 
-/// The first name of a path, and what is behind the dot that ends it, where one does.
+/// The first name of a path, and what is after the dot that ends it, where one does.
 fn parted(path: &str) -> (&str, Option<&str>) {
     match path.split_once('.') {
         Some((name, rest)) => (name, Some(rest)),

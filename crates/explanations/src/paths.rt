@@ -92,7 +92,7 @@ fn is_named(lines: &str, name: &[u8]) -> bool {
     named(lines, name).is_some()
 }
 
-/// The name of a statistic, and the colon and what stands behind it.
+/// The name of a statistic, and the colon and what stands after it.
 fn split_mode(name: &[u8]) -> (&[u8], &[u8]) {
     for (at, byte) in name.iter().enumerate() {
         if *byte == b':' {
@@ -102,7 +102,7 @@ fn split_mode(name: &[u8]) -> (&[u8], &[u8]) {
     (name, &[])
 }
 
-/// The name of a statistic without what stands behind a colon.
+/// The name of a statistic without what stands after a colon.
 pub fn without_mode(name: &[u8]) -> &[u8] {
     let (statistic, _mode) = split_mode(name);
     statistic
@@ -151,10 +151,10 @@ pub enum Recorded {
     Nowhere,
 }
 
-/// What may stand behind the name of a statistic, with blanks between: nothing, or what makes the names of the scalars and the vector of it.
+/// What may stand after the name of a statistic, with blanks between: nothing, or what makes the names of the scalars and the vector of it.
 const ENDINGS: &str = " :count :sum :min :max :last :vector";
 
-/// What stands behind the name of a statistic where that option is for it.
+/// What stands after the name of a statistic where that option is for it.
 fn endings_of(option: &str) -> &'static str {
     match option {
         "scalar-recording" => ":count :sum :min :max :last",
@@ -372,7 +372,7 @@ impl Paths {
         }
     }
 
-    /// Whether an option is for a statistic with one of these endings behind its name, by a key of that pattern.
+    /// Whether an option is for a statistic with one of these endings after its name, by a key of that pattern.
     fn has_ending(
         &self,
         alloc: Global,
@@ -416,7 +416,7 @@ impl Paths {
         Recorded::Misnamed
     }
 
-    /// Whether there may be a statistic for that key with that option behind it, which has that pattern.
+    /// Whether there may be a statistic for that key with that option after it, which has that pattern.
     pub fn statistic_for(
         &self,
         alloc: Global,
@@ -452,7 +452,7 @@ fn is_for_ending(
     Ok(pattern.matches(name.as_str()))
 }
 
-/// Whether a pattern is for a statistic with one of these endings behind its name, and the option.
+/// Whether a pattern is for a statistic with one of these endings after its name, and the option.
 fn is_for_statistic(
     alloc: Global,
     pattern: &Pattern,

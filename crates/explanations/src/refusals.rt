@@ -82,7 +82,7 @@ fn tell_refusal(told: &mut Explanation, fault: BeginFault, sources: &Sources<'_>
     }
 }
 
-/// What is wrong with files that were refused, and what would be right: a line for a person.
+/// What is wrong with files that were refused, and what would be right: a diagnostic.
 pub fn refusal_line(
     alloc: Global,
     fault: BeginFault,
@@ -93,7 +93,7 @@ pub fn refusal_line(
     told.said()
 }
 
-/// Why files make no model, and what would be right: a line for a person. Empty where they make one.
+/// Why files make no model, and what would be right: a diagnostic. Empty where they make one.
 pub fn why_refused(alloc: Global, sources: &Sources<'_>) -> Result<String, NoMemory> {
     match model_of(alloc, sources.texts, sources.ini, sources.config.as_bytes()) {
         Ok(_) => Ok(String::new(alloc)),
@@ -102,7 +102,7 @@ pub fn why_refused(alloc: Global, sources: &Sources<'_>) -> Result<String, NoMem
     }
 }
 
-/// Why the line of that number of an ini text means nothing, and what would be right: a line for a person.
+/// Why the line of that number of an ini text means nothing, and what would be right: a diagnostic.
 pub fn bad_line(
     alloc: Global,
     path: &str,
@@ -117,7 +117,7 @@ pub fn bad_line(
     told.said()
 }
 
-/// Why a text is neither a connection nor a group of connections, and what would be right: a line for a person.
+/// Why a text is neither a connection nor a group of connections, and what would be right: a diagnostic.
 pub fn bad_connection(alloc: Global, text: &[u8]) -> Result<String, NoMemory> {
     let mut told = Explanation::new(alloc);
     told.say("the connection: ");

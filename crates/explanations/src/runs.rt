@@ -579,7 +579,7 @@ fn tell_run(
     }
 }
 
-/// What is behind the fault that ended a run, which is told with that path, and what to change: a line for a person. Empty where there is no more
+/// What is behind the fault that ended a run, which is told with that path, and what to change: a diagnostic. Empty where there is no more
 /// to say. `classes` are those that the program has modules of.
 pub fn fault_line(
     alloc: Global,

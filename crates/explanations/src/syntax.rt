@@ -16,10 +16,10 @@ use text_explanations::tokens::{tell_token, token_of};
 const GOES_ON: &str =
     "; } { = ( ) [ ] : , parameters gates types submodules connections allowunconnected simple module network channel moduleinterface channelinterface package import extends like if for input output inout bool int string double volatile default @ . .. < > --> <-- <--> ++ $i $o 1 + x";
 
-/// The recording modes, one of which is wanted behind `record=`.
+/// The recording modes, one of which is wanted after `record=`.
 const MODES: &str = "count sum min max last vector";
 
-/// How many tokens are left at the first with which no file goes on, where this stands behind the tokens; none where they
+/// How many tokens are left at the first with which no file goes on, where this stands after the tokens; none where they
 /// are a file with it.
 fn left_behind(
     alloc: Global,
@@ -86,7 +86,7 @@ fn count_angles(found: &[&str]) -> usize {
     count
 }
 
-/// What is wanted behind the tokens: what they can go on with, but where an expression is wanted not what it begins with, where
+/// What is wanted after the tokens: what they can go on with, but where an expression is wanted not what it begins with, where
 /// an operator is wanted no comparison, where anything may stand only what ends that, and where nothing of all that may stand a recording mode.
 fn wanted(alloc: Global, tokens: &mut Items<Token>) -> Result<Vec<&'static str>, NoMemory> {
     let mut found = found_behind(alloc, tokens, GOES_ON)?;
@@ -133,7 +133,7 @@ fn tell_wanted(told: &mut Explanation, wanted: &[&str]) {
     }
 }
 
-/// Says that a text can't go on at a token, or behind its last.
+/// Says that a text can't go on at a token, or after its last.
 fn tell_blamed(told: &mut Explanation, blamed: Option<&Token>) {
     let Some(token) = blamed else {
         return told.say("unexpected end of the text");
@@ -246,7 +246,7 @@ fn parts_at_end(tokens: &[Token]) -> usize {
 /// How deep an expression is nested at most.
 const MOST_DEEP: usize = 64;
 
-/// Whether it may be that tokens can't go on, of which so many are left, as an expression would be nested too deep: an operator or a parenthesis stands there, behind
+/// Whether it may be that tokens can't go on, of which so many are left, as an expression would be nested too deep: an operator or a parenthesis stands there, after
 /// as many others.
 fn may_be_deep(tokens: &[Token], left: usize) -> bool {
     let place = tokens.len().saturating_sub(left);
@@ -263,7 +263,7 @@ fn tell_deep(told: &mut Explanation) {
     told.say(" deep: give a part of it to a parameter of its own, or write its value");
 }
 
-/// Says what of a line is OMNeT++'s own, where it is in place behind the tokens; or else that an expression is nested too deep, where that may be.
+/// Says what of a line is OMNeT++'s own, where it is in place after the tokens; or else that an expression is nested too deep, where that may be.
 fn tell_why(
     told: &mut Explanation,
     tokens: &mut Items<Token>,
@@ -296,7 +296,7 @@ fn tell_list(told: &mut Explanation, tokens: &mut Items<Token>, line: &[u8]) {
 /// What stands before a value in a file.
 const BEFORE_VALUE: &[u8] = b"simple A { int a = ";
 
-/// The tokens of a file that ends behind a text.
+/// The tokens of a file that ends after a text.
 fn tokens_behind(alloc: Global, before: &[u8], text: &[u8]) -> Result<Items<Token>, NoMemory> {
     let mut bytes = Vec::from_slice(alloc, before)?;
     bytes.extend_from_slice(text)?;
@@ -348,7 +348,7 @@ fn count_of(text: &[u8], wanted: u8) -> usize {
     count
 }
 
-/// What is wanted behind the tokens of a connection, which the brace that ends the connections of its module is not.
+/// What is wanted after the tokens of a connection, which the brace that ends the connections of its module is not.
 fn wanted_of_connection(
     alloc: Global,
     tokens: &mut Items<Token>,

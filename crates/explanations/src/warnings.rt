@@ -518,7 +518,7 @@ fn tell_text(told: &mut Explanation, sources: &Sources<'_>, text: &IniText) {
     }
 }
 
-/// Lines for a person on the entries of the configuration that have no effect at all: unknown options; keys that no
+/// Diagnostics on the entries of the configuration that have no effect at all: unknown options; keys that no
 /// parameter or statistic of the network has, or only parameters with a fixed value; and entries of which an earlier one of the same section takes the effect, as it has the same key, or `**.` and the same last name. Where modules stand in vectors or in one another, or are connected, those
 /// whose last name no type declares, or each only with a fixed value. The files make a model. Of very large models only the last of these are told.
 pub fn warning_lines(alloc: Global, sources: &Sources<'_>) -> Result<String, NoMemory> {

@@ -139,7 +139,7 @@ RefusesRemoval name place old (error.Types why) = AreApart (Removed name place) 
 RefusesRemoval name place old (error.NoMemory _) = Unit {0}
 RefusesRemoval name place old _ = ⊥
 
--- EACH REFUSAL but want of memory has its reason, and no reason that comes before it.
+-- EACH REFUSAL but lack of memory has its reason, and no reason that comes before it.
 abbrev pub Refuses : Change → List NedFile → FileError → Type 0
 Refuses (Replaced number text) old e = RefusesReplacement number text old e
 Refuses (Inserted name place text) old e = RefusesInsertion name place text old e

@@ -8,7 +8,7 @@ use sim_values::NoMemory;
 use std::alloc::AllocError;
 use type_building::table::TypeFault;
 
-/// Why files are not changed. Of several reasons the first in this order is told, and want of memory in any place.
+/// Why files are not changed. Of several reasons the first in this order is told, and lack of memory in any place.
 #[derive(Clone, Copy)]
 pub enum FileError {
     /// The text is longer than 1 MiB.

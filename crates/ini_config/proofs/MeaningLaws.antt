@@ -176,7 +176,7 @@ line_same bytes (line.Entry e) line.Comment p q = absurd (comment_begins bytes q
 line_same bytes (line.Entry e) (line.Section b) p q = absurd (section_no_entry bytes b e.key e.value q p.parted)
 line_same bytes (line.Entry e) (line.Entry f) p q = ap line.Entry (one_entry bytes f e q.parted (λ m is. meaning_same f.key f.value m f.meaning is q.says) p)
 
--- the section behind a line, by its name if it is one
+-- the section after a line, by its name if it is one
 pub after_section : (section : Option Bytes) (bytes name text : Bytes) → IsSection bytes name → text ≡ name → (m : LineMeaning) → IsLine bytes m → Some text ≡ section_behind section m
 after_section section bytes name text is same m means = ap Some same ∙ ap (section_behind section) (line_same bytes (line.Section name) m is means)
 

@@ -120,7 +120,7 @@ literal_none false (Some m) h = absurd cc
 
 -- ---- comments
 
--- behind an unclosed `"` no text literal begins
+-- after an unclosed `"` no text literal begins
 pub no_literal : (taken : Bool) (bs : Bytes) → literal_rest taken bs ≡ None → uncommented 0 bs ≡ before_hash bs
 unfolding uncommented before_hash literal_rest
 no_literal taken [] h = refl

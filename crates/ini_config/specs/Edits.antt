@@ -28,7 +28,7 @@ holds_feed text = list_any (λ b. b == 10) text
 abbrev pub is_line : ℕ → List IniLine → Bool
 is_line n lines = nat_le 1 n && nat_le n (length lines)
 
--- there is a line of this number, or it is the number behind the last
+-- there is a line of this number, or it is the number after the last
 abbrev pub is_place : ℕ → List IniLine → Bool
 is_place n lines = nat_le 1 n && nat_le n (length lines + 1)
 
@@ -85,7 +85,7 @@ pub record IsEdited (edit : Edit) (edited : List IniLine) : Type 0 where
   pub whole : edit.broken ≡ false
   pub means : IsIniText (bytes_of edit.lines) edited
 
--- this text, or want of memory
+-- this text, or lack of memory
 abbrev pub AnswersEdit : List IniLine → Result (List IniLine) EditError → Type 0
 AnswersEdit lines (Ok edited) = edited ≡ lines
 AnswersEdit lines (Err (errors.NoMemory _)) = Unit {0}

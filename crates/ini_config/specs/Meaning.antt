@@ -35,7 +35,7 @@ begins_entry [] = false
 begins_entry (b ∷ bs) = is_first_of_entry b
 
 -- The text is a key, the first `=`, and a value. Blanks round the `=` and at the end of the value belong to neither,
--- and a comment behind the value doesn't.
+-- and a comment after the value doesn't.
 pub record IsParted (bytes key text : Bytes) : Type 0 where
   pub at : ℕ
   pub first : position (λ b. b == 61) bytes ≡ Some at
@@ -131,7 +131,7 @@ Settles bytes (Err (errors.NoMemory _)) = Unit {0}
 Settles bytes (Err errors.TooLarge) = ⊥
 Settles bytes (Err (errors.IniSyntax bad why)) = FirstBadOf bad 1 None bytes × Tells (AreLines None bytes) None
 
--- What was read of the line of this number, in this section, and put behind these lines, or why it was refused.
+-- What was read of the line of this number, in this section, and put after these lines, or why it was refused.
 abbrev pub SettlesLine : Option Bytes → Bytes → ℕ → List IniLine → List IniLine → Result (Unit {0}) IniError → Type 0
 SettlesLine section bytes number before behind (Ok done) =
     (read : IniLine) × Tells (IsIniLine section bytes) (Some read) × (behind ≡ before ++ read ∷ [])
@@ -140,14 +140,14 @@ SettlesLine section bytes number before behind (Err errors.TooLarge) = ⊥
 SettlesLine section bytes number before behind (Err (errors.IniSyntax bad why)) =
     (bad ≡ number) × Tells (IsIniLine section bytes) None
 
--- this value, or want of memory
+-- this value, or lack of memory
 abbrev pub Answers : {X : Type 0} → X → Result X IniError → Type 0
 Answers x (Ok found) = found ≡ x
 Answers x (Err (errors.NoMemory _)) = Unit {0}
 Answers x (Err errors.TooLarge) = ⊥
 Answers x (Err (errors.IniSyntax line why)) = ⊥
 
--- Each refusal but want of memory has its reason.
+-- Each refusal but lack of memory has its reason.
 abbrev pub Explains : Bytes → IniError → Type 0
 Explains bytes (errors.NoMemory _) = Unit {0}
 Explains bytes errors.TooLarge = max_length < length bytes

@@ -21,14 +21,14 @@ abbrev pub after_feed : Bytes → Option Bytes
 after_feed [] = None
 after_feed (b ∷ bs) = if b == 10 then Some bs else None
 
--- what is behind the end of a line, where the text begins with one
+-- what is after the end of a line, where the text begins with one
 abbrev pub after_line_end : Bytes → Option Bytes
 after_line_end [] = None
 after_line_end (b ∷ bs) = if b == 10 then Some bs else (if b == 13 then after_feed bs else None)
 
 -- ---- comments
 
--- In a text literal, as NED writes it, a `\` takes the byte behind it along. So of `\\` the second is taken, and a `"` behind
+-- In a text literal, as NED writes it, a `\` takes the byte after it along. So of `\\` the second is taken, and a `"` after
 -- the two ends the literal. (OMNeT++ Simulation Manual, "NED Language Grammar", the token of a text.)
 -- whether this byte takes the next one along, where it is itself taken or not
 abbrev pub takes_next : Bool → ℕ → Bool
@@ -38,13 +38,13 @@ takes_next taken b = not taken && b == 92
 abbrev pub ends_literal : Bool → ℕ → Bool
 ends_literal taken b = not taken && b == 34
 
--- How many bytes a text literal still has, behind its first `"` or any byte of it:
+-- How many bytes a text literal still has, after its first `"` or any byte of it:
 -- up to the first `"` that no `\` takes along. None where there is no such.
 unfoldable pub literal_rest : Bool → Bytes → Option ℕ
 literal_rest taken [] = None
 literal_rest taken (b ∷ bs) = if ends_literal taken b then Some 1 else option_map (λ n. suc n) (literal_rest (takes_next taken b) bs)
 
--- how many bytes of a text literal follow this byte: none but behind a `"` that is closed
+-- how many bytes of a text literal follow this byte: none but after a `"` that is closed
 abbrev pub literal_behind : ℕ → Bytes → ℕ
 literal_behind b bs = if b == 34 then unwrap_or (literal_rest false bs) 0 else 0
 
@@ -59,13 +59,13 @@ unfoldable pub before_hash : Bytes → Bytes
 before_hash [] = []
 before_hash (b ∷ bs) = if b == 35 then [] else b ∷ before_hash bs
 
--- the value, of what is behind the `=`
+-- the value, of what is after the `=`
 abbrev pub value_text : Bytes → Bytes
 value_text bytes = before_blanks (after_blanks (uncommented 0 bytes))
 
 -- ---- variables
 
--- whether `${` is in the text, behind this byte
+-- whether `${` is in the text, after this byte
 unfoldable pub holds_variable : ℕ → Bytes → Bool
 holds_variable before [] = false
 holds_variable before (b ∷ bs) = (before == 36 && b == 123) || holds_variable b bs

@@ -24,7 +24,7 @@ fn first_lines(lines: &[IniLine], count: usize) -> &[IniLine]
     }
 }
 
-/// The lines behind the first, of which there are at most so many.
+/// The lines after the first, of which there are at most so many.
 fn lines_behind(lines: &[IniLine], count: usize) -> &[IniLine]
     ensures { result.now ≡ drop count lines.now }
 {
@@ -56,7 +56,7 @@ fn holds_feed(text: &[u8]) -> bool
     text.iter().any(|b| *b == b'\n')
 }
 
-/// The room that is left behind a line and its LF, where they fit.
+/// The room that is left after a line and its LF, where they fit.
 fn room_after(room: usize, line: &[u8]) -> Option<usize>
     ensures { MatchOption result (room < length line.now + 1)
         (λ left. left + (length line.now + 1) ≡ room) }
@@ -68,7 +68,7 @@ fn room_after(room: usize, line: &[u8]) -> Option<usize>
     }
 }
 
-/// The room that is left behind lines, each with its LF, where they fit.
+/// The room that is left after lines, each with its LF, where they fit.
 fn room_behind(room: usize, lines: &[IniLine]) -> Option<usize>
     ensures { MatchOption result (room < length (bytes_of (texts_of lines.now)))
         (λ left. left + length (bytes_of (texts_of lines.now)) ≡ room) }
@@ -227,7 +227,7 @@ fn edited_without(
     reread(alloc, bytes.as_slice())
 }
 
-/// The text with a line put before the line of that number. The number behind the last line adds one at the end.
+/// The text with a line put before the line of that number. The number after the last line adds one at the end.
 pub fn with_inserted(
     alloc: Global,
     ini: &IniText,

@@ -31,7 +31,7 @@ impl From<AllocError> for IniError {
     }
 }
 
-/// Why an edit of an ini text is refused. Of several reasons the first in this order is told, and want of memory in any
+/// Why an edit of an ini text is refused. Of several reasons the first in this order is told, and lack of memory in any
 /// place.
 #[derive(Clone, Copy, Debug, PartialEq, Eq, Error)]
 pub enum EditError {

@@ -222,7 +222,7 @@ fn line_meaning(alloc: Global, line: &[u8]) -> Result<LineMeaning, Unread>
     }
 }
 
-/// The section that the lines behind a line stand in, where this line stands in `section` and means something.
+/// The section that the lines after a line stand in, where this line stands in `section` and means something.
 fn section_after(
     alloc: Global,
     section: Option<Text>,
@@ -273,7 +273,7 @@ fn ini_line(alloc: Global, section: &Option<Text>, line: &[u8]) -> Result<IniLin
     }
 }
 
-/// Reads the line of that number, which stands in this section, behind those that were read.
+/// Reads the line of that number, which stands in this section, after those that were read.
 fn push_ini_line(
     alloc: Global,
     lines: &mut Items<IniLine>,

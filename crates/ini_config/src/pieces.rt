@@ -5,7 +5,7 @@ ghost use Rattle.ini_config.specs.Texts as texts;
 
 use ini_entries::blanks::{after_blanks, before_blanks};
 
-/// What is behind an LF, where the text begins with one.
+/// What is after an LF, where the text begins with one.
 fn after_feed(bytes: &[u8]) -> Option<&[u8]>
     ensures { option_map (λ rest. rest.now) result ≡ texts.after_feed bytes.now }
 {
@@ -15,7 +15,7 @@ fn after_feed(bytes: &[u8]) -> Option<&[u8]>
     }
 }
 
-/// What is behind the end of a line, where the text begins with one.
+/// What is after the end of a line, where the text begins with one.
 fn after_line_end(bytes: &[u8]) -> Option<&[u8]>
     ensures { option_map (λ rest. rest.now) result ≡ texts.after_line_end bytes.now }
 {
@@ -33,7 +33,7 @@ fn after_line_end(bytes: &[u8]) -> Option<&[u8]>
     }
 }
 
-/// The first line, without its end, and what is behind that.
+/// The first line, without its end, and what is after that.
 pub(crate) fn first_ini_line(bytes: &[u8]) -> (&[u8], &[u8])
     requires { 0 < length bytes.now }
     ensures lines { texts.lines_of_ini bytes.now ≡ result.0.now ∷ texts.lines_of_ini result.1.now }
@@ -64,7 +64,7 @@ fn takes_next(taken: bool, byte: u8) -> bool
     !taken && byte == b'\\'
 }
 
-/// How many bytes a text literal still has, behind its first `"`.
+/// How many bytes a text literal still has, after its first `"`.
 fn literal_rest(bytes: &[u8]) -> Option<usize>
     ensures value { result ≡ texts.literal_rest false bytes.now }
     ensures within { IfSome result (λ n. n ≤ length bytes.now) }
@@ -115,7 +115,7 @@ fn uncommented_length(bytes: &[u8]) -> usize
     end
 }
 
-/// The value, of what is behind the `=`.
+/// The value, of what is after the `=`.
 pub(crate) fn value_text(bytes: &[u8]) -> &[u8]
     ensures { result.now ≡ texts.value_text bytes.now }
 {

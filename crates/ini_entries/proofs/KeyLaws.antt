@@ -61,7 +61,7 @@ parted (Some part) parts rest found = refl
 parted None true rest found = refl
 parted None false rest found = refl
 
--- behind a byte
+-- after a byte
 abbrev Steps : KeyPlace → ℕ → Bytes → Option Bytes → Option Bytes → Type 0
 Steps place b bs found kept =
     reached place false (b ∷ bs) found kept ≡ reached (place_behind place b true) (eqb b 92) bs (found_behind place b bs found kept) (kept_behind place b found kept)
@@ -143,7 +143,7 @@ byte_step InSetInBrackets b bs found kept = inner_set_step b bs found kept
 split : (place : KeyPlace) (was escaped : Bool) (rest : Bytes) (b : ℕ) (after : Bytes) (found kept whole : Option Bytes) → escaped ≡ was → rest ≡ b ∷ after → reached place escaped rest found kept ≡ whole → reached place was (b ∷ after) found kept ≡ whole
 split place was escaped rest b after found kept whole t e h = subst (λ (l : Bytes). reached place was l found kept ≡ whole) e (subst (λ (x : Bool). reached place x rest found kept ≡ whole) t h)
 
--- a byte behind a `\`
+-- a byte after a `\`
 pub escaped_reached : (place : KeyPlace) (escaped : Bool) (rest : Bytes) (b : ℕ) (after : Bytes) (found kept whole : Option Bytes) → escaped ≡ true → rest ≡ b ∷ after → reached place escaped rest found kept ≡ whole → reached place false after found kept ≡ whole
 escaped_reached place escaped rest b after found kept whole t e h =
     sym (escaped_step place b after found kept) ∙ split place true escaped rest b after found kept whole t e h

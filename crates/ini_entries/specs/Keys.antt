@@ -8,7 +8,7 @@ use Rattle.ini_texts.specs.Words.{Bytes, word_typename}
 
 -- ---- sets and brackets
 
--- whether the bytes behind this one are in a set, where it is in one or not
+-- whether the bytes after this one are in a set, where it is in one or not
 abbrev pub in_set_behind : Bool → ℕ → Bool
 in_set_behind true b = if b == 125 then false else true
 in_set_behind false b = b == 123
@@ -18,7 +18,7 @@ abbrev pub is_closing : Bool → ℕ → Bool
 is_closing true b = false
 is_closing false b = b == 93
 
--- whether such a `]` follows, where the bytes before are in a set or not; a byte behind a `\` stands for itself
+-- whether such a `]` follows, where the bytes before are in a set or not; a byte after a `\` stands for itself
 unfoldable pub is_closed_from : Bool → Bool → Bytes → Bool
 is_closed_from in_set escaped [] = false
 is_closed_from in_set true (b ∷ bs) = is_closed_from in_set false bs
@@ -28,7 +28,7 @@ is_closed_from in_set false (b ∷ bs) = if is_closing in_set b then true else i
 abbrev pub is_closed : Bytes → Bool
 is_closed bytes = is_closed_from false false bytes
 
--- where the bytes behind this one stand, where a `]` closes what follows or not; a `{` opens a set between brackets too
+-- where the bytes after this one stand, where a `]` closes what follows or not; a `{` opens a set between brackets too
 abbrev pub place_behind : KeyPlace → ℕ → Bool → KeyPlace
 place_behind Open b closed = if b == 123 then InSet else (if b == 91 && closed then InBrackets else Open)
 place_behind InSet b closed = if b == 125 then Open else InSet
@@ -50,13 +50,13 @@ or_rest (Some part) parts rest = Some part
 or_rest None true rest = Some rest
 or_rest None false rest = None
 
--- what stands behind the last dot that parts the key; a byte behind a `\` stands for itself
+-- what stands after the last dot that parts the key; a byte after a `\` stands for itself
 unfoldable pub last_part_from : KeyPlace → Bool → Bytes → Option Bytes
 last_part_from place escaped [] = None
 last_part_from place true (b ∷ bs) = last_part_from place false bs
 last_part_from place false (b ∷ bs) = or_rest (last_part_from (place_behind place b (is_closed bs)) (b == 92) bs) (is_parting place b) bs
 
--- THE LAST PART of a key: what stands behind its last dot outside `{}` and `[]` that no `\` stands before
+-- THE LAST PART of a key: what stands after its last dot outside `{}` and `[]` that no `\` stands before
 abbrev pub last_part : Bytes → Option Bytes
 last_part key = last_part_from Open false key
 
@@ -82,7 +82,7 @@ abbrev pub is_hyphen : Bool → ℕ → Bool
 is_hyphen true b = false
 is_hyphen false b = b == 45
 
--- whether one follows, where the bytes before are in a set or not; a byte behind a `\` stands for itself
+-- whether one follows, where the bytes before are in a set or not; a byte after a `\` stands for itself
 unfoldable pub has_hyphen_from : Bool → Bool → Bytes → Bool
 has_hyphen_from in_set escaped [] = false
 has_hyphen_from in_set true (b ∷ bs) = if is_hyphen in_set b then true else has_hyphen_from in_set false bs
@@ -109,7 +109,7 @@ abbrev pub kind_by : Option Bytes → KeyKind
 kind_by None = OptionKey
 kind_by (Some part) = kind_of_part part
 
--- THE KIND of a key: without a part behind a dot it is an option; with a `-` there a per-object option; `typename` is for
+-- THE KIND of a key: without a part after a dot it is an option; with a `-` there a per-object option; `typename` is for
 -- types, and all else for parameters
 abbrev pub kind_of : Bytes → KeyKind
 kind_of key = kind_by (last_part key)

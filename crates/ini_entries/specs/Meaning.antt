@@ -62,7 +62,7 @@ abbrev pub Tells : {X : Type 0} → (X → Type 0) → Option X → Type 0
 Tells P (Some x) = P x × ((y : _) → P y → y ≡ x)
 Tells P None = (y : _) → P y → ⊥
 
--- What was found is the only one; where nothing was found, for whichever reason, there is none. Want of memory says nothing.
+-- What was found is the only one; where nothing was found, for whichever reason, there is none. Lack of memory says nothing.
 abbrev pub Finds : {X : Type 0} → (X → Type 0) → Result X Unread → Type 0
 Finds P (Ok x) = P x × ((y : _) → P y → y ≡ x)
 Finds P (Err (unread.MeansNothing why)) = (y : _) → P y → ⊥

@@ -22,7 +22,7 @@ is_spelled (b ∷ bs) = begins_name b && list_all goes_on_name bs
 abbrev pub is_name : Bytes → Bool
 is_name bytes = is_spelled bytes && is_none (keyword_of bytes)
 
--- names parted by dots: that of a package and a type, or of a type alone
+-- names separated by dots: that of a package and a type, or of a type alone
 abbrev pub is_dotted_name : Bytes → Bool
 is_dotted_name bytes = list_all is_name (parts_at 46 bytes)
 

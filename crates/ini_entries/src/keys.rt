@@ -21,7 +21,7 @@ pub(crate) enum KeyPlace {
     InSetInBrackets,
 }
 
-/// Where the bytes behind this one stand, where each `[` is taken for a bracket.
+/// Where the bytes after this one stand, where each `[` is taken for a bracket.
 fn place_behind(place: KeyPlace, byte: u8) -> KeyPlace
     ensures { result ≡ keys.place_behind place byte true }
 {
@@ -36,7 +36,7 @@ fn place_behind(place: KeyPlace, byte: u8) -> KeyPlace
     }
 }
 
-/// What is found behind this byte: the last part, if no `]` closes the bracket that it is in.
+/// What is found after this byte: the last part, if no `]` closes the bracket that it is in.
 fn found_behind<'a>(
     place: KeyPlace,
     byte: u8,
@@ -54,7 +54,7 @@ fn found_behind<'a>(
     }
 }
 
-/// What was found outside brackets, behind this byte.
+/// What was found outside brackets, after this byte.
 fn kept_behind<'a>(
     place: KeyPlace,
     byte: u8,
@@ -69,7 +69,7 @@ fn kept_behind<'a>(
     }
 }
 
-/// What stands behind the last dot that parts the key.
+/// What stands after the last dot that parts the key.
 pub(crate) fn last_part(key: &[u8]) -> Option<&[u8]>
     ensures { option_copied result ≡ keys.last_part key.now }
 {
@@ -93,7 +93,7 @@ pub(crate) fn last_part(key: &[u8]) -> Option<&[u8]>
     found
 }
 
-/// Whether the bytes behind this one stand in a set.
+/// Whether the bytes after this one stand in a set.
 fn in_set_behind(in_set: bool, byte: u8) -> bool
     ensures { result ≡ keys.in_set_behind in_set byte }
 {

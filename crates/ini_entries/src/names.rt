@@ -43,7 +43,7 @@ fn is_name(bytes: &[u8]) -> bool
     is_spelled(bytes) && keyword_of(bytes).is_none()
 }
 
-/// Whether the bytes are names parted by dots.
+/// Whether the bytes are names separated by dots.
 pub(crate) fn is_dotted_name(bytes: &[u8]) -> bool
     ensures { result ≡ names.is_dotted_name bytes.now }
 {

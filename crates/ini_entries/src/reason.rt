@@ -22,7 +22,7 @@ pub enum Reason {
     NoKey,
     /// Its key has a blank, or a byte that is not ASCII.
     BadKey,
-    /// Nothing stands behind its `=`.
+    /// Nothing stands after its `=`.
     NoValue,
     /// Its value is not UTF-8.
     BadValue,

@@ -192,7 +192,7 @@ some_same h = cc
 pub none_some : {A : Type 0} {x : A} → None ≡ Some x → ⊥
 none_some h = cc
 
--- an end of a text is the text, or an end of what stands behind its first character
+-- an end of a text is the text, or an end of what stands after its first character
 pub ends_split : (from m : List ℕ) → EndsWith from m → (from ≡ m) ⊎ ((c : ℕ) × (more : List ℕ) × (from ≡ c ∷ more) × EndsWith more m)
 ends_split from m ([], e) = inl e
 ends_split from m (c ∷ f, e) = inr (c, f ++ m, e, (f, refl))

@@ -44,7 +44,7 @@ about_path ps at h =
           )
     ]
 
--- what is behind a `**` may begin at any end of what is left
+-- what is after a `**` may begin at any end of what is left
 behind_path : (back : List Piece) (m r : List ℕ) → EndsWith r m → Covers (AnyPath ∷ back) m [] → MatchesEnd back r
 behind_path back m r ends w = (w.1, ends_trans r m w.1 ends (w.0, w.2), w.4)
 

@@ -41,7 +41,7 @@ end_passes : (passes : List ℕ → Bool) (front end : List ℕ) → passes end 
 end_passes passes [] end h = end_here passes end h
 end_passes passes (c ∷ front) end h = or_second _ _ (end_passes passes front end h)
 
--- an end that stands behind no dot, or before the first one
+-- an end that stands after no dot, or before the first one
 abbrev ANearEnd : (List ℕ → Bool) → List ℕ → Type 0
 ANearEnd passes name = (front end : List ℕ) × (name ≡ front ++ end) × (has_no_dot front ≡ true) × (passes end ≡ true)
 

@@ -46,7 +46,7 @@ within_path : (ps : List Piece) (name from other : List ℕ) → EndsWith name f
 within_path ps name from other ends covers =
     ends_within other name (ends_trans name from other ends (covers_end ps from other covers))
 
--- behind a `**` the pieces may begin at any end of the name
+-- after a `**` the pieces may begin at any end of the name
 pub told_anywhere : {A : Type 0} (view : A → List ℕ) (ps : List Piece) (to_end : Bool) (name : List ℕ) (r : Option A) → MatchOption r (HasNoneWithin (AnyPath ∷ ps) to_end name name) (λ x. IsLongestWithin (AnyPath ∷ ps) to_end name name (view x)) → MatchOption r (HasNoRestAnywhere ps to_end name) (λ x. IsLongestAnywhere ps to_end name (view x))
 told_anywhere view ps to_end name None h = λ from rest ends covers stops.
     h rest (ends.0, from, ends.1, tt, covers) (stops, within_path ps name from rest ends covers)
@@ -72,7 +72,7 @@ pub fixed_short : (ps : List Piece) (to_end : Bool) (floor name rest : List ℕ)
 fixed_short ps to_end floor name rest fixed v long other covered may =
     long (subst (λ l. size l ≤ size floor) (sym (one_rest ps name rest other fixed v covered)) may.1)
 
--- pieces up to the star of a number, and behind it
+-- pieces up to the star of a number, and after it
 whole_step : (n : ℕ) (p : Piece) (l : List Piece) (b : Bool) → to_star n l ++ after_star n l ≡ l → to_star (suc n) l ++ after_star (suc n) l ≡ l → (p ∷ cond b (to_star n l) (to_star (suc n) l)) ++ cond b (after_star n l) (after_star (suc n) l) ≡ p ∷ l
 whole_step n p l true v w = ap (λ k. p ∷ k) v
 whole_step n p l false v w = ap (λ k. p ∷ k) w
@@ -141,7 +141,7 @@ no_stars_fixed (p ∷ ps) s n =
       | inr f ↦ and_from _ _ (and_from _ _ open_way.0 (rw f refl)) (no_stars_fixed ps open_way.1 (omega (arith, n, star_counted p ps false f)))
     ]
 
--- a rest that is longer than the floor: a star behind it cannot get to the floor
+-- a rest that is longer than the floor: a star after it cannot get to the floor
 pub floor_ends : (name floor : List ℕ) → IsFloor name floor → EndsWith name floor
 floor_ends name floor (inl e) = ([], e)
 floor_ends name floor (inr (f, e)) = (f ++ 46 ∷ [], e ∙ sym (append_assoc f (46 ∷ []) floor))

@@ -73,7 +73,7 @@ total_set [] i v h = absurd (omega (arith, h))
 total_set (x ∷ xs) zero v h = omega arith
 total_set (x ∷ xs) (suc i) v h = omega (arith, total_set xs i v (le_of_suc-le-suc h))
 
--- the pieces behind a star, and where it can be
+-- the pieces after a star, and where it can be
 abbrev pub behind : ℕ → ℕ → List Piece → List Piece
 behind n zero ps = ps
 behind n (suc j) ps = after_star n (behind n j ps)
@@ -92,7 +92,7 @@ reach_end n anywhere ps name zero t w = covers_end (opening anywhere) name t w
 reach_end n anywhere ps name (suc j) t w =
     ends_trans name w.0 t (reach_end n anywhere ps name j w.0 w.1) (covers_end (to_star n (behind n j ps)) w.0 t w.2)
 
--- what the pieces up to a star and those behind it take
+-- what the pieces up to a star and those after it take
 step_joins : (n : ℕ) (l : List Piece) (s t u : List ℕ) → Covers (to_star n l) s t → Covers (after_star n l) t u → Covers l s u
 step_joins n l s t u v w =
     subst (λ k. Covers k s u) (star_whole n l) (covers_append (to_star n l) (after_star n l) s t u v w)
@@ -313,7 +313,7 @@ reach_more n anywhere ps name (suc j) c b before w open_way ne =
     let k = before j (omega arith) in
     (w.0, w.1, front_more k.0 (to_star n (behind n j ps)) w.0 b c k.1 (ne (omega arith)) w.2)
 
--- the place moves on behind a character
+-- the place moves on after a character
 pub placed_on : (n : ℕ) (anywhere : Bool) (ps : List Piece) (to_end : Bool) (floor name : List ℕ) (texts : List (Bor (List ℕ))) (lefts : List (Bor (List Piece))) (at : ℕ) (c : ℕ) (more : Bor (List ℕ)) → Placed n anywhere ps to_end floor name texts lefts at → IsStuck n (pieces_at lefts at) to_end (text_at texts at) (text_at texts (at + 1)) floor → text_at texts at ≡ c ∷ chars more.now → (at ≡ 0 → anywhere ≡ true) → (0 < at → c ≢ 46) → Placed n anywhere ps to_end floor name (set texts at more) lefts at
 placed_on n anywhere ps to_end floor name texts lefts at c more w stuck e open_way ne =
     let inside : at < length texts = omega (arith, w.few, w.room) in
@@ -332,7 +332,7 @@ placed_on n anywhere ps to_end floor name texts lefts at c more w stuck e open_w
       under = λ j h k. subst (λ l. IsFloor name l) (sym (text_kept texts at j more (λ same. lt_irrefl j (subst (λ i. i < j) (sym same) h)))) (w.under j h k);
     }
 
--- the place moves on behind a dot: the star before is next
+-- the place moves on after a dot: the star before is next
 behind_dot : (name here more : List ℕ) (c : ℕ) → EndsWith name here → here ≡ c ∷ more → c ≡ 46 → IsFloor name more
 behind_dot name here more c w e d = inr (w.0, w.1 ∙ ap (λ l. w.0 ++ l) (e ∙ ap (λ k. k ∷ more) d))
 

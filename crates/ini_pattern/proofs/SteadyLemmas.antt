@@ -237,7 +237,7 @@ slid_on ps to_end name here behind c w h ne none = record {
       ends_next here from behind c (w.left before from other f clear v stops) h (λ same. none other (subst (λ l. Covers ps l other) (sym same) v) stops);
 }
 
--- the first pieces, then behind a star
+-- the first pieces, then after a star
 pub begin_star : (ps front back : List Piece) (n r : List ℕ) → ps ≡ front ++ (AnyName ∷ back) → list_all is_fixed front ≡ true → Covers front n r → (u : List ℕ) → Covers ps n u ↔ Covers (AnyName ∷ back) r u
 begin_star ps front back n r e f v u = (
   λ w.
@@ -272,7 +272,7 @@ step_none left front back here u e none w =
     let parts = covers_split front (AnyName ∷ back) w.1 u (subst (λ l. Covers l w.1 u) e w.4) in
     none w.0 w.1 parts.0 w.2 w.3 parts.1 tt
 
--- the pieces leave what those behind the last star leave
+-- the pieces leave what those after the last star leave
 pub record SteadySoFar (ps left : List Piece) (name here : List ℕ) : Type 0 where
   pub steady : list_all is_steady left ≡ true
   pub same : (u : List ℕ) → Covers ps name u ↔ Covers (AnyName ∷ left) here u
@@ -328,7 +328,7 @@ pub told_slide : {A : Type 0} (view : A → List ℕ) (ps left : List Piece) (to
 told_slide view ps left to_end name here None w n h = last_none ps left to_end name here w h
 told_slide view ps left to_end name here (Some x) w n h = last_star ps left to_end name here (view x) w n h
 
--- the longest rest behind the first star
+-- the longest rest after the first star
 pub told_star : {A : Type 0} (view : A → List ℕ) (ps front back : List Piece) (to_end : Bool) (name here : List ℕ) (r : Option A) → list_all is_fixed front ≡ true → ps ≡ front ++ (AnyName ∷ back) → Covers front name here → MatchOption r (HasNoRest (AnyName ∷ back) to_end here) (λ x. IsLongestRest (AnyName ∷ back) to_end here (view x)) → MatchOption r (HasNoRest ps to_end name) (λ x. IsLongestRest ps to_end name (view x))
 told_star view ps front back to_end name here None fixed e v h = λ other covered stops.
     h other ((begin_star ps front back name here e fixed v other).0 covered) stops

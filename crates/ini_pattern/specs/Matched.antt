@@ -9,7 +9,7 @@ abbrev pub any_end : (List ℕ → Bool) → List ℕ → Bool
 any_end passes [] = passes []
 any_end passes (c ∷ cs) = passes (c ∷ cs) || any_end passes cs
 
--- one of the ends that stand behind no dot, or before the first one, passes
+-- one of the ends that stand after no dot, or before the first one, passes
 abbrev pub any_near_end : (List ℕ → Bool) → List ℕ → Bool
 any_near_end passes [] = passes []
 any_near_end passes (c ∷ cs) = passes (c ∷ cs) || (not (c == 46) && any_near_end passes cs)

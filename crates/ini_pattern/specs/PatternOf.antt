@@ -13,12 +13,12 @@ abbrev pub begins_with : ℕ → List ℕ → Bool
 begins_with c [] = false
 begins_with c (d ∷ ds) = d == c
 
--- the character behind a backslash, and the rest
+-- the character after a backslash, and the rest
 abbrev pub after_backslash : List ℕ → Option (ℕ × List ℕ)
 after_backslash [] = None
 after_backslash (c ∷ cs) = Some (c, cs)
 
--- one character of a set, and the rest: a backslash stands for the character behind it
+-- one character of a set, and the rest: a backslash stands for the character after it
 abbrev pub set_char : List ℕ → Option (ℕ × List ℕ)
 set_char [] = None
 set_char (c ∷ cs) = if c == 92 then after_backslash cs else Some (c, cs)
@@ -53,11 +53,11 @@ abbrev pub set_of : Bool → List CharRange → Option Piece
 set_of negated [] = None
 set_of negated (range ∷ ranges) = Some (Set negated (range ∷ ranges))
 
--- a set of ranges, and the rest behind its closing brace
+-- a set of ranges, and the rest after its closing brace
 abbrev pub set_and_rest : Bool → List CharRange × List ℕ → Option (Piece × List ℕ)
 set_and_rest negated found = option_map (λ piece. (piece, found.1)) (set_of negated found.0)
 
--- a set and the rest, where the text goes on behind its opening brace: `^` negates it
+-- a set and the rest, where the text goes on after its opening brace: `^` negates it
 abbrev pub set_in : List ℕ → Option (Piece × List ℕ)
 set_in text =
     if begins_with 94 text
@@ -74,7 +74,7 @@ abbrev pub after_digits : List ℕ → List ℕ
 after_digits [] = []
 after_digits (c ∷ cs) = if is_ascii_digit c then after_digits cs else c ∷ cs
 
--- the digits of two bounds of a number, and the rest behind them
+-- the digits of two bounds of a number, and the rest after them
 pub record Bounds : Type 0 where
   pub low : List ℕ
   pub high : List ℕ
@@ -107,17 +107,17 @@ number_between low high =
     if nat_le (length low) 18 && nat_le (length high) 18 then number_up_to (digits_value 10 low) high
     else None
 
--- such a number, and the rest behind its bounds
+-- such a number, and the rest after its bounds
 abbrev pub number_and_rest : Bounds → Option Piece × List ℕ
 number_and_rest bounds = (number_between bounds.low bounds.high, bounds.rest)
 
--- what stands behind an opening brace: bounds of a number, or else a set
+-- what stands after an opening brace: bounds of a number, or else a set
 abbrev pub braced : List ℕ → Option Bounds → Option (List Piece × List ℕ)
 braced text None = option_map (λ found. (found.0 ∷ [], found.1)) (set_in text)
 braced text (Some bounds) =
     option_map (λ piece. (piece ∷ [], bounds.rest)) (number_between bounds.low bounds.high)
 
--- what stands behind an opening bracket: bounds of a number and a bracket, or else anything
+-- what stands after an opening bracket: bounds of a number and a bracket, or else anything
 abbrev pub bracketed : List ℕ → Option Bounds → Option (List Piece × List ℕ)
 bracketed text None = Some (Char 91 ∷ [], text)
 bracketed text (Some bounds) =

@@ -21,7 +21,7 @@ abbrev pub stars : List Piece → ℕ
 stars [] = 0
 stars (piece ∷ pieces) = (if is_any_name piece then 1 else 0) + stars pieces
 
--- the pieces up to the `*` of this number, and those behind it
+-- the pieces up to the `*` of this number, and those after it
 abbrev pub to_star : ℕ → List Piece → List Piece
 to_star zero pieces = []
 to_star (suc number) [] = []
@@ -50,7 +50,7 @@ pub record IsLongestWithin (pieces : List Piece) (to_end : Bool) (floor name res
 abbrev pub HasNoneWithin : List Piece → Bool → List ℕ → List ℕ → Type 0
 HasNoneWithin pieces to_end floor name = (rest : List ℕ) → Covers pieces name rest → MayBeLeft to_end floor rest → ⊥
 
--- a text is the name, or stands directly behind a dot of it
+-- a text is the name, or stands right after a dot of it
 abbrev pub IsFloor : List ℕ → List ℕ → Type 0
 IsFloor name floor = (name ≡ floor) ⊎ ((front : List ℕ) × (name ≡ front ++ (46 ∷ floor)))
 

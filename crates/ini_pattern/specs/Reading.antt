@@ -103,7 +103,7 @@ HasNoRestAnywhere pieces to_end name =
 abbrev pub MatchesEnd : List Piece → List ℕ → Type 0
 MatchesEnd pieces name = (from : List ℕ) × EndsWith name from × Matches pieces from
 
--- the rest that pieces leave behind a star, at the first place where they can leave one
+-- the rest that pieces leave after a star, at the first place where they can leave one
 pub record Slides (pieces : List Piece) (to_end : Bool) (name rest : List ℕ) : Type 0 where
   pub taken : List ℕ
   pub start : List ℕ
@@ -113,7 +113,7 @@ pub record Slides (pieces : List Piece) (to_end : Bool) (name rest : List ℕ) :
   pub ends : IsEnd to_end rest
   pub first : (before from other : List ℕ) → name ≡ before ++ from → has_no_dot before ≡ true → Covers pieces from other → IsEnd to_end other → EndsWith start from
 
--- the pieces leave no rest behind a star
+-- the pieces leave no rest after a star
 abbrev pub CannotSlide : List Piece → Bool → List ℕ → Type 0
 CannotSlide pieces to_end name =
     (before from other : List ℕ) → name ≡ before ++ from → has_no_dot before ≡ true → Covers pieces from other → IsEnd to_end other → ⊥

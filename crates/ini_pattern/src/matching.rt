@@ -121,7 +121,7 @@ fn any_name_at(pieces: &[Piece]) -> Option<usize>
     pieces.iter().position(is_any_name)
 }
 
-/// The pieces before the first `*`, and those behind it.
+/// The pieces before the first `*`, and those after it.
 fn around_name(pieces: &[Piece]) -> Option<(&[Piece], &[Piece])>
     ensures { MatchOption result (IsTrue (list_all is_no_name pieces.now))
         (λ parts. IsTrue (list_all is_no_name parts.0.now)
@@ -149,7 +149,7 @@ pub(crate) fn fixed_rest<'a>(pieces: &[Piece], name: &'a str, to_end: bool) -> O
     }
 }
 
-/// What pieces that are no stars leave at the first place behind a `*`, where that may be left.
+/// What pieces that are no stars leave at the first place after a `*`, where that may be left.
 fn slide<'a>(pieces: &[Piece], name: &'a str, to_end: bool) -> Option<&'a str>
     requires { IsTrue (list_all is_fixed pieces.now) }
     ensures { MatchOption result (CannotSlide pieces.now to_end (chars name.now))
@@ -172,7 +172,7 @@ fn slide<'a>(pieces: &[Piece], name: &'a str, to_end: bool) -> Option<&'a str>
     }
 }
 
-/// The longest rest that a `*` and steady pieces behind it can leave of a name. Only the last `*` is
+/// The longest rest that a `*` and steady pieces after it can leave of a name. Only the last `*` is
 /// tried again: the pieces before it took as few characters as they can, and as many dots as ever.
 fn star_rest<'a>(pieces: &[Piece], name: &'a str, to_end: bool) -> Option<&'a str>
     requires { IsTrue (list_all is_steady pieces.now) }
@@ -275,7 +275,7 @@ fn any_path_at(pieces: &[Piece]) -> Option<usize>
     pieces.iter().position(is_any_path)
 }
 
-/// The pieces before the first `**`, and those behind it.
+/// The pieces before the first `**`, and those after it.
 fn around_path(pieces: &[Piece]) -> Option<(&[Piece], &[Piece])>
     ensures { MatchOption result (IsTrue (list_all is_no_path pieces.now))
         (λ parts. IsTrue (list_all is_no_path parts.0.now)

@@ -80,7 +80,7 @@ fn set_from(alloc: Global, negated: bool, text: &str) -> Result<(Piece, &str), P
     Ok((Piece::Set { negated, ranges }, rest))
 }
 
-/// A set, where the text goes on behind its opening brace, and the rest.
+/// A set, where the text goes on after its opening brace, and the rest.
 fn set_in(alloc: Global, text: &str) -> Result<(Piece, &str), PatternFault>
     ensures { MatchResult result
         (λ found. set_in (chars text.now) ≡ Some (found.0, chars found.1.now))
@@ -128,7 +128,7 @@ fn number_in(text: &str, close: char) -> Option<(Option<Piece>, &str)>
     Some((number_between(low, high), rest))
 }
 
-/// Appends what stands behind an opening brace, and answers the rest.
+/// Appends what stands after an opening brace, and answers the rest.
 fn push_braced<'a>(
     pieces: &mut Items<Piece>,
     alloc: Global,
@@ -151,7 +151,7 @@ fn push_braced<'a>(
     Ok(rest)
 }
 
-/// Appends what stands at an opening bracket, and answers what is left behind it.
+/// Appends what stands at an opening bracket, and answers what is left after it.
 fn push_bracketed<'a>(pieces: &mut Items<Piece>, text: &'a str) -> Result<&'a str, PatternFault>
     ensures { MatchResult result
         (λ rest. (more : List Piece) × (pieces.new ≡ pieces.old ++ more)

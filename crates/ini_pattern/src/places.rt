@@ -23,7 +23,7 @@ fn count_stars(pieces: &[Piece]) -> usize
     count
 }
 
-/// The pieces before the `*` of this number, and those behind it.
+/// The pieces before the `*` of this number, and those after it.
 fn around_star(pieces: &[Piece], number: usize) -> Option<(&[Piece], &[Piece])>
     requires { 0 < number }
     ensures { MatchOption result (stars pieces.now < number)
@@ -85,7 +85,7 @@ enum Tried<'p, 'a> {
     Stuck,
     /// They have fewer `*`, and leave this rest.
     Last(&'a str),
-    /// Those before the `*` leave this rest, and these stand behind that `*`.
+    /// Those before the `*` leave this rest, and these stand after that `*`.
     Next(&'a str, &'p [Piece]),
 }
 
@@ -119,9 +119,9 @@ fn try_block<'p, 'a>(
 
 /// The longest rest that pieces can leave of a name, or of any end of it, where it may be left.
 ///
-/// The beginning and up to 63 of the `*`, evenly spread, have a place at which the pieces behind it
+/// The beginning and up to 63 of the `*`, evenly spread, have a place at which the pieces after it
 /// are tried. No place ever moves back: where those pieces fit nowhere before the next dot, the `*`
-/// before has to be placed so that its pieces end behind that dot.
+/// before has to be placed so that its pieces end after that dot.
 #[cycle(places)]
 fn placed_rest<'a>(
     anywhere: bool,

@@ -318,7 +318,7 @@ found_more text names lines order last line root i number h at within is found k
           ]
     ]
 
--- the lines that are given up in a place are not needed behind it
+-- the lines that are given up in a place are not needed after it
 pub found_kept : (text : List IniLine) (names : List Bytes) (lines kept : List (List ℕ)) (front last : List ℕ) (root i : ℕ) → ((k : ℕ) → (k ≡ root) ⊎ (get_or last k 0 ≢ i) → line_at kept k ≡ line_at lines k) → AreFound text names last root i lines front → AreFound text names last root (i + 1) kept front
 found_kept text names lines kept front last root i same found k c (inl e) = subst (IsNumberLine text names k) (sym (same k (inl e))) (found k c (inl e))
 found_kept text names lines kept front last root i same found k c (inr h) =

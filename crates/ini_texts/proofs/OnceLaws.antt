@@ -135,7 +135,7 @@ all_below : (d : ℕ) (text : List IniLine) (y : Bytes) (bs : List Bytes) (ls : 
 all_below d text y bs ls later z (inl h) = lines_below d text y later bs ls z h
 all_below d text y bs ls later z (inr h) = base_below d text y bs ls z h
 
--- what stands behind a configuration in its line has a line that goes less deep
+-- what stands after a configuration in its line has a line that goes less deep
 behind_below : (d : ℕ) (text : List IniLine) (name x y : Bytes) (xs : List Bytes) → IsLineWithin d text name (x ∷ xs) → Has y xs → HasBelow d text y
 behind_below zero text name x y xs w h = absurd w
 behind_below (suc d) text name x y xs w h =

@@ -110,7 +110,7 @@ still_among x xs [] h = h
 still_among x xs (l ∷ ls) (inl e) = inl (ap (without_head same_number x) e ∙ own_head x xs)
 still_among x xs (l ∷ ls) (inr h) = inr (still_among x xs ls h)
 
--- what stands in the tail of one of the lists stands behind
+-- what stands in the tail of one of the lists stands after
 stands_behind_one : (p x : ℕ) (xs : List ℕ) (ls : List (List ℕ)) → IsAmong (x ∷ xs) ls → stands_in same_number p xs ≡ true → stands_behind same_number p ls ≡ true
 stands_behind_one p x xs [] h is = absurd h
 stands_behind_one p x xs (l ∷ ls) (inl e) is =

@@ -30,7 +30,7 @@ said_cons : (o : Option Entry) (es : List Entry) → said_in (cons_option o es) 
 said_cons None es = refl
 said_cons (Some e) es = refl
 
--- a line, and what the lines behind it say
+-- a line, and what the lines after it say
 pub said_line : (name : Bytes) (section : Option Bytes) (l : IniLine) (ls : List IniLine) → said_in (entries_from name section (l ∷ ls)) ≡ option_or (line_says name section l.meaning) (said_in (entries_from name (section_behind section l.meaning) ls))
 said_line name section l ls = said_cons (entry_here (is_in name section) l.meaning) (entries_from name (section_behind section l.meaning) ls)
 

@@ -18,7 +18,7 @@ use Rattle.ini_texts.specs.Scans.{first_among, is_wanted, wanted_of, first_wante
 use Rattle.ini_texts.specs.Sections.{entries_along, entries_from, entries_under, entry_here, is_in, section_behind}
 use Rattle.ini_texts.specs.Words.{Bytes}
 
--- what is first said here, or behind, is first said in the whole
+-- what is first said here, or after, is first said in the whole
 pub said_first : {X : Type 0} (x : X) (here rest front whole : Option X) → Some x ≡ here → front ≡ option_or here rest → front ≡ whole → Some x ≡ whole
 said_first x here rest front whole is parts all = ap (λ (o : Option _). option_or o rest) is ∙ sym parts ∙ all
 
@@ -42,7 +42,7 @@ wanted_along w lines names i d within =
 
 -- ---- the last name of a path
 
--- what stands behind the last dot
+-- what stands after the last dot
 pub last_name_is : (name : List ℕ) (start : ℕ) → start ≤ length name → ((k : ℕ) → start ≤ k → k < length name → get_or name k 0 ≡ 46 → ⊥) → (0 < start → get_or name (start - 1) 0 ≡ 46) → drop start name ≡ last_name name
 last_name_is name start le past at =
     let len : suffix_len (λ (c : ℕ). not (c == 46)) name ≡ length name - start = suffix_len_is (λ (c : ℕ). not (c == 46)) name start 0 le (λ k low high. ap not (ne_eqb (get_or name k 0) 46 (past k low high))) (λ pos. ap not (eq-eqb (get_or name (start - 1) 0) 46 (at pos))) in
@@ -66,7 +66,7 @@ or_behind (Some e) b c = refl
 pub among_all : (w : Wanted) (chain : List Bytes) (lines : List IniLine) → option_or (first_among w chain None lines) None ≡ first_wanted w (entries_along chain lines)
 among_all w chain lines = or_none (first_among w chain None lines)
 
--- behind the last one nothing is looked for
+-- after the last one nothing is looked for
 pub among_none : (w : Wanted) (chain : List Bytes) (section : Option Bytes) (found : Option Entry) → option_or (first_among w chain section []) found ≡ found
 among_none w chain section found = ap (λ (es : List Entry). option_or (first_wanted w es) found) (nothing chain)
   where
@@ -74,7 +74,7 @@ among_none w chain section found = ap (λ (es : List Entry). option_or (first_wa
     nothing [] = refl
     nothing (n ∷ ns) = nothing ns
 
--- the first of a section and of others, of a line and those behind it
+-- the first of a section and of others, of a line and those after it
 among_first : (w : Wanted) (name : Bytes) (names : List Bytes) (section : Option Bytes) (l : IniLine) (ls : List IniLine)
     → first_among w (name ∷ names) section (l ∷ ls) ≡ option_or (option_and_then (wanted_of w) (entry_here (is_in name section) l.meaning)) (option_or (first_wanted w (entries_from name (section_behind section l.meaning) ls)) (first_among w names section (l ∷ ls)))
 among_first w name names section l ls =
@@ -107,7 +107,7 @@ not_in name other h = go (bytes_eq name other) refl
     go true e = absurd (h (sym ((bytes_eq-Decides name other).0 e)))
     go false e = e
 
--- behind a line that has what is looked for, only the sections before its own count
+-- after a line that has what is looked for, only the sections before its own count
 pub among_found : (w : Wanted) (names : List Bytes) (name : Bytes) (l : IniLine) (ls : List IniLine) (e : Entry) (at : ℕ) (found : Option Entry) → l.meaning ≡ line.Entry e → is_wanted w e.meaning ≡ true → IsPlace names name (Some at)
     → option_or (first_among w names (Some name) (l ∷ ls)) found ≡ option_or (first_among w (take at names) (section_behind (Some name) l.meaning) ls) (Some e)
 among_found w [] name l ls e at found is wanted place = absurd (omega (arith, place.0))

@@ -32,7 +32,7 @@ AreAllBelow n ls = All (λ l. AreBelow n l) ls
 abbrev pub Counts : List ℕ → List (List ℕ) → Type 0
 Counts waiting ls = (k : ℕ) → k < length waiting → slice_index waiting k ≡ behind k ls
 
--- the merge of the lists, or that there is none, or want of memory
+-- the merge of the lists, or that there is none, or lack of memory
 abbrev pub SettlesMerge : {E : Type 0} → List (List ℕ) → Result (Option (List ℕ)) E → Type 0
 SettlesMerge ls (Ok (Some line)) = IsMerge same_number ls line
 SettlesMerge ls (Ok None) = (line : List ℕ) → IsMerge same_number ls line → ⊥
@@ -42,7 +42,7 @@ SettlesMerge ls (Err e) = Unit {0}
 abbrev pub HoldsZeros : List ℕ → Type 0
 HoldsZeros waiting = (k : ℕ) → k < length waiting → slice_index waiting k ≡ 0
 
--- nothing is counted behind a merge
+-- nothing is counted after a merge
 abbrev pub ZerosBehind : {E : Type 0} → List ℕ → Result (Option (List ℕ)) E → Type 0
 ZerosBehind waiting (Ok (Some line)) = HoldsZeros waiting
 ZerosBehind waiting (Ok None) = Unit {0}

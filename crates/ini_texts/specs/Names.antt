@@ -7,6 +7,6 @@ use Rattle.ini_texts.specs.Numbers.{holds}
 abbrev pub names_in : List (Bor Bytes) → List Bytes
 names_in keys = map (λ (k : Bor Bytes). k.now) keys
 
--- the names, and this one behind them, unless it is one of them
+-- the names, and this one after them, unless it is one of them
 abbrev pub with_name : List Bytes → Bytes → List Bytes
 with_name names name = if holds names name then names else names ++ name ∷ []

@@ -21,7 +21,7 @@ abbrev pub with_section : List Bytes → LineMeaning → List Bytes
 with_section names (line.Section name) = if holds names name then names else names ++ name ∷ []
 with_section names _ = names
 
--- the names of the sections that lines begin, each once, behind those
+-- the names of the sections that lines begin, each once, after those
 abbrev pub names_behind : List Bytes → List IniLine → List Bytes
 names_behind names [] = names
 names_behind names (l ∷ ls) = names_behind (with_section names l.meaning) ls
@@ -78,12 +78,12 @@ ReachedIn (suc steps) rows root k = (above : ℕ) × ReachedIn steps rows root a
 abbrev pub IsReached : List (Option (List ℕ)) → ℕ → ℕ → Type 0
 IsReached rows root k = (k < length rows) × (steps : ℕ) × ReachedIn steps rows root k
 
--- each section stands behind those that it extends
+-- each section stands after those that it extends
 abbrev pub IsOrdered : List (Option (List ℕ)) → List ℕ → Type 0
 IsOrdered rows order =
     (i : ℕ) → i < length order → (base : ℕ) → Contains (bases_at rows (slice_index_or order i 0)) base → Contains (take i order) base
 
--- for each section a place of an order behind which no section stands that extends it
+-- for each section a place of an order after which no section stands that extends it
 abbrev pub AreLast : List (Option (List ℕ)) → List ℕ → List ℕ → Type 0
 AreLast rows order last =
     (j : ℕ) → j < length order → (b : ℕ) → Contains (bases_at rows (slice_index_or order j 0)) b → j ≤ slice_index_or last b 0
@@ -150,14 +150,14 @@ SettlesOrder rows root (Ok (Some order)) =
 SettlesOrder rows root (Ok None) = (depth : ℕ) → IsWithin depth rows root → ⊥
 SettlesOrder rows root (Err e) = Unit {0}
 
--- what a walk does at a base, with the next place behind it
+-- what a walk does at a base, with the next place after it
 abbrev pub IsAtBase : List ℕ → ℕ → ℕ → Next → Type 0
 IsAtBase passed base place (next.Begin other) = (other ≡ base) × (passed_at passed base ≡ 0)
 IsAtBase passed base place (next.Pass other) = other ≡ place
 IsAtBase passed base place next.Finish = ⊥
 IsAtBase passed base place next.Fault = ⊥
 
--- what a walk does behind all bases
+-- what a walk does after all bases
 abbrev pub IsBehindBases : List ℕ → List ℕ → List Bool → Next → Type 0
 IsBehindBases row passed done (next.Begin base) = Contains row base × (passed_at passed base ≡ 0)
 IsBehindBases row passed done (next.Pass place) = ⊥

@@ -20,7 +20,7 @@ general = codes "General"
 
 -- ---- entries by sections
 
--- the section that the lines behind a line stand in
+-- the section that the lines after a line stand in
 abbrev pub section_behind : Option Bytes → LineMeaning → Option Bytes
 section_behind section (line.Section name) = Some name
 section_behind section _ = section
@@ -125,7 +125,7 @@ RefusesChain lines config errors.ChainFault =
     (is_section config lines ≡ true) × ((chain : List Bytes) → IsChain lines config chain → ⊥)
 RefusesChain lines config (errors.NoMemory _) = Unit {0}
 
--- this chain, or want of memory
+-- this chain, or lack of memory
 abbrev pub AnswersChain : List Bytes → Result (List Bytes) ChainError → Type 0
 AnswersChain chain (Ok found) = found ≡ chain
 AnswersChain chain (Err (errors.NoMemory _)) = Unit {0}

@@ -49,7 +49,7 @@ fn is_section(lines: &[IniLine], name: &[u8]) -> bool
     is_general(name) || begins_section(lines, name)
 }
 
-/// What is merged behind a section: the lines of those that it extends, and the list of these.
+/// What is merged after a section: the lines of those that it extends, and the list of these.
 fn rests_of(alloc: Global, lines: &[Items<usize>], row: &[usize]) -> Result<Vec<Rest>, AllocError>
     ensures { IfOk result (λ rests. rests.items ≡ map (line_at lines.now) row.now ++ row.now ∷ []) }
 {
@@ -233,7 +233,7 @@ fn used_last(last: &[usize], number: usize) -> usize
     }
 }
 
-/// The line of a section, if it has one, from those of the sections before it in an order, in which each section stands behind those
+/// The line of a section, if it has one, from those of the sections before it in an order, in which each section stands after those
 /// that it extends. A line is given up when all sections that extend its own have theirs.
 fn line_along(
     alloc: Global,

@@ -8,7 +8,7 @@ use sim_values::NoMemory;
 use std::alloc::AllocError;
 use thiserror::Error;
 
-/// Why a configuration has no chain. Of several reasons the first in this order is told, and want of memory in any place.
+/// Why a configuration has no chain. Of several reasons the first in this order is told, and lack of memory in any place.
 #[derive(Clone, Copy, Debug, PartialEq, Eq, Error)]
 pub enum ChainError {
     /// There is no section of that name.

@@ -87,7 +87,7 @@ fn count(waiting: &mut [u128], numbers: &[usize])
     }
 }
 
-/// Counts the numbers behind the head of a list once more.
+/// Counts the numbers after the head of a list once more.
 fn count_tail(waiting: &mut [u128], numbers: &[usize])
     requires below { AreBelow (length waiting.old) numbers.now }
     requires room { (k : ℕ) → k < length waiting.old → slice_index waiting.old k + 2 ^ 64 ≤ 2 ^ 128 }
@@ -183,7 +183,7 @@ fn merged(
     }
 }
 
-/// The merge of the lists of which this is left, where they have one. Nothing is counted so far, and behind a merge again.
+/// The merge of the lists of which this is left, where they have one. Nothing is counted so far, and after a merge again.
 pub fn merge(
     alloc: Global,
     rests: &mut [Rest],

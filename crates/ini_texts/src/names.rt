@@ -48,7 +48,7 @@ impl<'a> SectionNames<'a> {
         self.names.len()
     }
 
-    /// Adds a name behind the others, unless it is one of them.
+    /// Adds a name after the others, unless it is one of them.
     #[tactic(auto, using(crate::proofs::NameLaws::added_name))]
     fn add(&mut self, name: &'a [u8]) -> Result<(), AllocError>
         ensures { OnOk result (self.new ≡ with_name self.old name.now) }

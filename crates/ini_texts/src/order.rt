@@ -1,4 +1,4 @@
-//! An order in which each section stands behind those that it extends.
+//! An order in which each section stands after those that it extends.
 
 ghost use Rattle.std.specs.Prelude.{◌≡◌, ◌<◌, ◌∷◌, ◌++◌, [], ℕ, List, None, true, false, replicate, IfOk, MatchOption, OnOk, length, slice_index_or, slice_set};
 ghost use Rattle.std.specs.List.{Contains};
@@ -18,7 +18,7 @@ struct Walk {
     passed: Items<usize>,
     /// For each section whether it is in the order.
     done: Items<bool>,
-    /// Those that are done: each behind what it extends.
+    /// Those that are done: each after what it extends.
     order: Items<usize>,
 }
 
@@ -210,7 +210,7 @@ impl Walk {
     }
 }
 
-/// All that the root extends, that these extend, and so on, and at last the root: each section behind those that it extends. None where
+/// All that the root extends, that these extend, and so on, and at last the root: each section after those that it extends. None where
 /// one of them is not there, or they go round in a circle.
 pub fn order_behind(
     alloc: Global,

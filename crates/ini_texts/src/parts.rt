@@ -111,7 +111,7 @@ fn forget(waiting: &mut [u128], row: &[usize])
     }
 }
 
-/// Whether each number stands once in a list, where nothing is counted, and behind it again.
+/// Whether each number stands once in a list, where nothing is counted, and after it again.
 pub fn stand_once(waiting: &mut [u128], row: &[usize]) -> bool
     requires below { AreBelow (length waiting.old) row.now }
     requires zeros { HoldsZeros waiting.old }

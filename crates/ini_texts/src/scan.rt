@@ -12,7 +12,7 @@ use sim_values::text::Text;
 
 // ---- lines in their sections
 
-/// The section that the lines behind a line stand in, where this line stands in `section`.
+/// The section that the lines after a line stand in, where this line stands in `section`.
 pub fn section_behind<'a>(section: Option<&'a [u8]>, line: &'a IniLine) -> Option<&'a [u8]>
     ensures { option_copied result ≡ section_behind (option_copied section.entry) line.now.meaning }
 {
@@ -163,7 +163,7 @@ fn wanted_among<'a>(
     }
 }
 
-/// The first entry that is looked for along a chain of many sections. The text is looked through once: behind an entry that is
+/// The first entry that is looked for along a chain of many sections. The text is looked through once: after an entry that is
 /// found, only one of a section before that one's counts.
 fn first_along_many<'a>(
     lines: &'a [IniLine],

@@ -9,7 +9,7 @@ ghost use Rattle.ini_texts.specs.Words.{word_typename};
 use crate::entry::EntryMeaning;
 use sim_values::text::spells;
 
-/// What stands behind the last dot of a path, or all of it.
+/// What stands after the last dot of a path, or all of it.
 pub fn last_name(path: &[u8]) -> &[u8]
     ensures { result.now ≡ last_name path.now }
 {

@@ -91,7 +91,7 @@ first_goes_first last (i ∷ is) f e = by (λ g o. first_goes_first last is g o)
 
 -- ---- it is delivered
 
--- what is left behind it was left before
+-- what is left after it was left before
 stays_left : (last : Option Turn) (f i : Injection) → is_undelivered last f ≡ true → is_undelivered (Some (turn_of f)) i ≡ true → is_undelivered last i ≡ true
 stays_left None f i u h = refl
 stays_left (Some l) f i u h = before_trans l (turn_of f) (turn_of i) u h

@@ -43,7 +43,7 @@ later_by false a b e h = inl (less_told a.time b.time e h)
 later_told : (a b : Due) → due_before a b ≡ false → IsNoLater b a
 later_told a b h = later_by (a.time == b.time) a b refl h
 
--- what is no later is not due behind
+-- what is no later is not due after
 apart : (a b : Due) → IsSooner a b → IsNoLater b a → ⊥
 apart a b (inl h) (inl k) = omega (arith, h, k)
 apart a b (inl h) (inr k) = let t = k.0 in omega (arith, h, t)

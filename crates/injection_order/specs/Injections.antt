@@ -54,6 +54,6 @@ abbrev pub OfEach : (Injection → Type 0) → List Injection → Type 0
 OfEach P [] = Unit {0}
 OfEach P (i ∷ is) = P i × OfEach P is
 
--- Where the one is delivered behind what was, exactly those others are left that were left before.
+-- Where the one is delivered after what was, exactly those others are left that were left before.
 abbrev pub DeliversOne : Option Turn → Injection → Injection → Type 0
 DeliversOne last one i = is_undelivered (Some (turn_of one)) i ≡ true ↔ (is_undelivered last i ≡ true) × (turn_of i ≡ turn_of one → ⊥)

@@ -132,7 +132,7 @@ fn first_undelivered<'a>(injections: &'a [Injection], last: Option<&Turn>) -> Op
 }
 
 /// The injection that goes before an event that is due then, or where no event is left; of those
-/// behind this one, which was delivered last.
+/// after this one, which was delivered last.
 pub fn injection_before(
     injections: &[Injection],
     due: Option<Due>,

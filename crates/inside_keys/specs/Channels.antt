@@ -33,7 +33,7 @@ use Rattle.inside_keys.specs.Kinds.{kind_of}
 
 -- ---- paths
 
--- the mark behind the name of the half of a gate that messages leave by, into a connection: the module's own gates are seen from within
+-- the mark after the name of the half of a gate that messages leave by, into a connection: the module's own gates are seen from within
 abbrev pub leaving_mark : Bool → GateDirection → List ℕ
 leaving_mark own Input = []
 leaving_mark own Output = []

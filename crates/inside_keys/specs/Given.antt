@@ -102,7 +102,7 @@ module _ (s : Setting) (m : Module) where
 
 -- ---- channels
 
--- an item of a section, or a connection of an item, behind which so many stand
+-- an item of a section, or a connection of an item, after which so many stand
 abbrev pub behind : {A : Type 0} → ℕ → List A → Option A
 behind n [] = None
 behind n (x ∷ xs) = if length xs == n then Some x else behind n xs
@@ -125,7 +125,7 @@ found_in_item n (Some (item.Group g)) = found_line g.clauses (behind n g.lines)
 abbrev pub connection_at : WrittenAt → List ConnectionItem → Option FoundLine
 connection_at w items = found_in_item w.lines (behind w.items items)
 
--- the loop variables of clauses, the innermost first, with these values, behind those around
+-- the loop variables of clauses, the innermost first, with these values, after those around
 abbrev pub bound_by : List Clause → Scope → List ℤ → Scope
 bound_by [] scope zs = scope
 bound_by (If e ∷ cs) scope zs = bound_by cs scope zs

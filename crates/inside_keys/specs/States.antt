@@ -27,10 +27,10 @@ part_added s n index = with_part s (part_of_type (length s.wiring.sizes) n (leng
 abbrev pub noted : State → Made → State
 noted s made = record { parts = record { made = s.parts.made ++ made ∷ []; parts = s.parts.parts }; wiring = s.wiring; turns = s.turns; written = s.written }
 
--- the item behind which so many stand comes next
+-- the item after which so many stand comes next
 abbrev pub at_item : State → ℕ → State
 at_item s behind = record { parts = s.parts; wiring = s.wiring; turns = s.turns; written = record { items = behind; lines = 0 } }
 
--- the connection of that item behind which so many stand comes next
+-- the connection of that item after which so many stand comes next
 abbrev pub at_line : State → ℕ → State
 at_line s behind = record { parts = s.parts; wiring = s.wiring; turns = s.turns; written = record { items = s.written.items; lines = behind } }

@@ -169,7 +169,7 @@ module _ (s : Setting) where
   abbrev pub sets_fixed : List SectionLine → SubmoduleBody → Bool
   sets_fixed lines body = list_any (λ l. is_refixed lines l) body.lines
 
-  -- whether a type may stand behind `like`: one of modules that says that it keeps the interface, and fixes nothing that the body sets
+  -- whether a type may stand after `like`: one of modules that says that it keeps the interface, and fixes nothing that the body sets
   abbrev pub keeps : ParametricType → SubmoduleBody → TypeDeclaration → Bool
   keeps p body u = is_kind_of_modules u.kind && (is_one p.interface u.interfaces && not (sets_fixed u.lines body))
 

@@ -29,7 +29,7 @@ use std::alloc::{AllocError, Global};
 
 // ---- paths
 
-/// The mark behind the name of the half of a gate that messages leave by.
+/// The mark after the name of the half of a gate that messages leave by.
 fn leaving_mark(is_own: bool, direction: GateDirection) -> &'static [u8]
     ensures { result.now ≡ channels.leaving_mark is_own direction }
 {

@@ -19,7 +19,7 @@ pub struct Module {
     pub path: Text,
 }
 
-/// Where a connection is written: how many items stand behind its own in the section of its type, and how many connections behind it in its
+/// Where a connection is written: how many items stand after its own in the section of its type, and how many connections after it in its
 /// item.
 #[derive(Clone, Copy, PartialEq, Eq, Hash)]
 pub struct WrittenAt {

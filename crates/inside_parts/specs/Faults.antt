@@ -15,12 +15,12 @@ of_value value.Unassigned = fault.Unassigned
 of_value value.Circle = fault.Circle
 of_value value.TooDeep = fault.TooDeep
 
--- want of memory
+-- lack of memory
 abbrev pub IsOfMemory : Stop → Type 0
 IsOfMemory (stop.Memory e) = Unit {0}
 IsOfMemory (stop.Fault f) = ⊥
 
--- what code answers is what the definition gives, fault for fault; want of memory says nothing
+-- what code answers is what the definition gives, fault for fault; lack of memory says nothing
 abbrev pub Tells : {A : Type 0} → Result A Stop → Result A Fault → Type 0
 Tells (Ok x) given = given ≡ Ok x
 Tells (Err (stop.Fault f)) given = given ≡ Err f

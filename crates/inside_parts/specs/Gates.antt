@@ -13,7 +13,7 @@ abbrev pub loosened_by : GateLine → List (List ℕ) → List (List ℕ)
 loosened_by (line.Declaration d) names = if d.loose then with_name d.name names else names
 loosened_by (line.Refinement r) names = if r.loose then with_name r.name names else names
 
--- the names of the gates of which some line says that they may stay unconnected, behind these
+-- the names of the gates of which some line says that they may stay unconnected, after these
 abbrev pub loosened_from : List GateLine → List (List ℕ) → List (List ℕ)
 loosened_from [] names = names
 loosened_from (l ∷ ls) names = loosened_from ls (loosened_by l names)

@@ -11,6 +11,6 @@ position_of name names = position (bytes_eq name) names
 abbrev pub is_one : List ℕ → List (List ℕ) → Bool
 is_one name names = list_any (bytes_eq name) names
 
--- with a name behind the others, unless it is one of them
+-- with a name after the others, unless it is one of them
 abbrev pub with_name : List ℕ → List (List ℕ) → List (List ℕ)
 with_name name names = if is_one name names then names else names ++ name ∷ []

@@ -54,7 +54,7 @@ pub fn of_value(fault: ValueFault) -> Fault
     }
 }
 
-/// Why building stopped: a fault of the model, or want of memory, which says nothing of the model.
+/// Why building stopped: a fault of the model, or lack of memory, which says nothing of the model.
 #[derive(Clone, Copy)]
 pub enum Stop {
     Fault(Fault),

@@ -112,7 +112,7 @@ fn with_gate(
     Ok(TypeGates { names, gates })
 }
 
-/// The gate of a line that declares one, behind the others.
+/// The gate of a line that declares one, after the others.
 fn with_line(
     alloc: Global,
     loose: &Names,

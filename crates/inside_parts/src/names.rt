@@ -34,7 +34,7 @@ impl Names {
         }
     }
 
-    /// Adds a name behind the others, unless it is one of them; and answers whether it wasn't.
+    /// Adds a name after the others, unless it is one of them; and answers whether it wasn't.
     pub fn push(&mut self, name: Text) -> Result<bool, NoMemory>
         ensures added { IfOk result (λ added. added ≡ not (is_one name self.old)) }
         ensures names { OnOk result (self.new ≡ with_name name self.old) }

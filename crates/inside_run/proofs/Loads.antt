@@ -72,7 +72,7 @@ module _ (g : Ground) where
   more : (a w d t p : ℕ) → a < w + t + p → a < d + w + t + p
   more a w d t p h = omega arith
 
-  -- behind an expression
+  -- after an expression
   value_load : (ts us : List Task) (e : Evaluation) (t : Turn) (w : Want) (s : State) (n : Next) → Spends g (of_want g w) (cost_of_want w) ts s.turns (Ok n) us → load g n us < load g (next.At e t w s) ts
   value_load ts us e t w s n h =
       let most : ℕ = max (cost_of_want w) (cost_of_tasks ts) in
@@ -103,7 +103,7 @@ module _ (g : Ground) where
   grouped : (a x t p : ℕ) → a < x + t + p → a < 0 + (x + t) + p
   grouped a x t p h = omega arith
 
-  -- behind a task
+  -- after a task
   task_load : (all ts us : List Task) (t : Task) (s : State) (n : Next) → all ≡ t ∷ ts → Spends g (of_task g t) (cost_of_task t) ts s.turns (Ok n) us → load g n us < load g (next.Go s) all
   task_load all ts us t s n is h =
       subst_load all (t ∷ ts) is

@@ -26,7 +26,7 @@ none_by : {A : Type 0} (x : A) (xs : List A) (n : ℕ) (t : Bool) → (length xs
 none_by x xs n true e h f = absurd (omega (arith, h, eqb-true (length xs) n e))
 none_by x xs n false e h f = sym f
 
--- no list has so many behind one
+-- no list has so many after one
 pub behind_none : {A : Type 0} (xs : List A) (n : ℕ) → length xs ≤ n → None ≡ behind n xs
 behind_none [] n h = refl
 behind_none (x ∷ xs) n h = none_by x xs n (length xs == n) refl h (sym (behind_none xs n (omega arith)))

@@ -59,7 +59,7 @@ fn item_at<T>(list: &[T], place: usize) -> Option<&T>
     list.get(place)
 }
 
-/// The item, or the connection of an item, behind which so many stand.
+/// The item, or the connection of an item, after which so many stand.
 fn behind<T>(list: &[T], count: usize) -> Option<&T>
     ensures { option_copied result ≡ given.behind count list.now }
 {
@@ -83,7 +83,7 @@ fn found_line<'m>(around: &'m [Clause], line: Option<&'m ConnectionLine>) -> Opt
     })
 }
 
-/// The connection of a group behind which so many stand.
+/// The connection of a group after which so many stand.
 fn found_in_group<'m>(group: &'m ConnectionGroup, lines: usize) -> Option<FoundLine<'m>>
     ensures { maybe_found result ≡ given.found_line group.now.clauses (given.behind lines group.now.lines) }
 {
@@ -100,7 +100,7 @@ fn found_alone<'m>(line: &'m ConnectionLine) -> Option<FoundLine<'m>>
     found_line(&[], Some(line))
 }
 
-/// The connection of an item behind which so many stand.
+/// The connection of an item after which so many stand.
 fn found_in_item<'m>(item: Option<&'m ConnectionItem>, lines: usize) -> Option<FoundLine<'m>>
     ensures { maybe_found result ≡ given.found_in_item lines (option_copied item.entry) }
 {

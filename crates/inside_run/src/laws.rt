@@ -11,7 +11,7 @@ ghost use Rattle.inside_keys.specs.declared.found.Found.{Found};
 ghost use Rattle.inside_keys.specs.declared.key.Key.{Key};
 
 /// An answer rests on the keys that it asked for, and on nothing else: in a table that may be kept each value is what its
-/// asking comes to by the values of the table, and each key stands behind those that it asked for.
+/// asking comes to by the values of the table, and each key stands after those that it asked for.
 pub fn rests_on_what_was_asked()
     ensures closed { (s : Setting) (es : Entries Key Found) → IsKept (rules_of s) es → IsClosed (rules_of s) (known same_key es) }
     ensures sorted { (s : Setting) (es : Entries Key Found) → IsKept (rules_of s) es → IsSorted (rules_of s) es }

@@ -59,7 +59,7 @@ pub struct Carrying<'m> {
     pub channel: ChannelAt,
     /// The parameter whose value it waits for.
     pub name: &'m Text,
-    /// The lines of its type behind that parameter.
+    /// The lines of its type after that parameter.
     pub lines: &'m [SectionLine],
     /// What it does by the values so far.
     pub carrier: Carrier,

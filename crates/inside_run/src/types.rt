@@ -151,7 +151,7 @@ fn is_one(name: &Text, names: &[Text]) -> bool
     names.iter().any(|other| other.is(name.as_bytes()))
 }
 
-/// Whether a type may stand behind `like`.
+/// Whether a type may stand after `like`.
 fn keeps(parametric: &ParametricType, body: &SubmoduleBody, declared: &TypeDeclaration) -> bool
     ensures { result ≡ (is_kind_of_modules declared.now.kind && (is_one parametric.now.interface declared.now.interfaces
         && not (list_any (λ l. is_refixed declared.now.lines l) body.now.lines))) }

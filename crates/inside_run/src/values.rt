@@ -25,8 +25,8 @@ pub fn empty_table<S: Scene>(alloc: Global, _scene: &S) -> Table<Key, Found>
 }
 
 /// The value of a key, as its place in the table, or its fault. The table, of which nothing is asked but that it knows
-/// values of this model, has what it had, and behind that the values that were found on the way; also after a fault, and
-/// after want of memory.
+/// values of this model, has what it had, and after that the values that were found on the way; also after a fault, and
+/// after lack of memory.
 pub fn value_of<S: Scene>(
     alloc: Global,
     scene: &S,

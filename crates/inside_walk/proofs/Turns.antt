@@ -31,7 +31,7 @@ at_end [] (suc n) e = refl
 at_end (u ∷ ts) zero e = cc
 at_end (u ∷ ts) (suc n) e = at_end ts n e
 
--- the number of one more task, behind those of the tasks above it
+-- the number of one more task, after those of the tasks above it
 pub one_more : (ts : List Task) (n : ℕ) (zs ys : List ℤ) (r : Option (Bor Task)) (t : Bor Task) → option_copied r ≡ slice_get ts n → r ≡ Some t → ys ≡ zs ++ numbers_of t.now
     → zs ++ values_in (scope_of (drop n ts)) ≡ values_in (scope_of ts) → ys ++ values_in (scope_of (drop (n + 1) ts)) ≡ values_in (scope_of ts)
 one_more ts n zs ys r t e is f h =
@@ -42,7 +42,7 @@ one_more ts n zs ys r t e is f h =
     ∙ sym (ap (λ us. zs ++ values_in (scope_of us)) (at_front ts n t.now (sym e ∙ ap option_copied is)))
     ∙ h
 
--- and behind the last there are none
+-- and after the last there are none
 pub no_more : (ts : List Task) (n : ℕ) (zs : List ℤ) (r : Option (Bor Task)) → option_copied r ≡ slice_get ts n → r ≡ None
     → zs ++ values_in (scope_of (drop n ts)) ≡ values_in (scope_of ts) → zs ≡ values_in (scope_of ts)
 no_more ts n zs r e is h = sym (append-nil zs) ∙ sym (ap (λ us. zs ++ values_in (scope_of us)) (at_end ts n (sym e ∙ ap option_copied is))) ∙ h

@@ -96,28 +96,28 @@ module _ (g : Ground) where
   carried (carry.Onwards way l r) k scope s rest = back_then g.site g.submodules.now g.gates.now g.is_whole way l r scope s rest k
   carried (carry.Back way l r onwards) k scope s rest = linked_then g.site g.submodules.now g.gates.now g.is_whole way l r s rest onwards k
 
-  -- what comes behind an end that has taken a gate
+  -- what comes after an end that has taken a gate
   abbrev pub taken : Connection → Side → Scope → State → Rest → Taken → Asked
   taken c side.Left scope s rest t = right_end g.place g.submodules.now g.gates.now joined c t.id scope (with_wiring s t.wiring) rest
   taken c (side.Right l) scope s rest t = joined c l t.id scope (with_wiring s t.wiring) rest
 
-  -- an end of a connection, and what comes behind it
+  -- an end of a connection, and what comes after it
   abbrev pub end_begun : Connection → Side → Scope → State → Rest → Asked
   end_begun c at scope s rest = end_then g.place g.submodules.now g.gates.now (end_at at c) (role_at at c) (other_at at c) scope s (taken c at scope s rest)
 
-  -- the gate at that place, and what comes behind it
+  -- the gate at that place, and what comes after it
   abbrev pub place_begun : Connection → Side → Option GateIndex → Scope → State → Rest → NamedGate → Asked
   place_begun c at place scope s rest gate = gate_then g.place g.submodules.now g.gates.now place gate (role_at at c) (other_at at c) scope s (taken c at scope s rest)
 
-  -- the gate of that part at the place that the end names, and what comes behind it
+  -- the gate of that part at the place that the end names, and what comes after it
   abbrev pub gate_begun : Connection → Side → Scope → State → Rest → NamedGate → Asked
   gate_begun c at scope s rest gate = place_begun c at (end_at at c).gate.index scope s rest gate
 
-  -- the gate of that part, and what comes behind it
+  -- the gate of that part, and what comes after it
   abbrev pub part_begun : Connection → Side → Scope → State → Rest → ℕ → Asked
   part_begun c at scope s rest part = named_then g.place g.submodules.now g.gates.now (end_at at c) (role_at at c) (other_at at c) scope s part (taken c at scope s rest)
 
-  -- the gate of the submodule of that name, and what comes behind it
+  -- the gate of the submodule of that name, and what comes after it
   abbrev pub name_begun : Connection → Side → Scope → State → Rest → Owner → Asked
   name_begun c at scope s rest m = part_then g.place g.submodules.now g.gates.now (Some m) scope s (part_begun c at scope s rest)
 

@@ -102,12 +102,12 @@ abbrev pub of_body : Body → ℕ
 of_body (body.Connections cs) = of_connection_lines cs.now
 of_body (body.Connection c) = of_connection c.now
 
--- behind an end of a connection
+-- after an end of a connection
 abbrev pub of_rest : Connection → side_type.Side → ℕ
 of_rest c side.Left = of_end c.right + 8
 of_rest c (side.Right l) = 7
 
--- behind what a channel does
+-- after what a channel does
 abbrev pub of_carry : Carry → ℕ
 of_carry (carry.Onwards way l r) = 4
 of_carry (carry.Back way l r onwards) = 1

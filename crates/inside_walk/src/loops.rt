@@ -160,7 +160,7 @@ pub fn turns_from<'m>(
     }))
 }
 
-/// Goes on with a loop behind a turn.
+/// Goes on with a loop after a turn.
 pub fn next_turn<'m>(
     ground: &Ground<'m>,
     tasks: &mut Stack<Task<'m>>,
@@ -182,7 +182,7 @@ pub fn next_turn<'m>(
     }
 }
 
-/// The connection of the item behind which so many stand comes next.
+/// The connection of the item after which so many stand comes next.
 fn at_line(state: State, behind: usize) -> State
     ensures { result ≡ states.at_line state behind }
 {
@@ -204,7 +204,7 @@ fn at_line(state: State, behind: usize) -> State
     }
 }
 
-/// The item behind which so many stand comes next.
+/// The item after which so many stand comes next.
 fn at_item(state: State, behind: usize) -> State
     ensures { result ≡ states.at_item state behind }
 {

@@ -45,7 +45,7 @@ is_apart (Some s) q = not (same_key (key s) q)
 abbrev pub is_open : List Link → Option GateId → Role → Key → Bool
 is_open links other role q = is_apart other q && is_free links role q
 
--- the least of n indexes from i on at which the test passes, else the one behind them
+-- the least of n indexes from i on at which the test passes, else the one after them
 abbrev pub least : (ℕ → Bool) → ℕ → ℕ → ℕ
 least test i zero = i
 least test i (suc n) = if test i then i else least test (i + 1) n

@@ -40,7 +40,7 @@ parts_rise k below (r ∷ rs) h = by r.class (parts_rise (suc k) below rs (omega
     by (Some kind) later = (omega arith, omega (arith, h), later)
     by None later = rise_later k (suc k) below (parts_from (suc k) rs) (omega arith) later
 
--- those behind an id are those of the records that are left behind as many
+-- those after an id are those of the records that are left after as many
 left_behind : (k n id : ℕ) (rs : List Record) → id ≡ k + n → behind id (parts_from (suc k) rs) ≡ slice_get (parts_from (suc id) (drop n rs)) 0
 left_behind k zero id rs e =
     let rise = parts_rise (suc k) (suc k + length rs) rs (omega arith) in
@@ -60,7 +60,7 @@ module _ {A : Type 0} (means : A → Module) where
   last_least id below [] r = omega arith
   last_least id below (s ∷ ss) r = omega (arith, r.0, last_least s.id below ss r.2)
 
-  -- where the boxes are those of the first parts, the next part is the first behind the last of them
+  -- where the boxes are those of the first parts, the next part is the first after the last of them
   next_behind : (id from below above : ℕ) (ps : List Part) (ss : List (Seated A)) → Rise from below ps → id < from → AreRising 0 above ss → standing (map instance_of (map (seat means) ss)) ≡ take (length ss) ps
       → slice_get ps (length ss) ≡ behind (unwrap_or (last_after (Some id) ss) 0) ps
   next_behind id from below above ps [] r h q e = first_behind id from below ps r h

@@ -1,4 +1,4 @@
--- Calls whose modules' paths and parameters come from a table, and the table behind them.
+-- Calls whose modules' paths and parameters come from a table, and the table after them.
 use Rattle.std.proofs.Common.{◌≡◌, ℕ, List, sym, ap, ◌∙◌, subst}
 use Rattle.module_api.specs.declared.call.Call.{Call}
 use Rattle.module_api.specs.declared.call.Prompt.{Prompt}

@@ -19,7 +19,7 @@ use Rattle.kernel_actions.specs.declared.looks.Next.TheVariants as next
 use Rattle.kernel_actions.specs.Upcoming.{looked, upcoming_of, BeginsWith, HasNone, IsTooLate}
 use Rattle.kernel.specs.Looks.{LooksOn}
 
--- where a test fails, what stands behind it
+-- where a test fails, what stands after it
 unless : (c : Bool) (s t : Stage) → c ≡ false → (if c then s else t) ≡ t
 unless c s t e = ap (λ (x : Bool). if x then s else t) e
 

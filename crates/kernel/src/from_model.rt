@@ -106,7 +106,7 @@ pub fn read_fault(
 // ---- what comes next
 
 #[tactic(auto, unfolding(model_answers::specs::Answering::answers_of))]
-/// Asks for the injection that goes before the first event to come. The question is of the event behind.
+/// Asks for the injection that goes before the first event to come. The question is of the event after.
 pub fn ask_injection(
     core: &Core,
     alloc: Global,
@@ -144,7 +144,7 @@ fn inside_of(found: &Answer) -> &[Built]
     }
 }
 
-/// The ids of the compound modules among these, which have the ids behind that one.
+/// The ids of the compound modules among these, which have the ids after that one.
 fn compounds_behind(alloc: Global, last: usize, inside: &[Built]) -> Result<Items<u32>, NoMemory>
     requires { last + length inside.now < 2 ^ 32 }
     ensures { IfOk result (λ ids. ids ≡ compounds_from (suc last) inside.now) }

@@ -364,7 +364,7 @@ impl<C: Catalogue> Kernel<C> {
 
     // ---- calls
 
-    /// What the module that is called replies, where it has a box. The box is taken out for the call, and put back behind it.
+    /// What the module that is called replies, where it has a box. The box is taken out for the call, and put back after it.
     fn reply_of(&mut self, alloc: Global, call: &Call) -> Option<Result<Reply, NoMemory>>
         ensures core { self.new.core ≡ self.old.core }
         ensures served { IsServed call.now.id (seats_in SimpleModule-box self.old)
@@ -425,7 +425,7 @@ impl<C: Catalogue> Kernel<C> {
         self.carry_out(alloc, model, occasion, &call)
     }
 
-    /// One call of the module of that id. What calls show of it is taken out of the table for the call, and put back behind it.
+    /// One call of the module of that id. What calls show of it is taken out of the table for the call, and put back after it.
     #[tactic(auto, using(kernel_actions::proofs::Lasting::growth_same))]
     fn call_shown(
         &mut self,

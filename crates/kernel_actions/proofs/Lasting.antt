@@ -112,7 +112,7 @@ deed_left (Err e) id action w v done same = growth_is w v same
 
 -- ---- loops: one more of a list
 
--- the element that a loop reads, and those behind it
+-- the element that a loop reads, and those after it
 split_at : {X : Type 0} (index : ℕ) (xs : List X) (x : X) → index < length xs → x ≡ get_or xs index x → drop index xs ≡ x ∷ drop (index + 1) xs
 split_at index xs x less e =
     let next : suc index ≡ index + 1 = omega arith in
@@ -142,7 +142,7 @@ noted_on count index looks look w v whole less e same step done =
     ∙ ap (λ (ls : List LookedAt). record w { questions = w.questions ++ asked_in (count + 1) ls }) (sym (split_at index looks look less e))
     ∙ done
 
--- behind the last one
+-- after the last one
 pub noted_ends : (count index : ℕ) (looks : List LookedAt) (w whole : World) → length looks ≤ index → record w { questions = w.questions ++ asked_in (count + 1) (drop index looks) } ≡ whole → w ≡ whole
 noted_ends count index looks w whole past done =
     ap (λ (qs : List Asked). record w { questions = qs }) (sym (append-nil w.questions))

@@ -23,7 +23,7 @@ or_none (Some k) = refl
 abbrev one_where : Bool → ℕ → Option ℕ
 one_where t k = if t then Some k else None
 
--- ---- the first of its name, with one more behind the others
+-- ---- the first of its name, with one more after the others
 
 named_behind : (first parent : ℕ) (name : List ℕ) (index : Option ℕ) (rs : List Record) (r : Record)
     → named_from first parent name index (rs ++ r ∷ []) ≡ or_else (named_from first parent name index rs) (one_where (is_named parent name index r) (first + length rs))
@@ -73,7 +73,7 @@ equal_alike r p = ap (λ t. (r.parent == p.parent) && (bytes_eq r.name p.name &&
 
 -- ---- one more
 
--- a place has its first module, also behind one more
+-- a place has its first module, also after one more
 added_id : (rs : List Record) (r : Record) (p : Place) → id_at (rs ++ r ∷ []) p ≡ or_else (id_at rs p) (one_where (is_named p.parent p.name p.index r) (suc (length rs)))
 added_id rs r p = named_behind 1 p.parent p.name p.index rs r ∙ ap (λ k. or_else (id_at rs p) (one_where (is_named p.parent p.name p.index r) k)) (omega arith)
 

@@ -488,7 +488,7 @@ impl Core {
         }
     }
 
-    /// Asks for the injection, of these, that goes before the first event to come. The question is of the event behind.
+    /// Asks for the injection, of these, that goes before the first event to come. The question is of the event after.
     pub fn ask_injection(
         &self,
         alloc: Global,
@@ -531,7 +531,7 @@ impl Core {
         Ok(())
     }
 
-    /// Notes the questions of these looks, which are of the event behind.
+    /// Notes the questions of these looks, which are of the event after.
     fn note_looks(&mut self, alloc: Global, looks: &[LookedAt]) -> Result<(), NoMemory>
         requires { self.old.count + 1 < 2 ^ 64 }
         ensures noted { OnOk result (self.new
@@ -548,7 +548,7 @@ impl Core {
         Ok(())
     }
 
-    /// Notes the question of a look, which is of the event behind.
+    /// Notes the question of a look, which is of the event after.
     fn note_look(&mut self, alloc: Global, look: &LookedAt) -> Result<(), NoMemory>
         requires { self.old.count + 1 < 2 ^ 64 }
         ensures noted { OnOk result (self.new

@@ -45,7 +45,7 @@ first-Some bytes place found =
       is = eqb-true _ _ all.1;
     }
 
--- the first one of a part is the first one behind a front that has none
+-- the first one of a part is the first one after a front that has none
 pub first-append : (xs ys : List ℕ) (place : ℕ) → has_feed xs ≡ false → IsFirstFeed ys place → IsFirstFeed (xs ++ ys) (length xs + place)
 first-append xs ys place none first = record {
   within = omega (arith, length-append xs ys, first.within);
@@ -53,7 +53,7 @@ first-append xs ys place none first = record {
   is = get_or-append-add xs ys place 0 ∙ first.is;
 }
 
--- behind a front that has none, one that stands past so many bytes is not in what they leave out
+-- after a front that has none, one that stands past so many bytes is not in what they leave out
 clear-front : (front rest : List ℕ) (n : ℕ) → has_feed (take n (front ++ rest)) ≡ false → has_feed (take (n - length front) rest) ≡ false
 clear-front [] rest n none = let e : n - 0 ≡ n = omega arith in rw e none
 clear-front (x ∷ xs) rest zero none = let e : 0 - length (x ∷ xs) ≡ 0 = omega arith in rw e refl
@@ -95,7 +95,7 @@ unfound thrown held bytes n searched from all count none clear e is =
     subst (λ b. has_feed b ≡ false) (whole thrown held from ∙ all)
     (clear-append (thrown ++ take from held) (drop from held) front (clear-None (drop from held) is))
 
--- what is left behind a front that was thrown away, and more
+-- what is left after a front that was thrown away, and more
 pub drop_behind : (thrown held bytes : List ℕ) (n count : ℕ) → thrown ++ held ≡ bytes → length thrown ≡ n → n ≤ count
     → drop (count - n) held ≡ drop count bytes
 drop_behind thrown held bytes n count all long le =

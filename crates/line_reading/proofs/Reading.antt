@@ -124,7 +124,7 @@ told answers.TooLong all ends before ends' after line tells is = is
 told answers.End all ends before ends' after line tells is = absurd tells
 told answers.Spent all ends before ends' after line tells is = absurd tells
 
--- the bytes up to the first line feed, and those behind it
+-- the bytes up to the first line feed, and those after it
 split : (bytes : List ℕ) (place : ℕ) → IsFirstFeed bytes place → bytes ≡ take place bytes ++ 10 ∷ drop (place + 1) bytes
 split bytes place first =
     let at : drop place bytes ≡ 10 ∷ drop (place + 1) bytes =

@@ -8,8 +8,8 @@ use Rattle.line_reading.specs.Waits.{Waiting, IsSpent, IsLongFront}
 use Rattle.line_reading.specs.declared.line.NextLine.{NextLine}
 use Rattle.line_reading.specs.declared.line.NextLine.TheVariants as answers
 
--- Of these bytes, which were read behind those that waited, all but the last 4,096 at most have no line feed, nor have those that waited: so no
--- more than one part was read behind a line feed that was already there.
+-- Of these bytes, which were read after those that waited, all but the last 4,096 at most have no line feed, nor have those that waited: so no
+-- more than one part was read after a line feed that was already there.
 pub record IsNeeded (waiting more : List ℕ) : Type 0 where
   pub front : List ℕ
   pub last : List ℕ

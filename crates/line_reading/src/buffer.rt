@@ -127,7 +127,7 @@ impl LineBuffer {
         }
     }
 
-    /// Takes away the line that ends before that place, and so many bytes behind it.
+    /// Takes away the line that ends before that place, and so many bytes after it.
     fn cut(&mut self, end: usize, behind: usize)
         requires front { self.old.thrown ≤ end }
         requires within { end + behind ≤ length self.old.bytes }
@@ -156,7 +156,7 @@ impl LineBuffer {
         };
     }
 
-    /// Tells the line that ends before that place, and takes it away, with so many bytes behind it.
+    /// Tells the line that ends before that place, and takes it away, with so many bytes after it.
     pub(crate) fn tell(&mut self, end: usize, behind: usize) -> Result<NextLine, ReadFault>
         requires unspent { IsSpent self.old → ⊥ }
         requires front { self.old.thrown ≤ end }

@@ -1,4 +1,4 @@
--- Names with a mark behind them.
+-- Names with a mark after them.
 use Rattle.std.proofs.Common.{◌≡◌, ℕ, Bool, true, false, List, ◌++◌, bytes_eq, refl, sym, ap}
 use Rattle.std.proofs.lemmas.Slice.Eq.{bytes_eq-Decides}
 

@@ -66,7 +66,7 @@ inside_by s path t Channel = answer.Absent
 inside_by s path t ModuleInterface = answer.Absent
 inside_by s path t ChannelInterface = answer.Absent
 
--- WHAT IS INSIDE of the compound module of that path and type: its submodules in the order in which they are created, or its first fault; behind all
+-- WHAT IS INSIDE of the compound module of that path and type: its submodules in the order in which they are created, or its first fault; after all
 -- else comes the first of its parts with a gate that has to be connected and isn't
 abbrev pub inside_answer : Setting → List ℕ → Option TypeDeclaration → Answer
 inside_answer s path t = typed t (λ u. inside_by s path u u.kind)
@@ -180,6 +180,6 @@ abbrev pub hop_by : Setting → List ℕ → TypeDeclaration → Way → ℕ →
 hop_by s path t way index None = answer.Absent
 hop_by s path t way index (Some h) = answer.Next (next_by s path t way h.1 h.0 index)
 
--- THE NEXT GATE behind a gate of the module of that path and type, or the one from which messages come to it: none where it is not connected
+-- THE NEXT GATE after a gate of the module of that path and type, or the one from which messages come to it: none where it is not connected
 abbrev pub hop_answer : Setting → Way → List ℕ → Option TypeDeclaration → List ℕ → ℕ → Answer
 hop_answer s way path t name index = typed t (λ u. hop_by s path u way index (half_named name (gates_of_type u)))

@@ -47,7 +47,7 @@ type_by (Some t) = Some t.declared.now
 abbrev pub IsNumbered : Setting → Typed → Type 0
 IsNumbered s t = slice_get s.types t.number ≡ Some t.declared.now
 
--- what was found, behind the reference
+-- what was found, after the reference
 abbrev pub result_copied : Result (Bor Found) Fault → Result Found Fault
 result_copied (Ok r) = Ok r.now
 result_copied (Err f) = Err f

@@ -87,7 +87,7 @@ pub fn answer(
     }
 }
 
-/// The injection that goes before an event that is due then, behind the one that was delivered last.
+/// The injection that goes before an event that is due then, after the one that was delivered last.
 fn injection_answer(
     alloc: Global,
     model: &Model,
@@ -154,7 +154,7 @@ fn size_at(
     gate_named(alloc, name, gates.as_slice())
 }
 
-/// The next gate behind a gate of the module of that id, or the one from which messages come to it.
+/// The next gate after a gate of the module of that id, or the one from which messages come to it.
 fn hop_at(
     alloc: Global,
     from: Sources<'_>,

@@ -9,7 +9,7 @@ use run_questions::answer::Answer;
 use sim_values::NoMemory;
 use std::alloc::Global;
 
-/// Whether a name is that of a half of this gate, which has that mark behind it.
+/// Whether a name is that of a half of this gate, which has that mark after it.
 #[tactic(auto, using(crate::proofs::Halves::same_marked))]
 fn is_half(mark: &[u8], name: &[u8], gate: &Gate) -> bool
     ensures { result ≡ named.is_half mark.now name.now gate.now }

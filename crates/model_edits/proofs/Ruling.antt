@@ -120,7 +120,7 @@ no_model_of_files m e c p (refusal.NedSyntax line) behind why = absurd why
 no_model_of_files m e c p (refusal.IniSyntax line reason) behind why = absurd why
 no_model_of_files m e c p (refusal.Types fault) behind why = absurd why
 
--- ---- parts that are those behind an edit, and no others are
+-- ---- parts that are those after an edit, and no others are
 
 -- the same parts give the same model
 made_of : (m : Model) (e : Edit) (p : Parts) → ((others : Parts) → AreBehind m e others → others ≡ p) → (other : Model) (is : IsTextEditOf m e other)

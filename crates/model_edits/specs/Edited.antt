@@ -47,7 +47,7 @@ change_of (edit.SelectConfig name) lines = None
 change_of (edit.Inject path due kind bits payload) lines = None
 change_of (edit.Withdraw number) lines = None
 
--- the configuration that is selected behind an edit, where this one was
+-- the configuration that is selected after an edit, where this one was
 abbrev pub selected : Edit → List ℕ → List ℕ
 selected (edit.InsertIni line text) config = config
 selected (edit.ReplaceIni line text) config = config
@@ -79,7 +79,7 @@ abbrev pub AreLinesBehind : Option change.Edit → List IniLine → List IniLine
 AreLinesBehind None old lines = lines ≡ old
 AreLinesBehind (Some changed) old lines = IsEdited changed lines
 
--- the parts behind an edit of those that the model has
+-- the parts after an edit of those that the model has
 abbrev pub AreBehind : Model → Edit → Parts → Type 0
 AreBehind m e parts = AreFilesBehind (file_change_of e) (parts_of m) parts × AreLinesBehind (change_of e m.ini) m.ini parts.lines
 
@@ -110,7 +110,7 @@ most_injections = 10000
 abbrev pub has_no_room : Model → List ℕ → Bool
 has_no_room m payload = nat_lt most_payload (length payload) || (nat_le most_injections (length m.injections) || nat_lt (2 ^ 32 - 2) m.last_injection)
 
--- the injection that is made: its number is the one behind the last that was used, be it held still or not
+-- the injection that is made: its number is the one after the last that was used, be it held still or not
 abbrev pub next_injection : Model → List ℕ → Due → ℤ → ℕ → List ℕ → Injection
 next_injection m path due kind bits payload =
     record { number = m.last_injection + 1; path = path; due = due; kind = kind; bits = bits; payload = payload }
@@ -139,7 +139,7 @@ abbrev pub without : ℕ → List Injection → List Injection
 without number [] = []
 without number (i ∷ is) = if is_numbered number i then is else i ∷ without number is
 
--- ---- the model behind an edit
+-- ---- the model after an edit
 
 -- THE MODEL that an edit makes of a model
 abbrev pub IsEditOf : Model → Edit → Model → Type 0
@@ -216,7 +216,7 @@ RefusesWithdrawal m number refusal.NoSuchInjection = list_any (is_numbered numbe
 RefusesWithdrawal m number (refusal.NoMemory _) = Unit {0}
 RefusesWithdrawal m number _ = ⊥
 
--- EACH REFUSAL but want of memory has its reason, and no reason that comes before it.
+-- EACH REFUSAL but lack of memory has its reason, and no reason that comes before it.
 abbrev pub Refuses : Model → Edit → Refusal → Type 0
 Refuses m (edit.InsertIni line text) r = RefusesText m (edit.InsertIni line text) r
 Refuses m (edit.ReplaceIni line text) r = RefusesText m (edit.ReplaceIni line text) r
@@ -228,7 +228,7 @@ Refuses m (edit.SelectConfig name) r = RefusesText m (edit.SelectConfig name) r
 Refuses m (edit.Inject path due kind bits payload) r = RefusesInjection m payload r
 Refuses m (edit.Withdraw number) r = RefusesWithdrawal m number r
 
--- Where the edit makes a model, nothing refuses it but want of memory.
+-- Where the edit makes a model, nothing refuses it but lack of memory.
 abbrev pub IsRuledOut : Model → Edit → Refusal → Type 0
 IsRuledOut m e r = (new : Model) → IsEditOf m e new → r ≡ refusal.NoMemory no_memory
 

@@ -37,7 +37,7 @@ pub const MAX_INJECTIONS: usize = 10_000;
 /// An edit of a model.
 #[derive(Drop)]
 pub enum Edit {
-    /// A line of this text is put before the line of this number of the ini text, counted from 1. The number behind
+    /// A line of this text is put before the line of this number of the ini text, counted from 1. The number after
     /// that of the last line adds one at the end.
     InsertIni(usize, Text),
     /// A line of this text stands instead of the line of this number.
@@ -47,7 +47,7 @@ pub enum Edit {
     /// The NED file of this number, counted from 0, is this text.
     ReplaceNed(usize, Text),
     /// The connection, or the group of connections, that this text is stands at this place, counted from 0, among those of the module or
-    /// network of this name. The place behind the last one adds one at the end.
+    /// network of this name. The place after the last one adds one at the end.
     AddConnection(Text, usize, Text),
     /// The connection, or the group of connections, at this place is taken out.
     RemoveConnection(Text, usize),
@@ -60,7 +60,7 @@ pub enum Edit {
     Withdraw(u64),
 }
 
-/// Why an edit is refused. Of several reasons the first in this order is told, and want of memory in any place.
+/// Why an edit is refused. Of several reasons the first in this order is told, and lack of memory in any place.
 #[derive(Clone, Copy)]
 pub enum Refusal {
     /// The changed ini text is longer than 1 MiB, or a given text of NED is; or a payload is longer than 4,096 bytes, 10,000 injections are held, or all
@@ -287,7 +287,7 @@ fn has_no_room(model: &Model, payload: &Text) -> bool
         || model.last_injection == u32::MAX
 }
 
-/// The number that this edit gives to the injection that it adds: the one behind the last that was used, be it held still or not.
+/// The number that this edit gives to the injection that it adds: the one after the last that was used, be it held still or not.
 pub fn number_given(model: &Model, edit: &Edit) -> Option<u64>
     ensures { result ≡ number_given edit.now model.now }
 {

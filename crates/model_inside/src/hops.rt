@@ -38,7 +38,7 @@ pub enum Seen {
 
 // ---- halves of gates
 
-/// Whether a name is that of a gate with a mark behind it.
+/// Whether a name is that of a gate with a mark after it.
 pub fn is_marked(name: &[u8], gate: &[u8], mark: &[u8]) -> bool
     ensures { result ≡ bytes_eq (gate.now ++ mark.now) name.now }
 {
@@ -102,7 +102,7 @@ fn name_of_half(alloc: Global, gate: &TypeGate, half: Half) -> Result<Text, NoMe
     Ok(Text::from_vec(name))
 }
 
-/// The mark behind the name of a gate that goes both ways, for one of its halves.
+/// The mark after the name of a gate that goes both ways, for one of its halves.
 fn mark_of(half: Half) -> &'static [u8]
     ensures { result.now ≡ hops.mark_of half }
 {

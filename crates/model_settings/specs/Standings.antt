@@ -26,7 +26,7 @@ abbrev pub name_before : List ℕ → Option ℕ → List ℕ
 name_before own None = own
 name_before own (Some at) = take at own
 
--- The number that digits make, behind those that made this one, up to the bracket that ends them: none where there is another byte before that, or where
+-- The number that digits make, after those that made this one, up to the bracket that ends them: none where there is another byte before that, or where
 -- it has more than 32 bits.
 abbrev pub index_after : ℕ → List ℕ → Option ℕ
 index_after n [] = None
@@ -39,7 +39,7 @@ abbrev pub index_behind : List ℕ → Option ℕ → Option ℕ
 index_behind own None = None
 index_behind own (Some at) = index_after 0 (drop (suc at) own)
 
--- a module's name, and its index, from what stands behind the last dot of its path
+-- a module's name, and its index, from what stands after the last dot of its path
 abbrev pub name_in : List ℕ → List ℕ
 name_in own = name_before own (bracket_of own)
 
@@ -50,7 +50,7 @@ index_in own = index_behind own (bracket_of own)
 abbrev pub around_of : Module → Option Module
 around_of m = option_map (λ path. record { created = m.created; path = path }) (before_last m.path)
 
--- WHERE A MODULE STANDS: what is before the last dot of its path is the module around, behind it are its name and its index. The network's path has no
+-- WHERE A MODULE STANDS: what is before the last dot of its path is the module around, after it are its name and its index. The network's path has no
 -- dot. Each is declared: none is created while a model runs yet.
 abbrev pub standing_of : Module → Standing
 standing_of m = record {
@@ -89,7 +89,7 @@ setting_of m = record {
 
 -- ---- what is looked up of it
 
--- these names, and others behind them, each once
+-- these names, and others after them, each once
 abbrev pub names_behind : List (List ℕ) → List (List ℕ) → List (List ℕ)
 names_behind before [] = before
 names_behind before (n ∷ ns) = names_behind (with_name n before) ns

@@ -46,7 +46,7 @@ fn bracket_of(own: &[u8]) -> Option<usize>
     own.iter().position(|byte| *byte == b'[')
 }
 
-/// A module's name, from what stands behind the last dot of its path.
+/// A module's name, from what stands after the last dot of its path.
 pub fn name_in(own: &[u8]) -> &[u8]
     ensures { result.now ≡ name_in own.now }
 {
@@ -56,7 +56,7 @@ pub fn name_in(own: &[u8]) -> &[u8]
     }
 }
 
-/// The number that digits make, behind those that made this one, up to the bracket that ends them.
+/// The number that digits make, after those that made this one, up to the bracket that ends them.
 fn index_after(so_far: u32, digits: &[u8]) -> Option<u32>
     ensures { result ≡ index_after so_far digits.now }
 {
@@ -79,7 +79,7 @@ fn index_after(so_far: u32, digits: &[u8]) -> Option<u32>
     None
 }
 
-/// A module's index, from what stands behind the last dot of its path.
+/// A module's index, from what stands after the last dot of its path.
 pub fn index_in(own: &[u8]) -> Option<u32>
     ensures { result ≡ index_in own.now }
 {

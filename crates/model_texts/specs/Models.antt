@@ -152,7 +152,7 @@ pub record HasNoNetwork (texts : List (List ℕ)) (ini config : List ℕ) : Type
   pub read : IsReadAs texts ini config model
   pub none : network_of model ≡ None
 
--- Each refusal but want of memory has its reason, and no reason that comes before it.
+-- Each refusal but lack of memory has its reason, and no reason that comes before it.
 abbrev pub Refuses : List (List ℕ) → List ℕ → List ℕ → BeginFault → Type 0
 Refuses texts ini config fault.TooLarge = is_too_large texts ini ≡ true
 Refuses texts ini config (fault.NedSyntax at line) = (is_too_large texts ini ≡ false) × IsBlamed texts at line
@@ -167,7 +167,7 @@ Refuses texts ini config fault.ChainFault = HasNoChain texts ini config
 Refuses texts ini config fault.NoSuchNetwork = HasNoNetwork texts ini config
 Refuses texts ini config (fault.NoMemory _) = Unit {0}
 
--- Where the texts make a model, nothing refuses them but want of memory.
+-- Where the texts make a model, nothing refuses them but lack of memory.
 abbrev pub IsRuledOut : List (List ℕ) → List ℕ → List ℕ → BeginFault → Type 0
 IsRuledOut texts ini config f = (m : Model) → IsModelOf texts ini config m → f ≡ fault.NoMemory no_memory
 

@@ -34,7 +34,7 @@ use type_building::table::{BuildError, TypeFault};
 /// How many NED files a model has at most.
 pub const MAX_FILES: usize = 256;
 
-/// Why texts make no model. Of several reasons the first in this order is told, and want of memory
+/// Why texts make no model. Of several reasons the first in this order is told, and lack of memory
 /// in any place.
 #[derive(Clone, Copy, Debug, PartialEq, Eq)]
 pub enum BeginFault {

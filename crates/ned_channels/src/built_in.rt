@@ -30,7 +30,7 @@ fn built_in_line(
     }))
 }
 
-/// Adds one behind these lines.
+/// Adds one after these lines.
 fn add_line(
     alloc: Global,
     lines: &mut Items<SectionLine>,

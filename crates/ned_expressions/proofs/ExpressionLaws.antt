@@ -115,7 +115,7 @@ no_kind (token.Quantity x n) e = absurd (true≢false e)
 no_kind (token.Literal text) e = absurd (true≢false e)
 no_kind _ e = (refl, refl)
 
--- what may not stand behind a name is none of these marks
+-- what may not stand after a name is none of these marks
 no_dot : (t : Token) → is_tail t ≡ false → is_mark m.Dot t ≡ None
 no_dot (token.Mark m.Dot) e = absurd (true≢false e)
 no_dot (token.Mark _) e = refl
@@ -533,7 +533,7 @@ module _ (d : ℕ) (li : (p : Place) (l : ℕ) → Lawful (expression_within d p
     unfolding operand
     operand_outside t e = let n = no_kind t e in rw (n.0, n.1) refl
 
-    -- behind an operand goes on only what may stand behind a name
+    -- after an operand goes on only what may stand after a name
     operand_ends : (t : Token) → is_tail t ≡ false → (operand inner at p).goes_on t ≡ false
     unfolding operand
     operand_ends t e = rw e refl

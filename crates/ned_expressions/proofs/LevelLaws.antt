@@ -1,4 +1,4 @@
--- The levels of operators, and what may stand behind what.
+-- The levels of operators, and what may stand after what.
 use Rattle.std.proofs.Common.{◌≡◌, ℕ, suc, ◌≤◌, ◌<◌, arith, Bool, true, false, cond, ◌&&◌, List, [], ◌∷◌, ◌++◌, Option, Some, None, refl, sym, ap, subst, ◌∙◌}
 use Rattle.std.specs.Prelude.{nat_le, nat_lt, ◌==◌}
 use Rattle.std.proofs.lemmas.Bool.{eqb-true, eqb-false, leb-true, le-leb, false≢true}
@@ -45,7 +45,7 @@ tail_no_operator (token.Mark m.LeftParen) e = refl
 tail_no_operator (token.Mark _) e = absurd (false≢true e)
 tail_no_operator _ e = absurd (false≢true e)
 
--- what may stand behind a name is no operator
+-- what may stand after a name is no operator
 pub rank_no_tail : (p : Place) (t : Token) (l : ℕ) → rank p t ≡ Some l → is_tail t ≡ false
 rank_no_tail p t l e = go (is_tail t) refl
   where

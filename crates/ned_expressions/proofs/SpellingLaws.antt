@@ -247,7 +247,7 @@ scoped_faithful ts e is =
     let first : pair.0 ≡ token.Word (scope_word s) ∷ [] = pair.3.1 ∙ ap (λ (t : Token). t ∷ []) (scope_said pair.3.0 s pair.3.2) in
     subst (λ (z : Expression). Faithful 0 ts z) (sym is.2) (record { tokens = pair.2 ∙ ap (λ (l : List Token). l ++ pair.1) first ∙ ap (λ (l : List Token). token.Word (scope_word s) ∷ l) (dot_name pair.1 x pair.4) ∙ sym same; shallow = omega (arith, flat) })
 
--- a name with `.x` or nothing behind it
+-- a name with `.x` or nothing after it
 member_faithful : (x : List ℕ) (ts : List Token) (t : Tail) → member.Is ts t → Faithful 0 (token.Name x ∷ ts) (with_tail x (Some t))
 unfolding member
 member_faithful x ts t is =
@@ -474,7 +474,7 @@ module _ (d : ℕ) (ih : (p : Place) (l : ℕ) (ts : List Token) (e : Expression
         shallow = omega (arith, depth_signed s x, f.shallow);
       })
 
-  -- ---- a step behind x
+  -- ---- a step after x
 
   step_faithful : (p : Place) (x : Expression) (front : List Token) (l : ℕ) (f : List Token) (t : Step) → front ≡ expression_tokens x → depth x ≤ d → (step (expression_within d) p l).Is f t → Faithful (suc d) (front ++ f) (put x t)
   unfolding conditional_step binary_step operator

@@ -12,7 +12,7 @@ use Rattle.ned_expressions.specs.Grammar.{expression}
 abbrev pub IsExpressionText : List ℕ → Expression → Type 0
 IsExpressionText bytes e = Means expression bytes e
 
--- Each refusal but want of memory has its reason.
+-- Each refusal but lack of memory has its reason.
 abbrev pub ExplainsExpression : List ℕ → NedError → Type 0
 ExplainsExpression bytes (errors.NoMemory _) = Unit {0}
 ExplainsExpression bytes errors.TooLarge = suc max_length ≤ length bytes

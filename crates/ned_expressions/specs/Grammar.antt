@@ -191,7 +191,7 @@ is_named t = is_kind kinds.Chosen t || is_kind kinds.Named t
 abbrev pub is_literal : Token → Bool
 is_literal t = is_some (literal_of t)
 
--- a token that may stand behind a name
+-- a token that may stand after a name
 abbrev pub is_tail : Token → Bool
 is_tail (token.Mark m.Dot) = true
 is_tail (token.Mark m.LeftBracket) = true
@@ -233,7 +233,7 @@ member = made tails.Member (mark m.Dot ▷ name)
 unfoldable pub element : Rule Expression → Rule Tail
 element e = made (λ x. tails.Element x.0 x.1) (brackets e ⊗ (mark m.Dot ▷ name))
 
--- what stands behind a name
+-- what stands after a name
 unfoldable pub tail : Rule Expression → Rule Tail
 tail e = sealed begins_tail nothing (either member (element e))
 
@@ -241,7 +241,7 @@ tail e = sealed begins_tail nothing (either member (element e))
 unfoldable pub pair : Rule Expression → Rule ChoiceTail
 pair e = made (λ x. choice_tails.Pair x.0 x.1) (mark m.LeftParen ▷ (e ⊗ (mark m.Comma ▷ (e ◁ mark m.RightParen))))
 
--- what stands behind `min` or `max`
+-- what stands after `min` or `max`
 unfoldable pub choice_tail : Inner → Place → Rule ChoiceTail
 choice_tail inner p = sealed is_tail nothing (either (pair (inner place.Anywhere 0)) (made choice_tails.Plain (tail (inner p 0))))
 
@@ -372,7 +372,7 @@ abbrev pub put : Expression → Step → Expression
 put e (steps.Binary o b) = expr.Binary o e b
 put e (steps.Conditional a b) = expr.Conditional e a b
 
--- behind e an operator of this level may stand, where the whole is at most this deep and has no looser operator than `least`
+-- after e an operator of this level may stand, where the whole is at most this deep and has no looser operator than `least`
 abbrev pub may : ℕ → ℕ → Expression → ℕ → Bool
 may deepest least e l = nat_le least l && (nat_le (left_level l) (tightness e) && nat_lt (depth e) deepest)
 

@@ -34,7 +34,7 @@ pub(crate) enum Kind {
     Other,
 }
 
-/// What stands behind a name.
+/// What stands after a name.
 #[derive(Drop)]
 pub(crate) enum Tail {
     /// `.x`.
@@ -146,7 +146,7 @@ fn optional_member(alloc: Global, tokens: &[Token]) -> Result<(Option<Tail>, &[T
     Ok((Some(tail), rest))
 }
 
-/// A name and what stands behind it.
+/// A name and what stands after it.
 pub(crate) fn with_tail(text: Text, tail: Option<Tail>) -> Expression
     ensures { result ≡ grammar.with_tail text tail }
 {

@@ -17,7 +17,7 @@ use std::alloc::{AllocError, Global};
 
 const MAX_DEPTH: u32 = 64;
 
-/// What stands behind an operand: an operator and its right operand, or `? a : b`.
+/// What stands after an operand: an operator and its right operand, or `? a : b`.
 #[derive(Drop)]
 pub(crate) enum Step {
     Binary(Operator, Boxed<Expression>),
@@ -126,7 +126,7 @@ fn next_step(
     }
 }
 
-/// An operand and what stands behind it.
+/// An operand and what stands after it.
 /// `chain = operand { step }`.
 #[cycle(exprs)]
 fn chain(

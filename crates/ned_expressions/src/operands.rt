@@ -18,7 +18,7 @@ use sim_values::text::Text;
 use sqlite_items::Boxed;
 use std::alloc::{AllocError, Global};
 
-/// What stands behind `min` or `max`.
+/// What stands after `min` or `max`.
 #[derive(Drop)]
 pub(crate) enum ChoiceTail {
     /// `(a, b)`.
@@ -312,7 +312,7 @@ fn size_of(alloc: Global, tokens: &[Token]) -> Result<(Expression, &[Token]), Re
     Ok((Expression::Sizeof(found), rest))
 }
 
-/// `[ element_index ]`: `[e]` behind the name in `exists`, nothing where the call may only be one deep.
+/// `[ element_index ]`: `[e]` after the name in `exists`, nothing where the call may only be one deep.
 #[cycle(exprs)]
 fn optional_index(
     alloc: Global,

@@ -58,7 +58,7 @@ once_new known k unknown = ap (λ (b : Bool). if b then known else known ++ k �
 pub once_old : (known : List Known) (k : Known) → is_known known k.name ≡ true → once_behind known k ≡ known
 once_old known k there = ap (λ (b : Bool). if b then known else known ++ k ∷ []) there
 
--- ---- one list behind the other
+-- ---- one list after the other
 
 pub behind_both : (known ks ls : List Known) → all_behind known (ks ++ ls) ≡ all_behind (all_behind known ks) ls
 behind_both known [] ls = refl
@@ -68,13 +68,13 @@ pub some_of : (o : Option (Bor (Option (List ℕ)))) → is_some o ≡ is_some (
 some_of (Some r) = refl
 some_of None = refl
 
--- a type that isn't known is added behind the others
+-- a type that isn't known is added after the others
 pub newly_added : (known : List Known) (es : List Entry) (k : Known) → known_at es ≡ known → is_known known k.name ≡ false → known_at (insert_entry (λ (x y : List ℕ). bytes_eq x y) es k.name k.base) ≡ once_behind known k
 newly_added known es k seen unknown =
     added k.name k.base es (ap (λ ks. is_known ks k.name) seen ∙ unknown)
     ∙ ap (λ (ks : List Known). ks ++ k ∷ []) seen
     ∙ sym (once_new known k unknown)
 
--- the next one of a list, before those behind it
+-- the next one of a list, before those after it
 pub next_one : (ts : List NestedType) (n : ℕ) (t : NestedType) → n < length ts → t ≡ get_or ts n t → drop n ts ≡ t ∷ drop (n + 1) ts
 next_one ts n t within is = rw add-one (drop-cons ts n t within ∙ ap (λ (u : NestedType). u ∷ drop (suc n) ts) (sym is))

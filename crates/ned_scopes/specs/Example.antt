@@ -136,6 +136,6 @@ pub record ExampleScopes : Type 0 where
   -- a simple type within another has the class of its own name, unless it extends one
   pub classes : map (λ (t : TypeDeclaration). t.lines) example ≡
       [] ∷ [] ∷ (line.Class (codes "B") ∷ []) ∷ [] ∷ (line.Class (codes "A") ∷ []) ∷ [] ∷ [] ∷ [] ∷ [] ∷ [] ∷ (line.Class (codes "F") ∷ []) ∷ [] ∷ [] ∷ []
-  -- so is the interface behind `like` of a submodule, and the type of a connection's channel, in groups too
+  -- so is the interface after `like` of a submodule, and the type of a connection's channel, in groups too
   pub lines : types_of (record { types = map around line_file } ∷ []) ≡
       lines_network (codes "Lines.I") (codes "J") (codes "Lines.Slow") (codes "Fast") ∷ root ModuleInterface (codes "Lines.I") ∷ root Channel (codes "Lines.Slow") ∷ []

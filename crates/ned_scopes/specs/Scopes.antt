@@ -87,7 +87,7 @@ abbrev pub meant : TypesByName → List (List ℕ) → List ℕ → List ℕ
 meant types scopes name = full_name (declaring types scopes name) name
 
 -- what is extended, what that extends, and so on, so many of them, where the first is looked up in these scopes. A base that
--- one of them declares is a type within that scope, so its own base is looked up in that scope and those behind it
+-- one of them declares is a type within that scope, so its own base is looked up in that scope and those after it
 abbrev pub bases_within : ℕ → TypesByName → List (List ℕ) → Option (List ℕ) → List (List ℕ)
 bases_within n types scopes None = []
 bases_within zero types scopes (Some base) = []
@@ -110,12 +110,12 @@ class_line kind.Channel base name = []
 class_line kind.ModuleInterface base name = []
 class_line kind.ChannelInterface base name = []
 
--- the line stands behind the lines of a type within another, as the first class that lines name counts
+-- the line stands after the lines of a type within another, as the first class that lines name counts
 abbrev pub own_class : List (List ℕ) → TypeDeclaration → List SectionLine
 own_class [] t = []
 own_class (scope ∷ scopes) t = class_line t.kind t.base t.name
 
--- the type of a submodule, or the interface behind `like`, looked up in these scopes
+-- the type of a submodule, or the interface after `like`, looked up in these scopes
 abbrev pub meant_type : TypesByName → List (List ℕ) → SubmoduleType → SubmoduleType
 meant_type types scopes (submodule_type.Named name) = submodule_type.Named (meant types scopes name)
 meant_type types scopes (submodule_type.Like p) = submodule_type.Like (record { given = p.given; interface = meant types scopes p.interface })

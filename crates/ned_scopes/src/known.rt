@@ -83,7 +83,7 @@ impl KnownTypes {
         }
     }
 
-    /// Adds a type behind the others, unless its name is known.
+    /// Adds a type after the others, unless its name is known.
     pub(crate) fn add(&mut self, known: Known) -> Result<(), AllocError>
         ensures { OnOk result (self.new ≡ once_behind self.old known) }
     {

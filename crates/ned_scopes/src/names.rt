@@ -137,7 +137,7 @@ fn meant_names(
     Ok(full)
 }
 
-/// The type of a submodule, or the interface behind `like`, looked up in these scopes.
+/// The type of a submodule, or the interface after `like`, looked up in these scopes.
 fn meant_type(
     alloc: Global,
     types: &TypesByName,
@@ -208,7 +208,7 @@ fn add_class_line(
     }
 }
 
-/// The lines of a type, and behind them the class of a simple type within another.
+/// The lines of a type, and after them the class of a simple type within another.
 fn resolved_lines(
     alloc: Global,
     scopes: &[Text],

@@ -1,4 +1,4 @@
--- The digits behind the point say exactly what they spell.
+-- The digits after the point say exactly what they spell.
 use Rattle.std.proofs.Common.{◌≡◌, ℕ, suc, ◌+◌, ◌-◌, ◌*◌, ◌/◌, ◌%◌, ◌^◌, ◌<◌, ◌≤◌, Bool, true, false, cond, eqb, [], ◌∷◌, length, Option, Some, None, ◌⊎◌, inl, inr, refl, ap, arith}
 use Rattle.std.proofs.lemmas.Bool.{eqb-true, cases_lt}
 use Rattle.std.proofs.Math.Nat.{mul-le-mul_left, pow-suc, one-le-pow}
@@ -6,7 +6,7 @@ use Rattle.ned_tokens.specs.Runs.{Bytes}
 use Rattle.ned_tokens.specs.Digits.{digit_of, value_from}
 use Rattle.ned_tokens.specs.Quantities.{and_then, tenth, part_of}
 
--- what stands in front counts once for each place behind it
+-- what stands in front counts once for each place after it
 value_split : (n : ℕ) (ds : Bytes) → value_from 10 n ds ≡ n * 10 ^ length ds + value_from 10 0 ds
 value_split n [] = omega arith
 value_split n (d ∷ ds) =

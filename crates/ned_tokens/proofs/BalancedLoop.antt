@@ -12,7 +12,7 @@ module _ (turn : Token → Turn) where
   read_step zero t us = refl
   read_step (suc n) t us = refl
 
-  -- a token behind which k are open
+  -- a token after which k are open
   goes : (n k : ℕ) (t : Token) (us : List Token) → depth_behind (turn t) n ≡ Some k → balanced_read turn n (t ∷ us) ≡ with_token t (balanced_read turn k us)
   goes n k t us e = read_step n t us ∙ go (turn t) n e
     where
@@ -49,7 +49,7 @@ module _ (turn : Token → Turn) where
   front_of : (ts : List Token) (i : ℕ) (t : Token) → i < length ts → t ≡ get_or ts i t → drop i ts ≡ t ∷ drop (i + 1) ts
   front_of ts i t h e = rw add-one (drop-cons ts i t h ∙ ap (λ (u : Token). u ∷ drop (suc i) ts) (sym e))
 
-  -- i tokens were read, behind which n are open; t is the next
+  -- i tokens were read, after which n are open; t is the next
   pub loop_goes : (ts : List Token) (i n k : ℕ) (t : Token) (total : Reading (List Token)) → i < length ts → t ≡ get_or ts i t → depth_behind (turn t) n ≡ Some k → with_front (take i ts) (balanced_read turn n (drop i ts)) ≡ total → with_front (take (i + 1) ts) (balanced_read turn k (drop (i + 1) ts)) ≡ total
   loop_goes ts i n k t total h et e so_far =
       let rest = drop (i + 1) ts in

@@ -10,7 +10,7 @@ use Rattle.ned_tokens.proofs.Many.{shorter}
 use Rattle.ned_tokens.proofs.ViableLaws.{Viable, Ready}
 use Rattle.ned_tokens.specs.Growth.{next, grown_is, grow_read, grown, never}
 
--- what is still read behind x makes the whole
+-- what is still read after x makes the whole
 pub record Left {X L T : Type 0} (follows : X → Token → Option L) (read : L → List Token → Reading T) (put : X → T → X) (x : X) (ts : List Token) (total : Reading X) : Type 0 where
   pub fuel : ℕ
   pub enough : length ts ≤ fuel
@@ -63,7 +63,7 @@ module _ {X L T : Type 0} (base : Rule X) (follows : X → Token → Option L) (
     is : Grows x steps front y
     again : (other : List Token) → SameHead rest other → (m : ℕ) → length (front ++ other) ≤ m → grow m x (front ++ other) ≡ Ok (y, other)
 
-  -- one step and then what is behind it
+  -- one step and then what is after it
   again_more : (x y : X) (l : L) (t : T) (f g other : List Token) (m : ℕ) → next follows x f ≡ Some l → (step l).read (f ++ (g ++ other)) ≡ Ok (t, g ++ other) → ((k : ℕ) → length (g ++ other) ≤ k → grow k (put x t) (g ++ other) ≡ Ok (y, other)) → length ((f ++ g) ++ other) ≤ m → grow m x ((f ++ g) ++ other) ≡ Ok (y, other)
   again_more x y l t f g other zero en er rest h = absurd (omega (arith, h, next_long x l f en, length-append (f ++ g) other, length-append f g))
   again_more x y l t f g other (suc m) en er rest h =

@@ -41,7 +41,7 @@ pub SameHead-refl : (ts : List Token) → SameHead ts ts
 SameHead-refl [] = tt
 SameHead-refl (t ∷ ts) = refl
 
--- the same first token behind the same front
+-- the same first token after the same front
 pub SameHead-front : (front a b : List Token) → SameHead a b → SameHead (front ++ a) (front ++ b)
 SameHead-front [] a b h = h
 SameHead-front (t ∷ front) a b h = refl
@@ -79,7 +79,7 @@ pub SameHead-nil : (other : List Token) → SameHead [] other → other ≡ []
 SameHead-nil [] h = refl
 SameHead-nil (u ∷ us) h = absurd h
 
--- what is behind a front has the head that the rest had
+-- what is after a front has the head that the rest had
 pub SameHead-behind : (mid front rest other : List Token) → mid ≡ front ++ rest → SameHead rest other → SameHead mid (front ++ other)
 SameHead-behind mid front rest other e h = subst (λ (l : List Token). SameHead l (front ++ other)) (sym e) (SameHead-front front rest other h)
 

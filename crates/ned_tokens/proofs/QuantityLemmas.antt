@@ -1,4 +1,4 @@
--- Quantities in a row, and digits behind the point.
+-- Quantities in a row, and digits after the point.
 use Rattle.std.proofs.Common.{◌≡◌, ℕ, zero, suc, ◌+◌, ◌*◌, ◌%◌, ◌/◌, ◌<◌, ◌≤◌, Bool, true, false, cond, [], ◌∷◌, length, drop, get_or, Option, Some, None, refl, sym, ap, ◌∙◌, arith, add-one, drop-cons, eqb}
 use Rattle.std.proofs.lemmas.Bool.{eqb-true}
 use Rattle.std.proofs.Math.Nat.{mul-le-mul_left}
@@ -23,7 +23,7 @@ fraction_length bs = go (begins_fraction bs)
 pub piece_length : (bs : Bytes) → begins class.Digit bs ≡ true → length (piece_at bs).1 < length bs
 piece_length bs e = omega (arith, behind_length class.Letter (fraction_at (behind class.Digit bs)).1, fraction_length (behind class.Digit bs), behind_shorter class.Digit bs e)
 
--- a quantity behind spaces
+-- a quantity after spaces
 pub next_piece_length : (bs : Bytes) → begins class.Digit (behind class.Space bs) ≡ true → length (piece_at (behind class.Space bs)).1 < length bs
 next_piece_length bs e = omega (arith, piece_length (behind class.Space bs) e, behind_length class.Space bs)
 
@@ -93,7 +93,7 @@ pub quantity_length : (bs : Bytes) → begins class.Digit bs ≡ true → length
 unfolding quantity_at row_from
 quantity_length bs e = omega (arith, row_length (length (piece_at bs).1) (piece_at bs).0 (piece_at bs).1, piece_length bs e)
 
--- ---- digits behind the point
+-- ---- digits after the point
 
 part_step : (factor : ℕ) (ds : Bytes) (i j part : ℕ) → i ≡ j + 1 → j < length ds → part_of factor (drop i ds) ≡ Some part → part_of factor (drop j ds) ≡ tenth (part + digit_of (get_or ds j 0) * factor)
 part_step factor ds i j part e h so_far =

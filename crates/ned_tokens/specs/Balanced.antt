@@ -23,7 +23,7 @@ turned closes P zero = ⊥
 turned closes P (suc n) = P n
 turned bars P n = ⊥
 
--- with n open before, none is open behind, and none closes too much
+-- with n open before, none is open after, and none closes too much
 abbrev pub IsBalanced : (Token → Turn) → ℕ → List Token → Type 0
 IsBalanced turn zero [] = Unit {0}
 IsBalanced turn (suc n) [] = ⊥
@@ -53,7 +53,7 @@ balanced turn = record {
   empty = true;
 }
 
--- how many parentheses are open behind a token, where this many are before it; none where the text ends at it
+-- how many parentheses are open after a token, where this many are before it; none where the text ends at it
 abbrev pub depth_behind : Turn → ℕ → Option ℕ
 depth_behind opens n = Some (n + 1)
 depth_behind stays n = Some n

@@ -20,7 +20,7 @@ IsComment [] = Unit {0}
 IsComment (a ∷ []) = ⊥
 IsComment (a ∷ b ∷ bs) = (a ≡ 47) × (b ≡ 47)
 
--- a line of blanks, perhaps with a comment behind them
+-- a line of blanks, perhaps with a comment after them
 pub record IsBlankLine (line : Bytes) : Type 0 where
   pub blanks : Bytes
   pub rest : Bytes

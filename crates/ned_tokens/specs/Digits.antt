@@ -13,7 +13,7 @@ base_of _ = 10
 abbrev pub digit_of : ℕ → ℕ
 digit_of b = if nat_le b 57 then b - 48 else (if nat_le b 70 then b - 55 else b - 87)
 
--- the value of digits behind a number
+-- the value of digits after a number
 abbrev pub value_from : ℕ → ℕ → Bytes → ℕ
 value_from base n [] = n
 value_from base n (d ∷ ds) = value_from base (n * base + digit_of d) ds

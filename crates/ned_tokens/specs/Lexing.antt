@@ -15,11 +15,11 @@ abbrev pub named : Option Keyword → Bytes → Token
 named (Some keyword) word = token.Word keyword
 named None word = token.Name word
 
--- a word or a name, and what is behind it
+-- a word or a name, and what is after it
 unfoldable pub word_at : Bytes → Token × Bytes
 word_at bs = (named (keyword_of (run class.Name bs)) (run class.Name bs), behind class.Name bs)
 
--- the token that begins with b, and what is behind it
+-- the token that begins with b, and what is after it
 unfoldable pub token_at : ℕ → Bytes → Token × Bytes
 token_at b bs =
     if is_letter b || b == 95 then word_at (b ∷ bs)
@@ -31,12 +31,12 @@ abbrev pub is_slash_next : Bytes → Bool
 is_slash_next [] = false
 is_slash_next (b ∷ bs) = b == 47
 
--- the token with which the bytes begin, and what is behind it; none at the end or a comment, which goes up to the end
+-- the token with which the bytes begin, and what is after it; none at the end or a comment, which goes up to the end
 unfoldable pub token_of : Bytes → Option (Token × Bytes)
 token_of [] = None
 token_of (b ∷ bs) = if b == 47 && is_slash_next bs then None else Some (token_at b bs)
 
--- the first token behind blanks
+-- the first token after blanks
 abbrev pub next : Bytes → Option (Token × Bytes)
 next bs = token_of (behind class.Blank bs)
 
@@ -63,7 +63,7 @@ abbrev pub is_open : Token → Bool
 is_open token.OpenLiteral = true
 is_open _ = false
 
--- the last token goes on behind the line; where there is none, what was so before
+-- the last token goes on after the line; where there is none, what was so before
 abbrev pub ends_open : Bool → List Token → Bool
 ends_open was [] = was
 ends_open was (t ∷ ts) = ends_open (is_open t) ts

@@ -8,7 +8,7 @@ abbrev pub add_front : ℕ → List Bytes → List Bytes
 add_front b [] = (b ∷ []) ∷ []
 add_front b (line ∷ lines) = (b ∷ line) ∷ lines
 
--- the lines, without the ends; behind the last end there is one more only if it has a byte
+-- the lines, without the ends; after the last end there is one more only if it has a byte
 unfoldable pub lines_of : Bytes → List Bytes
 lines_of [] = []
 lines_of (b ∷ bs) = if b == 10 then [] ∷ lines_of bs else add_front b (lines_of bs)
@@ -18,7 +18,7 @@ unfoldable pub tokens_of_lines : Bool → List Bytes → List Token
 tokens_of_lines inside [] = []
 tokens_of_lines inside (line ∷ lines) = line_tokens inside line ++ tokens_of_lines (ends_open false (line_tokens inside line)) lines
 
--- whether the line behind these begins inside a text in quotes
+-- whether the line after these begins inside a text in quotes
 abbrev pub inside_behind : Bool → List Bytes → Bool
 inside_behind inside [] = inside
 inside_behind inside (line ∷ lines) = inside_behind (ends_open false (line_tokens inside line)) lines

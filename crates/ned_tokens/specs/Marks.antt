@@ -7,7 +7,7 @@ use Rattle.ned_tokens.specs.declared.token.Token.TheVariants as token
 use Rattle.ned_tokens.specs.Runs.{Bytes}
 use Rattle.ned_tokens.specs.Words.{or_else}
 
--- the arrows `<-->`, `<--` and `-->`, with the number of bytes behind the first
+-- the arrows `<-->`, `<--` and `-->`, with the number of bytes after the first
 unfoldable pub arrow_of : ℕ → ℕ → ℕ → ℕ → Option (Mark × ℕ)
 arrow_of a b c d =
     if a == 60 && b == 45 && c == 45 then (if d == 62 then Some (m.ArrowBoth, 3) else Some (m.ArrowLeft, 2))
@@ -67,7 +67,7 @@ operator_of a =
     else (if a == 35 then Some m.Hash
     else None)))))))))))))
 
--- the longest mark that begins with a byte, and how many of its bytes are behind that
+-- the longest mark that begins with a byte, and how many of its bytes are after that
 unfoldable pub mark_of : ℕ → Bytes → Option (Mark × ℕ)
 mark_of a bs =
     or_else (arrow_of a (slice_index bs 0) (slice_index bs 1) (slice_index bs 2))
@@ -78,6 +78,6 @@ abbrev pub marked : Option (Mark × ℕ) → ℕ → Bytes → Token × Bytes
 marked None a bs = (token.Stray a, bs)
 marked (Some k) a bs = (token.Mark k.0, drop k.1 bs)
 
--- the longest mark that begins with a byte, or else a stray byte, and what is behind it
+-- the longest mark that begins with a byte, or else a stray byte, and what is after it
 unfoldable pub mark_at : ℕ → Bytes → Token × Bytes
 mark_at a bs = marked (mark_of a bs) a bs

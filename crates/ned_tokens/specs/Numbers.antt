@@ -17,7 +17,7 @@ unfoldable pub number_of : Class → Bytes → Token
 number_of c [] = token.Stray 48
 number_of c (d ∷ ds) = numbered (below_limit (value_of c (d ∷ ds)))
 
--- behind `0x`
+-- after `0x`
 abbrev pub behind_prefix : Bytes → Option Bytes
 behind_prefix [] = None
 behind_prefix (a ∷ []) = None
@@ -27,6 +27,6 @@ abbrev pub number_from : Option Bytes → Bytes → Token × Bytes
 number_from (Some hex) bs = (number_of class.Hex (run class.Hex hex), behind class.Hex hex)
 number_from None bs = if begins_quantity (behind class.Digit bs) then quantity_at bs else (number_of class.Digit (run class.Digit bs), behind class.Digit bs)
 
--- the number or the quantities with which the bytes begin, and what is behind them
+-- the number or the quantities with which the bytes begin, and what is after them
 unfoldable pub number_at : Bytes → Token × Bytes
 number_at bs = number_from (behind_prefix bs) bs

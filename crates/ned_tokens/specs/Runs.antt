@@ -32,7 +32,7 @@ abbrev pub run : Class → Bytes → Bytes
 run c [] = []
 run c (b ∷ bs) = if is_in c b then b ∷ run c bs else []
 
--- what is behind the longest run of this class
+-- what is after the longest run of this class
 abbrev pub behind : Class → Bytes → Bytes
 behind c [] = []
 behind c (b ∷ bs) = if is_in c b then behind c bs else b ∷ bs

@@ -15,7 +15,7 @@ use crate::words::keyword_of;
 use sim_values::text::Text;
 use std::alloc::{AllocError, Global};
 
-/// The word or name with which these bytes begin, and what is behind it.
+/// The word or name with which these bytes begin, and what is after it.
 #[tactic(auto, unfolding(crate::specs::Lexing::word_at))]
 fn word_at(alloc: Global, bytes: &[u8]) -> Result<(Token, &[u8]), AllocError>
     ensures { IfOk result (λ x. lex.word_at bytes.now ≡ (x.0, x.1.now)) }
@@ -28,7 +28,7 @@ fn word_at(alloc: Global, bytes: &[u8]) -> Result<(Token, &[u8]), AllocError>
     Ok((token, after))
 }
 
-/// The token that begins with the first byte, and what is behind it.
+/// The token that begins with the first byte, and what is after it.
 #[tactic(auto, unfolding(crate::specs::Lexing::token_at))]
 fn token_at<'a>(
     alloc: Global,
@@ -56,7 +56,7 @@ fn is_slash_next(bytes: &[u8]) -> bool
     matches!(bytes, [b'/', ..])
 }
 
-/// The token with which the bytes begin, and what is behind it; none at the end or a comment.
+/// The token with which the bytes begin, and what is after it; none at the end or a comment.
 #[tactic(auto, unfolding(crate::specs::Lexing::token_of))]
 fn token_of(alloc: Global, bytes: &[u8]) -> Result<Option<(Token, &[u8])>, AllocError>
     ensures { IfOk result (λ found. lex.token_of bytes.now ≡ option_map (λ x. (x.0, x.1.now)) found) }
@@ -78,7 +78,7 @@ fn is_open(token: &Token) -> bool
     matches!(token, Token::OpenLiteral)
 }
 
-/// Adds a token of the line of that number, and says whether the token goes on behind the line.
+/// Adds a token of the line of that number, and says whether the token goes on after the line.
 fn add(
     token: Token,
     number: usize,
@@ -95,7 +95,7 @@ fn add(
     Ok(carried)
 }
 
-/// Adds the tokens of the rest of a line, and says whether the last of all goes on behind the line.
+/// Adds the tokens of the rest of a line, and says whether the last of all goes on after the line.
 fn scan(
     alloc: Global,
     bytes: &[u8],

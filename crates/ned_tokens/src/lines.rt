@@ -15,7 +15,7 @@ pub struct TokenList {
     pub lines: Items<usize>,
 }
 
-/// The first line without its end, and what is behind its end.
+/// The first line without its end, and what is after its end.
 fn first_line(bytes: &[u8]) -> (&[u8], &[u8])
     requires { 0 < length bytes.now }
     ensures lines { spec.lines_of bytes.now ≡ result.0.now ∷ spec.lines_of result.1.now }
@@ -33,7 +33,7 @@ fn first_line(bytes: &[u8]) -> (&[u8], &[u8])
     (bytes, &[])
 }
 
-/// The tokens of a text. Each stands in one line, as none goes on behind a line's end.
+/// The tokens of a text. Each stands in one line, as none goes on after a line's end.
 pub fn tokenize(alloc: Global, bytes: &[u8]) -> Result<TokenList, AllocError>
     ensures tokens { IfOk result (λ list. list.tokens ≡ spec.tokens_of bytes.now) }
     ensures lines { IfOk result (λ list. list.lines ≡ spec.line_numbers bytes.now) }

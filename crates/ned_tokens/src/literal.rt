@@ -41,7 +41,7 @@ fn put(found: &mut Vec<u8>, proper: &mut bool, byte: Option<u8>) -> Result<(), A
     Ok(())
 }
 
-/// The text in quotes behind its first quote, and what is behind it.
+/// The text in quotes after its first quote, and what is after it.
 pub(crate) fn literal(alloc: Global, bytes: &[u8]) -> Result<(Token, &[u8]), AllocError>
     ensures { IfOk result (λ x. literals.literal_from false (Some []) bytes.now ≡ (x.0, x.1.now)) }
 {

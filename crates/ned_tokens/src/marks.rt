@@ -5,7 +5,7 @@ ghost use Rattle.ned_tokens.specs.Marks as marks;
 
 use crate::token::{Mark, Token};
 
-/// An arrow, and how many bytes of it are behind the first.
+/// An arrow, and how many bytes of it are after the first.
 #[tactic(auto, unfolding(crate::specs::Marks::arrow_of))]
 fn arrow_of(first: u8, second: u8, third: u8, fourth: u8) -> Option<(Mark, usize)>
     ensures { result ≡ marks.arrow_of first second third fourth }
@@ -111,7 +111,7 @@ fn byte_at(bytes: &[u8], at: usize) -> u8
     if at < bytes.len() { bytes[at] } else { 0 }
 }
 
-/// The mark that begins with this byte, and how many of its bytes are behind it.
+/// The mark that begins with this byte, and how many of its bytes are after it.
 #[tactic(auto, unfolding(crate::specs::Marks::mark_of))]
 fn mark_of(first: u8, rest: &[u8]) -> Option<(Mark, usize)>
     ensures { result ≡ marks.mark_of first rest.now }
@@ -141,7 +141,7 @@ fn after(count: usize, bytes: &[u8]) -> &[u8]
     rest
 }
 
-/// The mark or the stray byte that begins with this byte, and what is behind it.
+/// The mark or the stray byte that begins with this byte, and what is after it.
 #[tactic(auto, unfolding(crate::specs::Marks::mark_at))]
 pub(crate) fn mark_at(first: u8, rest: &[u8]) -> (Token, &[u8])
     ensures { (result.0, result.1.now) ≡ marks.mark_at first rest.now }

@@ -22,7 +22,7 @@ fn number_of(class: Class, digits: &[u8]) -> Token
     }
 }
 
-/// The number or the quantities that begin with this digit, and what is behind them.
+/// The number or the quantities that begin with this digit, and what is after them.
 #[tactic(auto, unfolding(crate::specs::Numbers::number_at))]
 pub(crate) fn number_at(bytes: &[u8]) -> (Token, &[u8])
     ensures { (result.0, result.1.now) ≡ numbers.number_at bytes.now }

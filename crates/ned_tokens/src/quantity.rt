@@ -19,14 +19,14 @@ fn begins_fraction(bytes: &[u8]) -> bool
     }
 }
 
-/// Whether what is behind the first digits makes a quantity of them.
+/// Whether what is after the first digits makes a quantity of them.
 pub(crate) fn begins_quantity(bytes: &[u8]) -> bool
     ensures { result ≡ quantities.begins_quantity bytes.now }
 {
     begins(Class::Letter, bytes) || begins_fraction(bytes)
 }
 
-/// The digits behind a point, and what is behind them.
+/// The digits after a point, and what is after them.
 fn fraction(bytes: &[u8]) -> (&[u8], &[u8])
     ensures { (result.0.now, result.1.now) ≡ quantities.fraction_at bytes.now }
 {
@@ -36,7 +36,7 @@ fn fraction(bytes: &[u8]) -> (&[u8], &[u8])
     }
 }
 
-/// These digits behind the point, of a unit of this many: how many that is, if it is a whole number.
+/// These digits after the point, of a unit of this many: how many that is, if it is a whole number.
 fn part_of(factor: u64, digits: &[u8]) -> Option<u64>
     requires { factor ≤ 9 * 10 ^ 16 }
     ensures { result ≡ quantities.part_of factor digits.now }
@@ -67,7 +67,7 @@ fn amount_of(factor: u64, whole: &[u8], fraction: &[u8]) -> Option<u64>
     if amount < LIMIT { Some(amount) } else { None }
 }
 
-/// A piece of a quantity, and what is behind it; no amount where it has none.
+/// A piece of a quantity, and what is after it; no amount where it has none.
 fn piece(bytes: &[u8]) -> (Option<(Dimension, u64)>, &[u8])
     ensures { (result.0, result.1.now) ≡ quantities.piece_at bytes.now }
 {
@@ -108,7 +108,7 @@ fn added(a: Option<(Dimension, u64)>, b: Option<(Dimension, u64)>) -> Option<(Di
     }
 }
 
-/// The quantities in a row with which the bytes begin, and what is behind them.
+/// The quantities in a row with which the bytes begin, and what is after them.
 #[tactic(auto, unfolding(crate::specs::Quantities::quantity_at))]
 pub(crate) fn quantity(bytes: &[u8]) -> (Token, &[u8])
     ensures { (result.0, result.1.now) ≡ quantities.quantity_at bytes.now }

@@ -54,7 +54,7 @@ pub fn is_in(class: Class, b: u8) -> bool
     }
 }
 
-/// The longest run of this class at the front, and what is behind it.
+/// The longest run of this class at the front, and what is after it.
 pub(crate) fn split_run(class: Class, bytes: &[u8]) -> (&[u8], &[u8])
     ensures run { result.0.now ≡ runs.run class bytes.now }
     ensures behind { result.1.now ≡ runs.behind class bytes.now }
@@ -66,7 +66,7 @@ pub(crate) fn split_run(class: Class, bytes: &[u8]) -> (&[u8], &[u8])
     bytes.split_at(end)
 }
 
-/// What is behind the longest run of this class.
+/// What is after the longest run of this class.
 pub(crate) fn behind(class: Class, bytes: &[u8]) -> &[u8]
     ensures { result.now ≡ runs.behind class bytes.now }
 {

@@ -106,7 +106,7 @@ pub enum Token {
     Literal(Text),
     /// A text in quotes with an escape that only a property's body may have.
     OddLiteral,
-    /// A text in quotes that goes on behind the line's end, which a backslash escapes.
+    /// A text in quotes that goes on after the line's end, which a backslash escapes.
     OpenLiteral,
     /// What may stand nowhere: a text in quotes without its end, or a line that isn't UTF-8.
     Broken,

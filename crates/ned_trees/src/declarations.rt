@@ -186,7 +186,7 @@ pub struct TypeDeclaration {
     pub name: Text,
     /// The type that it extends; none for an interface.
     pub base: Option<Text>,
-    /// The interfaces that it keeps: those behind `like`, and behind `extends` where it is an interface itself.
+    /// The interfaces that it keeps: those after `like`, and after `extends` where it is an interface itself.
     pub interfaces: Items<Text>,
     pub lines: Items<SectionLine>,
     pub gates: Items<GateLine>,

@@ -39,7 +39,7 @@ has_duplicate (t ∷ ts) = (is_built_in t.name || is_type_named t.name ts) || ha
 
 -- ---- the type of a submodule
 
--- the name that stands for it: that of the type, or that of the interface behind `like`
+-- the name that stands for it: that of the type, or that of the interface after `like`
 abbrev pub name_in_type : SubmoduleType → List ℕ
 name_in_type (submodule_type.Named name) = name
 name_in_type (submodule_type.Like p) = p.interface
@@ -262,7 +262,7 @@ is_kind_of_modules Channel = false
 is_kind_of_modules ModuleInterface = false
 is_kind_of_modules ChannelInterface = false
 
--- whether a type of that kind may stand there: a type of modules where its name does, an interface of modules behind `like`
+-- whether a type of that kind may stand there: a type of modules where its name does, an interface of modules after `like`
 abbrev pub suits_kind : SubmoduleType → TypeKind → Bool
 suits_kind (submodule_type.Named name) kind = is_kind_of_modules kind
 suits_kind (submodule_type.Like p) kind = is_module_interface kind
@@ -274,7 +274,7 @@ suits of (Some t) = suits_kind of t.kind
 abbrev pub is_submodule_suited : List TypeDeclaration → Submodule → Bool
 is_submodule_suited types s = suits s.submodule_type (type_named (type_name s) types)
 
--- whether the type of a submodule isn't one of modules, or that behind `like` isn't an interface of modules
+-- whether the type of a submodule isn't one of modules, or that after `like` isn't an interface of modules
 abbrev pub has_other_kind : List TypeDeclaration → List Submodule → Bool
 has_other_kind types submodules = list_any (λ s. not (is_submodule_suited types s)) submodules
 

@@ -40,14 +40,14 @@ pub record IsSoundSection (lines : List SectionLine) : Type 0 where
   pub names : (d e : Declaration) → StandsBefore (line.Declaration d) (line.Declaration e) lines → d.name ≢ e.name
   -- a value is given to a parameter that is declared;
   pub given : (l : SectionLine) → IsAmong l lines → is_some (value_in l) ≡ true → IsParameter (name_in l) lines
-  -- behind a fixed value a parameter is given no other.
+  -- after a fixed value a parameter is given no other.
   pub fixed : (l k : SectionLine) → StandsBefore l k lines → is_fixed (value_in l) ≡ true → is_some (value_in k) ≡ true → name_in k ≢ name_in l
 
 -- THE RULES of the body of a submodule, whose type has these lines:
 pub record IsSoundBody (lines body : List SectionLine) : Type 0 where
   -- it declares no parameter;
   pub undeclaring : (d : Declaration) → IsAmong (line.Declaration d) body → ⊥
-  -- and behind the lines of the type it makes a sound section.
+  -- and after the lines of the type it makes a sound section.
   pub section : IsSoundSection (lines ++ body)
 
 -- no two submodules have one name
@@ -66,12 +66,12 @@ IsTypeOf kind name types = (u : TypeDeclaration) × IsAmong u types × (u.name �
 abbrev pub IsOfModules : TypeKind → Type 0
 IsOfModules k = (k ≡ kinds.Simple) ⊎ ((k ≡ kinds.Module) ⊎ (k ≡ kinds.Network))
 
--- a type of that kind may stand there: one of modules by its name, an interface of modules behind `like`
+-- a type of that kind may stand there: one of modules by its name, an interface of modules after `like`
 abbrev pub Suits : SubmoduleType → TypeKind → Type 0
 Suits (submodule_type.Named name) k = IsOfModules k
 Suits (submodule_type.Like p) k = k ≡ kinds.ModuleInterface
 
--- the type of the submodule, or the interface behind `like`, is among these, and may stand there
+-- the type of the submodule, or the interface after `like`, is among these, and may stand there
 abbrev pub HasType : Submodule → List TypeDeclaration → Type 0
 HasType s types = (u : TypeDeclaration) × IsAmong u types × (u.name ≡ type_name s) × Suits s.submodule_type u.kind
 
@@ -80,7 +80,7 @@ abbrev pub IsChannelNamed : List TypeDeclaration → List ℕ → List SectionLi
 IsChannelNamed types name lines =
     ((is_built_in name ≡ true) × (lines ≡ built_in_lines name)) ⊎ ((u : TypeDeclaration) × IsAmong u types × (u.name ≡ name) × (u.kind ≡ kinds.Channel) × (lines ≡ u.lines))
 
--- the channel of a connection is there, and its block is sound behind its lines
+-- the channel of a connection is there, and its block is sound after its lines
 abbrev pub HasChannel : List TypeDeclaration → Channel → Type 0
 HasChannel types c = (lines : List SectionLine) × IsChannelNamed types (channel_name c) lines × IsSoundBody lines c.lines
 
@@ -101,13 +101,13 @@ pub record IsWellFormed (types : List TypeDeclaration) : Type 0 where
   pub gates : (t : TypeDeclaration) → IsAmong t types → HaveOwnGates t.gates
   -- no two submodules of a type have one name;
   pub submodules : (t : TypeDeclaration) → IsAmong t types → HaveOwnNames t.submodules
-  -- the type of each is one of modules among these, or that behind `like` an interface of modules;
+  -- the type of each is one of modules among these, or that after `like` an interface of modules;
   pub suited : (t : TypeDeclaration) → IsAmong t types → (s : Submodule) → IsAmong s t.submodules → HasType s types
   -- each type has what its interfaces have;
   pub interfaces : (t : TypeDeclaration) → IsAmong t types → (i : TypeDeclaration) → IsAmong i types → IsAmong i.name t.interfaces → HasMembers t i
-  -- the body of each submodule is sound behind the lines of its type,
+  -- the body of each submodule is sound after the lines of its type,
   pub bodies : (t : TypeDeclaration) → IsAmong t types → (s : Submodule) → IsAmong s t.submodules → (u : TypeDeclaration) → IsAmong u types → u.name ≡ type_name s → IsSoundBody u.lines s.body.lines
   -- and declares no gate;
   pub sizes : (t : TypeDeclaration) → IsAmong t types → (s : Submodule) → IsAmong s t.submodules → (d : GateDeclaration) → IsAmong (gate.Declaration d) s.body.gates → ⊥
-  -- and what the channel of each connection names is a channel, behind whose lines its block is sound.
+  -- and what the channel of each connection names is a channel, after whose lines its block is sound.
   pub channels : (t : TypeDeclaration) → IsAmong t types → (i : ConnectionItem) → IsAmong i t.connections.items → (l : ConnectionLine) → IsAmong l (connections_of i) → (c : Channel) → l.connection.channel ≡ Some c → HasChannel types c

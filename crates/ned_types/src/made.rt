@@ -13,7 +13,7 @@ pub fn changed<T: Drop>(value: T, done: Result<(), AllocError>) -> Result<T, All
     Ok(value)
 }
 
-/// What was made before, and behind it what was made last, where that succeeded.
+/// What was made before, and after it what was made last, where that succeeded.
 pub fn behind<T: Drop, U: Drop>(
     before: T,
     last: Result<U, AllocError>,

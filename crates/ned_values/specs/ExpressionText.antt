@@ -12,7 +12,7 @@ use Rattle.ned_values.specs.Grammar.{expression}
 abbrev pub IsExpressionText : List ℕ → Expression → Type 0
 IsExpressionText bytes e = Means expression bytes e
 
--- Each refusal but want of memory has its reason.
+-- Each refusal but lack of memory has its reason.
 abbrev pub ExplainsExpression : List ℕ → NedError → Type 0
 ExplainsExpression bytes (errors.NoMemory _) = Unit {0}
 ExplainsExpression bytes errors.TooLarge = suc max_length ≤ length bytes
@@ -24,7 +24,7 @@ NamesFirstOfExpression bytes (errors.NoMemory _) = Unit {0}
 NamesFirstOfExpression bytes errors.TooLarge = Unit {0}
 NamesFirstOfExpression bytes (errors.NedSyntax line) = IsFirstBadLine expression bytes line
 
--- this value, or want of memory
+-- this value, or lack of memory
 abbrev pub Answers : {X : Type 0} → X → Result X NedError → Type 0
 Answers x (Ok found) = found ≡ x
 Answers x (Err (errors.NoMemory _)) = Unit {0}

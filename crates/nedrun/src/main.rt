@@ -88,7 +88,7 @@ fn at_end(tells_fault: bool) -> Result<(), Stop>
     }
 }
 
-/// Why the program ends early, where it does, behind a user who was served so.
+/// Why the program ends early, where it does, after a user who was served so.
 fn ended<R: Files + Input + Print + Eprint + AllocGlobal>(
     rt: &R,
     words: &Words,

@@ -19,7 +19,7 @@ pub fn refused(alloc: Global, fault: BeginFault, sources: &Sources<'_>) -> Stop
     }
 }
 
-/// What ends the program at a refusal that has this line for a person.
+/// What ends the program at a refusal that has this diagnostic.
 fn named(alloc: Global, fault: BeginFault, line: String) -> Stop
     ensures { IsNamed fault result }
 {
@@ -29,7 +29,7 @@ fn named(alloc: Global, fault: BeginFault, line: String) -> Stop
     }
 }
 
-/// The line for a person of a refusal; an empty one where memory runs out.
+/// The diagnostic of a refusal; an empty one where memory runs out.
 fn line_for(alloc: Global, fault: BeginFault, sources: &Sources<'_>) -> String {
     match refusal_line(alloc, fault, sources) {
         Ok(line) => line,

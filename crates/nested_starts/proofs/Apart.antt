@@ -172,7 +172,7 @@ inner_apart {below} t (suc depth) id =
 
 -- ---- records
 
--- each record is behind that of the module around it, where the first of these has that id
+-- each record is after that of the module around it, where the first of these has that id
 abbrev pub AreBehind : ℕ → List Record → Type 0
 AreBehind id [] = Unit {0}
 AreBehind id (r ∷ rs) = (r.parent < id) × AreBehind (suc id) rs

@@ -1,4 +1,4 @@
--- What holds behind setup of the records and of the modules that live holds all through a run.
+-- What holds after setup of the records and of the modules that live holds all through a run.
 use Rattle.std.proofs.Common.{◌≡◌, ℕ, zero, suc, Bool, true, false, List, [], ◌∷◌, if◌then◌else◌}
 use Rattle.module_api.specs.Behaviour.{Behaviour}
 use Rattle.run_questions.specs.declared.record.Record.{Record}

@@ -1,4 +1,4 @@
--- In each world of a run each module has one place, behind that of the module around it.
+-- In each world of a run each module has one place, after that of the module around it.
 use Rattle.std.proofs.Common.{◌≢◌, ℕ, suc, ◌+◌, ◌≤◌, ◌<◌, List, [], ◌∷◌, ◌++◌, arith, length, map}
 use Rattle.event_set.proofs.Order.{each_append, each_map}
 use Rattle.module_api.specs.Behaviour.{Behaviour}
@@ -12,7 +12,7 @@ use Rattle.nested_starts.specs.Apart.{AreApart}
 use Rattle.nested_starts.proofs.Apart.{AreBehind, AreOnce, apart_append, each_there}
 use Rattle.nested_starts.proofs.Kept.{Holds, kept_after}
 
--- records of submodules are behind that of the module around them
+-- records of submodules are after that of the module around them
 behind_more : (k : ℕ) (rs : List Record) (parent : ℕ) (bs : List Built) → AreBehind k rs → parent < k + length rs → AreBehind k (rs ++ map (record_under parent) bs)
 behind_more k [] parent [] h l = tt
 behind_more k [] parent (b ∷ bs) h l = (omega (arith, l), behind_more (suc k) [] parent bs tt (omega (arith, l)))

@@ -135,7 +135,7 @@ fn of_quantities(
     }
 }
 
-/// The one text, and behind it the other.
+/// The one text, and after it the other.
 fn joined(alloc: Global, left: &Text, right: &Text) -> Result<Text, NoMemory>
     ensures { IfOk result (λ text. text ≡ left.now ++ right.now) }
 {

@@ -29,7 +29,7 @@ told_done before outcome.NoMoreEvents start executed = refl
 told_done before outcome.TimeLimit start executed = refl
 told_done before (outcome.Fault event path f) start executed = refl
 
--- it is as it was behind a text that is the other
+-- it is as it was after a text that is the other
 as_behind : (before : Bool) (text other : List ℕ) → text ≡ other → before ≡ fault_behind before (Answer other) → before ≡ fault_behind before (Answer text)
 as_behind before text other is kept = subst (λ (t : List ℕ). before ≡ fault_behind before (Answer t)) (sym is) kept
 

@@ -52,13 +52,13 @@ module _ {I : Type 0} where
   abbrev pub HasAskedAll : Dialogue I → Type 0
   HasAskedAll d = ((d.ask ≡ ask.Line) × (d.lines.buffer.bytes ≡ [])) ⊎ (d.ask ≡ ask.Nothing)
 
-  -- WHAT ASKING COMES TO, of the dialogue before and behind it.
+  -- WHAT ASKING COMES TO, of the dialogue before and after it.
   pub record Asks (before : Dialogue I) (answer : Result (Option Asked) Stop) (after : Dialogue I) : Type 0 where
     -- what was asked is in its order
     pub kept : IsInOrder after
     -- one thing more is asked, and less is left to be asked; or nothing is asked
     pub next : AsksNext before.transcript.asked (left_in before) answer after.transcript.asked (left_in after)
-    -- there is nothing more to ask only where nothing that standard input gave is left unasked, or behind `quit`
+    -- there is nothing more to ask only where nothing that standard input gave is left unasked, or after `quit`
     pub over : IfOk answer (λ next. next ≡ None → HasAskedAll after)
     -- where nothing can be asked, that is why
     pub unasked : IfErr answer (IsUnasked before.ask before.lines.source.failures after.lines.source.failures after.lines.buffer)

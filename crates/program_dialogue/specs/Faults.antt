@@ -12,7 +12,7 @@ use Rattle.program_dialogue.specs.declared.dialogue.Dialogue.{Dialogue}
 abbrev pub begins : List ℕ → List ℕ → Bool
 begins answer front = starts_with (λ a b. a == b) answer front
 
--- an answer tells that a run is done: with a fault or not; behind any other one it is as it was before
+-- an answer tells that a run is done: with a fault or not; after any other one it is as it was before
 abbrev pub fault_behind : Bool → Heard → Bool
 fault_behind before (Answer text) = if begins text (codes "done fault ") then true else (if begins text (codes "done ") then false else before)
 fault_behind before (Files _ _ _) = before

@@ -11,7 +11,7 @@ use Rattle.transcripts.specs.declared.asked.Asked.TheVariants as asked
 use Rattle.program_dialogue.specs.declared.dialogue.Ask.{Ask}
 use Rattle.program_dialogue.specs.declared.dialogue.Ask.TheVariants as ask
 
--- These bytes begin with this line, and then come the others: a line feed parts them; or nothing does, as where the source was at its end behind
+-- These bytes begin with this line, and then come the others: a line feed parts them; or nothing does, as where the source was at its end after
 -- the line, which then is not empty.
 abbrev pub BeginsWithLine : List ℕ → List ℕ → List ℕ → Type 0
 BeginsWithLine all line rest = (all ≡ line ++ 10 ∷ rest) ⊎ ((all ≡ line ++ rest) × (0 < length line))
@@ -53,7 +53,7 @@ abbrev pub quit_line : Asked
 quit_line = asked.Line (codes "quit")
 
 -- WHAT IS ASKED: first the run to the limit of the words, then to write its files, and then the lines that standard input gave, at a terminal or
--- not. Where nothing more is asked, the line behind those says `quit`.
+-- not. Where nothing more is asked, the line after those says `quit`.
 abbrev pub AsksInOrder : ℕ → Bool → Ask → List Asked → List ℕ → Waiting → Type 0
 AsksInOrder limit at_terminal ask.Run asks given waiting = (asks ≡ []) × (given ≡ waiting.bytes)
 AsksInOrder limit at_terminal ask.Write asks given waiting = (asks ≡ run_line limit ∷ []) × (given ≡ waiting.bytes)

@@ -254,7 +254,7 @@ impl<I: Read> Dialogue<I> {
         line
     }
 
-    /// Asks what the next line of standard input asks for, with the command that takes the last edit back. Behind the line `quit` nothing is asked.
+    /// Asks what the next line of standard input asks for, with the command that takes the last edit back. After the line `quit` nothing is asked.
     fn ask_line(&mut self, alloc: Global, undo: Option<&Text>) -> Result<Option<Asked>, Stop>
         requires typed { self.old.ask ≡ ask.Line }
         requires kept { IsInOrder self.old }

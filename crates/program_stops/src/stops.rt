@@ -17,7 +17,7 @@ use std::io;
 pub enum Stop {
     /// The words aren't as they should be, or ask for help.
     Words(clap::Error),
-    /// The texts make no model: the text of the refusal, and the line for a person.
+    /// The texts make no model: the text of the refusal, and the diagnostic.
     Refused(Text, String),
     /// A file, a folder or a stream failed: which, and what failed.
     Failed(String, io::Error),

@@ -27,7 +27,7 @@ IsShortOfRun directory config s = IsShortOf (file_path directory config (codes "
 abbrev pub IsUnsaid : Stop → Type 0
 IsUnsaid s = Fails (codes "the answer can't be printed") (codes "standard output") s
 
--- lines for a person can't be printed
+-- diagnostics can't be printed
 abbrev pub IsUnadvised : Stop → Type 0
 IsUnadvised s = Fails (codes "a warning can't be printed") (codes "standard error") s
 

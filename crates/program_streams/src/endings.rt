@@ -39,7 +39,7 @@ fn tell<R: Print + Eprint>(rt: &R, stop: &Stop) -> io::Result<()> {
     }
 }
 
-/// Says a refusal on standard error, and behind it the line for a person.
+/// Says a refusal on standard error, and after it the diagnostic.
 fn say_refused<R: Eprint>(rt: &R, text: &Text, line: &str) -> io::Result<()> {
     eprintln!(rt; "nedrun: {}\n{line}", shown(text.as_bytes()))
 }

@@ -94,7 +94,7 @@ fn found_below<R: Files + AllocGlobal + Clone + Drop>(
     Ok(search.found)
 }
 
-/// Adds paths behind others, in the order of their names.
+/// Adds paths after others, in the order of their names.
 fn add_in_order(paths: &mut Vec<String>, found: Vec<String>) -> Result<(), AllocError> {
     let mut found = found;
     found.sort()?;
@@ -102,7 +102,7 @@ fn add_in_order(paths: &mut Vec<String>, found: Vec<String>) -> Result<(), Alloc
     Ok(())
 }
 
-/// Adds the paths of all NED files below folders, which a word names, behind these paths: in the order of their names.
+/// Adds the paths of all NED files below folders, which a word names, after these paths: in the order of their names.
 pub fn add_ned_paths<R: Files + AllocGlobal + Clone + Drop>(
     rt: &R,
     word: &str,

@@ -49,7 +49,7 @@ pub fn say<R: Print + AllocGlobal>(rt: &R, line: &[u8]) -> Result<(), Stop>
     }
 }
 
-/// Prints lines for a person on standard error, where there are any.
+/// Prints diagnostics on standard error, where there are any.
 pub fn advise<R: Eprint + AllocGlobal>(rt: &R, lines: &str) -> Result<(), Stop>
     ensures { IfErr result IsUnadvised }
 {

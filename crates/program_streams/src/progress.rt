@@ -7,7 +7,7 @@ use sim_time::text::TimeText;
 use std::rt::Clock;
 use std::time::Instant;
 
-/// The clock is looked at behind each so many events.
+/// The clock is looked at after each so many events.
 const EVENTS: u64 = 1024;
 
 /// How many milliseconds pass from one line to the next, at least.
@@ -56,7 +56,7 @@ impl<'a, R: Eprint + Clock> Progress<'a, R> {
         }
     }
 
-    /// A run goes on behind so many events, up to its limit.
+    /// A run goes on after so many events, up to its limit.
     pub fn begin(&mut self, count: u64, limit: u64)
         ensures limit { self.new.limit ≡ limit }
         ensures reported { self.new.reported ≡ count }
@@ -105,7 +105,7 @@ impl<'a, R: Eprint + Clock> Progress<'a, R> {
         }
     }
 
-    /// Reports where the run is, so many milliseconds behind the last line.
+    /// Reports where the run is, so many milliseconds after the last line.
     fn report(&self, count: u64, time: SimTime, passed: u128)
         requires { 1 ≤ passed }
     {

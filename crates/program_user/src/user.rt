@@ -197,7 +197,7 @@ impl<'a, R: Files + Input + Print + Eprint + AllocGlobal> User<'a, R> {
         }
     }
 
-    /// Prints the first answer: warnings before it, and behind it that the limit ended the run, where none was given.
+    /// Prints the first answer: warnings before it, and after it that the limit ended the run, where none was given.
     fn tell_first(&mut self, answer: &[u8], told: Option<&Told>) -> Result<(), Stop>
         ensures failed { IfErr result IsUntold }
         ensures words { self.new.words ≡ self.old.words }

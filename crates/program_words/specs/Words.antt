@@ -41,7 +41,7 @@ folder_of (b ∷ bs) = b ∷ bs
 abbrev pub values_of : Found → List ℕ → List (List ℕ)
 values_of found name = unwrap_or (option_map raw_values (matched_of found name)) []
 
--- the files behind the options
+-- the files after the options
 abbrev pub files_of : Found → List (List ℕ)
 files_of found = values_of found (codes "ini") ++ values_of found (codes "ned")
 
@@ -69,7 +69,7 @@ abbrev pub ini_of : Option (List ℕ) → List (List ℕ) → List ℕ
 ini_of (Some named) files = named
 ini_of None files = first_ini files
 
--- THE NED FILES are all of the files, where the word for the ini file names that; or else those behind it
+-- THE NED FILES are all of the files, where the word for the ini file names that; or else those after it
 abbrev pub texts_of : Option (List ℕ) → List (List ℕ) → List (List ℕ)
 texts_of (Some named) files = files
 texts_of None files = ned_files files

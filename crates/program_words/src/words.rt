@@ -246,7 +246,7 @@ fn is_ned(name: &str) -> bool
     name.as_bytes().ends_with(b".ned")
 }
 
-/// Adds texts of their own behind others, in the same order.
+/// Adds texts of their own after others, in the same order.
 fn add_copies(alloc: Global, copies: &mut Vec<String>, texts: &[&str]) -> Result<(), AllocError>
     ensures { OnOk result (map string_bytes copies.new.items
         ≡ map string_bytes copies.old.items ++ map (λ text. text.now) texts.now) }
@@ -257,7 +257,7 @@ fn add_copies(alloc: Global, copies: &mut Vec<String>, texts: &[&str]) -> Result
     Ok(())
 }
 
-/// Adds what was found of the word of that name behind other texts.
+/// Adds what was found of the word of that name after other texts.
 fn add_found(
     alloc: Global,
     copies: &mut Vec<String>,
@@ -273,7 +273,7 @@ fn add_found(
     }
 }
 
-/// The paths of files that were given behind the options.
+/// The paths of files that were given after the options.
 fn given_files(alloc: Global, matches: &ArgMatches<'_>) -> Result<Vec<String>, AllocError>
     ensures { IfOk result (λ files. map string_bytes files.items ≡ files_of (found_of matches.now)) }
 {

@@ -12,7 +12,7 @@ use sqlite_items::Boxed;
 use std::alloc::Global;
 
 /// What is noted of one question, or of two, with the number of the event in which they were asked. Each event asks two things of
-/// its time, one right behind the other: they take three words together, and no memory beside them. The priority stands before the
+/// its time, one right after the other: they take three words together, and no memory beside them. The priority stands before the
 /// other fields, since there it lies in one word with the tag.
 #[derive(Drop)]
 pub enum Entry {
@@ -101,7 +101,7 @@ pub fn noted(alloc: Global, event: u64, question: Question) -> Result<Entry, NoM
     }
 }
 
-/// What is noted of the questions of an entry and of this one behind them, where one entry stands for them all.
+/// What is noted of the questions of an entry and of this one after them, where one entry stands for them all.
 pub fn joined(last: &Entry, event: u64, question: &Question) -> Option<Entry>
     ensures { IfSome result (λ entry. asked_in entry ≡ asked_in last.now ++ record { event = event; question = question.now } ∷ []) }
 {

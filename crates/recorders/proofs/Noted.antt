@@ -8,7 +8,7 @@ use Rattle.recorders.specs.Places.{places_from, PlaceLists, places_at, is_place,
 
 -- ---- a place more
 
--- the element behind others is found at their number
+-- the element after others is found at their number
 pub found_at_end : {A : Type 0} (xs ys : List A) (x : A) → slice_get (xs ++ x ∷ ys) (length xs) ≡ Some x
 found_at_end [] ys x = refl
 found_at_end (y ∷ xs) ys x = found_at_end xs ys x
@@ -69,7 +69,7 @@ noted_by : (t : Bool) (place : ℕ) (list : List ℕ) → is_place place (slice_
 noted_by true place list e = rw e refl
 noted_by false place list e = sym (append-nil list)
 
--- an element's place is noted, which is behind those of all elements before it
+-- an element's place is noted, which is after those of all elements before it
 noted_behind : {A : Type 0} (p : A → Bool) (xs : List A) (x : A) → noted_if (p x) (length xs) (places_from 0 p xs) ≡ places_from 0 p (xs ++ x ∷ [])
 noted_behind p xs x =
     noted_by (p x) (length xs) (places_from 0 p xs)

@@ -19,7 +19,7 @@ is_recorded mode (m ∷ ms) = if same_mode m.mode mode then not m.optional else 
 abbrev pub is_among : Mode → List Mode → Bool
 is_among mode modes = list_any (λ (m : Mode). same_mode m mode) modes
 
--- a list of modes has each once: these with one more, behind them where it is new
+-- a list of modes has each once: these with one more, after them where it is new
 abbrev pub with_mode : List Mode → Mode → List Mode
 with_mode chosen mode = if is_among mode chosen then chosen else chosen ++ mode ∷ []
 

@@ -66,7 +66,7 @@ abbrev pub is_place : ℕ → Option ℕ → Bool
 is_place place None = false
 is_place place (Some other) = other == place
 
--- a place is noted behind the others, unless it is the last of them
+-- a place is noted after the others, unless it is the last of them
 abbrev pub noted : ℕ → List ℕ → List ℕ
 noted place list = if is_place place (slice_get list (length list - 1)) then list else list ++ place ∷ []
 

@@ -64,7 +64,7 @@ abbrev pub statistics_at : Model → List Record → List ℕ → List Emission 
 statistics_at m records finished emissions id =
     if is_finished finished id then lines_among m records emissions id (statistics_of (lines_of (type_at m records id))) else []
 
--- the lines of the module of that id: those of the scalars that it recorded, and behind them those of its statistics
+-- the lines of the module of that id: those of the scalars that it recorded, and after them those of its statistics
 abbrev pub scalars_at : Model → List Record → List ℕ → List Scalar → List Emission → ℕ → List ScalarLine
 scalars_at m records finished recorded emissions id =
     recorded_lines m records id recorded ++ statistics_at m records finished emissions id

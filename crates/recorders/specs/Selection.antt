@@ -21,7 +21,7 @@ abbrev pub is_on : Option ObjectOption → Bool
 is_on (Some (object.Recording on)) = on
 is_on _ = true
 
--- the modes that are chosen behind an item, where these were before it
+-- the modes that are chosen after an item, where these were before it
 abbrev pub after_item : List RecordedMode → List Mode → ModeItem → List Mode
 after_item modes chosen item.Default = with_modes chosen (default_modes modes)
 after_item modes chosen item.All = with_modes chosen (declared_modes modes)
@@ -29,7 +29,7 @@ after_item modes chosen (item.Only mode) = with_mode chosen mode
 after_item modes chosen (item.Plus mode) = with_mode chosen mode
 after_item modes chosen (item.Minus mode) = without_mode chosen mode
 
--- the same behind all items
+-- the same after all items
 abbrev pub after_items : List RecordedMode → List Mode → List ModeItem → List Mode
 after_items modes chosen items = fold (after_item modes) chosen items
 

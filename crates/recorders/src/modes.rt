@@ -29,7 +29,7 @@ pub fn is_among(mode: Mode, modes: &[Mode]) -> bool
     modes.iter().any(|listed| *listed == mode)
 }
 
-/// Adds a mode behind the others, where it is new.
+/// Adds a mode after the others, where it is new.
 pub fn add_mode(chosen: &mut Items<Mode>, mode: Mode) -> Result<(), AllocError>
     ensures { OnOk result (chosen.new ≡ with_mode chosen.old mode) }
 {
@@ -39,7 +39,7 @@ pub fn add_mode(chosen: &mut Items<Mode>, mode: Mode) -> Result<(), AllocError>
     chosen.push(mode)
 }
 
-/// Adds these modes, each behind the others where it is new.
+/// Adds these modes, each after the others where it is new.
 pub fn add_modes(chosen: &mut Items<Mode>, modes: &[Mode]) -> Result<(), AllocError>
     ensures { OnOk result (chosen.new ≡ with_modes chosen.old modes.now) }
 {

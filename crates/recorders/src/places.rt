@@ -24,7 +24,7 @@ pub struct RunPlaces {
     pub finished: Vec<Vec<usize>>,
 }
 
-/// Adds a place behind the others, unless it is the last of them.
+/// Adds a place after the others, unless it is the last of them.
 fn note(list: &mut Vec<usize>, place: usize) -> Result<(), AllocError>
     ensures { OnOk result (list.new.items ≡ noted place list.old.items) }
 {

@@ -232,7 +232,7 @@ fn push_statistics_at(
     push_type_lines(found, alloc, member)
 }
 
-/// Adds the lines of the module: those of the scalars that it recorded, and behind them those of its
+/// Adds the lines of the module: those of the scalars that it recorded, and after them those of its
 /// statistics.
 fn push_scalars_at(
     found: &mut Items<ScalarLine>,

@@ -30,7 +30,7 @@ fn is_on(option: Option<&ObjectOption>) -> bool
     }
 }
 
-/// The modes that are chosen behind an item, where these were before it.
+/// The modes that are chosen after an item, where these were before it.
 fn after_item(
     alloc: Global,
     modes: &[RecordedMode],

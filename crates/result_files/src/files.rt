@@ -27,7 +27,7 @@ use std::alloc::Global;
 pub struct ResultFiles {
     /// All lines of both files up to the first empty one, which ends it.
     pub header: Text,
-    /// The lines of the scalar file behind the header.
+    /// The lines of the scalar file after the header.
     pub scalars: Items<ScalarLine>,
     /// The vectors; their numbers count up from 0.
     pub vectors: Items<VectorLine>,

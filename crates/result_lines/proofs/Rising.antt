@@ -28,7 +28,7 @@ least_above records depth further from emitter o above result e at h k =
     (subst (λ a. IsLeastFrom from (λ id. if emitter == id then true else within_parent (is_within_up further records id) a) result) at
     (k (λ id. within_parent (is_within_up further records id) o) h))
 
--- the vectors behind one are of modules with ids no lower than its own
+-- the vectors after one are of modules with ids no lower than its own
 pub no_lower : (vs : List VectorLine) (number k : ℕ) (e d : VectorLine) → AreByModule vs → number ≤ k → k < length vs → (get_or vs number e).id ≤ (get_or vs k d).id
 no_lower vs number k e d up from l =
     let same : get_or vs number d ≡ get_or vs number e = get_or_default vs number d e (omega arith) in

@@ -19,7 +19,7 @@ abbrev pub vector_lines : ℕ → List VectorLine → List ℕ
 vector_lines number [] = []
 vector_lines number (v ∷ vs) = vector_line number v ++ vector_lines (number + 1) vs
 
--- the line of a value: the vector's number, the event's number, the time in seconds, and the value, parted by tabs
+-- the line of a value: the vector's number, the event's number, the time in seconds, and the value, separated by tabs
 abbrev pub data_line : ℕ → Emission → List ℕ
 data_line number e =
     field (decimal number) 9 ++ (field (decimal e.event) 9 ++ (field (text_of_time e.time) 9 ++ field (signed_decimal e.value) 10))

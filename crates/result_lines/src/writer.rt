@@ -28,7 +28,7 @@ impl From<io::Error> for WriteFault {
 
 /// What takes bytes.
 pub trait Out {
-    /// What it has taken: its bytes, and how many of its writes failed, or took none of some bytes. The count starts over behind
+    /// What it has taken: its bytes, and how many of its writes failed, or took none of some bytes. The count starts over after
     /// the greatest number of 64 bits, so that a device can keep it.
     ghost taken: { Self → Taken };
 

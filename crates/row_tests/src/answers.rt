@@ -9,7 +9,7 @@ use crate::travel_rows::tell_travel;
 use crate::{connection_rows, ini_rows, ned_rows, rows, time_rows, tree_rows, value_rows};
 use std::alloc::{AllocError, Global};
 
-/// Tells what becomes of a row of several parts, by its first part and those behind it.
+/// Tells what becomes of a row of several parts, by its first part and those after it.
 fn tell_parts(alloc: Global, told: &mut Telling, file: &str, first: &str, rest: &str) {
     match file {
         "patterns" => tell_pattern(alloc, told, first, rest),

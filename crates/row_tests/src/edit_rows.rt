@@ -43,7 +43,7 @@ fn tell_of_text(alloc: Global, told: &mut Telling, edit: &str, given: &[u8], row
     }
 }
 
-/// Tells what becomes of an edit. Behind the edit come the line that it gives and the ini text.
+/// Tells what becomes of an edit. After the edit come the line that it gives and the ini text.
 pub fn tell_edit(alloc: Global, told: &mut Telling, edit: &str, rest: &str) {
     let (given, text) = parted(rest, '|');
     let given = unescaped(alloc, told, given);

@@ -1,5 +1,5 @@
 //! Texts as rows write them: `\n`, `\r` and `\t` are LF, CR and tab, `\\` is a backslash, and `\xNN` is the byte of two
-//! hexadecimal digits. Behind `\*COUNT*TIMES*` the last COUNT bytes stand so many times in all.
+//! hexadecimal digits. After `\*COUNT*TIMES*` the last COUNT bytes stand so many times in all.
 
 use crate::telling::Telling;
 use std::alloc::{AllocError, Global};
@@ -21,7 +21,7 @@ pub fn number(text: &str) -> usize {
     }
 }
 
-/// The text before the first mark and the one behind it, empty where there is no mark.
+/// The text before the first mark and the one after it, empty where there is no mark.
 pub fn parted(text: &str, mark: char) -> (&str, &str) {
     match text.split_once(mark) {
         Some(parts) => parts,
@@ -49,7 +49,7 @@ impl RowBytes {
         self.push(rest);
     }
 
-    /// Adds what stands behind a backslash, without the escape that it begins with.
+    /// Adds what stands after a backslash, without the escape that it begins with.
     fn push_escape(&mut self, part: &[u8]) {
         match part {
             [b'n', rest @ ..] => self.push_byte(b'\n', rest),
@@ -81,7 +81,7 @@ impl RowBytes {
         self.push(rest.as_bytes());
     }
 
-    /// Adds a part of a text that stands behind a backslash.
+    /// Adds a part of a text that stands after a backslash.
     fn push_part(&mut self, part: &str) {
         match part.strip_prefix('*') {
             Some(said) => self.push_repeated(said),
@@ -105,7 +105,7 @@ impl RowBytes {
     }
 }
 
-/// The text that a row writes, behind a head. It is cut off where memory runs out, which is then noted.
+/// The text that a row writes, after a head. It is cut off where memory runs out, which is then noted.
 pub fn unescaped_behind(alloc: Global, told: &mut Telling, head: &[u8], text: &str) -> Vec<u8> {
     let mut written = RowBytes {
         bytes: Vec::new(alloc),

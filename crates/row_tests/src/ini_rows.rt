@@ -8,7 +8,7 @@ use ini_config::parse::parse_ini;
 use ini_texts::lines::IniText;
 use std::alloc::Global;
 
-/// The ini text that a row writes, behind a head.
+/// The ini text that a row writes, after a head.
 pub fn ini_text(
     alloc: Global,
     told: &mut Telling,
@@ -38,7 +38,7 @@ fn tell_line(told: &mut Telling, line: &[u8]) {
     }
 }
 
-/// Tells the lines of a text, each in quotes and with a blank behind it.
+/// Tells the lines of a text, each in quotes and with a blank after it.
 pub fn tell_lines(told: &mut Telling, text: &IniText) {
     for line in text.lines() {
         tell_line(told, line.text.as_bytes());

@@ -1,4 +1,4 @@
-//! What a line means behind the line `[A]`.
+//! What a line means after the line `[A]`.
 
 use crate::ini_rows::ini_text;
 use crate::pattern_rows::tell_matching;

@@ -236,7 +236,7 @@ fn tell_head(told: &mut Telling, it: &TypeDeclaration) {
     tell_interfaces(told, it.interfaces.as_slice())
 }
 
-/// Tells what a type declares, with the types within it behind its gates.
+/// Tells what a type declares, with the types within it after its gates.
 #[cycle(types)]
 fn tell_type(told: &mut Telling, it: &NestedType) {
     tell_head(told, &it.declared);

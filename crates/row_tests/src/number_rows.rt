@@ -77,7 +77,7 @@ fn ask_both(
     }
 }
 
-/// Tells what is answered to the two questions of a row: the rules, a word each, and behind a `|` each two keys.
+/// Tells what is answered to the two questions of a row: the rules, a word each, and after a `|` each two keys.
 pub fn tell_numbers(alloc: Global, told: &mut String, row: &str) -> Result<(), NoMemory> {
     told.push_str(" ->")?;
     let (words, keys) = first_part(row);

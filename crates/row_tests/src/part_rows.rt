@@ -14,7 +14,7 @@ pub fn number(word: &str) -> usize {
     }
 }
 
-/// The part of a row before the first `|`, and what is behind that, nothing where there is none.
+/// The part of a row before the first `|`, and what is after that, nothing where there is none.
 pub fn first_part(row: &str) -> (&str, &str) {
     row.split_once('|').unwrap_or((row, ""))
 }

@@ -1,4 +1,4 @@
-//! Whether a line is one of an ini text, behind the line of a section.
+//! Whether a line is one of an ini text, after the line of a section.
 
 ghost use Rattle.std.specs.Prelude.{◌≡◌, ◌++◌, true, false, codes, IfOk, List};
 ghost use Rattle.ini_config.specs.Meaning.{IsIniText};
@@ -30,7 +30,7 @@ fn tell_whether(alloc: Global, told: &mut Telling, text: &[u8]) {
     }
 }
 
-/// Tells whether a line means something that stands behind the line `[General]`.
+/// Tells whether a line means something that stands after the line `[General]`.
 pub fn tell_line(alloc: Global, told: &mut Telling, line: &str) {
     match format!(in alloc; "[General]\n{line}") {
         Ok(text) => tell_whether(alloc, told, text.as_bytes()),

@@ -145,7 +145,7 @@ fn tell_lines(
     tell_five(told, &mut lines)
 }
 
-/// Adds a line of 65,536 bytes, one of 65,537, and one behind them.
+/// Adds a line of 65,536 bytes, one of 65,537, and one after them.
 fn add_long_lines(bytes: &mut Vec<u8>) -> Result<(), AllocError> {
     add_equal(bytes, b'a', 65_536)?;
     bytes.push(b'\n')?;

@@ -175,7 +175,7 @@ pub fn tell_whether(alloc: Global, told: &mut Telling, row: &str) {
     }
 }
 
-/// Tells how many tokens are left behind something.
+/// Tells how many tokens are left after something.
 fn tell_left(told: &mut Telling, left: usize) {
     told.text(", ");
     told.shown(&left);
@@ -197,7 +197,7 @@ fn tell_tokens(alloc: Global, told: &mut Telling, tokens: &[Token]) {
     }
 }
 
-/// Tells the tree of an expression between `<` and `>` and how many tokens are left behind it, or how many are left at the first
+/// Tells the tree of an expression between `<` and `>` and how many tokens are left after it, or how many are left at the first
 /// that can't go on.
 pub fn tell_angled(alloc: Global, told: &mut Telling, row: &str) {
     let text = unescaped(alloc, told, row);

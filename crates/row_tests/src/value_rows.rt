@@ -38,7 +38,7 @@ fn own(name: &[u8]) -> Result<Value, Fault>
     }
 }
 
-/// One text behind the other.
+/// One text after the other.
 fn joined(alloc: Global, first: &[u8], second: &[u8]) -> Result<Text, NoMemory>
     ensures { IfOk result (λ text. text ≡ first.now ++ second.now) }
 {

@@ -16,7 +16,7 @@ pub fn written(text: &Text) -> &str {
     text_of(text.as_bytes())
 }
 
-/// Tells names, each with a blank behind it.
+/// Tells names, each with a blank after it.
 pub fn tell_names(told: &mut Telling, names: &[Text]) {
     for name in names {
         told.text(written(name));

@@ -225,7 +225,7 @@ found_named name (x ∷ xs) g e = by (bytes_eq x.name name) refl (found_named na
     by true t later f = let same : x ≡ g = cc in ap (λ (y : Gate). bytes_eq y.name name) (sym same) ∙ t
     by false t later f = later f
 
--- a name and a mark behind it are not that name
+-- a name and a mark after it are not that name
 marked_differs : (name mark : List ℕ) (k : ℕ) → length mark ≡ suc k → bytes_eq name (name ++ mark) ≡ false
 marked_differs name mark k h = by (bytes_eq name (name ++ mark)) refl
   where

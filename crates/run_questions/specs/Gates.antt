@@ -12,7 +12,7 @@ is_inout Input = false
 is_inout Output = false
 is_inout Inout = true
 
--- the mark behind the name of a half of a gate: `$i` of what comes in, `$o` of what goes out
+-- the mark after the name of a half of a gate: `$i` of what comes in, `$o` of what goes out
 abbrev pub in_mark : List ℕ
 in_mark = 36 ∷ 105 ∷ []
 

@@ -22,14 +22,14 @@ pub enum Question {
     Param(u32, Text),
     /// The direction and size of a gate of the module of that id.
     GateSize(u32, Text),
-    /// The next gate behind a gate of the module of that id, by its name and index, and the channel on the way.
+    /// The next gate after a gate of the module of that id, by its name and index, and the channel on the way.
     Hop(u32, Text, u32),
     /// The gate from which a message comes from outside to a gate of the module of that id, by its name and index.
     HopBack(u32, Text, u32),
     /// Whether an event at that time, in picoseconds, is later than the option sim-time-limit allows.
     BeyondLimit(u64),
     /// The injection that goes before an event that is due then, or that goes where no event is left;
-    /// of those behind this one, which was delivered last.
+    /// of those after this one, which was delivered last.
     InjectionBefore(Option<Due>, Option<Turn>),
 }
 

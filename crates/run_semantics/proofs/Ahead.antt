@@ -106,7 +106,7 @@ first_ahead time last (i ∷ is) h = by (is_undelivered last i) refl (first_ahea
     by true e k = sooner_later time i (first_undelivered last is) (h.0 e) k
     by false e k = k
 
--- what is left behind one is not due before it
+-- what is left after one is not due before it
 ahead_of_delivered : (time : ℕ) (i : Injection) (is : List Injection) → time ≤ i.due.time → IsAhead time (Some (turn_of i)) is
 ahead_of_delivered time i [] h = tt
 ahead_of_delivered time i (j ∷ is) h = ((λ x. let l = goes_time (turn_of i) (turn_of j) x in omega (arith, h, l)), ahead_of_delivered time i is h)

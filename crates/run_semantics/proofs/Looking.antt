@@ -21,7 +21,7 @@ use Rattle.run_semantics.proofs.Growth.{AllOfEvent, AllAbout, AllOfEvent-append,
 abbrev pub looking : World → Option Turn → List Asked → World
 looking w last rest = record w { delivered = last; questions = w.questions ++ rest }
 
--- from the first world to the second: questions of the event behind the first were asked, about no module, and injections delivered
+-- from the first world to the second: questions of the event after the first were asked, about no module, and injections delivered
 pub record HasLooked (w u : World) : Type 0 where
   pub last : Option Turn
   pub rest : List Asked
@@ -127,7 +127,7 @@ upcoming_tried m w =
     let h = trying_looks w (upcoming m w) (upcoming_looks m w) in
     subst (HasTried w) (tried_in (upcoming m w)) (record { rest = h.rest; joined = looked_joined w (trying (upcoming m w)) h; of_next = h.of_next; of_none = h.of_none })
 
--- the first question of the event behind a world
+-- the first question of the event after a world
 abbrev pub first_asked : World → Asked
 first_asked w = record { event = w.count + 1; question = InjectionBefore (first_due w.pending) w.delivered }
 

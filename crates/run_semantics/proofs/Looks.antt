@@ -13,7 +13,7 @@ use Rattle.run_semantics.specs.Laws.{HasEnded}
 use Rattle.run_semantics.specs.World.{World, asked_next}
 use Rattle.run_semantics.specs.Upcoming.{first_due, delivered, target_of, Upcoming, Nothing, first_of, aimed, chosen, upcoming_in, upcoming}
 
--- one look less is enough for what is left behind the one that is delivered
+-- one look less is enough for what is left after the one that is delivered
 one_less : (last : Option Turn) (is : List Injection) (i : Injection) (left : ℕ) → left_in last is < suc left → first_undelivered last is ≡ Some i → left_in (Some (turn_of i)) is < left
 one_less last is i left h e = let l = fewer last is i e in omega (arith, h, l)
 

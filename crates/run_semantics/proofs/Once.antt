@@ -54,7 +54,7 @@ noted_up xs a event l up = by (is_asked a.question xs)
     by true = before
     by false = each_append (λ (x : Asked). x.event ≤ a.event) xs (a ∷ []) before (omega arith, tt)
 
--- all of them, behind those that are noted
+-- all of them, after those that are noted
 all_agree : (m n : Answers) (records : List Record) (v event : ℕ) (plain xs : List Asked) → Each (λ (x : Asked). x.event ≤ event) xs → AreFrom event plain
     → AgreesUpTo v m n records (noted_all plain xs) ↔ AgreesUpTo v m n records xs × AgreesUpTo v m n records plain
 all_agree m n records v event [] xs up from = ((λ h. (h, tt)), (λ h. h.0))

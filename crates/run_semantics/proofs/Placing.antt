@@ -1,4 +1,4 @@
--- Behind setup exactly the simple modules that were created stand.
+-- After setup exactly the simple modules that were created stand.
 use Rattle.std.proofs.Common.{◌≡◌, inl, inr, ℕ, zero, suc, ◌+◌, Bool, true, false, is_some, List, [], ◌∷◌, ◌++◌, Option, Some, None, refl, sym, ap, ◌∙◌, arith, subst, append-nil, length, map, slice_get, if◌then◌else◌}
 use Rattle.module_api.specs.Behaviour.{Behaviour}
 use Rattle.run_questions.specs.declared.answer.Built.{Built}

@@ -207,7 +207,7 @@ shown_alike m n id p w [] h = tt
 shown_alike m n id p w (read.Parameter name ∷ rs) h = (same_value m n w.records id name h.0, shown_alike m n id p w rs h.1)
 shown_alike m n id p w (read.Gate name ∷ rs) h = (same_gate m n w.records id name h.0, shown_alike m n id p w rs h.1)
 
--- where so many records are, they are behind a part too
+-- where so many records are, they are after a part too
 if_longer : (k : ℕ) (w : World) (fl : Flow) → k ≤ length w.records → IsGrown w (in_flow fl) → IfOn (λ v. k ≤ length v.records) fl
 if_longer k w (On v) l g = omega (arith, l, longer w v g)
 if_longer k w (Stopped v) l g = tt

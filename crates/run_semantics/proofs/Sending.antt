@@ -91,7 +91,7 @@ flight_by clock f (Some t) time e h =
 flight_later : (clock : ℕ) (f : Flight) (time : ℕ) → flight_end clock f ≡ Some time → clock ≤ time
 flight_later clock f time h = flight_by clock f (time_sum clock f.delay) time refl h
 
--- ---- A PROPERTY LASTS THROUGH A SENDING of that message: the first one as long as it is under way, the second behind it too. `Known` is what is to be known of ids whose
+-- ---- A PROPERTY LASTS THROUGH A SENDING of that message: the first one as long as it is under way, the second after it too. `Known` is what is to be known of ids whose
 -- gates are asked about.
 
 pub record LastsSending (message : Outgoing) (Known : ℕ → List Record → Type 0) (P Q : World → Type 0) : Type 0 where

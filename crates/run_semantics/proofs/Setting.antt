@@ -34,7 +34,7 @@ stays_then P (On w) k h f = f w h
 stays_then P (Stopped w) k h f = h
 stays_then P (Broken w path e) k h f = h
 
--- A PROPERTY LASTS through a setup where it holds behind each of its two steps too: a module that is there is asked about, and submodules of one that
+-- A PROPERTY LASTS through a setup where it holds after each of its two steps too: a module that is there is asked about, and submodules of one that
 -- is there are created, where they are not too many.
 pub record IsLasting (P : World → Type 0) : Type 0 where
   pub asked : (id : ℕ) (w : World) → P w → id ≤ length w.records → P (asked (Build id) w)
@@ -113,6 +113,6 @@ root_stays P m (answer.Beyond beyond) lasting h f = h
 root_stays P m (answer.Injection next) lasting h f = h
 root_stays P m answer.Absent lasting h f = h
 
--- so it holds behind setup
+-- so it holds after setup
 pub prepared_stays : (P : World → Type 0) (m : Answers) → IsLasting P → P (asked Root empty) → ((name : List ℕ) → P (with_network name (asked Root empty))) → Stays P (prepared m)
 prepared_stays P m lasting h f = root_stays P m (answer_of m [] Root) lasting h f

@@ -86,6 +86,6 @@ counted p rest w = record w { clock = p.time; count = w.count + 1; pending = res
 abbrev pub begun : Pending → List Pending → World → World
 begun p rest w = timed (BeyondLimit p.time) (counted p rest w)
 
--- ONE EVENT, with those that are left to come behind it
+-- ONE EVENT, with those that are left to come after it
 abbrev pub event : Behaviour → Answers → Pending → List Pending → World → Flow
 event b m p rest w = call_module b m p.id (prompt.Message (message_of p)) (begun p rest w)

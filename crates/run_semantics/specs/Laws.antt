@@ -57,7 +57,7 @@ abbrev pub AreStates : Behaviour → List Instance → Type 0
 AreStates b [] = Unit {0}
 AreStates b (i ∷ is) = IsTrue ((b.naming i.kind).is_state i.state) × AreStates b is
 
--- no event is to come, and no injection is left behind the last one that was delivered
+-- no event is to come, and no injection is left after the last one that was delivered
 abbrev pub HasEnded : Answers → List Pending → World → Type 0
 HasEnded m ps w = (ps ≡ []) × (first_undelivered w.delivered m.injections ≡ None)
 

@@ -157,7 +157,7 @@ past_last id (Some h) w = broken id fault.TooManyHops w
 abbrev pub with_hop : List PassedHop → PlacedGate → NextHop → List PassedHop
 with_hop passed g h = passed ++ record { from = g; channel = h.channel } ∷ []
 
--- behind a hop: at a simple module the chain ends
+-- after a hop: at a simple module the chain ends
 abbrev pub after_hop : ℕ → (PlacedGate → List PassedHop → World → Flow) → (List PassedHop → PlacedGate → World → Flow) → PlacedGate → List PassedHop → Option NextHop → World → Flow
 after_hop id further reached g passed None w = broken id fault.NotConnected w
 after_hop id further reached g passed (Some h) w =

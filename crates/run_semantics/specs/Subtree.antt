@@ -32,7 +32,7 @@ inner_first_to (suc depth) below id = each_of (inner_first_to depth below) (belo
 unfoldable pub outer_first : List Record → List ℕ → ℕ → List ℕ
 outer_first records ids id = outer_first_to 33 (submodules records ids) id
 
--- THE ORDER OF THE END: the same, but each stands behind its submodules
+-- THE ORDER OF THE END: the same, but each stands after its submodules
 unfoldable pub inner_first : List Record → List ℕ → ℕ → List ℕ
 inner_first records ids id = inner_first_to 33 (submodules records ids) id
 

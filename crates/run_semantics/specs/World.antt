@@ -70,7 +70,7 @@ asked q w = record w { questions = noted w.count q w.questions }
 abbrev pub timed : Question → World → World
 timed q w = record w { questions = w.questions ++ record { event = w.count; question = q } ∷ [] }
 
--- a question about times is asked for the event behind it, which may not come
+-- a question about times is asked for the event after it, which may not come
 abbrev pub asked_next : Question → World → World
 asked_next q w = record w { questions = w.questions ++ record { event = w.count + 1; question = q } ∷ [] }
 

@@ -176,7 +176,7 @@ pub fn the_end_asks_nothing()
     ensures count { (b : Behaviour) (m : Answers) (ran : Ran) → (ending b m ran).world.count ≡ ran.world.count }
 {}
 
-/// The end of a run undoes nothing: the same modules live and count as started, and what is finished, emitted and recorded is added behind what
+/// The end of a run undoes nothing: the same modules live and count as started, and what is finished, emitted and recorded is added after what
 /// was there.
 pub fn the_end_only_adds()
     ensures live { (b : Behaviour) (m : Answers) (ran : Ran) → (ending b m ran).world.live ≡ ran.world.live }

@@ -1,4 +1,4 @@
-//! What a run leaves behind.
+//! What a run leaves after.
 
 use crate::signals::SignalName;
 use sim_time::SimTime;

@@ -135,8 +135,8 @@ fn take_number(events: &mut EventSet) -> Option<(u128, Option<u32>)>
     Some((event.number, timer_of(&event)))
 }
 
-/// Whether the timer 1 of the module 7 is pending before the first event is taken out, whether behind it, and whether it can be set then; and
-/// what that event is, and the first one behind that.
+/// Whether the timer 1 of the module 7 is pending before the first event is taken out, whether after it, and whether it can be set then; and
+/// what that event is, and the first one after that.
 fn set_again(
     events: &mut EventSet,
 ) -> Result<([bool; 3], [Option<(u128, Option<u32>)>; 2]), NoMemory>
@@ -208,8 +208,8 @@ fn five_hundred_of_a_thousand_come_in_the_order_of_insertion(rt: HostRuntime) ->
     Ok(())
 }
 
-/// The timers that come of a copy, and then those of the set, of which the timer 1 is cancelled behind the copy; none where that is not
-/// pending in the set before, or in the copy behind it.
+/// The timers that come of a copy, and then those of the set, of which the timer 1 is cancelled after the copy; none where that is not
+/// pending in the set before, or in the copy after it.
 fn timers_of_both(
     alloc: Global,
     events: &mut EventSet,
@@ -306,8 +306,8 @@ fn take_id(events: &mut EventSet) -> Option<u32> {
     }
 }
 
-/// Strikes out what comes first of modules that are gone: of none, of the module 2, and of that once more behind the first event. Answers for which
-/// module the first event is each time, and whether the timer of the module 2 is pending before the last time, and behind it.
+/// Strikes out what comes first of modules that are gone: of none, of the module 2, and of that once more after the first event. Answers for which
+/// module the first event is each time, and whether the timer of the module 2 is pending before the last time, and after it.
 fn strike_in_turn(events: &mut EventSet) -> ([Option<u32>; 3], [bool; 2]) {
     events.strike([false, true, true].as_slice());
     let none_gone = first_id(events);

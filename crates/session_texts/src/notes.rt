@@ -357,7 +357,7 @@ impl Notes {
         }
     }
 
-    /// What is behind an answer that tells this, or that memory ran out where it tells nothing, and what to change: a line for a person. Empty where
+    /// What is behind an answer that tells this, or that memory ran out where it tells nothing, and what to change: a diagnostic. Empty where
     /// there is no more to say. `sources` are the files as they were read, and `classes` those that the program has modules of.
     pub fn hears(
         &mut self,

@@ -20,7 +20,7 @@ pub enum Own {
     Save(Text),
 }
 
-/// The numbers of the first and the last line that are listed, of what stands behind `ini list`.
+/// The numbers of the first and the last line that are listed, of what stands after `ini list`.
 fn range_of(rest: &str) -> Option<(u64, u64)> {
     if rest.is_empty() {
         return Some((1, u64::MAX));
@@ -32,7 +32,7 @@ fn range_of(rest: &str) -> Option<(u64, u64)> {
     }
 }
 
-/// The command of `list [FROM [TO]]` or `save PATH`, behind `ini `.
+/// The command of `list [FROM [TO]]` or `save PATH`, after `ini `.
 fn own_of_ini(alloc: Global, rest: &str) -> Result<Option<Own>, AllocError> {
     if let Some(path) = rest.strip_prefix("save ") {
         if path.is_empty() {

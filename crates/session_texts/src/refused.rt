@@ -69,7 +69,7 @@ fn why_not_selected(alloc: Global, texts: &SessionTexts, name: &[u8]) -> Result<
     why_refused(alloc, &sources)
 }
 
-/// Says what is wrong with the types behind an edit of a connection.
+/// Says what is wrong with the types after an edit of a connection.
 fn tell_types(told: &mut Explanation, refusal: Refusal) {
     told.say(match refusal {
         Refusal::Types(TypeFault::UnknownType) =>
@@ -207,7 +207,7 @@ fn why_no_ned(
     told.said()
 }
 
-/// Why a command of that line is refused that is no edit, and what would be right: a line for a person. Empty where there is no more to say.
+/// Why a command of that line is refused that is no edit, and what would be right: a diagnostic. Empty where there is no more to say.
 pub fn why_refused_command(
     alloc: Global,
     command: &Command,
@@ -229,7 +229,7 @@ pub fn why_refused_command(
     told.said()
 }
 
-/// Why a command is refused that is an edit of these texts, and what would be right: a line for a person. Empty where there is no more
+/// Why a command is refused that is an edit of these texts, and what would be right: a diagnostic. Empty where there is no more
 /// to say. `read` is what was read of the file that it names.
 pub fn why_refused_edit(
     alloc: Global,

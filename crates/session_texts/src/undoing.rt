@@ -32,7 +32,7 @@ pub struct Messages {
     held: Vec<Message>,
 }
 
-/// A command of words and a text behind them.
+/// A command of words and a text after them.
 fn command(alloc: Global, words: &str, text: &[u8]) -> Result<Undo, NoMemory> {
     let mut line = Vec::from_slice(alloc, words.as_bytes())?;
     line.extend_from_slice(text)?;

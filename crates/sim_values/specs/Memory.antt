@@ -1,4 +1,4 @@
--- Want of memory.
+-- Lack of memory.
 use Rattle.sim_values.specs.declared.NoMemory.{NoMemory}
 
 -- the one value of `NoMemory`

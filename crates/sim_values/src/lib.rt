@@ -1,4 +1,4 @@
-//! The small values that every layer shares: texts, values of parameters, units of time, and want of memory.
+//! The small values that every layer shares: texts, values of parameters, units of time, and lack of memory.
 #![tactic(auto)]
 
 pub mod text;

@@ -309,7 +309,7 @@ tells_not_done b before after n asked may running same none heard = tells b comm
   subst (λ x. IsAt b x s) (sym same) at,
 ))
 
--- the files of the last run, and the answer behind them
+-- the files of the last run, and the answer after them
 abbrev files_heard : List ℕ → List ℕ → List ℕ → List Heard
 files_heard config scalars vectors = Files config scalars vectors ∷ Answer (codes "written") ∷ []
 

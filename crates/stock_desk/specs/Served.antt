@@ -38,7 +38,7 @@ abbrev pub command_asked : Asked → Command
 command_asked (asked.Line text) = command_of text
 command_asked asked.TooLong = command.TooLarge
 
--- the machine behind a run to that limit: all events of it are known, and there are as many boxes as it leaves, and its positions
+-- the machine after a run to that limit: all events of it are known, and there are as many boxes as it leaves, and its positions
 abbrev pub behind_run : Behaviour → Machine → ℕ → Machine
 behind_run b s limit = record {
   model = s.model;
@@ -92,7 +92,7 @@ abbrev pub HearsFiles : Behaviour → Model → Option ℕ → List Heard → Ty
 HearsFiles b m None heard = heard ≡ Answer (codes "refused NotDone") ∷ []
 HearsFiles b m (Some limit) heard = heard ≡ Files m.config (scalars_of_run b m limit) (vectors_of_run b m limit) ∷ Answer (codes "written") ∷ []
 
--- WHAT IS HEARD OF A COMMAND, and what the machine holds behind it
+-- WHAT IS HEARD OF A COMMAND, and what the machine holds after it
 abbrev pub Hears : Behaviour → Machine → Command → List Heard → Machine → Type 0
 Hears b s (command.Run limit) heard s' = HearsRun b s limit heard s'
 Hears b s (command.Edit e) heard s' = HearsEdit b s e heard s'

@@ -59,7 +59,7 @@ pub record IsServed (b : Behaviour) (s : Machine) (v : Seen) : Type 0 where
   pub at : IsAt b v.editing machine
   pub heard : AreHeard b s v.asked v.heard machine
 
--- A run to that limit was asked last, and goes on; all before is heard. It began with setup, and where the machine has positions, all behind the limit,
+-- A run to that limit was asked last, and goes on; all before is heard. It began with setup, and where the machine has positions, all after the limit,
 -- the session has none any more.
 pub record IsGoing (b : Behaviour) (s : Machine) (limit : ℕ) (v : Seen) : Type 0 where
   pub before : List Asked
@@ -205,7 +205,7 @@ module _ {O K X : Type 0} {Y : X → Type 0} where
     pub stops : may_stop (stops_of after.client) answer
     -- the desk keeps what it keeps
     pub sound : IsServer b members after
-    -- what is seen before and behind the step, and what it answers, are as its relation says
+    -- what is seen before and after the step, and what it answers, are as its relation says
     pub comes : is_step (seen_in members asked_of heard_of may_ask before) (seen_in members asked_of heard_of may_ask after) answer
 
   -- The client hears this, an answer or that memory ran out, or is gone, and nothing else changes but which run goes on.

@@ -45,11 +45,11 @@ fn extended(it: &TypeDeclaration, number: usize) -> Option<&Text> {
 #[derive(Clone, Copy)]
 struct Step<'a> {
     it: &'a TypeDeclaration,
-    /// How many of those that it extends are behind already.
+    /// How many of those that it extends are done already.
     done: usize,
 }
 
-/// A way along types, each of which extends the next, and those that are behind, each behind all that it extends.
+/// A way along types, each of which extends the next, and those that are done, each after all that it extends.
 #[derive(Drop)]
 struct Way<'a, 'n> {
     types: &'a [TypeDeclaration],
@@ -102,7 +102,7 @@ fn go(way: &mut Way<'_, '_>, name: &[u8]) -> Result<(), AllocError> {
     Ok(())
 }
 
-/// All that a type extends, and itself at the end: each once, behind all that it extends itself.
+/// All that a type extends, and itself at the end: each once, after all that it extends itself.
 pub fn root_first<'a>(
     alloc: Global,
     types: &'a [TypeDeclaration],

@@ -83,7 +83,7 @@ fn flat_site<'a>(order: &[&'a TypeDeclaration], item: usize, line: usize) -> Opt
     site_at(origin.it, origin.at, line)
 }
 
-/// Says where a connection of the type stands that is behind so many arrows: `path:line: `.
+/// Says where a connection of the type stands that is after so many arrows: `path:line: `.
 fn begin_behind(told: &mut Explanation, files: &Files<'_>, it: &TypeDeclaration, arrows: usize) {
     let spot = Spot {
         body: None,

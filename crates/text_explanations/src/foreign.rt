@@ -74,7 +74,7 @@ fn name_length(bytes: &[u8]) -> usize {
     count
 }
 
-/// What is behind so many bytes.
+/// What is after so many bytes.
 fn behind(bytes: &[u8], count: usize) -> &[u8] {
     match bytes.split_at_checked(count) {
         Some((_, rest)) => rest,
@@ -125,7 +125,7 @@ fn tell_function(told: &mut Explanation, name: &[u8]) -> bool {
     true
 }
 
-/// Whether what is called is behind a name: blanks, perhaps, and a parenthesis.
+/// Whether what is called is after a name: blanks, perhaps, and a parenthesis.
 fn is_called(rest: &[u8]) -> bool {
     rest.trim_ascii_start().starts_with(b"(")
 }
@@ -176,7 +176,7 @@ fn is_hexadecimal(number: &[u8]) -> bool {
     number.starts_with(b"0x") || number.starts_with(b"0X")
 }
 
-/// The digits of a number, perhaps with a point and digits behind it: how long they are.
+/// The digits of a number, perhaps with a point and digits after it: how long they are.
 fn amount_length(bytes: &[u8]) -> usize {
     let whole = digits_length(bytes);
     let rest = behind(bytes, whole);
@@ -199,7 +199,7 @@ fn begins_exponent(bytes: &[u8]) -> bool {
     begins_number(rest)
 }
 
-/// How long the exponent at the front is, with a unit behind it.
+/// How long the exponent at the front is, with a unit after it.
 fn exponent_length(bytes: &[u8]) -> usize {
     let before = if begins_number(behind(bytes, 1)) {
         1usize
@@ -209,7 +209,7 @@ fn exponent_length(bytes: &[u8]) -> usize {
     before.saturating_add(name_length(behind(bytes, before)))
 }
 
-/// How long the number at the front is: digits behind `0x`, or an amount with a unit, an exponent or neither.
+/// How long the number at the front is: digits after `0x`, or an amount with a unit, an exponent or neither.
 fn number_length(bytes: &[u8]) -> usize {
     if is_hexadecimal(bytes) {
         return name_length(bytes);
@@ -222,7 +222,7 @@ fn number_length(bytes: &[u8]) -> usize {
     amount.saturating_add(letters_length(rest))
 }
 
-/// Whether a number is a quantity, behind which another may stand: it has a unit, or a point.
+/// Whether a number is a quantity, after which another may stand: it has a unit, or a point.
 fn is_quantity(number: &[u8]) -> bool {
     !is_hexadecimal(number) && digits_length(number) < number.len()
 }
@@ -253,12 +253,12 @@ fn is_read(alloc: Global, number: &[u8]) -> Result<bool, NoMemory> {
     Ok(!matches!(list.tokens.get(0), Some(Token::Stray(_))))
 }
 
-/// What is behind the amount of a number.
+/// What is after the amount of a number.
 fn unit_in(number: &[u8]) -> &[u8] {
     behind(number, amount_length(number))
 }
 
-/// Whether the digits behind the point of a number make a whole number of ps, bps or b with its unit.
+/// Whether the digits after the point of a number make a whole number of ps, bps or b with its unit.
 fn is_whole_behind_point(alloc: Global, number: &[u8]) -> Result<bool, NoMemory> {
     let mut part = Vec::from_slice(alloc, b"0".as_slice())?;
     part.extend_from_slice(behind(number, digits_length(number)))?;

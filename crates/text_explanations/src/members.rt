@@ -72,7 +72,7 @@ pub fn fixed_in<'a>(types: &[&'a TypeDeclaration], name: &[u8]) -> Clash<'a> {
     Clash::Fixed
 }
 
-/// The place of the clash of a line behind these.
+/// The place of the clash of a line after these.
 fn spot_of<'a>(clash: Clash<'_>, before: &[SectionLine], name: &'a [u8]) -> Spot<'a> {
     let declaring = matches!(clash, Clash::Again | Clash::Declared(_) | Clash::BuiltIn(_));
     Spot {

@@ -80,7 +80,7 @@ pub fn is_near(one: &[u8], other: &[u8]) -> bool {
     one != other && one.len().max(other.len()) <= same && same >= 4
 }
 
-/// What stands behind the last dot of a name: what a type within another is called there.
+/// What stands after the last dot of a name: what a type within another is called there.
 pub fn last_part(name: &[u8]) -> &[u8] {
     let mut last = name;
     for (at, byte) in name.iter().enumerate() {

@@ -11,11 +11,11 @@ use std::alloc::Global;
 pub enum Sign {
     /// The word that begins the type.
     Type,
-    /// `NAME :` or `NAME [..] :`, a submodule of the type itself, behind `submodules:`, another submodule or a body.
+    /// `NAME :` or `NAME [..] :`, a submodule of the type itself, after `submodules:`, another submodule or a body.
     Submodule,
     /// `connections`, of the type itself.
     Connections,
-    /// `-->`, `<--` or `<-->`, behind `connections` of the type itself.
+    /// `-->`, `<--` or `<-->`, after `connections` of the type itself.
     Arrow,
     /// `int NAME`, or another word of a parameter.
     Parameter,
@@ -25,7 +25,7 @@ pub enum Sign {
     Base,
     /// `NAME` or `int NAME`, a line of a parameter.
     Name,
-    /// `NAME`, the last part of a name in the list behind `extends` or `like`.
+    /// `NAME`, the last part of a name in the list after `extends` or `like`.
     Head,
 }
 
@@ -37,7 +37,7 @@ pub struct Spot<'a> {
     pub sign: Sign,
     /// The name of which the sign speaks.
     pub name: &'a [u8],
-    /// Behind so many such places.
+    /// After so many such places.
     pub behind: usize,
 }
 
@@ -111,7 +111,7 @@ fn token_before(tokens: &[Token], at: usize, by: usize) -> Option<&Token> {
     tokens.get(at.checked_sub(by)?)
 }
 
-/// The token behind that place.
+/// The token after that place.
 fn token_behind(tokens: &[Token], at: usize) -> Option<&Token> {
     tokens.get(at.saturating_add(1))
 }
@@ -138,7 +138,7 @@ fn begins_submodule(tokens: &[Token], at: usize) -> bool {
         || begins_section(tokens, at, Keyword::Submodules)
 }
 
-/// Whether what stands behind a name is `:`, or an index and then `:`.
+/// Whether what stands after a name is `:`, or an index and then `:`.
 fn is_before_colon(behind: &[Token]) -> bool {
     let mut depth = 0u64;
     for token in behind {
@@ -152,7 +152,7 @@ fn is_before_colon(behind: &[Token]) -> bool {
     false
 }
 
-/// Whether a name at that place is one of a head, behind `extends`, `like`, a comma or a dot.
+/// Whether a name at that place is one of a head, after `extends`, `like`, a comma or a dot.
 fn stands_in_head(tokens: &[Token], at: usize) -> bool {
     matches!(
         token_before(tokens, at, 1),
@@ -200,7 +200,7 @@ fn is_direct(sign: Sign) -> bool {
     matches!(sign, Sign::Submodule | Sign::Connections)
 }
 
-/// How many braces are open behind a token.
+/// How many braces are open after a token.
 fn braces_behind(open: u64, token: Option<&Token>) -> u64 {
     if is_mark(token, Mark::Open) {
         return open.saturating_add(1);
@@ -211,7 +211,7 @@ fn braces_behind(open: u64, token: Option<&Token>) -> u64 {
     open
 }
 
-/// The first token, from that one on, where the sign says that of a name, behind so many such places. For what stands directly within
+/// The first token, from that one on, where the sign says that of a name, after so many such places. For what stands directly within
 /// a type it is the token that begins the type.
 fn place_of(
     tokens: &[Token],
@@ -259,9 +259,9 @@ fn token_at(tokens: &[Token], head: usize, spot: Spot<'_>) -> usize {
 struct Place {
     /// How many parentheses are open.
     parens: u64,
-    /// In an import, behind its word.
+    /// In an import, after its word.
     import: bool,
-    /// Directly behind a `@`.
+    /// Directly after a `@`.
     property: bool,
 }
 
@@ -271,7 +271,7 @@ impl Place {
         self.parens == 0 && !self.import && !self.property
     }
 
-    /// The place behind a mark, outside of imports.
+    /// The place after a mark, outside of imports.
     fn behind_mark(self, mark: Mark) -> Place {
         let mut next = self;
         if mark == Mark::LeftParen {
@@ -283,7 +283,7 @@ impl Place {
         next
     }
 
-    /// The place behind a token.
+    /// The place after a token.
     fn behind(self, token: &Token) -> Place {
         let mut next = self;
         match token {

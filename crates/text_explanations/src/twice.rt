@@ -81,7 +81,7 @@ fn declaring<'a>(types: &[&'a TypeDeclaration], member: Member<'_>) -> Option<&'
     None
 }
 
-/// Says where a type has the member for the first time, or behind so many others of its name, and which member of which type that is.
+/// Says where a type has the member for the first time, or after so many others of its name, and which member of which type that is.
 fn begin(
     told: &mut Explanation,
     files: &Files<'_>,
@@ -131,7 +131,7 @@ pub fn tell_shared(
     told.say("; it can't extend both");
 }
 
-/// Says that a type declares the member a second time, behind so many of its name, and that one the first time.
+/// Says that a type declares the member a second time, after so many of its name, and that one the first time.
 fn tell_second(
     told: &mut Explanation,
     files: &Files<'_>,
@@ -152,7 +152,7 @@ fn tell_second(
     told.say("; choose another name");
 }
 
-/// Says that a type has a second submodule of one name, behind so many of it.
+/// Says that a type has a second submodule of one name, after so many of it.
 fn tell_second_submodule(
     told: &mut Explanation,
     files: &Files<'_>,

@@ -8,7 +8,7 @@ use ned_trees::declarations::{SectionLine, TypeDeclaration};
 use ned_types::flat::submodule_named;
 use ned_types::given::{name_in, value_in};
 
-/// Behind how many lines that speak of the parameter the last one stands that gives it a value, where one does.
+/// After how many lines that speak of the parameter the last one stands that gives it a value, where one does.
 fn behind_value(lines: &[SectionLine], name: &[u8]) -> Option<usize> {
     let mut behind = 0usize;
     let mut found = None;

@@ -12,7 +12,7 @@ pub record IsWhole (given : List ℕ) (ends : ℕ) (given' : List ℕ) (ends' : 
   pub gave : given' ≡ given ++ text
   pub to_the_end : ((length text ≤ max_length) × (ends' ≡ next_count ends)) ⊎ ((length text ≡ most) × (ends' ≡ ends))
 
--- The source gave so many bytes more, which stand behind the text now. Where it gave none it was at its end.
+-- The source gave so many bytes more, which stand after the text now. Where it gave none it was at its end.
 pub record IsMore (given : List ℕ) (ends : ℕ) (text : List ℕ) (given' : List ℕ) (ends' : ℕ) (text' : List ℕ) (n : ℕ) : Type 0 where
   pub bytes : List ℕ
   pub gave : given' ≡ given ++ bytes

@@ -5,7 +5,7 @@ ghost use Rattle.std.specs.Borrow.{ftrue};
 
 use std::marker::{Model, PhantomData};
 
-/// Bytes that were noted, one part behind the other. They take no memory, and only clauses can read them: so a reader or a
+/// Bytes that were noted, one part after the other. They take no memory, and only clauses can read them: so a reader or a
 /// writer of the system, of which no clause says what is in its file, can say what it was given or gave.
 #[derive(Drop)]
 pub struct Noted {
@@ -27,7 +27,7 @@ impl Noted {
         }
     }
 
-    /// Notes further bytes behind those that were noted.
+    /// Notes further bytes after those that were noted.
     pub fn note(&mut self, _bytes: &[u8])
         ensures { self.new.bytes ≡ self.old.bytes ++ _bytes.now }
     {}

@@ -11,7 +11,7 @@ pub trait Source {
     ghost given: { Self → List ℕ };
 
     /// How many of its reads gave nothing where something was asked for: it was at its end. The count
-    /// starts over behind the greatest number of 64 bits, so that a source can keep it.
+    /// starts over after the greatest number of 64 bits, so that a source can keep it.
     ghost ends: { Self → ℕ };
 
     /// How many of its reads failed. The count starts over as that of the ends does.

@@ -29,7 +29,7 @@ use Rattle.type_building.proofs.WellFormedLaws.{any_found, any_told, names_same,
 
 -- ---- members
 
--- a type with the members of another one behind its own, as these are
+-- a type with the members of another one after its own, as these are
 abbrev pub appended : TypeDeclaration → TypeDeclaration → TypeDeclaration
 appended flat x = record {
   kind = flat.kind;

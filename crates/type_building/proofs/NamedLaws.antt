@@ -164,7 +164,7 @@ none_seen seen types e = (ap (λ (ns : List TypeDeclaration). ns ++ types) e, ap
     none_of [] = refl
     none_of (t ∷ ts) = none_of ts
 
--- the first whose name is taken is the next one, or one behind it
+-- the first whose name is taken is the next one, or one after it
 pub taken_here : (seen rest : List TypeDeclaration) (n : ℕ) (t : TypeDeclaration) (ts : List TypeDeclaration) → rest ≡ t ∷ ts → (is_built_in t.name || is_type_named t.name seen) ≡ true → duplicate_from seen n rest ≡ Some n
 taken_here seen rest n t ts is e = ap (duplicate_from seen n) is ∙ ap (λ (b : Bool). if b then Some n else duplicate_from (seen ++ t ∷ []) (suc n) ts) e
 

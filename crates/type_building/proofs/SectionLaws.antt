@@ -120,7 +120,7 @@ none_of keys e b (l ∷ ls) = ap (λ t. t || list_any (λ l. b l && is_in (name_
 pub first_declared : (keys : List (Bor (List ℕ))) (ls : List SectionLine) → keys ≡ [] → (list_any (redeclares_seen (names_in keys)) ls || redeclares ls) ≡ redeclares ls
 first_declared keys ls e = ap (λ t. t || redeclares ls) (none_of keys e is_declaration ls)
 
--- ---- a value behind a fixed one
+-- ---- a value after a fixed one
 
 given_or_here : (names more : List (List ℕ)) (line : SectionLine) → AddsNames names (λ n. gives_fixed n line) more → (l : SectionLine) → gives_seen more l ≡ (gives_seen names l || (is_fixed (value_in line) && gives (name_in line) l))
 given_or_here names more line adds l =

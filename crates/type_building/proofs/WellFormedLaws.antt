@@ -43,7 +43,7 @@ pub or_false : (x y : Bool) → x ≡ false → y ≡ false → (x || y) ≡ fal
 or_false false y e f = f
 or_false true y e f = absurd (false≢true (sym e))
 
--- a test that is false behind one that is true
+-- a test that is false after one that is true
 pub and_told : (x y : Bool) → (x && y) ≡ false → x ≡ true → y ≡ false
 and_told true y h e = h
 and_told false y h e = absurd (false≢true e)
@@ -92,7 +92,7 @@ any_is test xs x is h = is_true (list_any test xs) (λ none. false≢true (sym (
 
 -- ---- pairs
 
--- what a test of each member and those behind it tells, where it is nowhere true
+-- what a test of each member and those after it tells, where it is nowhere true
 pairs_told : {X : Type 0} (R : X → X → Type 0) (bad : X → List X → Bool) (any : List X → Bool) → ((x : X) (xs : List X) → any (x ∷ xs) ≡ (bad x xs || any xs)) → ((x : X) (xs : List X) → bad x xs ≡ false → (y : X) → IsAmong y xs → R x y) → (xs : List X) → any xs ≡ false → (x y : X) → StandsBefore x y xs → R x y
 pairs_told R bad any step one [] h x y is = absurd is
 pairs_told R bad any step one (z ∷ zs) h x y (inl p) =
@@ -281,7 +281,7 @@ gates_made gs own = pairs_made {X = GateLine} (λ g. Unit {0}) AreOtherGates (λ
 
 -- ---- values
 
--- behind a line that fixes a value the other gives its parameter none
+-- after a line that fixes a value the other gives its parameter none
 abbrev IsFixedOnce : SectionLine → SectionLine → Type 0
 IsFixedOnce l k = t.is_fixed (t.value_in l) ≡ true → is_some (t.value_in k) ≡ true → t.name_in k ≢ t.name_in l
 

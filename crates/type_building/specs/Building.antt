@@ -69,7 +69,7 @@ abbrev pub TellsFlat : List TypeDeclaration → Option (TypeFault × Place) → 
 TellsFlat types None = flat_fault types ≡ None
 TellsFlat types (Some told) = (flat_fault types ≡ Some told.0) × IsFlatPlace types told.0 told.1
 
--- this table, or want of memory
+-- this table, or lack of memory
 abbrev pub AnswersTable : List TypeDeclaration → Result (List TypeDeclaration) BuildError → Type 0
 AnswersTable types (Ok table) = table ≡ types
 AnswersTable types (Err (NoMemory _)) = Unit {0}

@@ -211,7 +211,7 @@ abbrev pub module_m : TypeDeclaration
 module_m = record { kind = Module; name = codes "M"; base = None; interfaces = []; lines = []; gates = []; submodules = []; connections = no_connections }
 
 -- the members of the base and then its own, the class of the base, its own value, and its own statistic in the place of
--- the base's; and so also where the base stands behind it
+-- the base's; and so also where the base stands after it
 pub record ExampleIsFlat : Type 0 where
   pub joined : (flat_type (tick ∷ slow ∷ []) slow).lines ≡ line.Class (codes "Tick") ∷ (tick_lines ++ slow_lines)
   pub behind : flat_type (slow ∷ tick ∷ []) slow ≡ flat_type (tick ∷ slow ∷ []) slow
@@ -236,7 +236,7 @@ pub record ExampleFaults : Type 0 where
   pub third : fault_of (heir (codes "B") (codes "Zed") ∷ heir (codes "A") (codes "A") ∷ []) ≡ Some UnknownType
   pub fourth : fault_of (heir (codes "B") (codes "Zed") ∷ tick ∷ tick ∷ []) ≡ Some DuplicateType
 
--- values in a body are for parameters that the type or what it extends declares, and stand behind no fixed value; a body
+-- values in a body are for parameters that the type or what it extends declares, and stand after no fixed value; a body
 -- declares nothing; and the parameters of the network around the submodule are not those of the submodule
 pub record ExampleBodies : Type 0 where
   pub empty : fault_with (codes "Tick") [] ≡ None
@@ -289,7 +289,7 @@ pub record ExampleChannels : Type 0 where
   pub unknown : fault_of (channel_of (codes "C") (Some (codes "Zed")) ∷ []) ≡ Some UnknownType
   pub itself : fault_of (channel_of (codes "C") (Some (codes "C")) ∷ []) ≡ Some InheritanceCircle
 
--- gates stand behind those of the base, and none is declared twice, whatever its direction; a gate and a parameter may have
+-- gates stand after those of the base, and none is declared twice, whatever its direction; a gate and a parameter may have
 -- one name; and a size, also that of a gate that is declared nowhere, is no fault of types
 pub record ExampleGates : Type 0 where
   pub joined : (flat_type (gated (codes "B") (Some (codes "A")) (output_gates (codes "out") ∷ three_of (codes "out") ∷ []) ∷ gated (codes "A") None (input_gate (codes "in") ∷ []) ∷ []) (gated (codes "B") (Some (codes "A")) (output_gates (codes "out") ∷ three_of (codes "out") ∷ []))).gates ≡ input_gate (codes "in") ∷ output_gates (codes "out") ∷ three_of (codes "out") ∷ []
@@ -337,9 +337,9 @@ pub record ExampleExtending : Type 0 where
   pub mixed_circle : fault_of (interface_of (codes "J") (codes "A" ∷ []) [] [] ∷ heir (codes "A") (codes "J") ∷ []) ≡ Some InheritanceCircle
   pub kept_circle : fault_of (keeping (codes "A") None (codes "J" ∷ []) [] [] ∷ interface_of (codes "J") (codes "A" ∷ []) [] [] ∷ []) ≡ Some KindClash
 
--- the type of a submodule is one of modules, and what stands behind `like` an interface of modules, over whose lines the body stands; a body
+-- the type of a submodule is one of modules, and what stands after `like` an interface of modules, over whose lines the body stands; a body
 -- declares no gate; what a connection names as its channel is a channel, and its block gives values to that channel's parameters alone, and none
--- behind a fixed one; a block alone means the built-in channel that has what it sets
+-- after a fixed one; a block alone means the built-in channel that has what it sets
 pub record ExampleInsides : Type 0 where
   pub like_interface : fault_inside (like_with (codes "I") (second_for (codes "gap") ∷ [])) no_connections ≡ None
   pub like_other : fault_inside (like_with (codes "I") (second_for (codes "own") ∷ [])) no_connections ≡ Some KindClash

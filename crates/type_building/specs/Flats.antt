@@ -28,7 +28,7 @@ bare_heir_with class t = record {
 abbrev pub own_lines : TypeDeclaration → List SectionLine
 own_lines flat = if is_simple_kind flat.kind && is_some flat.base then drop 1 flat.lines else flat.lines
 
--- a type with all that a flat type has behind its own
+-- a type with all that a flat type has after its own
 abbrev pub with_inherited : TypeDeclaration → TypeDeclaration → TypeDeclaration
 with_inherited flat base = record {
   kind = flat.kind;
@@ -82,7 +82,7 @@ HaveFlats entries types seen =
     ((t : TypeDeclaration) → IsAmong t types → is_type_named t.name seen ≡ true → flat_at entries t.name ≡ Some (flat_type types t))
     × ((name : List ℕ) → is_type_named name seen ≡ false → flat_at entries name ≡ None)
 
--- the flat types of an order, where each type stands behind all that it extends
+-- the flat types of an order, where each type stands after all that it extends
 abbrev pub FlatsAlong : List (Bor (List ℕ) × List TypeDeclaration) → FlatEntries → List TypeDeclaration → Type 0
 FlatsAlong lines entries order =
     (types : List TypeDeclaration) → has_duplicate types ≡ false → has_other_base types ≡ false → HaveLines lines types → StandBehind types [] order → HaveFlats entries types order

@@ -122,7 +122,7 @@ no_connections = record { allow_unconnected = false; items = [] }
 abbrev pub joined_connections : ConnectionSection → ConnectionSection → ConnectionSection
 joined_connections c d = record { allow_unconnected = c.allow_unconnected || d.allow_unconnected; items = c.items ++ d.items }
 
--- a type with the members of another one behind its own; those begin with what a built-in channel has that the other extends
+-- a type with the members of another one after its own; those begin with what a built-in channel has that the other extends
 abbrev pub with_members : TypeDeclaration → TypeDeclaration → TypeDeclaration
 with_members flat t = record {
   kind = flat.kind;
@@ -178,7 +178,7 @@ flat_by types t (Some name) = heir_of types t
 
 -- ---- flat interfaces
 
--- a type behind others, unless one of them has its name
+-- a type after others, unless one of them has its name
 abbrev pub once_behind : List TypeDeclaration → TypeDeclaration → List TypeDeclaration
 once_behind line t = if is_type_named t.name line then line else line ++ t ∷ []
 
@@ -186,22 +186,22 @@ abbrev pub all_behind : List TypeDeclaration → List TypeDeclaration → List T
 all_behind line [] = line
 all_behind line (t ∷ ts) = all_behind (once_behind line t) ts
 
--- the types of lists, one list behind the other, each where it comes first
+-- the types of lists, one list after the other, each where it comes first
 abbrev pub joined_behind : List TypeDeclaration → List (List TypeDeclaration) → List TypeDeclaration
 joined_behind line [] = line
 joined_behind line (more ∷ others) = joined_behind (all_behind line more) others
 
--- an interface behind all that it extends, where this says the same of each name; nothing where there is none
+-- an interface after all that it extends, where this says the same of each name; nothing where there is none
 abbrev pub behind_all : (List ℕ → List TypeDeclaration) → Option TypeDeclaration → List TypeDeclaration
 behind_all line None = []
 behind_all line (Some t) = if is_interface_kind t.kind then once_behind (joined_behind [] (map line t.interfaces)) t else []
 
--- the interface of that name behind all that it extends by ways of fewer than so many steps
+-- the interface of that name after all that it extends by ways of fewer than so many steps
 abbrev pub reached : ℕ → List TypeDeclaration → List ℕ → List TypeDeclaration
 reached zero types name = []
 reached (suc n) types name = behind_all (λ m. reached n types m) (type_named name types)
 
--- THE INTERFACES of these names and all that they extend, each once and behind what it extends itself: a way without a circle has fewer steps
+-- THE INTERFACES of these names and all that they extend, each once and after what it extends itself: a way without a circle has fewer steps
 -- than there are types
 abbrev pub interfaces_behind : List TypeDeclaration → List (List ℕ) → List TypeDeclaration
 interfaces_behind types names = joined_behind [] (map (λ n. reached (length types) types n) names)

@@ -69,7 +69,7 @@ has_kept (Some t) = not (is_bare t)
 abbrev pub kept : List TypeDeclaration → List TypeDeclaration → List TypeDeclaration
 kept types line = filter (λ u. has_kept (type_named u.name types)) line
 
--- a type behind others, unless it has no members or one of them has its name
+-- a type after others, unless it has no members or one of them has its name
 abbrev pub kept_behind : List TypeDeclaration → TypeDeclaration → List TypeDeclaration
 kept_behind line t = if is_bare t then line else once_behind line t
 
@@ -89,7 +89,7 @@ IsBehind types seen t =
     × ((name : List ℕ) → t.base ≡ Some name → is_type_named name types ≡ true → is_type_named name seen ≡ true)
     × (is_type_named t.name seen ≡ false)
 
--- each of some types stands behind all that it extends, and behind those that were seen
+-- each of some types stands after all that it extends, and after those that were seen
 abbrev pub StandBehind : List TypeDeclaration → List TypeDeclaration → List TypeDeclaration → Type 0
 StandBehind types seen [] = Unit {0}
 StandBehind types seen (t ∷ ts) = IsBehind types seen t × StandBehind types (seen ++ t ∷ []) ts
@@ -100,7 +100,7 @@ HaveLinesOf entries types seen =
     ((name : List ℕ) → is_type_named name seen ≡ true → (n : ℕ) → length seen ≤ n → kept types (reached n types name) ≡ line_at entries name)
     × ((name : List ℕ) → is_type_named name seen ≡ false → line_at entries name ≡ [])
 
--- the lines of the interfaces of an order, where each type stands behind all that it extends
+-- the lines of the interfaces of an order, where each type stands after all that it extends
 abbrev pub LinesAlong : List (Bor (List ℕ) × List TypeDeclaration) → List TypeDeclaration → Type 0
 LinesAlong entries order = (types : List TypeDeclaration) → has_duplicate types ≡ false → StandBehind types [] order → HaveLinesOf entries types order
 

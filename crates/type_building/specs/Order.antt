@@ -1,4 +1,4 @@
--- An order in which types stand behind all that they extend, and what is on the way to it.
+-- An order in which types stand after all that they extend, and what is on the way to it.
 use Rattle.std.specs.Prelude.{◌≡◌, ◌⊎◌, ℕ, Bool, true, false, not, ◌||◌, ◌&&◌, List, [], ◌∷◌, ◌++◌, Option, Some, None}
 use Rattle.std.specs.List.{list_all}
 use Rattle.ned_trees.specs.declared.declarations.TypeDeclaration.{TypeDeclaration}
@@ -28,7 +28,7 @@ AreAmong some types = (x : TypeDeclaration) → IsAmong x some → IsAmong x typ
 abbrev pub Covers : List TypeDeclaration → List TypeDeclaration → List TypeDeclaration → Type 0
 Covers types seen rest = (name : List ℕ) → is_type_named name types ≡ true → (is_type_named name seen || is_type_named name rest) ≡ true
 
--- an order of some of the types, each behind all that it extends, and others, among which are all that it lacks
+-- an order of some of the types, each after all that it extends, and others, among which are all that it lacks
 abbrev pub IsUnderWay : List TypeDeclaration → List TypeDeclaration → List TypeDeclaration → Type 0
 IsUnderWay types order left = AreAmong left types × Covers types order left × StandBehind types [] order
 
@@ -44,6 +44,6 @@ TakesOne types before after waited waiting t false =
     (after ≡ before)
     × (((waiting ≡ waited) × (is_type_named t.name before ≡ true)) ⊎ ((waiting ≡ waited ++ t ∷ []) × (is_ready types before t ≡ false)))
 
--- an order of all types, each behind all that it extends
+-- an order of all types, each after all that it extends
 abbrev pub IsOrder : List TypeDeclaration → List TypeDeclaration → Type 0
 IsOrder types order = StandBehind types [] order × ((name : List ℕ) → is_type_named name types ≡ true → is_type_named name order ≡ true)

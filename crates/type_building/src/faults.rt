@@ -85,7 +85,7 @@ fn built_by<'a>(
     faultless(alloc, flat)
 }
 
-/// The flat type of each, where this is an order of the types, which nothing needs behind it.
+/// The flat type of each, where this is an order of the types, which nothing needs after it.
 fn flat_over<'a>(
     alloc: Global,
     order: Vec<&'a TypeDeclaration>,
@@ -359,7 +359,7 @@ fn repeats_seen<'a>(
     Ok(None)
 }
 
-/// The first submodule whose type isn't one of modules, or that behind `like` isn't an interface of modules.
+/// The first submodule whose type isn't one of modules, or that after `like` isn't an interface of modules.
 fn first_of_other_kind(named: &NamedTypes<'_>, submodules: &[Submodule]) -> Option<usize>
     ensures { is_some result ≡ has_other_kind named.now submodules.now }
 {
@@ -371,7 +371,7 @@ fn first_of_other_kind(named: &NamedTypes<'_>, submodules: &[Submodule]) -> Opti
     None
 }
 
-/// Whether a type of that kind may stand there: one of modules by its name, an interface of modules behind `like`.
+/// Whether a type of that kind may stand there: one of modules by its name, an interface of modules after `like`.
 fn suits_kind(of: &SubmoduleType, kind: TypeKind) -> bool
     ensures { result ≡ suits_kind of.now kind }
 {

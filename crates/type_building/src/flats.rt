@@ -81,7 +81,7 @@ fn bare_heir(
     })
 }
 
-/// The lines behind the first one.
+/// The lines after the first one.
 fn behind_first(lines: &[SectionLine]) -> &[SectionLine]
     ensures { result.now ≡ drop 1 lines.now }
 {
@@ -102,7 +102,7 @@ fn own_lines(base: &TypeDeclaration) -> &[SectionLine]
     }
 }
 
-/// Adds all that a flat type has to a type behind its own.
+/// Adds all that a flat type has to a type after its own.
 fn add_inherited(
     alloc: Global,
     flat: &mut TypeDeclaration,
@@ -117,7 +117,7 @@ fn add_inherited(
     add_connections(alloc, &mut flat.connections, &base.connections)
 }
 
-/// A type with all that a flat type has behind its own.
+/// A type with all that a flat type has after its own.
 fn with_inherited(
     alloc: Global,
     flat: TypeDeclaration,
@@ -237,7 +237,7 @@ fn add_flats<'a>(
     Ok(())
 }
 
-/// The flat types of these types, each of which stands behind all that it extends.
+/// The flat types of these types, each of which stands after all that it extends.
 fn flats_of<'a>(
     alloc: Global,
     lines: &Lines<'a>,

@@ -86,7 +86,7 @@ pub(crate) fn no_connections(alloc: Global) -> ConnectionSection
     }
 }
 
-/// Adds the connections of a section behind those of the other.
+/// Adds the connections of a section after those of the other.
 pub(crate) fn add_connections(
     alloc: Global,
     section: &mut ConnectionSection,
@@ -99,7 +99,7 @@ pub(crate) fn add_connections(
     Ok(())
 }
 
-/// Adds the members of a type behind those of the other, and before them what the built-in channel has that it extends.
+/// Adds the members of a type after those of the other, and before them what the built-in channel has that it extends.
 fn add_members(
     alloc: Global,
     flat: &mut TypeDeclaration,
@@ -147,7 +147,7 @@ fn bare(alloc: Global, declared: &TypeDeclaration) -> Result<TypeDeclaration, Al
     })
 }
 
-/// The types that the lines of these names have, one line behind the other, each type once.
+/// The types that the lines of these names have, one line after the other, each type once.
 fn lines_behind<'a>(
     alloc: Global,
     lines: &Lines<'a>,
@@ -174,7 +174,7 @@ fn with_gathered(
     changed(flat, done)
 }
 
-/// A type with the members of another behind its own.
+/// A type with the members of another after its own.
 pub(crate) fn with_own(
     alloc: Global,
     flat: TypeDeclaration,

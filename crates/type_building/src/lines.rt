@@ -13,10 +13,10 @@ use ned_types::made::changed;
 use sim_values::text::Text;
 use std::alloc::{AllocError, Global};
 
-/// At the name of each interface those that it extends, and itself behind them: those of them that have members.
+/// At the name of each interface those that it extends, and itself after them: those of them that have members.
 pub(crate) type Lines<'a> = IndexMap<&'a [u8], NamedTypes<'a>>;
 
-/// Adds a type behind the others, unless one of them has its name.
+/// Adds a type after the others, unless one of them has its name.
 fn add_once<'a>(line: &mut NamedTypes<'a>, declared: &'a TypeDeclaration) -> Result<(), AllocError>
     ensures { OnOk result (line.new ≡ once_behind line.old declared.now) }
 {
@@ -38,7 +38,7 @@ fn is_bare(declared: &TypeDeclaration) -> bool
                         && !declared.connections.allow_unconnected))))
 }
 
-/// Adds a type behind the others, unless it has no members or one of them has its name.
+/// Adds a type after the others, unless it has no members or one of them has its name.
 fn add_kept<'a>(line: &mut NamedTypes<'a>, declared: &'a TypeDeclaration) -> Result<(), AllocError>
     ensures { OnOk result (line.new ≡ kept_behind line.old declared.now) }
 {
@@ -48,7 +48,7 @@ fn add_kept<'a>(line: &mut NamedTypes<'a>, declared: &'a TypeDeclaration) -> Res
     add_once(line, declared)
 }
 
-/// Adds types behind others, those whose names aren't there.
+/// Adds types after others, those whose names aren't there.
 fn add_behind<'a>(line: &mut NamedTypes<'a>, more: &[&'a TypeDeclaration]) -> Result<(), AllocError>
     ensures { OnOk result (line.new ≡ all_behind line.old (types_in more.now)) }
 {
@@ -129,7 +129,7 @@ fn add_interfaces<'a>(
     Ok(())
 }
 
-/// The lines of the interfaces among these types, each of which stands behind all that it extends.
+/// The lines of the interfaces among these types, each of which stands after all that it extends.
 pub(crate) fn lines_of<'a>(
     alloc: Global,
     order: &[&'a TypeDeclaration],

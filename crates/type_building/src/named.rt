@@ -88,7 +88,7 @@ impl<'a> NamedTypes<'a> {
         self.find(name).is_some()
     }
 
-    /// Adds a type behind the others, unless there is one of its name: then it stands in that one's place.
+    /// Adds a type after the others, unless there is one of its name: then it stands in that one's place.
     pub(crate) fn add(&mut self, declared: &'a TypeDeclaration) -> Result<bool, AllocError>
         ensures added { IfOk result (λ added. added ≡ not (is_type_named declared.now.name self.old)) }
         ensures names { OnOk result (AddsName self.old self.new declared.now) }

@@ -1,4 +1,4 @@
-//! The order in which types stand behind all that they extend.
+//! The order in which types stand after all that they extend.
 
 ghost use Rattle.std.specs.Prelude.{◌≡◌, ◌++◌, ◌<◌, [], true, false, is_none, length, IfOk, IfSome, OnOk};
 ghost use Rattle.type_building.specs.Inheritance.{has_circle, types_in};
@@ -103,7 +103,7 @@ fn add_numbered<'a>(
     Ok(())
 }
 
-/// The types in an order that serves: those that extend no other, and others behind what they extend, and then all of them again.
+/// The types in an order that serves: those that extend no other, and others after what they extend, and then all of them again.
 fn candidates<'a>(
     alloc: Global,
     named: &NamedTypes<'a>,
@@ -164,7 +164,7 @@ fn take_ready<'a>(
     Ok(taken)
 }
 
-/// Adds the types to the order, each behind all that it extends. Answers whether one extends itself, perhaps by way of others: then it
+/// Adds the types to the order, each after all that it extends. Answers whether one extends itself, perhaps by way of others: then it
 /// lacks some.
 fn take_all<'a>(
     alloc: Global,
@@ -189,7 +189,7 @@ fn take_all<'a>(
     Ok(false)
 }
 
-/// The types, each behind all that it extends; none where one extends itself, perhaps by way of others.
+/// The types, each after all that it extends; none where one extends itself, perhaps by way of others.
 pub(crate) fn ordered<'a>(
     alloc: Global,
     named: &NamedTypes<'a>,

@@ -13,7 +13,7 @@ pub enum Member {
     Base,
     /// The interface of that number.
     Interface(usize),
-    /// The type of the submodule of that number, or its interface behind `like`.
+    /// The type of the submodule of that number, or its interface after `like`.
     Submodule(usize),
     /// The name of a channel: of the item of connections of the first number, its connection of the second.
     Channel(usize, usize),

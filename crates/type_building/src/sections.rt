@@ -1,4 +1,4 @@
-//! Parameter sections: what is declared twice, and given without a declaration or behind a fixed value. The names that were seen
+//! Parameter sections: what is declared twice, and given without a declaration or after a fixed value. The names that were seen
 //! stand in sets, so each line is compared with few.
 
 ghost use Rattle.std.specs.Prelude.{◌≡◌, ◌||◌, [], not, is_some, IfOk, OnOk};

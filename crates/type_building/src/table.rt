@@ -26,7 +26,7 @@ pub enum TypeFault {
     InheritanceCircle,
     /// What a type extends or one of its interfaces is of another kind, a parameter, a gate or a submodule is declared twice, a value is given to an undeclared
     /// parameter or after a fixed one, by a section, by the body of a submodule or by the block of a channel, a body declares a parameter or a gate, a
-    /// submodule's type is none of modules, what stands behind `like` is no interface of modules, what a connection names as its channel is no
+    /// submodule's type is none of modules, what stands after `like` is no interface of modules, what a connection names as its channel is no
     /// channel, or a network is declared within another.
     KindClash,
     /// A type lacks a parameter or a gate of one of its interfaces.

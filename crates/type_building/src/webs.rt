@@ -156,7 +156,7 @@ fn add_roots(web: &Web, taken: &mut Vec<usize>) -> Result<(), AllocError> {
     Ok(())
 }
 
-/// Takes types away, each behind all that it extends, as long as there are such, and adds them in this order.
+/// Takes types away, each after all that it extends, as long as there are such, and adds them in this order.
 fn take_all(web: &mut Web, taken: &mut Vec<usize>) -> Result<(), AllocError> {
     add_roots(web, taken)?;
     for at in 0..web.waiting.len() {
@@ -240,7 +240,7 @@ fn place_left(web: &Web, named: &NamedTypes<'_>, types: &[TypeDeclaration]) -> P
     Place { number, member }
 }
 
-/// The numbers of the types that extend no other, and of others behind all that they extend. What a circle leads to is left out.
+/// The numbers of the types that extend no other, and of others after all that they extend. What a circle leads to is left out.
 pub(crate) fn roots_first(
     alloc: Global,
     named: &NamedTypes<'_>,

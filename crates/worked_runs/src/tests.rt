@@ -147,7 +147,7 @@ fn tell<C: Catalogue>(desk: &mut Desk<C>, line: &[u8], told: &mut Vec<u8>) -> Re
 }
 
 /// What the desk answers to an edit that is refused, to one that is made, and to what is no command; and whether a run is done
-/// behind the first and behind the second.
+/// after the first and after the second.
 fn tell_edits<C: Catalogue>(
     desk: &mut Desk<C>,
     told: &mut Vec<u8>,

@@ -68,7 +68,7 @@ fn written(text: &Text) -> &str {
     }
 }
 
-/// The reads and actions of a reply, each behind a space, with a colon between.
+/// The reads and actions of a reply, each after a space, with a colon between.
 pub fn text_of(alloc: Global, reply: &Reply) -> Result<String, AllocError> {
     let mut text = String::new(alloc);
     for read in reply.reads.as_slice() {
@@ -82,7 +82,7 @@ pub fn text_of(alloc: Global, reply: &Reply) -> Result<String, AllocError> {
     Ok(text)
 }
 
-/// Adds an action, behind a space.
+/// Adds an action, after a space.
 fn add_action(text: &mut String, action: &Action) -> Result<(), AllocError> {
     match action {
         Action::Emit(signal, value) => write!(text, " {}={value}", written(signal)),

@@ -9,7 +9,7 @@ use Rattle.checkpointed_runs.specs.declared.running.Stood.TheVariants as stood
 use Rattle.checkpointed_runs.proofs.Going.{StoredAt}
 use Rattle.checkpointed_runs.proofs.running.Runner.go_on.Given as goal
 
--- so many events are executed, and behind the positions that there were stand those of the multiples
+-- so many events are executed, and after the positions that there were stand those of the multiples
 abbrev pub invariant-loop-k : goal.invariant-loop-k
 invariant-loop-k g l =
     let first = world_in (λ b. (g.dyn-1.0.entry b.vtable).1) l.fn.self.kernel in
