@@ -32,7 +32,7 @@ stays xs = ([], append-nil xs)
 nothing_grown : (w : World) → IsGrownFrom w w
 nothing_grown w = record {
   records = stays w.records;
-  live = stays w.live;
+  dead = stays w.dead;
   started = stays w.started;
   finished = stays w.finished;
   emissions = stays w.emissions;
@@ -201,7 +201,7 @@ grown_beside v w e =
     λ X f g. ([], append-nil (f w) ∙ (g w ∙ (ap f (sym e) ∙ sym (g v)))) in
     record {
       records = lists Record (λ x. x.records) (λ x. refl);
-      live = lists ℕ (λ x. x.live) (λ x. refl);
+      dead = lists ℕ (λ x. x.dead) (λ x. refl);
       started = lists ℕ (λ x. x.started) (λ x. refl);
       finished = lists ℕ (λ x. x.finished) (λ x. refl);
       emissions = lists _ (λ x. x.emissions) (λ x. refl);
@@ -221,7 +221,7 @@ cut_goes xs ys g = ([], append-nil xs ∙ sym (cut_is xs ys g))
 pub cut_grown : (x w : World) → IsGrownFrom x w → IsGrownFrom x (cut_to (lengths_of x) w)
 cut_grown x w g = record {
   records = cut_goes x.records w.records g.records;
-  live = cut_goes x.live w.live g.live;
+  dead = cut_goes x.dead w.dead g.dead;
   started = cut_goes x.started w.started g.started;
   finished = cut_goes x.finished w.finished g.finished;
   emissions = cut_goes x.emissions w.emissions g.emissions;

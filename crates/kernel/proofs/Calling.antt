@@ -41,7 +41,7 @@ served_kept b id old new call (Some result) s h = record {
 pub boxed_grows : (v w : World) (old new : List Seat) → IsGrownFrom v w → IsGrownFrom (world_of v old) (world_of w new)
 boxed_grows v w old new g = record {
   records = g.records;
-  live = g.live;
+  dead = g.dead;
   started = g.started;
   finished = g.finished;
   emissions = g.emissions;

@@ -19,7 +19,7 @@ stays xs ys e = ([], append-nil xs ∙ sym e)
 pub growth_on : (u v w : World) → IsGrownFrom u v → IsGrownFrom v w → IsGrownFrom u w
 growth_on u v w f g = record {
   records = on_more u.records v.records w.records f.records g.records;
-  live = on_more u.live v.live w.live f.live g.live;
+  dead = on_more u.dead v.dead w.dead f.dead g.dead;
   started = on_more u.started v.started w.started f.started g.started;
   finished = on_more u.finished v.finished w.finished f.finished g.finished;
   emissions = on_more u.emissions v.emissions w.emissions f.emissions g.emissions;
@@ -36,7 +36,7 @@ run_grows b m n k h =
     let same = alike_after b m n k h in
     record {
       records = g.records;
-      live = stays v.live w.live same.0;
+      dead = g.dead;
       started = stays v.started w.started same.1;
       finished = stays v.finished w.finished (finished_after b m k ∙ sym (finished_after b m n));
       emissions = g.emissions;
@@ -48,7 +48,7 @@ run_grows b m n k h =
 end_grows : (v w : World) → IsClosed v w → IsGrownFrom v w
 end_grows v w c = record {
   records = stays v.records w.records c.records;
-  live = stays v.live w.live c.live;
+  dead = stays v.dead w.dead c.dead;
   started = stays v.started w.started c.started;
   finished = c.finished;
   emissions = c.emissions;

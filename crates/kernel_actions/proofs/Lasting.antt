@@ -25,7 +25,7 @@ use Rattle.run_questions.specs.declared.answer.Asked.{Asked}
 pub growth_same : (w : World) → IsGrownFrom w w
 growth_same w = record {
   records = on_same w.records;
-  live = on_same w.live;
+  dead = on_same w.dead;
   started = on_same w.started;
   finished = on_same w.finished;
   emissions = on_same w.emissions;
@@ -47,7 +47,7 @@ either_grows w false f g h k = k
 timer_grows : (id timer : ℕ) (priority kind : ℤ) (w : World) (time : ℕ) → IsGrownFrom w (in_flow (scheduled_at id timer priority kind w time))
 timer_grows id timer priority kind w time = either_grows w (has_timer id timer w.pending) _ _ (growth_same w) (record {
   records = on_same w.records;
-  live = on_same w.live;
+  dead = on_same w.dead;
   started = on_same w.started;
   finished = on_same w.finished;
   emissions = on_same w.emissions;
@@ -65,7 +65,7 @@ appointed_grows id a w = either_grows w (nat_lt a.at w.clock) (broken id fault.P
 pub deed_grows : (id : ℕ) (action : Action) (w : World) → IsGrownFrom w (in_flow (deed id action w))
 deed_grows id (Emit signal value) w = record {
   records = on_same w.records;
-  live = on_same w.live;
+  dead = on_same w.dead;
   started = on_same w.started;
   finished = on_same w.finished;
   emissions = (_, refl);
@@ -74,7 +74,7 @@ deed_grows id (Emit signal value) w = record {
 }
 deed_grows id (RecordScalar name value) w = either_grows w (is_scalar_name name) (On (with_scalar id name value w)) (broken id fault.BadName w) (record {
   records = on_same w.records;
-  live = on_same w.live;
+  dead = on_same w.dead;
   started = on_same w.started;
   finished = on_same w.finished;
   emissions = on_same w.emissions;
@@ -85,7 +85,7 @@ deed_grows id (ScheduleAt a) w = appointed_grows id a w
 deed_grows id (ScheduleAfter s) w = scheduled_grows id s w (time_sum w.clock s.delay)
 deed_grows id (Cancel timer) w = record {
   records = on_same w.records;
-  live = on_same w.live;
+  dead = on_same w.dead;
   started = on_same w.started;
   finished = on_same w.finished;
   emissions = on_same w.emissions;
@@ -123,7 +123,7 @@ split_at index xs x less e =
 pub noted_grows : (qs : List Asked) (w v : World) → v ≡ record w { questions = w.questions ++ qs } → IsGrownFrom w v
 noted_grows qs w v e = subst (IsGrownFrom w) (sym e) (record {
   records = on_same w.records;
-  live = on_same w.live;
+  dead = on_same w.dead;
   started = on_same w.started;
   finished = on_same w.finished;
   emissions = on_same w.emissions;

@@ -9,7 +9,7 @@ use Rattle.kernel_actions.specs.declared.position.Position.{Position}
 abbrev pub lengths_of : World → Lengths
 lengths_of w = record {
   records = length w.records;
-  live = length w.live;
+  dead = length w.dead;
   started = length w.started;
   finished = length w.finished;
   emissions = length w.emissions;
@@ -46,7 +46,7 @@ world_with p w = record w {
 abbrev pub cut_to : Lengths → World → World
 cut_to l w = record w {
   records = take l.records w.records;
-  live = take l.live w.live;
+  dead = take l.dead w.dead;
   started = take l.started w.started;
   finished = take l.finished w.finished;
   emissions = take l.emissions w.emissions;
@@ -66,7 +66,7 @@ world_back p w = record (core_back p w) { modules = p.modules }
 -- the lists that only grow have grown: all that was in them is there, in its place
 pub record IsGrownFrom (old new : World) : Type 0 where
   pub records : GoesOn old.records new.records
-  pub live : GoesOn old.live new.live
+  pub dead : GoesOn old.dead new.dead
   pub started : GoesOn old.started new.started
   pub finished : GoesOn old.finished new.finished
   pub emissions : GoesOn old.emissions new.emissions
@@ -76,7 +76,7 @@ pub record IsGrownFrom (old new : World) : Type 0 where
 -- no list is longer
 pub record AreWithin (less more : Lengths) : Type 0 where
   pub records : less.records ≤ more.records
-  pub live : less.live ≤ more.live
+  pub dead : less.dead ≤ more.dead
   pub started : less.started ≤ more.started
   pub finished : less.finished ≤ more.finished
   pub emissions : less.emissions ≤ more.emissions

@@ -3,7 +3,7 @@
 ghost use Rattle.std.specs.Prelude.{◌≡◌, ◌+◌, ◌^◌, ◌<◌, OnOk, OnErr, IfOk, Some, true, [], ◌∷◌, ◌++◌, length, slice_get, ◌≤◌};
 ghost use Rattle.run_questions.specs.Questions.{is_of_modules};
 ghost use Rattle.question_log.specs.Entries.{noted_in};
-ghost use Rattle.run_semantics.specs.World.{empty, asked, timed};
+ghost use Rattle.run_semantics.specs.World.{empty, asked, live_of, timed};
 ghost use Rattle.run_semantics.specs.Perform.{flow_of, deed, scheduled_at, ask_all, ask_noted, question_of, broken};
 ghost use Rattle.run_semantics.specs.Routes.{arriving, hop_by, is_at, module_at, transmitting};
 ghost use Rattle.run_semantics.specs.Ending.{with_finished};
@@ -44,7 +44,7 @@ use sim_values::text::Text;
 use sqlite_items::Items;
 use std::alloc::Global;
 use std::marker::Model;
-use subtrees::{common, inner_first, outer_first};
+use subtrees::{all_ids, common, inner_first, outer_first, without};
 
 /// How many modules live at most.
 const MAX_LIVE: usize = 65_536;
@@ -57,7 +57,8 @@ pub struct Core {
     clock: SimTime,
     count: u64,
     records: RecordTable,
-    live: Items<u32>,
+    /// The ids of those modules that are dead, in the order in which they died.
+    dead: Items<u32>,
     started: Items<u32>,
     finished: Items<u32>,
     pending: EventSet,
@@ -78,7 +79,7 @@ impl Drop for Core {
             clock: _,
             count: _,
             records: _,
-            live: _,
+            dead: _,
             started: _,
             finished: _,
             pending: _,
@@ -103,7 +104,7 @@ impl Model for Core {
       clock = k.clock;
       count = k.count;
       records = k.records;
-      live = k.live;
+      dead = k.dead;
       modules = [];
       started = k.started;
       finished = k.finished;
@@ -130,7 +131,7 @@ impl Core {
             clock: SimTime::zero(),
             count: 0,
             records: RecordTable::new(alloc),
-            live: Items::new(alloc),
+            dead: Items::new(alloc),
             started: Items::new(alloc),
             finished: Items::new(alloc),
             pending: EventSet::new(alloc),
@@ -390,12 +391,12 @@ impl Core {
         )
     }
 
-    /// Whether the module of that id lives, and has that path.
+    /// Whether the module of that id, which was created, lives, and has that path.
     fn is_at(&self, alloc: Global, path: &[u8], id: u32) -> Result<bool, NoMemory>
         ensures { IfOk result (λ found. found ≡ is_at path.now self.now id) }
     {
         let found = path_of(alloc, self.records.as_slice(), id)?;
-        Ok(found.is(path) && is_among(self.live.as_slice(), id))
+        Ok(found.is(path) && !is_among(self.dead.as_slice(), id))
     }
 
     /// The module of that path that lives, where there is one.
@@ -644,7 +645,6 @@ impl Core {
     /// Creates the network, as the model answered.
     pub fn root(&mut self, alloc: Global, found: Answer) -> Result<Turn, NoMemory>
         requires no_records { self.old.records ≡ [] }
-        requires none_live { self.old.live ≡ [] }
         ensures flow { IfOk result (λ turn. flow_of turn self.new ≡ rooted found self.old) }
         ensures few { length self.new.records ≤ 1 }
     {
@@ -657,7 +657,6 @@ impl Core {
                     class: None,
                 };
                 self.records.push(alloc, network)?;
-                self.live.push(1)?;
                 Ok(Turn::GoOn)
             }
             Answer::Fault(network, fault) => Ok(Turn::Break(network, fault_of(fault))),
@@ -670,7 +669,6 @@ impl Core {
         requires { length self.old.records + 1 < 2 ^ 32 }
         ensures { OnOk result (self.new ≡ with_submodules parent (built.now ∷ []) self.old) }
     {
-        let id = self.records.len() as u32 + 1;
         let name = built.name.copy(alloc)?;
         let class = copy_class(alloc, &built.class)?;
         let created = Record {
@@ -680,7 +678,6 @@ impl Core {
             class,
         };
         self.records.push(alloc, created)?;
-        self.live.push(id)?;
         Ok(())
     }
 
@@ -699,8 +696,10 @@ impl Core {
     fn room(&self) -> usize
         ensures { result ≡ room_in self.now }
     {
-        let live = MAX_LIVE.saturating_sub(self.live.len());
-        live.min(MAX_RECORDS.saturating_sub(self.records.len()))
+        let created = self.records.len();
+        let live = created.saturating_sub(self.dead.len());
+        let places = MAX_LIVE.saturating_sub(live);
+        places.min(MAX_RECORDS.saturating_sub(created))
     }
 
     /// Creates the submodules of a module, where they are not too many.
@@ -730,26 +729,36 @@ impl Core {
 
     // ---- starts and ends
 
+    /// The ids of all modules that live.
+    fn live_ids(&self, alloc: Global) -> Result<Items<u32>, NoMemory>
+        ensures { IfOk result (λ ids. ids ≡ live_of self.now) }
+    {
+        let created = all_ids(alloc, self.records.as_slice())?;
+        without(alloc, created.as_slice(), self.dead.as_slice())
+    }
+
     /// The network with all modules that live, in the order of calls.
     pub fn calls_of_network(&self, alloc: Global) -> Result<Items<u32>, NoMemory>
-        ensures { IfOk result (λ ids. ids ≡ outer_first self.now.records self.now.live 1) }
+        ensures { IfOk result (λ ids. ids ≡ outer_first self.now.records (live_of self.now) 1) }
     {
-        outer_first(alloc, self.records.as_slice(), self.live.as_slice(), 1)
+        let live = self.live_ids(alloc)?;
+        outer_first(alloc, self.records.as_slice(), live.as_slice(), 1)
     }
 
     /// All modules that live and were started, in the order of the end.
     pub fn to_finish(&self, alloc: Global) -> Result<Items<u32>, NoMemory>
         ensures { IfOk result (λ ids. ids ≡ to_finish self.now) }
     {
-        let going = common(alloc, self.live.as_slice(), self.started.as_slice())?;
+        let live = self.live_ids(alloc)?;
+        let going = common(alloc, live.as_slice(), self.started.as_slice())?;
         inner_first(alloc, self.records.as_slice(), going.as_slice(), 1)
     }
 
     /// Notes that all modules that live are started.
     pub fn mark_started(&mut self, alloc: Global) -> Result<(), NoMemory>
-        ensures { OnOk result (self.new ≡ with_started self.old.live self.old) }
+        ensures { OnOk result (self.new ≡ with_started (live_of self.old) self.old) }
     {
-        let live = Items::from_slice(alloc, self.live.as_slice())?;
+        let live = self.live_ids(alloc)?;
         self.started.append(live)?;
         Ok(())
     }
@@ -762,7 +771,7 @@ impl Core {
     {
         Lengths {
             records: self.records.len(),
-            live: self.live.len(),
+            dead: self.dead.len(),
             started: self.started.len(),
             finished: self.finished.len(),
             emissions: self.emissions.len(),
@@ -794,7 +803,7 @@ impl Core {
         ensures { self.new ≡ cut_to lengths self.old }
     {
         self.records.cut(lengths.records);
-        cut_items(&mut self.live, lengths.live);
+        cut_items(&mut self.dead, lengths.dead);
         cut_items(&mut self.started, lengths.started);
         cut_items(&mut self.finished, lengths.finished);
         cut_items(&mut self.emissions, lengths.emissions);

@@ -13,7 +13,7 @@ use sqlite_items::Items;
 #[derive(Clone, Copy, Drop)]
 pub struct Lengths {
     pub records: usize,
-    pub live: usize,
+    pub dead: usize,
     pub started: usize,
     pub finished: usize,
     pub emissions: usize,

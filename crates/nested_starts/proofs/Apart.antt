@@ -8,7 +8,7 @@ use Rattle.run_questions.specs.Records.{record_at}
 use Rattle.run_semantics.specs.Ending.{to_finish}
 use Rattle.run_semantics.specs.Laws.{Each, IsAmong}
 use Rattle.run_semantics.specs.Subtree.{among, common, each_of, inner_first, inner_first_to, is_under, outer_first, outer_first_to, submodules}
-use Rattle.run_semantics.specs.World.{World}
+use Rattle.run_semantics.specs.World.{World, live_of}
 use Rattle.nested_starts.specs.Apart.{AreApart}
 use Rattle.nested_starts.proofs.Orders.{among_parts}
 
@@ -217,10 +217,10 @@ tree rs ids h g = record {
   out = λ id. out_by rs id (record_at rs id) h refl;
 }
 
-pub called_once : (w : World) → AreOnce w.records w.live → AreApart (outer_first w.records w.live 1)
+pub called_once : (w : World) → AreOnce w.records (live_of w) → AreApart (outer_first w.records (live_of w) 1)
 unfolding outer_first
-called_once w h = outer_apart (tree w.records w.live h.behind h.apart) 33 1
+called_once w h = outer_apart (tree w.records (live_of w) h.behind h.apart) 33 1
 
-pub finished_once : (w : World) → AreOnce w.records w.live → AreApart (to_finish w)
+pub finished_once : (w : World) → AreOnce w.records (live_of w) → AreApart (to_finish w)
 unfolding inner_first
-finished_once w h = inner_apart (tree w.records (common w.live w.started) h.behind (kept_apart (λ id. among id w.started) w.live h.apart)) 33 1
+finished_once w h = inner_apart (tree w.records (common (live_of w) w.started) h.behind (kept_apart (λ id. among id w.started) (live_of w) h.apart)) 33 1

@@ -36,7 +36,7 @@ use Rattle.run_semantics.specs.Perform.{Flow, On, Stopped, Broken, ◌>>=◌, wi
 use Rattle.run_semantics.specs.Run.{ready, stages_in, most_stages, initialize, one_stage, stages_from, initialize_all, with_started, Stage, Running, Over, world_at, settled, is_after_limit, went, next_stage, after}
 use Rattle.run_semantics.specs.Subtree.{outer_first}
 use Rattle.run_semantics.specs.Upcoming.{first_due, delivered, target_of, Upcoming, Comes, Nothing, first_of, aimed, chosen, upcoming_in, upcoming}
-use Rattle.run_semantics.specs.World.{World, asked, asked_next}
+use Rattle.run_semantics.specs.World.{World, asked, asked_next, live_of}
 use Rattle.run_semantics.proofs.Orderly.{ready_none}
 use Rattle.run_semantics.proofs.Flows.{in_flow, either_way}
 use Rattle.run_semantics.proofs.Sending.{LastsSending, sends, sends_delayed, sends_direct}
@@ -161,8 +161,8 @@ stages_short b m ids stage (suc left) w h = then_short (one_stage b m stage ids 
 
 initialize_all_short : (b : Behaviour) (m : Answers) (w : World) → Short w → Short (in_flow (initialize_all b m w))
 initialize_all_short b m w h =
-    let calls = outer_first w.records w.live 1 in
-    stages_short b m calls 0 (most_stages b w.modules calls) (with_started w.live w) h
+    let calls = outer_first w.records (live_of w) 1 in
+    stages_short b m calls 0 (most_stages b w.modules calls) (with_started (live_of w) w) h
 
 settled_short : (fl : Flow) → Short (in_flow fl) → Short (world_at (settled fl))
 settled_short (On w) h = h

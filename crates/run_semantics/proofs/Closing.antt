@@ -26,21 +26,21 @@ pub record IsClosed (old new : World) : Type 0 where
   pub questions : new.questions ≡ old.questions
   pub records : new.records ≡ old.records
   pub count : new.count ≡ old.count
-  pub live : new.live ≡ old.live
+  pub dead : new.dead ≡ old.dead
   pub started : new.started ≡ old.started
   pub finished : GoesOn old.finished new.finished
   pub emissions : GoesOn old.emissions new.emissions
   pub scalars : GoesOn old.scalars new.scalars
 
 closed_same : (w : World) → IsClosed w w
-closed_same w = record { questions = refl; records = refl; count = refl; live = refl; started = refl; finished = on_same w.finished; emissions = on_same w.emissions; scalars = on_same w.scalars }
+closed_same w = record { questions = refl; records = refl; count = refl; dead = refl; started = refl; finished = on_same w.finished; emissions = on_same w.emissions; scalars = on_same w.scalars }
 
 closed_on : (u v w : World) → IsClosed u v → IsClosed v w → IsClosed u w
 closed_on u v w f g = record {
   questions = g.questions ∙ f.questions;
   records = g.records ∙ f.records;
   count = g.count ∙ f.count;
-  live = g.live ∙ f.live;
+  dead = g.dead ∙ f.dead;
   started = g.started ∙ f.started;
   finished = on_more u.finished v.finished w.finished f.finished g.finished;
   emissions = on_more u.emissions v.emissions w.emissions f.emissions g.emissions;
@@ -49,7 +49,7 @@ closed_on u v w f g = record {
 
 -- one more module is finished
 closed_marked : (id : ℕ) (w : World) → IsClosed w (with_finished id w)
-closed_marked id w = record { questions = refl; records = refl; count = refl; live = refl; started = refl; finished = (id ∷ [], refl); emissions = on_same w.emissions; scalars = on_same w.scalars }
+closed_marked id w = record { questions = refl; records = refl; count = refl; dead = refl; started = refl; finished = (id ∷ [], refl); emissions = on_same w.emissions; scalars = on_same w.scalars }
 
 closed_then : (w : World) (fl : Flow) (k : World → Flow) → IsClosed w (in_flow fl) → ((u : World) → IsClosed u (in_flow (k u))) → IsClosed w (in_flow (fl >>= k))
 closed_then w (On u) k f h = closed_on w u (in_flow (k u)) f (h u)
@@ -62,14 +62,14 @@ either_closed false f g w x y = y
 
 -- an action that is for the end
 last_closed : (b : Behaviour) (m : Answers) (id : ℕ) (action : Action) (w : World) → IsClosed w (in_flow (if is_allowed occasion.End action then perform b m id action w else broken id fault.NotInFinish w))
-last_closed b m id (Emit signal value) w = record { questions = refl; records = refl; count = refl; live = refl; started = refl; finished = on_same w.finished; emissions = (_, refl); scalars = on_same w.scalars }
+last_closed b m id (Emit signal value) w = record { questions = refl; records = refl; count = refl; dead = refl; started = refl; finished = on_same w.finished; emissions = (_, refl); scalars = on_same w.scalars }
 last_closed b m id (RecordScalar name value) w =
     either_closed (is_scalar_name name) (On (with_scalar id name value w)) (broken id fault.BadName w) w
-    (record { questions = refl; records = refl; count = refl; live = refl; started = refl; finished = on_same w.finished; emissions = on_same w.emissions; scalars = (_, refl) })
+    (record { questions = refl; records = refl; count = refl; dead = refl; started = refl; finished = on_same w.finished; emissions = on_same w.emissions; scalars = (_, refl) })
     (closed_same w)
 last_closed b m id (ScheduleAt a) w = closed_same w
 last_closed b m id (ScheduleAfter s) w = closed_same w
-last_closed b m id (Cancel timer) w = record { questions = refl; records = refl; count = refl; live = refl; started = refl; finished = on_same w.finished; emissions = on_same w.emissions; scalars = on_same w.scalars }
+last_closed b m id (Cancel timer) w = record { questions = refl; records = refl; count = refl; dead = refl; started = refl; finished = on_same w.finished; emissions = on_same w.emissions; scalars = on_same w.scalars }
 last_closed b m id (Fail text) w = closed_same w
 last_closed b m id (Send gate message) w = closed_same w
 last_closed b m id (SendDelayed gate message delay) w = closed_same w
@@ -99,7 +99,7 @@ called_closed b m id w None = closed_same w
 called_closed b m id w (Some i) =
     let r = (b.naming i.kind).reply i.state (call_of m id prompt.Finish w) in
     closed_on w (changed id r.state w) (in_flow (answered b m occasion.End id r.reply (changed id r.state w)))
-    (record { questions = refl; records = refl; count = refl; live = refl; started = refl; finished = on_same w.finished; emissions = on_same w.emissions; scalars = on_same w.scalars })
+    (record { questions = refl; records = refl; count = refl; dead = refl; started = refl; finished = on_same w.finished; emissions = on_same w.emissions; scalars = on_same w.scalars })
     (answered_closed b m id r.reply (changed id r.state w))
 
 finish_closed : (b : Behaviour) (m : Answers) (id : ℕ) (w : World) → IsClosed w (in_flow (finish b m id w))

@@ -6,7 +6,7 @@ use Rattle.run_questions.specs.Answers.{Answers}
 use Rattle.run_semantics.specs.declared.outcome.Outcome.{Outcome}
 use Rattle.run_semantics.specs.declared.outcome.Outcome.TheVariants.{Ended, TimeLimit}
 use Rattle.event_set.specs.declared.pending.Pending.{Pending}
-use Rattle.run_semantics.specs.World.{World}
+use Rattle.run_semantics.specs.World.{World, live_of}
 use Rattle.run_semantics.specs.Perform.{Flow, On, Stopped, Broken, ◌>>=◌, for_each}
 use Rattle.run_semantics.specs.Event.{begun, event, instance_in, message_of}
 use Rattle.run_semantics.specs.Subtree.{outer_first}
@@ -62,8 +62,8 @@ stages_count b m ids n stage (suc left) w e =
 
 initialize_all_count : (b : Behaviour) (m : Answers) (w : World) → w.count ≡ 0 → (in_flow (initialize_all b m w)).count ≡ 0
 initialize_all_count b m w e =
-    let calls : List ℕ = outer_first w.records w.live 1 in
-    stages_count b m calls 0 0 (most_stages b w.modules calls) (with_started w.live w) e
+    let calls : List ℕ = outer_first w.records (live_of w) 1 in
+    stages_count b m calls 0 0 (most_stages b w.modules calls) (with_started (live_of w) w) e
 
 pub settled_count : (fl : Flow) → (world_at (settled fl)).count ≡ (in_flow fl).count
 settled_count (On w) = refl

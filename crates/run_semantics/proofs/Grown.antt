@@ -1,15 +1,18 @@
 -- Runs grow, and call only modules that were started.
-use Rattle.std.proofs.Common.{◌≡◌, inl, inr, ⊎_elim, ℕ, zero, suc, ◌+◌, ◌≤◌, ◌<◌, ◌==◌, cond, Bool, true, false, List, [], ◌∷◌, ◌++◌, Option, Some, None, IsSome, refl, sym, ap, ◌∙◌, arith, subst, true≢false, eq-eqb, eq-or-lt_of_le}
+use Rattle.std.proofs.Common.{◌≡◌, inl, inr, ⊎_elim, ℕ, zero, suc, ◌+◌, ◌≤◌, ◌<◌, ◌==◌, cond, Bool, true, false, ◌&&◌, List, [], ◌∷◌, ◌++◌, Option, Some, None, IsSome, refl, sym, ap, ◌∙◌, append-nil, arith, subst, true≢false, eq-eqb, eq-or-lt_of_le}
 use Rattle.module_api.specs.Behaviour.{Behaviour}
 use Rattle.run_questions.specs.Answers.{Answers}
 use Rattle.run_questions.specs.declared.record.Record.{Record}
 use Rattle.run_semantics.specs.declared.outcome.Outcome.{Outcome}
 use Rattle.run_semantics.specs.declared.traces.Instance.{Instance}
-use Rattle.run_semantics.specs.World.{World}
+use Rattle.run_semantics.specs.Subtree.{among, ids_from}
+use Rattle.run_semantics.specs.World.{World, live_of}
 use Rattle.run_semantics.specs.Perform.{Flow, On, Stopped, Broken, ◌>>=◌}
 use Rattle.run_semantics.specs.Event.{instance_in}
-use Rattle.run_semantics.specs.Run.{ids_from, with_class, parts_from, parts_of, placed, ready, initialize_all, with_started, standing, Stage, Running, Over, world_at, settled, after}
-use Rattle.run_semantics.specs.Laws.{Each, IsAmong, ids_of, HasGrown, CanBeCalled}
+use Rattle.run_semantics.specs.Run.{Part, with_class, parts_from, parts_of, placed, ready, initialize_all, with_started, standing, Stage, Running, Over, world_at, settled, after}
+use Rattle.run_semantics.specs.Laws.{Each, IsAmong, ids_of, GoesOn, HasGrown, CanBeCalled, parts_standing}
+use Rattle.run_semantics.proofs.Bounds.{nobody_after}
+use Rattle.run_semantics.proofs.Living.{all_kept, all_live, both_pass, is_among, same_live}
 use Rattle.run_semantics.proofs.Placing.{OnlyOn, IsReady, ready_ready}
 use Rattle.run_semantics.proofs.Flows.{in_flow}
 use Rattle.event_set.proofs.Order.{each_map}
@@ -20,7 +23,7 @@ use Rattle.run_semantics.proofs.Orderly.{IsOrderly, Follows, same_ids, on_same, 
 
 -- nothing happened
 grown_same : (w : World) → HasGrown w w
-grown_same w = record { clock = omega arith; count = omega arith; next = omega arith; records = on_same w.records; emissions = on_same w.emissions; scalars = on_same w.scalars; questions = on_same w.questions }
+grown_same w = record { clock = omega arith; count = omega arith; next = omega arith; records = on_same w.records; dead = on_same w.dead; emissions = on_same w.emissions; scalars = on_same w.scalars; questions = on_same w.questions }
 
 -- one growth and then another
 grown_on : (u v w : World) → HasGrown u v → HasGrown v w → HasGrown u w
@@ -29,6 +32,7 @@ grown_on u v w f g = record {
   count = omega (arith, f.count, g.count);
   next = omega (arith, f.next, g.next);
   records = on_more u.records v.records w.records f.records g.records;
+  dead = on_more u.dead v.dead w.dead f.dead g.dead;
   emissions = on_more u.emissions v.emissions w.emissions f.emissions g.emissions;
   scalars = on_more u.scalars v.scalars w.scalars f.scalars g.scalars;
   questions = on_more u.questions v.questions w.questions f.questions g.questions;
@@ -39,7 +43,8 @@ grown_next : (b : Behaviour) (m : Answers) (n : ℕ) → HasGrown (world_at (aft
 grown_next b m n =
     let f = after_follows b m n in
     let l = after_later b m n in
-    record { clock = f.clock; count = f.count; next = f.next; records = (l.more, l.records); emissions = f.emissions; scalars = f.scalars; questions = (l.rest, l.joined) }
+    let dead : GoesOn (world_at (after b m n)).dead (world_at (after b m (suc n))).dead = ([], append-nil (world_at (after b m n)).dead ∙ sym f.dead) in
+    record { clock = f.clock; count = f.count; next = f.next; records = (l.more, l.records); dead = dead; emissions = f.emissions; scalars = f.scalars; questions = (l.rest, l.joined) }
 
 -- a run of more events has grown
 pub grown_after : (b : Behaviour) (m : Answers) (n k : ℕ) → n ≤ k → HasGrown (world_at (after b m n)) (world_at (after b m k))
@@ -52,7 +57,7 @@ grown_after b m n (suc k) h =
 
 -- the same modules live, and the same were started
 abbrev pub LiveAlike : World → World → Type 0
-LiveAlike old new = (new.live ≡ old.live) × (new.started ≡ old.started)
+LiveAlike old new = (live_of new ≡ live_of old) × (new.started ≡ old.started)
 
 alike_same : (w : World) → LiveAlike w w
 alike_same w = (refl, refl)
@@ -62,7 +67,9 @@ alike_on u v w f g = (g.0 ∙ f.0, g.1 ∙ f.1)
 
 -- one turn of a run
 alike_next : (b : Behaviour) (m : Answers) (n : ℕ) → LiveAlike (world_at (after b m n)) (world_at (after b m (suc n)))
-alike_next b m n = let f = after_follows b m n in (f.live, f.started)
+alike_next b m n =
+    let f = after_follows b m n in
+    (same_live (world_at (after b m n)) (world_at (after b m (suc n))) f.records f.dead, f.started)
 
 -- so it is in a run of more events
 pub alike_after : (b : Behaviour) (m : Answers) (n k : ℕ) → n ≤ k → LiveAlike (world_at (after b m n)) (world_at (after b m k))
@@ -90,8 +97,10 @@ each_id live [] h = tt
 each_id live (i ∷ is) h = (h.0, each_id live is h.1)
 
 -- all modules that stand live
-ready_lives : (w : World) → IsReady w → Each (λ id. IsAmong id w.live) (ids_of w.modules)
-ready_lives w f = each_id w.live w.modules (rw (f.parts, f.live) (parts_among 1 w.records))
+ready_lives : (w : World) → IsReady w → Each (λ id. IsAmong id (live_of w)) (ids_of w.modules)
+ready_lives w f =
+    let parts : Each (λ p. IsAmong p.id (live_of w)) (parts_of w) = subst (λ ids. Each (λ (p : Part). IsAmong p.id ids) (parts_of w)) (sym (all_live w f.dead)) (parts_among 1 w.records) in
+    each_id (live_of w) w.modules (subst (Each (λ (p : Part). IsAmong p.id (live_of w))) (sym f.parts) parts)
 
 -- ---- runs that go on
 
@@ -99,7 +108,7 @@ ready_lives w f = each_id w.live w.modules (rw (f.parts, f.live) (parts_among 1 
 record AreStarted (w : World) : Type 0 where
   parts : standing w.modules ≡ parts_of w
   modules : Each (λ id. IsAmong id w.started) (ids_of w.modules)
-  live : w.started ≡ w.live
+  live : w.started ≡ live_of w
 
 -- a run that goes on has the property
 abbrev IfRunning : (World → Type 0) → Stage → Type 0
@@ -107,11 +116,11 @@ IfRunning P (Running w) = P w
 IfRunning P (Over w outcome) = Unit {0}
 
 -- what stands, was started and lives stays so
-started_kept : (v w : World) → w.records ≡ v.records → standing w.modules ≡ standing v.modules → w.started ≡ v.started → w.live ≡ v.live → AreStarted v → AreStarted w
-started_kept v w records same started live f = record {
+started_kept : (v w : World) → w.records ≡ v.records → standing w.modules ≡ standing v.modules → w.started ≡ v.started → w.dead ≡ v.dead → AreStarted v → AreStarted w
+started_kept v w records same started dead f = record {
   parts = same ∙ (f.parts ∙ ap (parts_from 1) (sym records));
   modules = rw (same_ids w.modules v.modules same, started) f.modules;
-  live = started ∙ (f.live ∙ sym live);
+  live = started ∙ (f.live ∙ sym (same_live v w records dead));
 }
 
 -- the end of an event leaves it
@@ -124,15 +133,15 @@ settled_started (Broken w path fault) f = tt
 begin_started : (b : Behaviour) (m : Answers) (fl : Flow) → IsOrderly (in_flow fl) → OnlyOn IsReady fl → IfRunning AreStarted (settled (fl >>= initialize_all b m))
 begin_started b m (On w) f h =
     let g = initialize_all_leads b m w f h.parts in
-    let all : w.started ++ w.live ≡ w.live = ap (λ ids. ids ++ w.live) h.started in
-    let at_first : AreStarted (with_started w.live w) = record { parts = h.parts; modules = subst (λ ids. Each (λ id. IsAmong id ids) (ids_of w.modules)) (sym all) (ready_lives w h); live = all } in
-    settled_started (initialize_all b m w) (started_kept (with_started w.live w) (in_flow (initialize_all b m w)) g.records g.same g.started g.live at_first)
+    let all : w.started ++ live_of w ≡ live_of w = ap (λ ids. ids ++ live_of w) h.started in
+    let at_first : AreStarted (with_started (live_of w) w) = record { parts = h.parts; modules = subst (λ ids. Each (λ id. IsAmong id ids) (ids_of w.modules)) (sym all) (ready_lives w h); live = all } in
+    settled_started (initialize_all b m w) (started_kept (with_started (live_of w) w) (in_flow (initialize_all b m w)) g.records g.same g.started g.dead at_first)
 begin_started b m (Stopped w) f h = absurd h
 begin_started b m (Broken w path fault) f h = tt
 
 -- one turn of a run leaves it
 next_started : (m : Answers) (s t : Stage) → Follows m (world_at s) (world_at t) → ((w : World) (outcome : Outcome) → s ≡ Over w outcome → IfRunning AreStarted t) → IfRunning AreStarted s → IfRunning AreStarted t
-next_started m (Running v) (Running w) g k f = started_kept v w g.records g.same g.started g.live f
+next_started m (Running v) (Running w) g k f = started_kept v w g.records g.same g.started g.dead f
 next_started m (Running v) (Over w outcome) g k f = tt
 next_started m (Over v outcome) t g k f = k v outcome refl
 
@@ -168,6 +177,21 @@ can_be_called w id f h =
 -- in a run that goes on exactly the simple modules that were created stand
 pub parts_after : (b : Behaviour) (m : Answers) (n : ℕ) (w : World) → after b m n ≡ Running w → standing w.modules ≡ parts_of w
 parts_after b m n w e = let g : AreStarted w = subst (IfRunning AreStarted) e (started_after b m n) in g.parts
+
+-- whether the module of a part was started and lives
+abbrev stands_in : World → Part → Bool
+stands_in w p = among p.id w.started && among p.id (live_of w)
+
+-- and all of these were started and live
+pub standing_after : (b : Behaviour) (m : Answers) (n : ℕ) (w : World) → after b m n ≡ Running w → standing w.modules ≡ parts_standing w
+standing_after b m n w e =
+    let g : AreStarted w = subst (IfRunning AreStarted) e (started_after b m n) in
+    let nobody : w.dead ≡ [] = subst (λ s. (world_at s).dead ≡ []) e (nobody_after b m n) in
+    let live : Each (λ p. IsAmong p.id (live_of w)) (parts_of w) = subst (λ ids. Each (λ (p : Part). IsAmong p.id ids) (parts_of w)) (sym (all_live w nobody)) (parts_among 1 w.records) in
+    let each : Each (λ p. stands_in w p ≡ true) (parts_of w) =
+    each_map (λ (p : Part). IsAmong p.id (live_of w)) (λ (p : Part). stands_in w p ≡ true) (parts_of w)
+    (λ p h. both_pass (among p.id w.started) (among p.id (live_of w)) (is_among p.id w.started (subst (IsAmong p.id) (sym g.live) h)) (is_among p.id (live_of w) h)) live in
+    g.parts ∙ sym (all_kept (stands_in w) (parts_of w) each)
 
 -- in a run that goes on each event to come is for a module that can be called
 pub called_after : (b : Behaviour) (m : Answers) (n : ℕ) (w : World) → after b m n ≡ Running w → Each (λ e. CanBeCalled w e.id) w.pending

@@ -26,7 +26,7 @@ use Rattle.run_semantics.specs.declared.occasions.Occasion.{Occasion}
 use Rattle.run_semantics.specs.declared.occasions.Occasion.TheVariants as occasion
 use Rattle.run_semantics.specs.declared.outcome.Fault.{Fault}
 use Rattle.run_semantics.specs.declared.traces.Instance.{Instance}
-use Rattle.run_semantics.specs.World.{World, empty, asked, is_asked, timed}
+use Rattle.run_semantics.specs.World.{World, asked, empty, is_asked, live_of, timed}
 use Rattle.event_set.specs.Timers.{has_timer}
 use Rattle.run_semantics.specs.Perform.{Flow, On, Stopped, Broken, ◌>>=◌, asking, for_each, scheduled_at, scheduled, appointed, deed, is_allowed, perform, act, act_all, ask_all, question_of, acted, read_fault, unless_fault, answered}
 use Rattle.run_semantics.specs.Event.{call_of, instance_in, with_state, changed, replied, called, call_module, event}
@@ -408,7 +408,7 @@ started_grows b m ids calls w f =
 
 -- that of the network
 pub initialize_all_grows : (b : Behaviour) (m : Answers) (w : World) → Fits w → IsGrown w (in_flow (initialize_all b m w))
-initialize_all_grows b m w f = started_grows b m w.live (outer_first w.records w.live 1) w f
+initialize_all_grows b m w f = started_grows b m (live_of w) (outer_first w.records (live_of w) 1) w f
 
 -- ---- setup
 

@@ -7,6 +7,7 @@ pub mod Ends
 pub mod Flows
 pub mod Grown
 pub mod Growth
+pub mod Living
 pub mod Looking
 pub mod Looks
 pub mod Once

@@ -26,7 +26,7 @@ use Rattle.event_set.specs.declared.pending.Pending.{Pending}
 use Rattle.run_semantics.specs.declared.traces.Emission.{Emission}
 use Rattle.run_semantics.specs.declared.traces.Instance.{Instance}
 use Rattle.run_semantics.specs.Routes.{arriving_at}
-use Rattle.run_semantics.specs.World.{World, asked}
+use Rattle.run_semantics.specs.World.{World, asked, live_of}
 use Rattle.event_set.specs.Order.{inserted}
 use Rattle.event_set.specs.Timers.{has_timer}
 use Rattle.run_semantics.specs.Perform.{Flow, On, Stopped, Broken, ◌>>=◌, broken, for_each, with_scalar, scheduled_at, scheduled, appointed, with_cancelled, deed, is_allowed, perform, act, act_all, ask_all, question_of, acted, read_fault, unless_fault, answered}
@@ -65,7 +65,7 @@ pub record Leads (old new : World) : Type 0 where
   pub records : new.records ≡ old.records
   pub same : standing new.modules ≡ standing old.modules
   pub started : new.started ≡ old.started
-  pub live : new.live ≡ old.live
+  pub dead : new.dead ≡ old.dead
   pub finished : new.finished ≡ old.finished
   pub delivered : new.delivered ≡ old.delivered
   pub emissions : GoesOn old.emissions new.emissions
@@ -83,7 +83,7 @@ on_more xs ys zs f g = (f.0 ++ g.0, sym (append_assoc xs f.0 g.0) ∙ (ap (λ us
 
 -- nothing happened
 leads_same : (w : World) → IsOrderly w → Leads w w
-leads_same w f = record { clock = refl; count = refl; present = tt; next = omega arith; records = refl; same = refl; started = refl; live = refl; finished = refl; delivered = refl; emissions = on_same w.emissions; scalars = on_same w.scalars; orderly = f }
+leads_same w f = record { clock = refl; count = refl; present = tt; next = omega arith; records = refl; same = refl; started = refl; dead = refl; finished = refl; delivered = refl; emissions = on_same w.emissions; scalars = on_same w.scalars; orderly = f }
 
 -- one part and then another
 leads_on : {u v w : World} → Leads u v → Leads v w → Leads u w
@@ -94,7 +94,7 @@ leads_on {u} {v} {w} f g = record {
   records = g.records ∙ f.records;
   same = g.same ∙ f.same;
   started = g.started ∙ f.started;
-  live = g.live ∙ f.live;
+  dead = g.dead ∙ f.dead;
   finished = g.finished ∙ f.finished;
   delivered = g.delivered ∙ f.delivered;
   emissions = on_more u.emissions v.emissions w.emissions f.emissions g.emissions;
@@ -127,8 +127,8 @@ either_leads w true f g h k = h
 either_leads w false f g h k = k
 
 -- what changes neither clock, modules, events, emissions nor scalars
-leads_beside : (u v : World) → IsOrderly u → v.clock ≡ u.clock → v.next ≡ u.next → v.pending ≡ u.pending → v.records ≡ u.records → standing v.modules ≡ standing u.modules → v.started ≡ u.started → v.live ≡ u.live → v.finished ≡ u.finished → v.delivered ≡ u.delivered → v.emissions ≡ u.emissions → v.scalars ≡ u.scalars → v.count ≡ u.count → Leads u v
-leads_beside u v f clock next pending records same started live finished delivered emissions scalars count = record {
+leads_beside : (u v : World) → IsOrderly u → v.clock ≡ u.clock → v.next ≡ u.next → v.pending ≡ u.pending → v.records ≡ u.records → standing v.modules ≡ standing u.modules → v.started ≡ u.started → v.dead ≡ u.dead → v.finished ≡ u.finished → v.delivered ≡ u.delivered → v.emissions ≡ u.emissions → v.scalars ≡ u.scalars → v.count ≡ u.count → Leads u v
+leads_beside u v f clock next pending records same started dead finished delivered emissions scalars count = record {
   clock = clock;
   count = count;
   present = tt;
@@ -136,7 +136,7 @@ leads_beside u v f clock next pending records same started live finished deliver
   records = records;
   same = same;
   started = started;
-  live = live;
+  dead = dead;
   finished = finished;
   delivered = delivered;
   emissions = ([], append-nil u.emissions ∙ sym emissions);
@@ -168,7 +168,7 @@ leads_inserted e w f number time stands =
       records = refl;
       same = refl;
       started = refl;
-      live = refl;
+      dead = refl;
       finished = refl;
       delivered = refl;
       emissions = on_same w.emissions;
@@ -213,7 +213,7 @@ cancelled_leads id timer w f = record {
   records = refl;
   same = refl;
   started = refl;
-  live = refl;
+  dead = refl;
   finished = refl;
   delivered = refl;
   emissions = on_same w.emissions;
@@ -237,7 +237,7 @@ deed_leads id (Emit signal value) w f h = record {
   records = refl;
   same = refl;
   started = refl;
-  live = refl;
+  dead = refl;
   finished = refl;
   delivered = refl;
   emissions = (_, refl);
@@ -254,7 +254,7 @@ deed_leads id (RecordScalar name value) w f h =
       records = refl;
       same = refl;
       started = refl;
-      live = refl;
+      dead = refl;
       finished = refl;
       delivered = refl;
       emissions = on_same w.emissions;
@@ -390,8 +390,8 @@ pub started_leads : (b : Behaviour) (m : Answers) (ids calls : List ℕ) (w : Wo
 started_leads b m ids calls w f all = stages_lead b m calls 0 (most_stages b w.modules calls) (with_started ids w) (record { order = f.order; own = f.own; below = f.below; due = f.due; modules = f.modules }) all
 
 -- that of the network
-pub initialize_all_leads : (b : Behaviour) (m : Answers) (w : World) → IsOrderly w → IsComplete w → Leads (with_started w.live w) (in_flow (initialize_all b m w))
-initialize_all_leads b m w f all = started_leads b m w.live (outer_first w.records w.live 1) w f all
+pub initialize_all_leads : (b : Behaviour) (m : Answers) (w : World) → IsOrderly w → IsComplete w → Leads (with_started (live_of w) w) (in_flow (initialize_all b m w))
+initialize_all_leads b m w f all = started_leads b m (live_of w) (outer_first w.records (live_of w) 1) w f all
 
 -- ---- setup: no event is to come, nothing was emitted, and no module is finished
 
@@ -442,7 +442,7 @@ pub record Follows (m : Answers) (old new : World) : Type 0 where
   pub records : new.records ≡ old.records
   pub same : standing new.modules ≡ standing old.modules
   pub started : new.started ≡ old.started
-  pub live : new.live ≡ old.live
+  pub dead : new.dead ≡ old.dead
   pub finished : new.finished ≡ old.finished
   pub emissions : GoesOn old.emissions new.emissions
   pub scalars : GoesOn old.scalars new.scalars
@@ -460,7 +460,7 @@ follows_same m w f t = record {
   records = refl;
   same = refl;
   started = refl;
-  live = refl;
+  dead = refl;
   finished = refl;
   emissions = on_same w.emissions;
   scalars = on_same w.scalars;
@@ -495,8 +495,8 @@ event_follows : (b : Behaviour) (m : Answers) (p : Pending) (rest : List Pending
 event_follows b m p rest w u looked may f all =
     subst (λ v. MayCome m w.clock w.pending v p rest → Follows m w (world_at (settled (event b m p rest v)))) looked.same (by (looking w looked.last looked.rest) refl refl refl refl refl refl refl refl refl refl (record { order = f.order; own = f.own; below = f.below; due = f.due; modules = f.modules })) may
   where
-    by : (v : World) → v.pending ≡ w.pending → v.count ≡ w.count → v.next ≡ w.next → v.records ≡ w.records → v.modules ≡ w.modules → v.started ≡ w.started → v.live ≡ w.live → v.finished ≡ w.finished → v.emissions ≡ w.emissions → v.scalars ≡ w.scalars → IsOrderly v → MayCome m w.clock w.pending v p rest → Follows m w (world_at (settled (event b m p rest v)))
-    by v pending count next records modules started live finished emissions scalars o c =
+    by : (v : World) → v.pending ≡ w.pending → v.count ≡ w.count → v.next ≡ w.next → v.records ≡ w.records → v.modules ≡ w.modules → v.started ≡ w.started → v.dead ≡ w.dead → v.finished ≡ w.finished → v.emissions ≡ w.emissions → v.scalars ≡ w.scalars → IsOrderly v → MayCome m w.clock w.pending v p rest → Follows m w (world_at (settled (event b m p rest v)))
+    by v pending count next records modules started dead finished emissions scalars o c =
         let left : (rest ≡ v.pending) ⊎ (v.pending ≡ p ∷ rest) = subst (λ (ps : List Pending). (rest ≡ ps) ⊎ (ps ≡ p ∷ rest)) (sym pending) c.left in
         let g = call_leads b m p.id (prompt.Message (message_of p)) (begun p rest v) (orderly_begun p rest v left c.later o) (ap standing modules ∙ (all ∙ ap (parts_from 1) (sym records))) in
         let more = event_count b m p rest v in
@@ -507,7 +507,7 @@ event_follows b m p rest w u looked may f all =
           records = g.records ∙ records;
           same = g.same ∙ ap standing modules;
           started = g.started ∙ started;
-          live = g.live ∙ live;
+          dead = g.dead ∙ dead;
           finished = g.finished ∙ finished;
           emissions = (g.emissions.0, ap (λ es. es ++ g.emissions.0) (sym emissions) ∙ g.emissions.1);
           scalars = (g.scalars.0, ap (λ ss. ss ++ g.scalars.0) (sym scalars) ∙ g.scalars.1);
@@ -561,7 +561,7 @@ settled_complete (Broken w path fault) all = tt
 complete_then : (b : Behaviour) (m : Answers) (fl : Flow) → IsQuiet (in_flow fl) → OnlyOn IsReady fl → IfComplete (settled (fl >>= initialize_all b m))
 complete_then b m (On w) q r =
     let g = initialize_all_leads b m w (orderly_none w q.0) r.parts in
-    settled_complete (initialize_all b m w) (complete_on (with_started w.live w) (in_flow (initialize_all b m w)) g r.parts)
+    settled_complete (initialize_all b m w) (complete_on (with_started (live_of w) w) (in_flow (initialize_all b m w)) g r.parts)
 complete_then b m (Stopped w) q r = absurd r
 complete_then b m (Broken w path fault) q r = tt
 

@@ -1,14 +1,13 @@
 -- After setup exactly the simple modules that were created stand.
 use Rattle.std.proofs.Common.{◌≡◌, inl, inr, ℕ, zero, suc, ◌+◌, Bool, true, false, is_some, List, [], ◌∷◌, ◌++◌, Option, Some, None, refl, sym, ap, ◌∙◌, arith, subst, append-nil, length, map, slice_get, if◌then◌else◌}
 use Rattle.module_api.specs.Behaviour.{Behaviour}
-use Rattle.run_questions.specs.declared.answer.Built.{Built}
 use Rattle.run_questions.specs.Answers.{Answers}
 use Rattle.run_questions.specs.declared.record.Record.{Record}
 use Rattle.run_semantics.specs.declared.traces.Instance.{Instance}
 use Rattle.run_semantics.specs.World.{World}
 use Rattle.run_semantics.specs.Perform.{Flow, On, Stopped, Broken, ◌>>=◌}
 use Rattle.run_semantics.specs.Routes.{has_class, is_simple}
-use Rattle.run_semantics.specs.Run.{record_under, ids_from, prepared, Part, with_class, parts_from, parts_of, placed, place_all, place_parts, ready, standing, part_of}
+use Rattle.run_semantics.specs.Run.{prepared, Part, with_class, parts_from, parts_of, placed, place_all, place_parts, ready, standing, part_of}
 use Rattle.run_semantics.specs.Laws.{IsAmong, ids_of}
 use Rattle.run_semantics.proofs.Setting.{IsLasting, Stays, prepared_stays}
 
@@ -24,50 +23,33 @@ only_then P Q (On w) k p h = h w p
 only_then P Q (Stopped w) k p h = p
 only_then P Q (Broken w path f) k p h = tt
 
--- all records are of modules that live, no module has a state yet, and none was started
+-- nobody is dead, no module has a state yet, and none was started
 record IsBuilt (w : World) : Type 0 where
-  live : w.live ≡ ids_from 1 w.records
+  dead : w.dead ≡ []
   modules : w.modules ≡ []
   started : w.started ≡ []
-
--- ids of these and of more that are created
-ids_from-append : (k : ℕ) (rs : List Record) (parent : ℕ) (bs : List Built) → ids_from k rs ++ ids_from (k + length rs) bs ≡ ids_from k (rs ++ map (record_under parent) bs)
-ids_from-append k [] parent [] = refl
-ids_from-append k [] parent (b ∷ bs) =
-    let here : k + 0 ≡ k = omega arith in
-    let rest : suc (k + 0) ≡ suc k + 0 = omega arith in
-    ap (λ i. i ∷ ids_from (suc (k + 0)) bs) here ∙ ap (λ i. k ∷ ids_from i bs) rest ∙ ap (λ is. k ∷ is) (ids_from-append (suc k) [] parent bs)
-ids_from-append k (r ∷ rs) parent bs =
-    let same : k + suc (length rs) ≡ suc k + length rs = omega arith in
-    ap (λ i. k ∷ ids_from (suc k) rs ++ ids_from i bs) same ∙ ap (λ is. k ∷ is) (ids_from-append (suc k) rs parent bs)
 
 -- a setup leaves it so
 built_lasts : IsLasting IsBuilt
 built_lasts = record {
-  asked = λ id w f l. record { live = f.live; modules = f.modules; started = f.started };
-  created = λ parent bs w f l few.
-      let next : suc (length w.records) ≡ 1 + length w.records = omega arith in
-      record {
-        live = ap (λ is. is ++ ids_from (suc (length w.records)) bs) f.live ∙ ap (λ i. ids_from 1 w.records ++ ids_from i bs) next ∙ ids_from-append 1 w.records parent bs;
-        modules = f.modules;
-        started = f.started;
-      };
+  asked = λ id w f l. record { dead = f.dead; modules = f.modules; started = f.started };
+  created = λ parent bs w f l few. record { dead = f.dead; modules = f.modules; started = f.started };
 }
 
 -- so it is after setup
 prepared_built : (m : Answers) → Stays IsBuilt (prepared m)
-prepared_built m = prepared_stays IsBuilt m built_lasts (record { live = refl; modules = refl; started = refl }) (λ name. record { live = refl; modules = refl; started = refl })
+prepared_built m = prepared_stays IsBuilt m built_lasts (record { dead = refl; modules = refl; started = refl }) (λ name. record { dead = refl; modules = refl; started = refl })
 
--- exactly the simple modules that were created stand, all that were created live, and none was started
+-- exactly the simple modules that were created stand, nobody is dead, and none was started
 pub record IsReady (w : World) : Type 0 where
   pub parts : standing w.modules ≡ parts_of w
-  pub live : w.live ≡ ids_from 1 w.records
+  pub dead : w.dead ≡ []
   pub started : w.started ≡ []
 
--- these parts stand at last, and records, what lives and what was started are those of that world
+-- these parts stand at last, and records, the dead and what was started are those of that world
 record StandAll (ps : List Part) (u w : World) : Type 0 where
   parts : standing w.modules ≡ ps
-  live : w.live ≡ u.live
+  dead : w.dead ≡ u.dead
   records : w.records ≡ u.records
   started : w.started ≡ u.started
 
@@ -82,18 +64,18 @@ place_stands b all ps u p w true g h l = h
 place_stands b all ps u p w false g h l = l
 
 -- all parts are placed
-place_all_stands : (b : Behaviour) (all ps : List Part) (u w : World) → standing w.modules ++ ps ≡ all → w.live ≡ u.live → w.records ≡ u.records → w.started ≡ u.started → OnlyOn (StandAll all u) (place_all b ps w)
-place_all_stands b all [] u w e live records began = record { parts = sym (append-nil (standing w.modules)) ∙ e; live = live; records = records; started = began }
-place_all_stands b all (p ∷ ps) u w e live records began =
+place_all_stands : (b : Behaviour) (all ps : List Part) (u w : World) → standing w.modules ++ ps ≡ all → w.dead ≡ u.dead → w.records ≡ u.records → w.started ≡ u.started → OnlyOn (StandAll all u) (place_all b ps w)
+place_all_stands b all [] u w e dead records began = record { parts = sym (append-nil (standing w.modules)) ∙ e; dead = dead; records = records; started = began }
+place_all_stands b all (p ∷ ps) u w e dead records began =
     let v : World = placed p (b.naming p.kind).initial w in
-    place_stands b all ps u p w (b.known p.kind) _ (place_all_stands b all ps u v (standing_one_more w.modules _ ps ∙ e) live records began) tt
+    place_stands b all ps u p w (b.known p.kind) _ (place_all_stands b all ps u v (standing_one_more w.modules _ ps ∙ e) dead records began) tt
 
 -- those of the records
 place_parts_ready : (b : Behaviour) (w : World) → IsBuilt w → OnlyOn IsReady (place_parts b w)
 place_parts_ready b w f = by (place_parts b w) (place_all_stands b (parts_of w) (parts_of w) w w (rw f.modules refl) refl refl refl)
   where
     by : (fl : Flow) → OnlyOn (StandAll (parts_of w) w) fl → OnlyOn IsReady fl
-    by (On v) h = record { parts = h.parts ∙ ap (parts_from 1) (sym h.records); live = h.live ∙ (f.live ∙ ap (ids_from 1) (sym h.records)); started = h.started ∙ f.started }
+    by (On v) h = record { parts = h.parts ∙ ap (parts_from 1) (sym h.records); dead = h.dead ∙ f.dead; started = h.started ∙ f.started }
     by (Stopped v) h = h
     by (Broken v path fault) h = tt
 

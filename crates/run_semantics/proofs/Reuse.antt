@@ -48,7 +48,7 @@ use Rattle.event_set.specs.declared.pending.Pending.{Pending}
 use Rattle.run_semantics.specs.declared.traces.Instance.{Instance}
 use Rattle.run_semantics.specs.Agreement.{Agrees, AgreesUpTo, tried, questions_of}
 use Rattle.run_semantics.specs.Laws.{Each, GoesOn}
-use Rattle.run_semantics.specs.World.{World, empty, asked, asked_next, is_asked, noted}
+use Rattle.run_semantics.specs.World.{World, asked, asked_next, empty, is_asked, live_of, noted}
 use Rattle.run_semantics.specs.Perform.{Flow, On, Stopped, Broken, ◌>>=◌, perform, act, act_all, answered, next_hop, past_last, with_hop, after_hop, chain, most_hops, travelled, sent_over, sent_through, sent, entering, flight_end, entered, sent_into, sent_to, sent_direct, asking, broken, ask_all, for_each, is_allowed, question_of, acted, first_fault, fault_of_read, read_fault, unless_fault}
 use Rattle.run_semantics.specs.Event.{call_of, instance_in, changed, replied, called, call_module, counted, begun, event, message_of}
 use Rattle.run_semantics.specs.Subtree.{outer_first}
@@ -472,7 +472,7 @@ started_same b law m n ids calls w f =
 
 -- that of the network
 initialize_all_same : (b : Behaviour) → IsLawful b → (m n : Answers) (w : World) → Fits w → DoesSame m n w (initialize_all b m w) (initialize_all b n w)
-initialize_all_same b law m n w f = started_same b law m n w.live (outer_first w.records w.live 1) w f
+initialize_all_same b law m n w f = started_same b law m n (live_of w) (outer_first w.records (live_of w) 1) w f
 
 -- event zero, before it is settled
 abbrev pub begins : Behaviour → Answers → Flow

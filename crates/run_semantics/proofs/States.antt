@@ -25,7 +25,7 @@ use Rattle.run_semantics.specs.declared.outcome.Fault.TheVariants as fault
 use Rattle.run_semantics.specs.declared.outcome.Outcome.{Outcome}
 use Rattle.run_semantics.specs.declared.outcome.Outcome.TheVariants.{Ended, TimeLimit}
 use Rattle.run_semantics.specs.declared.traces.Instance.{Instance}
-use Rattle.run_semantics.specs.World.{World, asked}
+use Rattle.run_semantics.specs.World.{World, asked, live_of}
 use Rattle.run_semantics.specs.Perform.{Flow, On, Stopped, Broken, ◌>>=◌, broken, for_each, scheduled_at, scheduled, appointed, deed, is_allowed, perform, act, act_all, ask_all, question_of, acted, read_fault, unless_fault, answered}
 use Rattle.run_semantics.specs.Event.{call_of, instance_in, with_state, changed, called, call_module, begun, event, message_of}
 use Rattle.run_semantics.specs.Run.{prepared, Part, parts_of, placed, place, place_all, place_parts, ready, stages_in, most_stages, initialize, one_stage, stages_from, started, initialize_all, with_started, Stage, Running, Over, world_at, settled, is_after_limit, went, next_stage, after}
@@ -198,7 +198,7 @@ started_in : (b : Behaviour) → IsLawful b → (m : Answers) (ids calls : List 
 started_in b l m ids calls w h = all_stages_in b l m calls 0 (most_stages b w.modules calls) (with_started ids w) h
 
 initialize_all_in : (b : Behaviour) → IsLawful b → (m : Answers) (w : World) → AllIn b w → AllIn b (in_flow (initialize_all b m w))
-initialize_all_in b l m w h = started_in b l m w.live (outer_first w.records w.live 1) w h
+initialize_all_in b l m w h = started_in b l m (live_of w) (outer_first w.records (live_of w) 1) w h
 
 -- ---- runs
 

@@ -6,7 +6,7 @@ use Rattle.run_questions.specs.Answers.{Answers}
 use Rattle.run_semantics.specs.declared.occasions.Occasion.TheVariants as occasion
 use Rattle.run_semantics.specs.declared.outcome.Outcome.{Outcome}
 use Rattle.run_semantics.specs.declared.outcome.Outcome.TheVariants.{Fault}
-use Rattle.run_semantics.specs.World.{World}
+use Rattle.run_semantics.specs.World.{World, live_of}
 use Rattle.run_semantics.specs.Perform.{Flow, On, Stopped, Broken, ◌>>=◌, for_each}
 use Rattle.run_semantics.specs.Event.{call_at}
 use Rattle.run_semantics.specs.Run.{Ran, is_fault}
@@ -32,7 +32,7 @@ finish_all b m ids w = for_each (finish b m) ids w
 
 -- all modules that live and were started, submodules before the enclosing module
 abbrev pub to_finish : World → List ℕ
-to_finish w = inner_first w.records (common w.live w.started) 1
+to_finish w = inner_first w.records (common (live_of w) w.started) 1
 
 -- a fault in the end has the number of the last event
 abbrev pub concluded : Outcome → Flow → Ran

@@ -51,7 +51,6 @@ nested_records =
 abbrev pub at_setup : World → World
 at_setup w = record w {
   records = nested_records;
-  live = 1 ∷ 2 ∷ 3 ∷ 4 ∷ 5 ∷ 6 ∷ [];
   questions = record { event = 0; question = Root } ∷ record { event = 0; question = Build 1 } ∷ record { event = 0; question = Build 2 } ∷ record { event = 0; question = Build 3 } ∷ [];
 }
 

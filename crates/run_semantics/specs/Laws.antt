@@ -1,6 +1,7 @@
 -- Words for what holds of the worlds that a run reaches.
 pub use Rattle.event_set.specs.Order.{Each, AreInOrder, HaveOwnNumbers}
-use Rattle.std.specs.Prelude.{◌≡◌, ◌⊎◌, ℕ, zero, suc, ◌≤◌, List, [], ◌∷◌, ◌++◌, None, IsSome, IsTrue, length, map}
+use Rattle.std.specs.Prelude.{◌≡◌, ◌⊎◌, ℕ, zero, suc, ◌≤◌, ◌&&◌, List, [], ◌∷◌, ◌++◌, None, IsSome, IsTrue, length, map}
+use Rattle.std.specs.List.{filter}
 use Rattle.module_api.specs.Behaviour.{Behaviour}
 use Rattle.injection_order.specs.Injections.{first_undelivered}
 use Rattle.run_questions.specs.Answers.{Answers}
@@ -8,9 +9,10 @@ use Rattle.run_questions.specs.declared.answer.Asked.{Asked}
 use Rattle.event_set.specs.declared.pending.Pending.{Pending}
 use Rattle.run_semantics.specs.declared.traces.Emission.{Emission}
 use Rattle.run_semantics.specs.declared.traces.Instance.{Instance}
-use Rattle.run_semantics.specs.World.{World, noted}
+use Rattle.run_semantics.specs.World.{World, live_of, noted}
 use Rattle.run_semantics.specs.Event.{instance_in}
-use Rattle.run_semantics.specs.Run.{Stage, next_stage}
+use Rattle.run_semantics.specs.Run.{Part, Stage, next_stage, parts_of}
+use Rattle.run_semantics.specs.Subtree.{among}
 
 -- along emissions neither event numbers nor times fall
 abbrev pub AreInTurn : List Emission → Type 0
@@ -30,26 +32,31 @@ ids_of modules = map (λ i. i.id) modules
 pub record CanBeCalled (w : World) (id : ℕ) : Type 0 where
   pub found : IsSome (instance_in id w.modules)
   pub started : IsAmong id w.started
-  pub live : IsAmong id w.live
+  pub live : IsAmong id (live_of w)
+
+-- the simple modules that were started and live, by rising id
+abbrev pub parts_standing : World → List Part
+parts_standing w = filter (λ p. among p.id w.started && among p.id (live_of w)) (parts_of w)
 
 -- the second list is the first, and more at its end
 abbrev pub GoesOn : {X : Type 0} → List X → List X → Type 0
 GoesOn {X} xs ys = (more : List X) × (xs ++ more ≡ ys)
 
 -- Nothing that happened is undone: from the first world to the second the clock, the count of events and the next
--- insertion number do not fall, and of records, emissions, scalars and questions all stay as they are, in their places.
+-- insertion number do not fall, and of records, the dead, emissions, scalars and questions all stay as they are, in their places.
 pub record HasGrown (old new : World) : Type 0 where
   pub clock : old.clock ≤ new.clock
   pub count : old.count ≤ new.count
   pub next : old.next ≤ new.next
   pub records : GoesOn old.records new.records
+  pub dead : GoesOn old.dead new.dead
   pub emissions : GoesOn old.emissions new.emissions
   pub scalars : GoesOn old.scalars new.scalars
   pub questions : GoesOn old.questions new.questions
 
 -- at most 65,536 modules live, and at most 1,000,000 were created
 pub record IsBounded (w : World) : Type 0 where
-  pub live : length w.live ≤ 65536
+  pub live : length (live_of w) ≤ 65536
   pub created : length w.records ≤ 1000000
 
 -- each state is one of its kind

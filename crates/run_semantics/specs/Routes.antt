@@ -1,6 +1,5 @@
 -- Ways of messages through gates (OMNeT++ Simulation Manual, "Gates" and "Connections").
-use Rattle.std.specs.Prelude.{ℕ, ◌+◌, suc, ◌==◌, nat_lt, Bool, true, false, ◌&&◌, bytes_eq, is_some, List, [], ◌∷◌, ◌++◌, Option, Some, None, map, slice_set, if◌then◌else◌}
-use Rattle.std.specs.List.{list_any}
+use Rattle.std.specs.Prelude.{ℕ, ◌+◌, suc, ◌==◌, nat_lt, Bool, true, false, not, ◌&&◌, bytes_eq, is_some, List, [], ◌∷◌, ◌++◌, Option, Some, None, map, slice_set, if◌then◌else◌}
 use Rattle.channels.specs.Travel.{is_transmission}
 use Rattle.module_api.specs.declared.call.Direction.{Direction}
 use Rattle.module_api.specs.declared.call.Direction.TheVariants.{Input, Output, Inout}
@@ -20,6 +19,7 @@ use Rattle.run_semantics.specs.declared.routes.NextHop.{NextHop}
 use Rattle.run_semantics.specs.declared.routes.PassedHop.{PassedHop}
 use Rattle.run_semantics.specs.declared.routes.PlacedGate.{PlacedGate}
 use Rattle.run_semantics.specs.declared.routes.Transmission.{Transmission}
+use Rattle.run_semantics.specs.Subtree.{among}
 use Rattle.run_semantics.specs.World.{World}
 
 -- ---- gates
@@ -70,9 +70,9 @@ is_connected (answer.Beyond beyond) = false
 is_connected (answer.Injection i) = false
 is_connected answer.Absent = false
 
--- whether the module of that id lives, and has that path
+-- whether the module of that id, which was created, lives, and has that path
 abbrev pub is_at : List ℕ → World → ℕ → Bool
-is_at path w id = bytes_eq (path_of w.records id) path && list_any (λ n. n == id) w.live
+is_at path w id = bytes_eq (path_of w.records id) path && not (among id w.dead)
 
 abbrev pub first_from : (ℕ → Bool) → ℕ → List Record → Option ℕ
 first_from is_wanted id [] = None

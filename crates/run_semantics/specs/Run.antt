@@ -14,7 +14,7 @@ use Rattle.run_semantics.specs.declared.outcome.Outcome.{Outcome}
 use Rattle.run_semantics.specs.declared.outcome.Outcome.TheVariants.{Ended, EventLimit, NoMoreEvents, TimeLimit, Fault}
 use Rattle.event_set.specs.declared.pending.Pending.{Pending}
 use Rattle.run_semantics.specs.declared.traces.Instance.{Instance}
-use Rattle.run_semantics.specs.World.{World, empty}
+use Rattle.run_semantics.specs.World.{World, empty, live_count, live_of}
 use Rattle.run_semantics.specs.Perform.{Flow, On, Stopped, Broken, ◌>>=◌, asking, broken, for_each, model_fault}
 use Rattle.run_semantics.specs.Event.{call_module, event, instance_in}
 use Rattle.run_semantics.specs.Subtree.{outer_first}
@@ -27,7 +27,7 @@ abbrev pub network_record : List ℕ → Record
 network_record name = record { parent = 0; name = name; index = None; class = None }
 
 abbrev pub with_network : List ℕ → World → World
-with_network name w = record w { records = network_record name ∷ []; live = 1 ∷ [] }
+with_network name w = record w { records = network_record name ∷ [] }
 
 -- the network, or the fault of one of its parameters
 abbrev pub rooted : Answer → World → Flow
@@ -44,18 +44,12 @@ rooted answer.Absent w = Broken w [] fault.UnknownType
 abbrev pub record_under : ℕ → Built → Record
 record_under parent b = record { parent = parent; name = b.name; index = b.index; class = b.class }
 
--- as many ids as there are modules, from this one on
-abbrev pub ids_from : {X : Type 0} → ℕ → List X → List ℕ
-ids_from id [] = []
-ids_from id (x ∷ xs) = id ∷ ids_from (suc id) xs
-
 abbrev pub with_submodules : ℕ → List Built → World → World
-with_submodules parent bs w =
-    record w { records = w.records ++ map (record_under parent) bs; live = w.live ++ ids_from (suc (length w.records)) bs }
+with_submodules parent bs w = record w { records = w.records ++ map (record_under parent) bs }
 
 -- how many more modules can be created: at most 65,536 live, and a run creates at most 1,000,000
 abbrev pub room_in : World → ℕ
-room_in w = min (65536 - length w.live) (1000000 - length w.records)
+room_in w = min (65536 - live_count w) (1000000 - length w.records)
 
 -- the module that would be one too many is told
 abbrev pub unless_many : ℕ → List Built → World → Option Built → Flow
@@ -185,7 +179,7 @@ started b m ids calls w = stages_from b m calls 0 (most_stages b w.modules calls
 
 -- the network is started, with all modules that live
 abbrev pub initialize_all : Behaviour → Answers → World → Flow
-initialize_all b m w = started b m w.live (outer_first w.records w.live 1) w
+initialize_all b m w = started b m (live_of w) (outer_first w.records (live_of w) 1) w
 
 abbrev pub place_parts : Behaviour → World → Flow
 place_parts b w = place_all b (parts_of w) w

@@ -69,7 +69,7 @@ linked channel taken = record {
 -- ---- worlds: event 1, at a time, where these transmissions were the last ones
 
 abbrev pub at_event : ℕ → List Transmission → World
-at_event clock ts = record empty { clock = clock; count = 1; records = sending_records; live = 1 ∷ 2 ∷ 3 ∷ 4 ∷ []; next = 7; transmissions = ts }
+at_event clock ts = record empty { clock = clock; count = 1; records = sending_records; next = 7; transmissions = ts }
 
 abbrev pub through : List Question → List Asked
 through [] = []

@@ -1,8 +1,27 @@
--- A module and all below it.
-use Rattle.std.specs.Prelude.{ℕ, zero, suc, ◌==◌, Bool, false, List, [], ◌∷◌, ◌++◌, Option, Some, None}
+-- Ids of modules, and a module and all below it.
+use Rattle.std.specs.Prelude.{ℕ, zero, suc, ◌==◌, Bool, false, not, List, [], ◌∷◌, ◌++◌, Option, Some, None}
 use Rattle.std.specs.List.{filter, list_any}
 use Rattle.run_questions.specs.declared.record.Record.{Record}
 use Rattle.run_questions.specs.Records.{record_at}
+
+-- as many ids as there are modules, from this one on
+abbrev pub ids_from : {X : Type 0} → ℕ → List X → List ℕ
+ids_from id [] = []
+ids_from id (x ∷ xs) = id ∷ ids_from (suc id) xs
+
+-- whether it is one of these ids
+abbrev pub among : ℕ → List ℕ → Bool
+among id ids = list_any (λ n. n == id) ids
+
+-- those of the first ids that are among the others
+abbrev pub common : List ℕ → List ℕ → List ℕ
+common ids others = filter (λ id. among id others) ids
+
+-- those of the first ids that are not among the others
+abbrev pub without : List ℕ → List ℕ → List ℕ
+without ids others = filter (λ id. not (among id others)) ids
+
+-- ---- modules below others
 
 abbrev pub is_under : ℕ → Option Record → Bool
 is_under parent None = false
@@ -35,11 +54,3 @@ outer_first records ids id = outer_first_to 33 (submodules records ids) id
 -- THE ORDER OF THE END: the same, but each stands after its submodules
 unfoldable pub inner_first : List Record → List ℕ → ℕ → List ℕ
 inner_first records ids id = inner_first_to 33 (submodules records ids) id
-
--- whether it is one of these ids
-abbrev pub among : ℕ → List ℕ → Bool
-among id ids = list_any (λ n. n == id) ids
-
--- those of the first ids that are among the others
-abbrev pub common : List ℕ → List ℕ → List ℕ
-common ids others = filter (λ id. among id others) ids

@@ -1,5 +1,5 @@
 -- What a run is at a moment.
-use Rattle.std.specs.Prelude.{ℕ, ◌+◌, ◌*◌, ◌^◌, ◌≤◌, Bool, false, List, [], ◌∷◌, ◌++◌, Option, None, if◌then◌else◌}
+use Rattle.std.specs.Prelude.{ℕ, ◌+◌, ◌-◌, ◌*◌, ◌^◌, ◌≤◌, Bool, false, List, [], ◌∷◌, ◌++◌, length, Option, None, if◌then◌else◌}
 use Rattle.std.specs.List.{list_any}
 use Rattle.run_questions.specs.declared.answer.Asked.{Asked}
 use Rattle.run_questions.specs.declared.answer.Question.{Question}
@@ -11,9 +11,10 @@ use Rattle.run_semantics.specs.declared.routes.Transmission.{Transmission}
 use Rattle.run_semantics.specs.declared.traces.Emission.{Emission}
 use Rattle.run_semantics.specs.declared.traces.Instance.{Instance}
 use Rattle.run_semantics.specs.declared.traces.Scalar.{Scalar}
+use Rattle.run_semantics.specs.Subtree.{ids_from, without}
 
 -- A world: the clock; how many events were executed; the records of the modules that were created, and the ids of those
--- that live; the simple modules with their states, by rising id; the ids of the modules that were started, and of those
+-- that are dead, in the order in which they died; the simple modules with their states, by rising id; the ids of the modules that were started, and of those
 -- that were finished; the events to come, in order, and the number of the next one that is inserted; whether the end was
 -- asked for; which injection was delivered last, and with it all that go before it; the last transmission that began at each gate; what was emitted;
 -- the scalars that modules recorded; what was asked of the model, each question with the first event that asked it.
@@ -21,7 +22,7 @@ pub record World : Type 0 where
   pub clock : ℕ
   pub count : ℕ
   pub records : List Record
-  pub live : List ℕ
+  pub dead : List ℕ
   pub modules : List Instance
   pub started : List ℕ
   pub finished : List ℕ
@@ -40,7 +41,7 @@ empty = record {
   clock = 0;
   count = 0;
   records = [];
-  live = [];
+  dead = [];
   modules = [];
   started = [];
   finished = [];
@@ -53,6 +54,14 @@ empty = record {
   scalars = [];
   questions = [];
 }
+
+-- THE MODULES THAT LIVE: of all that were created those that are not dead, by their ids
+abbrev pub live_of : World → List ℕ
+live_of w = without (ids_from 1 w.records) w.dead
+
+-- how many these are, as no module dies twice
+abbrev pub live_count : World → ℕ
+live_count w = length w.records - length w.dead
 
 -- whether a question was asked before
 abbrev pub is_asked : Question → List Asked → Bool

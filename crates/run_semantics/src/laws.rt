@@ -12,9 +12,9 @@ ghost use Rattle.run_semantics.specs.Ending.{ending};
 ghost use Rattle.run_semantics.specs.Event.{instance_in};
 ghost use Rattle.run_semantics.specs.Example.{ExampleNests};
 ghost use Rattle.run_semantics.specs.Sends.{ExampleSends};
-ghost use Rattle.run_semantics.specs.Laws.{Each, AreInOrder, AreInTurn, HaveOwnNumbers, HasGrown, GoesOn, CanBeCalled, HasEnded, AreFrom, AreStates, IsBounded, gone_on, noted_all};
+ghost use Rattle.run_semantics.specs.Laws.{Each, AreInOrder, AreInTurn, HaveOwnNumbers, HasGrown, GoesOn, CanBeCalled, HasEnded, AreFrom, AreStates, IsBounded, gone_on, noted_all, parts_standing};
 ghost use Rattle.run_semantics.specs.Upcoming.{Nothing, upcoming};
-ghost use Rattle.run_semantics.specs.World.{World};
+ghost use Rattle.run_semantics.specs.World.{World, live_of};
 ghost use Rattle.run_semantics.specs.Run.{Ran, Running, Over, IsReached, next_stage, after, stopped, run_to, world_at, standing, parts_of};
 
 /// After n events at most n are counted.
@@ -86,16 +86,17 @@ pub fn one_event_more()
 {}
 
 /// Nothing that happened is undone: with more events the clock, the count of events and the next
-/// insertion number do not fall, and records, emissions, scalars and questions stay, each in its place.
+/// insertion number do not fall, and records, the dead, emissions, scalars and questions stay, each in its place. So a module that is gone stays gone.
 pub fn runs_grow()
     ensures { (b : Behaviour) (m : Answers) (n k : ℕ) → n ≤ k
         → HasGrown (world_at (after b m n)) (world_at (after b m k)) }
 {}
 
-/// From event zero until the end the same modules live and count as started, and none is finished.
+/// From event zero until the end the same modules live and count as started, and none is finished; and nobody is dead, as no action deletes a module.
 pub fn modules_stay_until_the_end()
     ensures live { (b : Behaviour) (m : Answers) (n k : ℕ) → n ≤ k
-        → (world_at (after b m k)).live ≡ (world_at (after b m n)).live }
+        → live_of (world_at (after b m k)) ≡ live_of (world_at (after b m n)) }
+    ensures nobody { (b : Behaviour) (m : Answers) (n : ℕ) → (world_at (after b m n)).dead ≡ [] }
     ensures started { (b : Behaviour) (m : Answers) (n k : ℕ) → n ≤ k
         → (world_at (after b m k)).started ≡ (world_at (after b m n)).started }
     ensures finished { (b : Behaviour) (m : Answers) (n : ℕ) → (world_at (after b m n)).finished ≡ [] }
@@ -143,10 +144,11 @@ pub fn events_are_for_started_modules()
         → Each (λ e. CanBeCalled w e.id) w.pending }
 {}
 
-/// In a run that goes on exactly the simple modules that were created stand, by rising id, each of its
-/// kind.
+/// In a run that goes on exactly the simple modules stand that were started and live, by rising id, each of its kind; and these are all that were created.
 pub fn created_modules_stand()
-    ensures { (b : Behaviour) (m : Answers) (n : ℕ) (w : World) → after b m n ≡ Running w
+    ensures started { (b : Behaviour) (m : Answers) (n : ℕ) (w : World) → after b m n ≡ Running w
+        → standing w.modules ≡ parts_standing w }
+    ensures created { (b : Behaviour) (m : Answers) (n : ℕ) (w : World) → after b m n ≡ Running w
         → standing w.modules ≡ parts_of w }
 {}
 
@@ -179,7 +181,7 @@ pub fn the_end_asks_nothing()
 /// The end of a run undoes nothing: the same modules live and count as started, and what is finished, emitted and recorded is added after what
 /// was there.
 pub fn the_end_only_adds()
-    ensures live { (b : Behaviour) (m : Answers) (ran : Ran) → (ending b m ran).world.live ≡ ran.world.live }
+    ensures live { (b : Behaviour) (m : Answers) (ran : Ran) → live_of (ending b m ran).world ≡ live_of ran.world }
     ensures started { (b : Behaviour) (m : Answers) (ran : Ran) → (ending b m ran).world.started ≡ ran.world.started }
     ensures finished { (b : Behaviour) (m : Answers) (ran : Ran) → GoesOn ran.world.finished (ending b m ran).world.finished }
     ensures emissions { (b : Behaviour) (m : Answers) (ran : Ran) → GoesOn ran.world.emissions (ending b m ran).world.emissions }

@@ -1,14 +1,12 @@
 -- No model needs more boxes than there may be modules.
-use Rattle.std.proofs.Common.{◌≡◌, ℕ, suc, ◌≤◌, List, [], ◌∷◌, Option, Some, None, length, length-append, arith, refl}
+use Rattle.std.proofs.Common.{◌≡◌, ℕ, suc, ◌≤◌, List, [], ◌∷◌, Option, Some, None, length, arith, refl}
 use Rattle.models.specs.declared.model.Model.{Model}
 use Rattle.model_answers.specs.Answering.{answers_of}
 use Rattle.run_questions.specs.declared.record.Record.{Record}
-use Rattle.run_semantics.specs.Laws.{IsBounded}
-use Rattle.run_semantics.specs.World.{World}
 use Rattle.run_semantics.specs.Perform.{Flow, On, Stopped, Broken}
-use Rattle.run_semantics.specs.Run.{Part, ids_from, parts_from, prepared, with_class}
-use Rattle.run_semantics.proofs.Bounds.{bounds_last, length-ids}
-use Rattle.run_semantics.proofs.Setting.{IsLasting, Stays, length_created, prepared_stays}
+use Rattle.run_semantics.specs.Run.{Part, parts_from, prepared, with_class}
+use Rattle.run_semantics.proofs.Bounds.{IsFew, few_last}
+use Rattle.run_semantics.proofs.Setting.{Stays, prepared_stays}
 use Rattle.stock_desk.specs.Boxes.{boxes_after, boxes_of, most_boxes}
 
 with_few : (id : ℕ) (class : Option (List ℕ)) (parts : List Part) (n : ℕ) → length parts ≤ n → length (with_class id class parts) ≤ suc n
@@ -19,26 +17,12 @@ few_parts : (id : ℕ) (rs : List Record) → length (parts_from id rs) ≤ leng
 few_parts id [] = omega arith
 few_parts id (r ∷ rs) = with_few id r.class (parts_from (suc id) rs) (length rs) (few_parts (suc id) rs)
 
--- through a setup all that was created lives, and that is bounded
-record IsFew (w : World) : Type 0 where
-  bounded : IsBounded w
-  living : length w.live ≡ length w.records
-
-few_last : IsLasting IsFew
-few_last = record {
-  asked = λ id w f l. record { bounded = bounds_last.asked id w f.bounded l; living = f.living };
-  created = λ parent bs w f l few. record {
-    bounded = bounds_last.created parent bs w f.bounded l few;
-    living = omega (arith, f.living, length-append w.live (ids_from (suc (length w.records)) bs), length-ids (suc (length w.records)) bs, length_created parent bs w);
-  };
-}
-
 few_after : (fl : Flow) → Stays IsFew fl → boxes_after fl ≤ most_boxes
-few_after (On w) h = omega (arith, few_parts 1 w.records, h.bounded.live, h.living)
+few_after (On w) h = omega (arith, few_parts 1 w.records, h.few)
 few_after (Stopped w) h = absurd h
 few_after (Broken w path f) h = omega arith
 
 pub few_boxes : (m : Model) → boxes_of m ≤ most_boxes
 few_boxes m =
     few_after (prepared (answers_of m))
-    (prepared_stays IsFew (answers_of m) few_last (record { bounded = record { live = omega arith; created = omega arith }; living = refl }) (λ name. record { bounded = record { live = omega arith; created = omega arith }; living = refl }))
+    (prepared_stays IsFew (answers_of m) few_last (record { dead = refl; few = omega arith }) (λ name. record { dead = refl; few = omega arith }))
