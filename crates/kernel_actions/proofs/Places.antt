@@ -5,9 +5,11 @@ use Rattle.std.proofs.lemmas.List.{length_push}
 use Rattle.std.proofs.lemmas.Slice.Eq.{bytes_eq-Decides}
 use Rattle.std.specs.HashMap.{HashMap, get}
 use Rattle.std.specs.Option.{option_eq}
+use Rattle.run_questions.specs.declared.record.Origin.{Origin}
+use Rattle.run_questions.specs.declared.record.Origin.TheVariants as origin
 use Rattle.run_questions.specs.declared.record.Record.{Record}
 use Rattle.run_questions.proofs.HopLemmas.{named_within}
-use Rattle.run_questions.specs.Records.{is_named, named_from, same_index}
+use Rattle.run_questions.specs.Records.{is_built, is_named, named_from, same_index}
 use Rattle.kernel_actions.specs.Places.{equal, id_at, place_of, AreIdsOf}
 use Rattle.kernel_actions.specs.declared.record_table.Place.{Place}
 
@@ -55,15 +57,22 @@ both false b h = absurd (true≢false (sym h))
 -- a module of that name stands there
 named_is : (p : Place) (r : Record) → is_named p.parent p.name p.index r ≡ true → place_of r ≡ p
 named_is p r h =
-    let e = both (r.parent == p.parent) (bytes_eq r.name p.name && same_index r.index p.index) h in
+    let b = both (is_built r.origin) ((r.parent == p.parent) && (bytes_eq r.name p.name && same_index r.index p.index)) h in
+    let e = both (r.parent == p.parent) (bytes_eq r.name p.name && same_index r.index p.index) b.1 in
     let f = both (bytes_eq r.name p.name) (same_index r.index p.index) e.1 in
     ap (λ (k : ℕ). record { parent = k; name = r.name; index = r.index }) (eqb-true r.parent p.parent e.0)
     ∙ ap (λ (n : List ℕ). record { parent = p.parent; name = n; index = r.index }) ((bytes_eq-Decides r.name p.name).0 f.0)
     ∙ ap (λ (i : Option ℕ). record { parent = p.parent; name = p.name; index = i }) (index_alike r.index p.index f.1)
 
+-- each module was built
+all_built : (o : Origin) (t : Bool) → t ≡ (is_built o && t)
+all_built origin.Built t = refl
+
 -- the table compares as the definition does
 equal_alike : (r : Record) (p : Place) → equal (place_of r) p ≡ is_named p.parent p.name p.index r
-equal_alike r p = ap (λ t. (r.parent == p.parent) && (bytes_eq r.name p.name && t)) (by r.index p.index)
+equal_alike r p =
+    ap (λ t. (r.parent == p.parent) && (bytes_eq r.name p.name && t)) (by r.index p.index)
+    ∙ all_built r.origin ((r.parent == p.parent) && (bytes_eq r.name p.name && same_index r.index p.index))
   where
     by : (a b : Option ℕ) → option_eq nat_eq a b ≡ same_index a b
     by None None = refl

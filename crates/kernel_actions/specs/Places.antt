@@ -10,7 +10,7 @@ use Rattle.kernel_actions.specs.declared.record_table.Place.{Place}
 abbrev pub place_of : Record → Place
 place_of r = record { parent = r.parent; name = r.name; index = r.index }
 
--- the first module at a place
+-- the first module that was built at a place
 abbrev pub id_at : List Record → Place → Option ℕ
 id_at records p = built_id records p.parent p.name p.index
 
@@ -18,6 +18,6 @@ id_at records p = built_id records p.parent p.name p.index
 abbrev pub equal : Place → Place → Bool
 equal = (equality.TheImpl.eq-value).it
 
--- each place has the first module at it
+-- each place has the first module that was built at it
 abbrev pub AreIdsOf : {S : Type 0} → List Record → HashMap Place ℕ S → Type 0
 AreIdsOf records ids = (p : Place) → get equal ids p ≡ id_at records p

@@ -32,7 +32,7 @@ use question_log::cutting::cut_items;
 use question_log::entry::Entry;
 use question_log::log::QuestionLog;
 use run_questions::answer::{Answer, Built, Question, is_beyond};
-use run_questions::record::{Record, path_of, submodule_path};
+use run_questions::record::{Origin, Record, path_of, submodule_path};
 use run_semantics::occasions::{Occasion, is_noted};
 use run_semantics::outcome::{Fault, Outcome, Turn, fault_of};
 use run_semantics::routes::{NextHop, PlacedGate, Transmission, copy_transmissions, place_of};
@@ -655,6 +655,7 @@ impl Core {
                     name,
                     index: None,
                     class: None,
+                    origin: Origin::Built,
                 };
                 self.records.push(alloc, network)?;
                 Ok(Turn::GoOn)
@@ -676,6 +677,7 @@ impl Core {
             name,
             index: built.index,
             class,
+            origin: Origin::Built,
         };
         self.records.push(alloc, created)?;
         Ok(())

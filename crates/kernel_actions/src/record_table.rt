@@ -9,7 +9,7 @@ ghost use Rattle.run_semantics.specs.Routes.{hop_by, next_by};
 ghost use Rattle.kernel_actions.specs.Places.{equal, id_at, place_of};
 
 use run_questions::answer::{Answer, Neighbour, NextGate};
-use run_questions::record::{Record, record_at};
+use run_questions::record::{Origin, Record, record_at};
 use run_semantics::routes::{NextHop, PlacedGate};
 use sim_values::NoMemory;
 use sim_values::text::Text;
@@ -48,10 +48,10 @@ fn has(ids: &HashMap<Place, u32>, place: &Place, id: usize) -> bool
     }
 }
 
-/// The modules that were created, with the first one at each place, which is found in time that doesn't grow with their number. Contracts see the list of their records.
+/// The modules that were created, with the first one that was built at each place, which is found in time that doesn't grow with their number. Contracts see the list of their records.
 pub struct RecordTable {
     records: Items<Record>,
-    /// The id of the first module that was created at a place.
+    /// The id of the first module that was built at a place.
     ids: HashMap<Place, u32>,
 }
 
@@ -106,6 +106,17 @@ impl RecordTable {
         ensures ok { OnOk result (self.new ≡ self.old ++ created ∷ []) }
         ensures err { OnErr result (self.new ≡ self.old) }
     {
+        match created.origin {
+            Origin::Built => self.push_built(alloc, created),
+        }
+    }
+
+    /// One more was built: it is found at its place, unless another one was built there before.
+    fn push_built(&mut self, alloc: Global, created: Record) -> Result<(), NoMemory>
+        requires { length self.old + 1 < 2 ^ 32 }
+        ensures ok { OnOk result (self.new ≡ self.old ++ created ∷ []) }
+        ensures err { OnErr result (self.new ≡ self.old) }
+    {
         let place = place_of(alloc, &created)?;
         if self.ids.contains_key(&place) {
             self.records.push(created)?;
@@ -133,6 +144,7 @@ impl RecordTable {
             name,
             index,
             class: _,
+            origin: _,
         } = self.records.pop().unwrap();
         let place = Place {
             parent,
@@ -153,7 +165,7 @@ impl RecordTable {
         }
     }
 
-    /// The first module that was created at that place.
+    /// The first module that was built at that place.
     fn built_id(&self, place: &Place) -> Option<u32>
         ensures { result ≡ id_at self.now place.now }
     {

@@ -25,7 +25,8 @@ use Rattle.run_questions.specs.declared.answer.Answer.{Answer}
 use Rattle.run_questions.specs.declared.answer.Answer.TheVariants as answer
 use Rattle.run_questions.specs.declared.answer.ModelFault.{ModelFault}
 use Rattle.run_questions.specs.declared.record.Record.{Record}
-use Rattle.run_questions.specs.Answers.{Place, is_declared, with_values}
+use Rattle.run_questions.specs.Answers.{is_declared, with_values}
+use Rattle.run_questions.specs.Records.{Place, path_along, record_there}
 use Rattle.model_inside.specs.Told.{told_as}
 
 -- the module of that path: none was created while the model ran
@@ -58,7 +59,7 @@ type_of s path = type_at_number s.types (number_in (value_of s path what.Type))
 
 -- THE TYPE of the module of a place, where there is such a module
 abbrev pub type_in : Setting → Place → Option TypeDeclaration
-type_in s p = option_and_then (λ (r : Record). type_of s p.path) p.record_there
+type_in s p = option_and_then (λ (r : Record). type_of s (path_along p)) (record_there p)
 
 -- the lines of a type, where there is one
 abbrev pub lines_of : Option TypeDeclaration → List SectionLine

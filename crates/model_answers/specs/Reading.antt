@@ -15,7 +15,7 @@ use Rattle.model_answers.specs.declared.keyed.Typed.{Typed}
 use Rattle.model_answers.specs.declared.seats.Seat as code_seat
 use Rattle.model_answers.specs.declared.seats.Sought.{Sought}
 use Rattle.run_questions.specs.declared.record.Record.{Record}
-use Rattle.run_questions.specs.Records.{path_of, record_at}
+use Rattle.run_questions.specs.Records.{path_of, place_of, record_there}
 use Rattle.model_answers.specs.declared.reading.Sources.{Sources}
 use Rattle.model_answers.specs.declared.reading.Spot.{Spot}
 use Rattle.model_answers.specs.declared.reading.Spot.TheVariants.{Kept, Own}
@@ -69,4 +69,4 @@ sought_seat from own (Some k) = seat_typed (standing_by k.stands) (type_by k.of_
 
 -- the path of the module of that id, where there is one
 abbrev pub path_at : List Record → ℕ → Option (List ℕ)
-path_at records id = option_map (λ (r : Record). path_of records id) (record_at records id)
+path_at records id = option_map (λ (r : Record). path_of records id) (record_there (place_of records id))

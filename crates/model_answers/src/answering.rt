@@ -7,9 +7,9 @@ ghost use Rattle.model_answers.specs.Insides as insides;
 ghost use Rattle.model_answers.specs.Keyed as keyed;
 ghost use Rattle.model_answers.specs.Reading.{path_at, settings_of, IsRight};
 ghost use Rattle.injection_order.specs.Injections.{injection_before};
-ghost use Rattle.run_questions.specs.Answers.{answer_of, gates_of, parameters_of, place_of};
+ghost use Rattle.run_questions.specs.Answers.{answer_of, gates_of, parameters_of};
 ghost use Rattle.run_questions.specs.Gates.{gate_named};
-ghost use Rattle.run_questions.specs.Records.{path_of};
+ghost use Rattle.run_questions.specs.Records.{path_of, place_of};
 ghost use Rattle.run_questions.specs.declared.answer.Answer.TheVariants as answer;
 
 use crate::gates::{gates_answer, hop_answer};
@@ -30,6 +30,7 @@ use sqlite_items::Items;
 use std::alloc::Global;
 
 /// The path of the module of that id, where there is one.
+#[tactic(auto, unfolding(run_questions::specs::Records::place_of))]
 fn path_at(alloc: Global, records: &[Record], id: u32) -> Result<Option<Text>, NoMemory>
     ensures { IfOk result (λ path. path ≡ path_at records.now id) }
 {

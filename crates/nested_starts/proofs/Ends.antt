@@ -1,5 +1,5 @@
 -- Where a model ends the nesting, modules stand at most 32 levels down.
-use Rattle.std.proofs.Common.{◌≡◌, ◌⊎◌, inl, inr, ⊎_elim, ℕ, zero, suc, ◌+◌, ◌≤◌, ◌<◌, List, [], ◌∷◌, ◌++◌, Option, Some, None, refl, sym, ap, ◌∙◌, subst, arith, append-nil, length, slice_get}
+use Rattle.std.proofs.Common.{◌≡◌, ◌⊎◌, inl, inr, ⊎_elim, ℕ, zero, suc, ◌+◌, ◌≤◌, ◌<◌, List, [], ◌∷◌, Option, Some, None, refl, sym, ap, ◌∙◌, subst, arith, append-nil, length, slice_get}
 use Rattle.std.proofs.lemmas.Bool.{cases_lt}
 use Rattle.module_api.specs.Behaviour.{Behaviour}
 use Rattle.run_questions.specs.declared.answer.Answer.{Answer}
@@ -7,8 +7,8 @@ use Rattle.run_questions.specs.declared.answer.Answer.TheVariants as answer
 use Rattle.run_questions.specs.declared.answer.Built.{Built}
 use Rattle.run_questions.specs.declared.answer.Question.TheVariants.{Root, Build}
 use Rattle.run_questions.specs.declared.record.Record.{Record}
-use Rattle.run_questions.specs.Answers.{Answers, answer_of, place_of}
-use Rattle.run_questions.specs.Records.{around_by, enclosing, lineage_up, record_at, with_those_around}
+use Rattle.run_questions.specs.Answers.{Answers, answer_of}
+use Rattle.run_questions.specs.Records.{lineage_up, place_of, record_at, with_those_around}
 use Rattle.run_semantics.specs.Laws.{Each}
 use Rattle.run_semantics.specs.Subtree.{ids_from}
 use Rattle.run_semantics.specs.World.{World, asked, live_of}
@@ -19,7 +19,7 @@ use Rattle.nested_starts.specs.Levels.{ParentIs, IsWithin, EndsNesting}
 use Rattle.nested_starts.proofs.Kept.{all_of, kept_after}
 use Rattle.nested_starts.proofs.Levels.{Builds, Nests, SetsUp, asked_builds, asked_nests, built_builds, builds_same, root_builds}
 
--- ---- the records around a module, by how far down it stands
+-- ---- the line of a module, by how far down it stands
 
 network_first : (rs : List Record) → 1 ≤ length rs → length (lineage_up 1 rs 1) ≡ 1
 network_first [] l = absurd (omega (arith, l))
@@ -44,17 +44,9 @@ line_whole rs live (suc k) id l (inr h) = by (record_at rs id) refl h.1 (λ r. l
         (λ (same : length (lineage_up (suc k) rs r.parent) ≡ suc k). inr (ap (λ o. length (with_those_around (lineage_up (suc k) rs) o)) e ∙ ap suc same))
         (later r g)
 
-enclosing_whole : (rs : List Record) (live : List ℕ) (id : ℕ) → 1 ≤ length rs → IsWithin rs live 32 id → IsWithin rs live 31 id ⊎ (length (enclosing rs id) ≡ 31)
-unfolding enclosing
-enclosing_whole rs live id l (inl e) = inl (inl e)
-enclosing_whole rs live id l (inr h) = by (record_at rs id) refl h.1
-  where
-    by : (o : Option Record) → record_at rs id ≡ o → ParentIs (IsWithin rs live 31) o → IsWithin rs live 31 id ⊎ (length (around_by (lineage_up 31 rs) (record_at rs id)) ≡ 31)
-    by None e g = absurd g
-    by (Some r) e g =
-        ⊎_elim (λ (i : IsWithin rs live 30 r.parent). inl (inr (h.0, subst (ParentIs (IsWithin rs live 30)) (sym e) i)))
-        (λ (same : length (lineage_up 31 rs r.parent) ≡ 31). inr (ap (λ o. length (around_by (lineage_up 31 rs) o)) e ∙ same))
-        (line_whole rs live 30 r.parent l g)
+place_whole : (rs : List Record) (live : List ℕ) (id : ℕ) → 1 ≤ length rs → IsWithin rs live 32 id → IsWithin rs live 31 id ⊎ (length (place_of rs id) ≡ 32)
+unfolding place_of
+place_whole rs live id l h = line_whole rs live 31 id l h
 
 -- ---- a setup
 
@@ -90,8 +82,8 @@ no_levels k m id w g h = builds_same 32 w h
 last_builds : (m : Answers) → EndsNesting m → (id : ℕ) (w : World) → IsWithin w.records (all_of w) 32 id → Nests 32 w → Stays (Builds 32 w) (built (set_up zero m) id (answer_of m w.records (Build id)) w)
 last_builds m ends id w g h =
     ⊎_elim (λ (i : IsWithin w.records (all_of w) 31 id). built_builds 32 31 id (set_up zero m) (answer_of m w.records (Build id)) w (omega arith) (no_levels 32 m) i h)
-    (λ (e : length (enclosing w.records id) ≡ 31). ended_builds 32 id (set_up zero m) (answer_of m w.records (Build id)) w (ends (place_of w.records id) e) h)
-    (enclosing_whole w.records (all_of w) id h.network g)
+    (λ (e : length (place_of w.records id) ≡ 32). ended_builds 32 id (set_up zero m) (answer_of m w.records (Build id)) w (ends (place_of w.records id) e) h)
+    (place_whole w.records (all_of w) id h.network g)
 
 ends_builds : (depth k : ℕ) (m : Answers) → EndsNesting m → k + depth ≤ 33 → SetsUp 32 k (set_up depth m)
 ends_builds zero k m ends l id w g h = builds_same 32 w h

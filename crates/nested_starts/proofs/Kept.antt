@@ -1,5 +1,5 @@
 -- What holds after setup of the records and of the modules that live, which are all that were created, holds all through a run.
-use Rattle.std.proofs.Common.{◌≡◌, ℕ, zero, suc, Bool, true, false, List, [], ◌∷◌, sym, subst, if◌then◌else◌}
+use Rattle.std.proofs.Common.{◌≡◌, ℕ, zero, suc, List, [], Option, Some, None, sym, subst}
 use Rattle.module_api.specs.Behaviour.{Behaviour}
 use Rattle.run_questions.specs.declared.record.Record.{Record}
 use Rattle.run_questions.specs.Answers.{Answers}
@@ -8,7 +8,7 @@ use Rattle.run_semantics.specs.World.{World, live_of}
 use Rattle.run_semantics.proofs.Bounds.{nobody_after}
 use Rattle.run_semantics.proofs.Living.{all_live}
 use Rattle.run_semantics.specs.Perform.{Flow, On, Stopped, Broken, ◌>>=◌}
-use Rattle.run_semantics.specs.Run.{Part, prepared, parts_of, place, place_all, place_parts, ready, initialize_all, world_at, settled, after}
+use Rattle.run_semantics.specs.Run.{Part, prepared, needs, first_unknown, unless_unknown, place_parts, ready, initialize_all, world_at, settled, after}
 use Rattle.run_semantics.proofs.Sound.{in_flow}
 use Rattle.run_semantics.proofs.Setting.{Stays, stays_in}
 use Rattle.run_semantics.proofs.Placing.{OnlyOn, IsReady, ready_ready}
@@ -35,16 +35,15 @@ then_holds Q (Stopped w) k f h = f
 then_holds Q (Broken w path e) k f h = f
 
 -- boxes create nothing
-either_holds : (Q : List Record → List ℕ → Type 0) (c : Bool) (f g : Flow) → Holds Q (in_flow f) → Holds Q (in_flow g) → Holds Q (in_flow (if c then f else g))
-either_holds Q true f g x y = x
-either_holds Q false f g x y = y
-
-place_all_holds : (Q : List Record → List ℕ → Type 0) (b : Behaviour) (ps : List Part) (w : World) → Holds Q w → Holds Q (in_flow (place_all b ps w))
-place_all_holds Q b [] w f = f
-place_all_holds Q b (p ∷ ps) w f = then_holds Q (place b p w) (place_all b ps) (either_holds Q (b.known p.kind) _ _ f f) (place_all_holds Q b ps)
+place_parts_holds : (Q : List Record → List ℕ → Type 0) (b : Behaviour) (w : World) → Holds Q w → Holds Q (in_flow (place_parts b w))
+place_parts_holds Q b w f = by (first_unknown b (needs w))
+  where
+    by : (o : Option Part) → Holds Q (in_flow (unless_unknown b (needs w) w o))
+    by None = f
+    by (Some p) = f
 
 ready_holds : (Q : List Record → List ℕ → Type 0) (b : Behaviour) (m : Answers) → Stays (Holds Q) (prepared m) → Holds Q (in_flow (ready b m))
-ready_holds Q b m h = then_holds Q (prepared m) (place_parts b) (stays_in (Holds Q) (prepared m) h) (λ w f. place_all_holds Q b (parts_of w) w f)
+ready_holds Q b m h = then_holds Q (prepared m) (place_parts b) (stays_in (Holds Q) (prepared m) h) (place_parts_holds Q b)
 
 -- nor does an initialization, or an event
 begun_holds : (Q : List Record → List ℕ → Type 0) (b : Behaviour) (m : Answers) (fl : Flow) → Holds Q (in_flow fl) → (in_flow fl).pending ≡ [] → OnlyOn IsReady fl → Holds Q (in_flow (fl >>= initialize_all b m))

@@ -1,6 +1,6 @@
 -- What is answered about a module that is there does not change when more modules are created, and a call shows the values that are
 -- answered.
-use Rattle.std.proofs.Common.{◌≡◌, ℕ, zero, suc, ◌+◌, ◌≤◌, ◌<◌, ◌==◌, Bool, true, false, List, [], ◌∷◌, ◌++◌, Option, Some, None, refl, sym, ap, ◌∙◌, arith, slice_get, length, length-append, if◌then◌else◌, bytes_eq}
+use Rattle.std.proofs.Common.{◌≡◌, ℕ, zero, suc, ◌+◌, ◌≤◌, ◌<◌, Bool, true, false, List, [], ◌∷◌, ◌++◌, Option, Some, None, refl, sym, ap, ◌∙◌, arith, slice_get, length, length-append, if◌then◌else◌, bytes_eq}
 use Rattle.std.proofs.lemmas.Slice.Eq.{bytes_eq-Decides}
 use Rattle.sim_values.specs.declared.value.Value.{Value}
 use Rattle.module_api.specs.declared.call.Direction.TheVariants.{Input, Output}
@@ -12,10 +12,10 @@ use Rattle.run_questions.specs.declared.answer.Answer.TheVariants as answer
 use Rattle.run_questions.specs.declared.answer.Question.{Question}
 use Rattle.run_questions.specs.declared.answer.Question.TheVariants as question
 use Rattle.run_questions.specs.declared.record.Record.{Record}
-use Rattle.run_questions.specs.Answers.{Answers, Place, answer_of, gates_of, is_declared, parameters_of, place_of, value_at, with_value, with_values}
+use Rattle.run_questions.specs.Answers.{Answers, answer_of, gates_of, is_declared, parameters_of, value_at, with_value, with_values}
 use Rattle.run_questions.specs.Gates.{gate_answer, gate_named, half_of, in_mark, is_half, is_inout, out_mark}
 use Rattle.run_questions.proofs.QuestionLemmas.{both}
-use Rattle.run_questions.specs.Records.{above_by, around_by, enclosing, lineage_up, record_at, own_name, path_around, path_by, path_up, path_of, path_under, with_those_around}
+use Rattle.run_questions.specs.Records.{lineage_up, place_of, record_at, with_those_around}
 
 -- ---- records
 
@@ -46,69 +46,22 @@ pub parent_within : (rs : List Record) (id : ℕ) (r : Record) → AreNested 0 r
 parent_within rs zero r h l e = cc
 parent_within rs (suc k) r h l e = let f = parent_by 0 rs k r h e in omega (arith, f)
 
--- a path, by that of the module around it
-by_path : (f g : ℕ → List ℕ) (o : Option Record) → ((r : Record) → o ≡ Some r → f r.parent ≡ g r.parent) → path_by f o ≡ path_by g o
-by_path f g None h = refl
-by_path f g (Some r) h = ap (λ path. if r.parent == 0 then own_name r.name r.index else path_under path (own_name r.name r.index)) (h r refl)
-
--- the names above a module that is there stay
-path_up_more : (rs more : List Record) → AreNested 0 rs → (depth id : ℕ) → id ≤ length rs → path_up depth (rs ++ more) id ≡ path_up depth rs id
-path_up_more rs more h zero id l = refl
-path_up_more rs more h (suc depth) id l =
-    ap (path_by (path_up depth (rs ++ more))) (record_at_more rs more id l)
-    ∙ by_path (path_up depth (rs ++ more)) (path_up depth rs) (record_at rs id) (λ r e. path_up_more rs more h depth r.parent (parent_within rs id r h l e))
-
--- its path stays
-path_of_more : (rs more : List Record) → AreNested 0 rs → (id : ℕ) → id ≤ length rs → path_of (rs ++ more) id ≡ path_of rs id
-unfolding path_of
-path_of_more rs more h id l = path_up_more rs more h 32 id l
-
--- what is around it, by that of the module around it
-by_above : (f g : ℕ → List ℕ) (o : Option Record) → ((r : Record) → o ≡ Some r → f r.parent ≡ g r.parent) → above_by f o ≡ above_by g o
-by_above f g None h = refl
-by_above f g (Some r) h = h r refl
-
--- the path of the module around it stays
-path_around_more : (rs more : List Record) → AreNested 0 rs → (id : ℕ) → id ≤ length rs → path_around (rs ++ more) id ≡ path_around rs id
-unfolding path_around
-path_around_more rs more h id l =
-    ap (above_by (path_up 31 (rs ++ more))) (record_at_more rs more id l)
-    ∙ by_above (path_up 31 (rs ++ more)) (path_up 31 rs) (record_at rs id) (λ r e. path_up_more rs more h 31 r.parent (parent_within rs id r h l e))
-
--- the records around a module, by those around the one that encloses it
+-- the line of a module, by that of the module around it
 by_lineage : (f g : ℕ → List Record) (o : Option Record) → ((r : Record) → o ≡ Some r → f r.parent ≡ g r.parent) → with_those_around f o ≡ with_those_around g o
 by_lineage f g None h = refl
 by_lineage f g (Some r) h = ap (λ rs. r ∷ rs) (h r refl)
 
--- the records of a module that is there and of those around it stay
+-- the line of a module that is there stays
 lineage_more : (rs more : List Record) → AreNested 0 rs → (depth id : ℕ) → id ≤ length rs → lineage_up depth (rs ++ more) id ≡ lineage_up depth rs id
 lineage_more rs more h zero id l = refl
 lineage_more rs more h (suc depth) id l =
     ap (with_those_around (lineage_up depth (rs ++ more))) (record_at_more rs more id l)
     ∙ by_lineage (lineage_up depth (rs ++ more)) (lineage_up depth rs) (record_at rs id) (λ r e. lineage_more rs more h depth r.parent (parent_within rs id r h l e))
 
-by_around : (f g : ℕ → List Record) (o : Option Record) → ((r : Record) → o ≡ Some r → f r.parent ≡ g r.parent) → around_by f o ≡ around_by g o
-by_around f g None h = refl
-by_around f g (Some r) h = h r refl
-
--- those around it stay
-enclosing_more : (rs more : List Record) → AreNested 0 rs → (id : ℕ) → id ≤ length rs → enclosing (rs ++ more) id ≡ enclosing rs id
-unfolding enclosing
-enclosing_more rs more h id l =
-    ap (around_by (lineage_up 31 (rs ++ more))) (record_at_more rs more id l)
-    ∙ by_around (lineage_up 31 (rs ++ more)) (lineage_up 31 rs) (record_at rs id) (λ r e. lineage_more rs more h 31 r.parent (parent_within rs id r h l e))
-
--- a place, by its parts
-abbrev place : List ℕ → List ℕ → Option Record → List Record → Place
-place path around found outer = record { path = path; around = around; record_there = found; enclosing = outer }
-
-same_place : (path other around near : List ℕ) (found there : Option Record) (outer out : List Record) → path ≡ other → around ≡ near → found ≡ there → outer ≡ out → place path around found outer ≡ place other near there out
-same_place path other around near found there outer out e f g h =
-    ap (λ (p : List ℕ). place p around found outer) e ∙ ap (λ (p : List ℕ). place other p found outer) f ∙ ap (λ (r : Option Record). place other near r outer) g ∙ ap (place other near there) h
-
 -- where it stands stays
 place_more : (rs more : List Record) → AreNested 0 rs → (id : ℕ) → id ≤ length rs → place_of (rs ++ more) id ≡ place_of rs id
-place_more rs more h id l = same_place _ _ _ _ _ _ _ _ (path_of_more rs more h id l) (path_around_more rs more h id l) (record_at_more rs more id l) (enclosing_more rs more h id l)
+unfolding place_of
+place_more rs more h id l = lineage_more rs more h 32 id l
 
 -- ---- answers
 

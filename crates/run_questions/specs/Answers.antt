@@ -10,24 +10,7 @@ use Rattle.run_questions.specs.declared.answer.Question.{Question}
 use Rattle.run_questions.specs.declared.answer.Question.TheVariants as question
 use Rattle.run_questions.specs.declared.record.Record.{Record}
 use Rattle.run_questions.specs.Gates.{gate_named}
-use Rattle.run_questions.specs.Records.{enclosing, path_around, path_of, record_at}
-
--- Where a module stands: its full path, that of the module around it, its record, none where there is no such module, and the records of the
--- modules around it, from the inside outwards. No more of the records is known to what answers about it.
-pub record Place : Type 0 where
-  pub path : List ℕ
-  pub around : List ℕ
-  pub record_there : Option Record
-  pub enclosing : List Record
-
--- where the module of that id stands
-abbrev pub place_of : List Record → ℕ → Place
-place_of records id = record {
-  path = path_of records id;
-  around = path_around records id;
-  record_there = record_at records id;
-  enclosing = enclosing records id;
-}
+use Rattle.run_questions.specs.Records.{Place, place_of}
 
 -- THE ANSWERS of a model are all that a run takes from it: which network is run; what is inside of a module, which parameters it declares, by
 -- their names and in their order, the value of one of these, its gates, in their order, each with its size, and for a gate of that name and index the

@@ -1,5 +1,7 @@
--- Records of the modules that were created, and their paths.
+-- Records of the modules that were created, their lines, and their paths.
 use Rattle.std.specs.Prelude.{ℕ, zero, suc, ◌==◌, ◌&&◌, Bool, true, false, bytes_eq, List, [], ◌∷◌, ◌++◌, Option, Some, None, slice_get, decimal, if◌then◌else◌}
+use Rattle.run_questions.specs.declared.record.Origin.{Origin}
+use Rattle.run_questions.specs.declared.record.Origin.TheVariants as origin
 use Rattle.run_questions.specs.declared.record.Record.{Record}
 
 -- the record of that id: ids count from 1
@@ -11,35 +13,12 @@ abbrev pub index_of : Option Record → Option ℕ
 index_of None = None
 index_of (Some r) = r.index
 
--- a module's name among its siblings: its index stands in brackets
-abbrev pub own_name : List ℕ → Option ℕ → List ℕ
-own_name name None = name
-own_name name (Some index) = name ++ (91 ∷ (decimal index ++ 93 ∷ []))
+-- ---- lines of records
 
--- the path of a submodule of that name in the module of that path
-abbrev pub path_under : List ℕ → List ℕ → List ℕ
-path_under path name = path ++ 46 ∷ name
-
-abbrev pub path_by : (ℕ → List ℕ) → Option Record → List ℕ
-path_by path_above None = []
-path_by path_above (Some r) = if r.parent == 0 then own_name r.name r.index else path_under (path_above r.parent) (own_name r.name r.index)
-
--- the names from the outermost module to the one of that id, at most so many
-abbrev pub path_up : ℕ → List Record → ℕ → List ℕ
-path_up zero records id = []
-path_up (suc depth) records id = path_by (path_up depth records) (record_at records id)
-
--- the full path of a module: modules are nested at most 32 deep
-unfoldable pub path_of : List Record → ℕ → List ℕ
-path_of records id = path_up 32 records id
-
-abbrev pub above_by : (ℕ → List ℕ) → Option Record → List ℕ
-above_by path_above None = []
-above_by path_above (Some r) = path_above r.parent
-
--- the path of the module around the one of that id, which is nested at most 31 deep; empty where there is none
-unfoldable pub path_around : List Record → ℕ → List ℕ
-path_around records id = above_by (path_up 31 records) (record_at records id)
+-- A PLACE, where a module stands: its record and those of the modules around it, from the inside outwards, the last one that of the network; empty
+-- where there is no such module. No more of the records is known to what answers about the module.
+abbrev pub Place : Type 0
+Place = List Record
 
 -- a module's record, and those of the modules around it
 abbrev pub with_those_around : (ℕ → List Record) → Option Record → List Record
@@ -51,13 +30,44 @@ abbrev pub lineage_up : ℕ → List Record → ℕ → List Record
 lineage_up zero records id = []
 lineage_up (suc depth) records id = with_those_around (lineage_up depth records) (record_at records id)
 
-abbrev pub around_by : (ℕ → List Record) → Option Record → List Record
-around_by around None = []
-around_by around (Some r) = around r.parent
+-- where the module of that id stands: modules are nested at most 32 deep
+unfoldable pub place_of : List Record → ℕ → Place
+place_of records id = lineage_up 32 records id
 
--- the records of the modules around the one of that id, from the inside outwards: the last one is that of the network
-unfoldable pub enclosing : List Record → ℕ → List Record
-enclosing records id = around_by (lineage_up 31 records) (record_at records id)
+-- the record of the module that stands there, if any
+abbrev pub record_there : Place → Option Record
+record_there [] = None
+record_there (r ∷ rs) = Some r
+
+-- where the module around it stands
+abbrev pub place_around : Place → Place
+place_around [] = []
+place_around (r ∷ rs) = rs
+
+-- ---- paths
+
+-- a module's name among its siblings: its index stands in brackets
+abbrev pub own_name : List ℕ → Option ℕ → List ℕ
+own_name name None = name
+own_name name (Some index) = name ++ (91 ∷ (decimal index ++ 93 ∷ []))
+
+-- the path of a submodule of that name in the module of that path
+abbrev pub path_under : List ℕ → List ℕ → List ℕ
+path_under path name = path ++ 46 ∷ name
+
+-- THE PATH of the module that stands there: the names of its line, from the outermost one to its own, with dots between them
+abbrev pub path_along : Place → List ℕ
+path_along [] = []
+path_along (r ∷ []) = own_name r.name r.index
+path_along (r ∷ (s ∷ rs)) = path_under (path_along (s ∷ rs)) (own_name r.name r.index)
+
+-- the full path of the module of that id
+abbrev pub path_of : List Record → ℕ → List ℕ
+path_of records id = path_along (place_of records id)
+
+-- the path of the module around it, empty where there is none
+abbrev pub path_around : List Record → ℕ → List ℕ
+path_around records id = path_along (place_around (place_of records id))
 
 -- ---- the records that a building made
 
@@ -67,16 +77,19 @@ same_index None (Some k) = false
 same_index (Some i) None = false
 same_index (Some i) (Some k) = i == k
 
--- whether a record is of a submodule of that name and index
+-- whether a module was built with the one around it, or is the network
+abbrev pub is_built : Origin → Bool
+is_built origin.Built = true
+
+-- whether a record is of a built submodule of that name and index
 abbrev pub is_named : ℕ → List ℕ → Option ℕ → Record → Bool
-is_named parent name index r = (r.parent == parent) && (bytes_eq r.name name && same_index r.index index)
+is_named parent name index r = is_built r.origin && ((r.parent == parent) && (bytes_eq r.name name && same_index r.index index))
 
 -- the id of the first of these records that is so, where the first of all has that id
 abbrev pub named_from : ℕ → ℕ → List ℕ → Option ℕ → List Record → Option ℕ
 named_from id parent name index [] = None
 named_from id parent name index (r ∷ rs) = if is_named parent name index r then Some id else named_from (suc id) parent name index rs
 
--- the submodule of that name and index that was created when its parent was built: no module is created in a parent before that, so it is the
--- first of its name
+-- the submodule of that name and index that was built when its parent was: the first of its name that was built, whatever else was created
 abbrev pub built_id : List Record → ℕ → List ℕ → Option ℕ → Option ℕ
 built_id records parent name index = named_from 1 parent name index records

@@ -1,12 +1,19 @@
 //! Records of the modules that were created, and their paths.
 
-ghost use Rattle.std.specs.Prelude.{◌≡◌, ◌≤◌, IfOk, OnOk, ◌++◌, length, take};
+ghost use Rattle.std.specs.Prelude.{◌≡◌, ◌≤◌, ◌∷◌, IfOk, OnOk, ◌++◌, length, take};
 ghost use Rattle.std.specs.Option.{option_copied};
-ghost use Rattle.run_questions.specs.Records.{record_at, own_name, path_up, path_of, path_around, path_under, index_of};
+ghost use Rattle.run_questions.specs.Records.{record_at, lineage_up, own_name, path_along, path_of, path_around, path_under, index_of};
 
 use itoa::Buffer;
 use sim_values::text::Text;
 use std::alloc::{AllocError, Global};
+
+/// Where a module comes from.
+#[derive(Clone, Copy, PartialEq, Eq)]
+pub enum Origin {
+    /// It was built with the module around it, or is the network. One that a module creates while a run goes on will be another variant.
+    Built,
+}
 
 /// A module that was created. Its id is its place among the records, counted from 1.
 #[derive(Drop)]
@@ -18,6 +25,7 @@ pub struct Record {
     pub index: Option<u32>,
     /// The class of a simple module, none for a compound module.
     pub class: Option<Text>,
+    pub origin: Origin,
 }
 
 /// How deep modules are nested at most, the network included.
@@ -57,31 +65,35 @@ fn push_own_name(path: &mut Vec<u8>, name: &[u8], index: Option<u32>) -> Result<
     path.extend_from_slice(b"]")
 }
 
-/// Adds the path of the module of that id, with at most so many names.
-fn push_path(path: &mut Vec<u8>, depth: u32, records: &[Record], id: u32) -> Result<(), AllocError>
-    ensures { OnOk result (path.new.items ≡ path.old.items ++ path_up depth records.now id) }
+/// Adds the path of the module of that record, with the names of at most so many modules around it.
+fn push_path(
+    path: &mut Vec<u8>,
+    depth: u32,
+    records: &[Record],
+    created: &Record,
+) -> Result<(), AllocError>
+    ensures { OnOk result (path.new.items ≡ path.old.items ++ path_along (created.now ∷ lineage_up depth records.now created.now.parent)) }
 {
     if depth == 0 {
-        return Ok(());
+        return push_own_name(path, created.name.as_bytes(), created.index);
     }
-    let Some(of) = record_at(records, id) else {
-        return Ok(());
+    let Some(outer) = record_at(records, created.parent) else {
+        return push_own_name(path, created.name.as_bytes(), created.index);
     };
-    if of.parent == 0 {
-        return push_own_name(path, of.name.as_bytes(), of.index);
-    }
-    push_path(path, depth - 1, records, of.parent)?;
+    push_path(path, depth - 1, records, outer)?;
     path.push(b'.')?;
-    push_own_name(path, of.name.as_bytes(), of.index)
+    push_own_name(path, created.name.as_bytes(), created.index)
 }
 
-#[tactic(auto, unfolding(crate::specs::Records::path_of))]
+#[tactic(auto, unfolding(crate::specs::Records::place_of))]
 /// The full path of the module of that id, as `N.h[2].b`.
 pub fn path_of(alloc: Global, records: &[Record], id: u32) -> Result<Text, AllocError>
     ensures { IfOk result (λ path. path ≡ path_of records.now id) }
 {
     let mut path = Vec::new(alloc);
-    push_path(&mut path, MAX_NESTING, records, id)?;
+    if let Some(created) = record_at(records, id) {
+        push_path(&mut path, MAX_NESTING - 1, records, created)?;
+    }
     Ok(Text::from_vec(path))
 }
 
@@ -111,30 +123,30 @@ impl ModulePath {
     }
 }
 
-#[tactic(auto, unfolding(crate::specs::Records::path_of, crate::specs::Records::path_around))]
+#[tactic(auto, unfolding(crate::specs::Records::place_of))]
 /// The full path of the module of that id, with that of the module around it.
 pub fn module_path(alloc: Global, records: &[Record], id: u32) -> Result<ModulePath, AllocError>
     ensures whole { IfOk result (λ path. path.whole ≡ path_of records.now id) }
     ensures around { IfOk result (λ path. take path.around path.whole ≡ path_around records.now id) }
 {
     let mut whole = Vec::new(alloc);
-    let Some(of) = record_at(records, id) else {
+    let Some(created) = record_at(records, id) else {
         return Ok(ModulePath {
             whole: Text::from_vec(whole),
             around: 0,
         });
     };
-    if of.parent == 0 {
-        push_own_name(&mut whole, of.name.as_bytes(), of.index)?;
+    let Some(outer) = record_at(records, created.parent) else {
+        push_own_name(&mut whole, created.name.as_bytes(), created.index)?;
         return Ok(ModulePath {
             whole: Text::from_vec(whole),
             around: 0,
         });
-    }
-    push_path(&mut whole, MAX_NESTING - 1, records, of.parent)?;
+    };
+    push_path(&mut whole, MAX_NESTING - 2, records, outer)?;
     let around = whole.len();
     whole.push(b'.')?;
-    push_own_name(&mut whole, of.name.as_bytes(), of.index)?;
+    push_own_name(&mut whole, created.name.as_bytes(), created.index)?;
     Ok(ModulePath {
         whole: Text::from_vec(whole),
         around,

@@ -4,8 +4,10 @@ use Rattle.run_questions.specs.declared.answer.Answer.{Answer}
 use Rattle.run_questions.specs.declared.answer.Answer.TheVariants as answer
 use Rattle.run_questions.specs.declared.answer.Asked.{Asked}
 use Rattle.run_questions.specs.declared.answer.Built.{Built}
+use Rattle.run_questions.specs.declared.record.Origin.TheVariants as origin
 use Rattle.run_questions.specs.declared.answer.Question.TheVariants.{Root, Build}
 use Rattle.run_questions.specs.declared.record.Record.{Record}
+use Rattle.run_questions.specs.Records.{path_along}
 use Rattle.run_questions.specs.Answers.{Answers}
 use Rattle.run_semantics.specs.Ending.{to_finish}
 use Rattle.run_semantics.specs.Perform.{On}
@@ -29,7 +31,7 @@ inside_at path =
 abbrev pub nested : Answers
 nested = record {
   root = answer.Root (codes "N");
-  inside = λ p. inside_at p.path;
+  inside = λ p. inside_at (path_along p);
   names = λ p. [];
   value = λ p name. answer.Absent;
   gates = λ p. [];
@@ -40,7 +42,7 @@ nested = record {
 }
 
 abbrev pub made : ℕ → List ℕ → Option (List ℕ) → Record
-made parent name class = record { parent = parent; name = name; index = None; class = class }
+made parent name class = record { parent = parent; name = name; index = None; class = class; origin = origin.Built }
 
 -- a and b are created before what is inside of a: so the ids of a subtree are not consecutive
 abbrev pub nested_records : List Record

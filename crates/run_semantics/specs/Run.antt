@@ -8,6 +8,7 @@ use Rattle.run_questions.specs.declared.answer.Built.{Built}
 use Rattle.run_questions.specs.declared.answer.Question.TheVariants.{Root, Build, BeyondLimit}
 use Rattle.run_questions.specs.Answers.{Answers, answer_of}
 use Rattle.run_questions.specs.declared.record.Record.{Record}
+use Rattle.run_questions.specs.declared.record.Origin.TheVariants as origin
 use Rattle.run_questions.specs.Records.{path_of, path_under, own_name}
 use Rattle.run_semantics.specs.declared.outcome.Fault.TheVariants as fault
 use Rattle.run_semantics.specs.declared.outcome.Outcome.{Outcome}
@@ -24,7 +25,7 @@ use Rattle.run_semantics.specs.Upcoming.{Upcoming, Comes, Nothing, upcoming}
 
 -- the network has the id 1
 abbrev pub network_record : List ℕ → Record
-network_record name = record { parent = 0; name = name; index = None; class = None }
+network_record name = record { parent = 0; name = name; index = None; class = None; origin = origin.Built }
 
 abbrev pub with_network : List ℕ → World → World
 with_network name w = record w { records = network_record name ∷ [] }
@@ -42,7 +43,7 @@ rooted (answer.Injection i) w = Broken w [] fault.UnknownType
 rooted answer.Absent w = Broken w [] fault.UnknownType
 
 abbrev pub record_under : ℕ → Built → Record
-record_under parent b = record { parent = parent; name = b.name; index = b.index; class = b.class }
+record_under parent b = record { parent = parent; name = b.name; index = b.index; class = b.class; origin = origin.Built }
 
 abbrev pub with_submodules : ℕ → List Built → World → World
 with_submodules parent bs w = record w { records = w.records ++ map (record_under parent) bs }

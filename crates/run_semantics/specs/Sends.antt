@@ -17,6 +17,7 @@ use Rattle.run_questions.specs.declared.answer.Question.{Question}
 use Rattle.run_questions.specs.declared.answer.Question.TheVariants.{GateSize, Hop, HopBack}
 use Rattle.run_questions.specs.declared.record.Record.{Record}
 use Rattle.run_questions.specs.Answers.{Answers}
+use Rattle.run_questions.specs.Records.{path_along}
 use Rattle.run_semantics.specs.declared.occasions.Occasion.TheVariants as occasion
 use Rattle.run_semantics.specs.declared.outcome.Fault.{Fault}
 use Rattle.run_semantics.specs.declared.outcome.Fault.TheVariants as fault
@@ -59,8 +60,8 @@ linked channel taken = record {
   inside = λ p. answer.Absent;
   names = λ p. [];
   value = λ p name. answer.Absent;
-  gates = λ p. gates_at p.path;
-  hop = λ p name index. hop_at channel p.path;
+  gates = λ p. gates_at (path_along p);
+  hop = λ p name index. hop_at channel (path_along p);
   hop_back = λ p name index. back_at taken;
   time_limit = None;
   injections = [];

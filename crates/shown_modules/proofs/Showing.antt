@@ -1,16 +1,12 @@
 -- What calls show of a module stays the same when more modules are created, and tables of it stay right.
 use Rattle.std.proofs.Common.{◌≡◌, ℕ, zero, suc, ◌==◌, nat_lt, cond, Bool, true, false, List, [], ◌∷◌, ◌++◌, Option, Some, None, Result, Ok, Err, OnOk, OnErr, refl, sym, ap, ◌∙◌, subst, append_assoc, append-nil, slice_get, eqb-true}
 use Rattle.run_questions.specs.declared.record.Record.{Record}
-use Rattle.run_questions.specs.Answers.{Answers, Place, with_values}
-use Rattle.run_questions.specs.Records.{record_at, own_name, above_by, around_by, enclosing, lineage_up, path_around, path_by, path_up, path_of, path_under, with_those_around}
+use Rattle.run_questions.specs.Answers.{Answers, with_values}
+use Rattle.run_questions.specs.Records.{Place, lineage_up, path_along, place_of, record_at, with_those_around}
 use Rattle.module_tree.specs.Boxes.{Seated, box_of, with_box, without_box}
 use Rattle.shown_modules.specs.declared.Shown.{Shown}
 use Rattle.shown_modules.specs.declared.ShownModules.{ShownModules}
 use Rattle.shown_modules.specs.Tables.{shown_of, whole_by, is_whole, IsShown, AreEach, AreShown}
-
-abbrev with_first : Option Record → List Record → List Record
-with_first None rs = rs
-with_first (Some r) rs = r ∷ rs
 
 -- ---- modules that were created with all that are around them
 
@@ -25,44 +21,7 @@ record_more : (around : ℕ → Bool) (rs more : List Record) (id : ℕ) → who
 record_more around rs more zero h = refl
 record_more around rs more (suc k) h = get_more around rs more k h
 
--- a path, by that of the module around it
-by_path : (f g : ℕ → List ℕ) (around : ℕ → Bool) → ((id : ℕ) → around id ≡ true → f id ≡ g id) → (o : Option Record) → whole_by around o ≡ true → path_by f o ≡ path_by g o
-by_path f g around same None h = refl
-by_path f g around same (Some r) h = by (r.parent == 0) h
-  where
-    by : (t : Bool) → cond t true (around r.parent) ≡ true
-        → cond t (own_name r.name r.index) (path_under (f r.parent) (own_name r.name r.index)) ≡ cond t (own_name r.name r.index) (path_under (g r.parent) (own_name r.name r.index))
-    by true h = refl
-    by false h = ap (λ path. path_under path (own_name r.name r.index)) (same r.parent h)
-
--- the names above it stay
-path_more : (rs more : List Record) (depth id : ℕ) → is_whole depth rs id ≡ true → path_up depth (rs ++ more) id ≡ path_up depth rs id
-path_more rs more zero id h = refl
-path_more rs more (suc depth) id h =
-    ap (path_by (path_up depth (rs ++ more))) (record_more (is_whole depth rs) rs more id h)
-    ∙ by_path (path_up depth (rs ++ more)) (path_up depth rs) (is_whole depth rs) (λ above k. path_more rs more depth above k) (record_at rs id) h
-
--- nothing is above the id zero
-above_none : (rs more : List Record) (depth : ℕ) → path_up depth (rs ++ more) 0 ≡ path_up depth rs 0
-above_none rs more zero = refl
-above_none rs more (suc depth) = refl
-
--- the names above a record stay
-above_same : (rs more : List Record) (depth : ℕ) (o : Option Record) → whole_by (is_whole depth rs) o ≡ true → above_by (path_up depth (rs ++ more)) o ≡ above_by (path_up depth rs) o
-above_same rs more depth None h = refl
-above_same rs more depth (Some r) h = by (r.parent == 0) refl h
-  where
-    by : (t : Bool) → (r.parent == 0) ≡ t → cond t true (is_whole depth rs r.parent) ≡ true → path_up depth (rs ++ more) r.parent ≡ path_up depth rs r.parent
-    by true e h = subst (λ id. path_up depth (rs ++ more) id ≡ path_up depth rs id) (sym (eqb-true r.parent 0 e)) (above_none rs more depth)
-    by false e h = path_more rs more depth r.parent h
-
--- the path of the module around it stays
-above_more : (rs more : List Record) (depth id : ℕ) → is_whole (suc depth) rs id ≡ true → above_by (path_up depth (rs ++ more)) (record_at (rs ++ more) id) ≡ above_by (path_up depth rs) (record_at rs id)
-above_more rs more depth id h =
-    ap (above_by (path_up depth (rs ++ more))) (record_more (is_whole depth rs) rs more id h)
-    ∙ above_same rs more depth (record_at rs id) h
-
--- ---- the records around a module
+-- ---- lines of records
 
 -- none are around the id zero
 lineage_none : (rs more : List Record) (depth : ℕ) → lineage_up depth (rs ++ more) 0 ≡ lineage_up depth rs 0
@@ -71,58 +30,31 @@ lineage_none rs more (suc depth) = refl
 
 -- a record, and those around it
 by_lineage : (rs more : List Record) (depth : ℕ) (o : Option Record) → whole_by (is_whole depth rs) o ≡ true → ((id : ℕ) → is_whole depth rs id ≡ true → lineage_up depth (rs ++ more) id ≡ lineage_up depth rs id)
-    → around_by (lineage_up depth (rs ++ more)) o ≡ around_by (lineage_up depth rs) o
+    → with_those_around (lineage_up depth (rs ++ more)) o ≡ with_those_around (lineage_up depth rs) o
 by_lineage rs more depth None h f = refl
-by_lineage rs more depth (Some r) h f = by (r.parent == 0) refl h
+by_lineage rs more depth (Some r) h f = ap (λ line. r ∷ line) (by (r.parent == 0) refl h)
   where
     by : (t : Bool) → (r.parent == 0) ≡ t → cond t true (is_whole depth rs r.parent) ≡ true → lineage_up depth (rs ++ more) r.parent ≡ lineage_up depth rs r.parent
     by true e h = subst (λ id. lineage_up depth (rs ++ more) id ≡ lineage_up depth rs id) (sym (eqb-true r.parent 0 e)) (lineage_none rs more depth)
     by false e h = f r.parent h
-
-with_around : (f : ℕ → List Record) (o : Option Record) → with_those_around f o ≡ with_first o (around_by f o)
-with_around f None = refl
-with_around f (Some r) = refl
 
 -- those of a module that is whole stay
 lineage_more : (rs more : List Record) (depth id : ℕ) → is_whole depth rs id ≡ true → lineage_up depth (rs ++ more) id ≡ lineage_up depth rs id
 lineage_more rs more zero id h = refl
 lineage_more rs more (suc depth) id h =
     ap (with_those_around (lineage_up depth (rs ++ more))) (record_more (is_whole depth rs) rs more id h)
-    ∙ (with_around (lineage_up depth (rs ++ more)) (record_at rs id)
-    ∙ (ap (with_first (record_at rs id)) (by_lineage rs more depth (record_at rs id) h (lineage_more rs more depth))
-    ∙ sym (with_around (lineage_up depth rs) (record_at rs id))))
-
-enclosing_more : (rs more : List Record) (depth id : ℕ) → is_whole (suc depth) rs id ≡ true → around_by (lineage_up depth (rs ++ more)) (record_at (rs ++ more) id) ≡ around_by (lineage_up depth rs) (record_at rs id)
-enclosing_more rs more depth id h =
-    ap (around_by (lineage_up depth (rs ++ more))) (record_more (is_whole depth rs) rs more id h)
     ∙ by_lineage rs more depth (record_at rs id) h (lineage_more rs more depth)
 
 -- ---- what calls show
 
-abbrev place : List ℕ → List ℕ → Option Record → List Record → Place
-place path above r outer = record { path = path; around = above; record_there = r; enclosing = outer }
-
--- what calls show of it, by its path, that of the module around it, its record, and those around it
-abbrev shown_at : Answers → List ℕ → List ℕ → Option Record → List Record → Shown
-shown_at m path above r outer = record {
-  path = path;
-  parameters = with_values (m.value (place path above r outer)) (m.names (place path above r outer));
-  gates = m.gates (place path above r outer);
-}
-
-shown_by : (m : Answers) (rs more : List Record) (depth id : ℕ) → is_whole (suc depth) rs id ≡ true
-    → shown_at m (path_up (suc depth) rs id) (above_by (path_up depth rs) (record_at rs id)) (record_at rs id) (around_by (lineage_up depth rs) (record_at rs id))
-    ≡ shown_at m (path_up (suc depth) (rs ++ more) id) (above_by (path_up depth (rs ++ more)) (record_at (rs ++ more) id)) (record_at (rs ++ more) id) (around_by (lineage_up depth (rs ++ more)) (record_at (rs ++ more) id))
-shown_by m rs more depth id h =
-    ap (λ path. shown_at m path (above_by (path_up depth rs) (record_at rs id)) (record_at rs id) (around_by (lineage_up depth rs) (record_at rs id))) (sym (path_more rs more (suc depth) id h))
-    ∙ ap (λ above. shown_at m (path_up (suc depth) (rs ++ more) id) above (record_at rs id) (around_by (lineage_up depth rs) (record_at rs id))) (sym (above_more rs more depth id h))
-    ∙ ap (λ r. shown_at m (path_up (suc depth) (rs ++ more) id) (above_by (path_up depth (rs ++ more)) (record_at (rs ++ more) id)) r (around_by (lineage_up depth rs) (record_at rs id))) (sym (record_more (is_whole depth rs) rs more id h))
-    ∙ ap (shown_at m (path_up (suc depth) (rs ++ more) id) (above_by (path_up depth (rs ++ more)) (record_at (rs ++ more) id)) (record_at (rs ++ more) id)) (sym (enclosing_more rs more depth id h))
+-- what calls show of the module that stands there
+abbrev shown_at : Answers → Place → Shown
+shown_at m p = record { path = path_along p; parameters = with_values (m.value p) (m.names p); gates = m.gates p }
 
 -- it stays
 pub whole_lasts : (m : Answers) (rs : List Record) (id : ℕ) → is_whole 32 rs id ≡ true → IsShown m rs id (shown_of m rs id)
-unfolding path_of path_around enclosing
-whole_lasts m rs id h more = shown_by m rs more 31 id h
+unfolding place_of
+whole_lasts m rs id h more = ap (shown_at m) (sym (lineage_more rs more 32 id h))
 
 -- ---- tables
 

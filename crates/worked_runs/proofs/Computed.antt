@@ -14,7 +14,8 @@ use Rattle.inside_keys.specs.Values.{asking_of, value_at}
 use Rattle.models.specs.declared.model.Model.{Model}
 use Rattle.run_questions.specs.declared.answer.Answer.{Answer}
 use Rattle.run_questions.specs.declared.answer.Answer.TheVariants as answer
-use Rattle.run_questions.specs.Answers.{Answers, Place}
+use Rattle.run_questions.specs.Answers.{Answers}
+use Rattle.run_questions.specs.Records.{Place, path_along}
 use Rattle.model_settings.specs.Standings.{setting_of}
 use Rattle.model_answers.specs.Answering.{answers_of}
 use Rattle.model_answers.specs.Insides.{built_answer, inside_answer, inside_by}
@@ -83,10 +84,10 @@ answers_with m f g = record {
 }
 
 abbrev pub insides : Model → Place → Answer
-insides m p = inside_with (value_by (asks_of (setting_of m))) (setting_of m) p.path (type_in (setting_of m) p)
+insides m p = inside_with (value_by (asks_of (setting_of m))) (setting_of m) (path_along p) (type_in (setting_of m) p)
 
 abbrev pub values : Model → Place → List ℕ → Answer
-values m p name = value_with (value_by (asks_of (setting_of m))) p.path (type_in (setting_of m) p) name
+values m p name = value_with (value_by (asks_of (setting_of m))) (path_along p) (type_in (setting_of m) p) name
 
 abbrev pub computed : Model → Answers
 computed m = answers_with m (insides m) (values m)
@@ -94,15 +95,15 @@ computed m = answers_with m (insides m) (values m)
 insides_are : (m : Model) → (answers_of m).inside ≡ insides m
 unfolding answers_of
 insides_are m =
-    alike (λ (p : Place). inside_answer (setting_of m) p.path (type_in (setting_of m) p)) (insides m)
-    (λ p. inside_is (setting_of m) p.path (type_in (setting_of m) p))
+    alike (λ (p : Place). inside_answer (setting_of m) (path_along p) (type_in (setting_of m) p)) (insides m)
+    (λ p. inside_is (setting_of m) (path_along p) (type_in (setting_of m) p))
 
 values_so : (m : Model) → (answers_of m).value ≡ values m
 unfolding answers_of
 values_so m =
-    alike (λ (p : Place). param_answer (setting_of m) p.path (type_in (setting_of m) p)) (values m) (λ p.
-    alike (λ (name : List ℕ). param_answer (setting_of m) p.path (type_in (setting_of m) p) name) (values m p)
-    (λ name. value_is (setting_of m) p.path (type_in (setting_of m) p) name))
+    alike (λ (p : Place). param_answer (setting_of m) (path_along p) (type_in (setting_of m) p)) (values m) (λ p.
+    alike (λ (name : List ℕ). param_answer (setting_of m) (path_along p) (type_in (setting_of m) p) name) (values m p)
+    (λ name. value_is (setting_of m) (path_along p) (type_in (setting_of m) p) name))
 
 same_answers : (m : Model) → answers_of m ≡ answers_with m (answers_of m).inside (answers_of m).value
 unfolding answers_of

@@ -51,7 +51,7 @@ use Rattle.ned_scopes.proofs.ExampleLaws.{two_levels}
 use Rattle.ned_trees.specs.declared.declarations.TypeDeclaration.{TypeDeclaration}
 use Rattle.type_building.specs.Building.{fault_of}
 use Rattle.type_building.specs.Inheritance.{flat_types}
-use Rattle.run_questions.specs.Records.{path_around, path_of}
+use Rattle.run_questions.specs.Records.{place_of}
 use Rattle.worked_runs.proofs.Runs.{three_ticks_run}
 use Rattle.worked_runs.proofs.first_example.Goals as goal
 
@@ -59,18 +59,18 @@ abbrev declared : NedFile
 declared = record { types = lone tick ∷ lone (network (codes "t" ∷ [])) ∷ [] }
 
 ned : IsNedFile ned_text declared
-unfolding time_unit balanced_read word_at token_at token_of scan scanned line_tokens lines_of tokens_of_lines numbers_of_lines last_line blamed_line through_line arrow_of pair_of bracket_of operator_of mark_of mark_at number_of number_at pieces_from row_from quantity_at many_read rate_unit length_unit unit_of head_word section_word member_word value_word keyword_of word mark name plain_literal in_parens default_value value_rule property_name bracketed index body property mode_word question mode_rule next_mode modes group loose_token piece pieces loose_text no_value source_value record_value source_tail record_tail source_word record_word source_part record_part other_part record_or_other any_part part next_part statistic_body optional_body indexed_statistic unnamed_statistic named_or_not statistic_tail statistic_word statistic plain_name plain_line property_text property_line valued tail parameter_word volatile any_declaration declaration assignment assigned_or_said any_line section_line heading section dotted direction open_size closed_expression size_tail vector_size gate_size bracketed_expression optional_brackets declared_gate refined_gate any_gate gate_line gate_section gates base_name optional_base next_dotted dotted_list names_behind optional_names head gated_block simple ignored_property assigned_or_ignored any_body_line body_line body_section optional_semi braced_body no_body any_body submodule_body submodule submodules inner_types compound_block compound module_type section_block channel interface_kind interface channel_or_interface any_type type_within package_line import_token import_text import_line file_property import_or_property silent silent_entry entry file pattern_of is_closed_from last_part_from has_hyphen_from is_key_byte begins_name goes_on_name is_config_byte is_other_option mode_item before_blanks is_among parts_at ends_with lines_of_ini literal_rest uncommented before_hash holds_variable answers_of time_limit_of path_of path_around chars is_utf8 encode grow_read operator operand deep element_index literal expression body_parts angle_value optional_value angles interface_name parametric submodule_type optional_condition condition submodule_rest inside compound_kind allowance connection_section connections item no_type
+unfolding time_unit balanced_read word_at token_at token_of scan scanned line_tokens lines_of tokens_of_lines numbers_of_lines last_line blamed_line through_line arrow_of pair_of bracket_of operator_of mark_of mark_at number_of number_at pieces_from row_from quantity_at many_read rate_unit length_unit unit_of head_word section_word member_word value_word keyword_of word mark name plain_literal in_parens default_value value_rule property_name bracketed index body property mode_word question mode_rule next_mode modes group loose_token piece pieces loose_text no_value source_value record_value source_tail record_tail source_word record_word source_part record_part other_part record_or_other any_part part next_part statistic_body optional_body indexed_statistic unnamed_statistic named_or_not statistic_tail statistic_word statistic plain_name plain_line property_text property_line valued tail parameter_word volatile any_declaration declaration assignment assigned_or_said any_line section_line heading section dotted direction open_size closed_expression size_tail vector_size gate_size bracketed_expression optional_brackets declared_gate refined_gate any_gate gate_line gate_section gates base_name optional_base next_dotted dotted_list names_behind optional_names head gated_block simple ignored_property assigned_or_ignored any_body_line body_line body_section optional_semi braced_body no_body any_body submodule_body submodule submodules inner_types compound_block compound module_type section_block channel interface_kind interface channel_or_interface any_type type_within package_line import_token import_text import_line file_property import_or_property silent silent_entry entry file pattern_of is_closed_from last_part_from has_hyphen_from is_key_byte begins_name goes_on_name is_config_byte is_other_option mode_item before_blanks is_among parts_at ends_with lines_of_ini literal_rest uncommented before_hash holds_variable answers_of time_limit_of place_of chars is_utf8 encode grow_read operator operand deep element_index literal expression body_parts angle_value optional_value angles interface_name parametric submodule_type optional_condition condition submodule_rest inside compound_kind allowance connection_section connections item no_type
 ned = record { small = leb-true _ _ refl; spells = all_took file file-lawful (tokens_of ned_text) declared refl }
 
 constant : is_constant (expression_is.Literal (values.Whole (pos 3))) ≡ true
 constant = search the_lemmas
 
 three : IsExpressionText (codes "3") (expression_is.Literal (values.Whole (pos 3)))
-unfolding time_unit balanced_read word_at token_at token_of scan scanned line_tokens lines_of tokens_of_lines numbers_of_lines last_line blamed_line through_line arrow_of pair_of bracket_of operator_of mark_of mark_at number_of number_at pieces_from row_from quantity_at many_read rate_unit length_unit unit_of head_word section_word member_word value_word keyword_of word mark name plain_literal in_parens default_value value_rule property_name bracketed index body property mode_word question mode_rule next_mode modes group loose_token piece pieces loose_text no_value source_value record_value source_tail record_tail source_word record_word source_part record_part other_part record_or_other any_part part next_part statistic_body optional_body indexed_statistic unnamed_statistic named_or_not statistic_tail statistic_word statistic plain_name plain_line property_text property_line valued tail parameter_word volatile any_declaration declaration assignment assigned_or_said any_line section_line heading section simple ignored_property assigned_or_ignored any_body_line body_line body_section optional_semi braced_body no_body any_body submodule_body submodule submodules inner_types compound any_type type_within package_line import_token import_text import_line file_property import_or_property silent silent_entry entry file pattern_of is_closed_from last_part_from has_hyphen_from is_key_byte begins_name goes_on_name is_config_byte is_other_option mode_item before_blanks is_among parts_at ends_with lines_of_ini literal_rest uncommented before_hash holds_variable answers_of time_limit_of path_of path_around chars is_utf8 encode grow_read operator operand deep element_index literal expression body_parts angle_value optional_value angles interface_name parametric submodule_type optional_condition condition submodule_rest inside compound_kind allowance connection_section connections item no_type
+unfolding time_unit balanced_read word_at token_at token_of scan scanned line_tokens lines_of tokens_of_lines numbers_of_lines last_line blamed_line through_line arrow_of pair_of bracket_of operator_of mark_of mark_at number_of number_at pieces_from row_from quantity_at many_read rate_unit length_unit unit_of head_word section_word member_word value_word keyword_of word mark name plain_literal in_parens default_value value_rule property_name bracketed index body property mode_word question mode_rule next_mode modes group loose_token piece pieces loose_text no_value source_value record_value source_tail record_tail source_word record_word source_part record_part other_part record_or_other any_part part next_part statistic_body optional_body indexed_statistic unnamed_statistic named_or_not statistic_tail statistic_word statistic plain_name plain_line property_text property_line valued tail parameter_word volatile any_declaration declaration assignment assigned_or_said any_line section_line heading section simple ignored_property assigned_or_ignored any_body_line body_line body_section optional_semi braced_body no_body any_body submodule_body submodule submodules inner_types compound any_type type_within package_line import_token import_text import_line file_property import_or_property silent silent_entry entry file pattern_of is_closed_from last_part_from has_hyphen_from is_key_byte begins_name goes_on_name is_config_byte is_other_option mode_item before_blanks is_among parts_at ends_with lines_of_ini literal_rest uncommented before_hash holds_variable answers_of time_limit_of place_of chars is_utf8 encode grow_read operator operand deep element_index literal expression body_parts angle_value optional_value angles interface_name parametric submodule_type optional_condition condition submodule_rest inside compound_kind allowance connection_section connections item no_type
 three = record { small = leb-true _ _ refl; spells = all_took value_grammar.expression expression-lawful (tokens_of (codes "3")) _ refl }
 
 ini : IsIniText ini_text (ini_of (given (codes "count") (codes "3") (values.Whole (pos 3)) ∷ []))
-unfolding time_unit balanced_read word_at token_at token_of scan scanned line_tokens lines_of tokens_of_lines numbers_of_lines last_line blamed_line through_line arrow_of pair_of bracket_of operator_of mark_of mark_at number_of number_at pieces_from row_from quantity_at many_read rate_unit length_unit unit_of head_word section_word member_word value_word keyword_of word mark name plain_literal in_parens default_value value_rule property_name bracketed index body property mode_word question mode_rule next_mode modes group loose_token piece pieces loose_text no_value source_value record_value source_tail record_tail source_word record_word source_part record_part other_part record_or_other any_part part next_part statistic_body optional_body indexed_statistic unnamed_statistic named_or_not statistic_tail statistic_word statistic plain_name plain_line property_text property_line valued tail parameter_word volatile any_declaration declaration assignment assigned_or_said any_line section_line heading section simple ignored_property assigned_or_ignored any_body_line body_line body_section optional_semi braced_body no_body any_body submodule_body submodule submodules inner_types compound any_type type_within package_line import_token import_text import_line file_property import_or_property silent silent_entry entry file pattern_of is_closed_from last_part_from has_hyphen_from is_key_byte begins_name goes_on_name is_config_byte is_other_option mode_item before_blanks is_among parts_at ends_with lines_of_ini literal_rest uncommented before_hash holds_variable answers_of time_limit_of path_of path_around chars is_utf8 encode body_parts angle_value optional_value angles interface_name parametric submodule_type optional_condition condition submodule_rest inside compound_kind allowance connection_section connections item no_type
+unfolding time_unit balanced_read word_at token_at token_of scan scanned line_tokens lines_of tokens_of_lines numbers_of_lines last_line blamed_line through_line arrow_of pair_of bracket_of operator_of mark_of mark_at number_of number_at pieces_from row_from quantity_at many_read rate_unit length_unit unit_of head_word section_word member_word value_word keyword_of word mark name plain_literal in_parens default_value value_rule property_name bracketed index body property mode_word question mode_rule next_mode modes group loose_token piece pieces loose_text no_value source_value record_value source_tail record_tail source_word record_word source_part record_part other_part record_or_other any_part part next_part statistic_body optional_body indexed_statistic unnamed_statistic named_or_not statistic_tail statistic_word statistic plain_name plain_line property_text property_line valued tail parameter_word volatile any_declaration declaration assignment assigned_or_said any_line section_line heading section simple ignored_property assigned_or_ignored any_body_line body_line body_section optional_semi braced_body no_body any_body submodule_body submodule submodules inner_types compound any_type type_within package_line import_token import_text import_line file_property import_or_property silent silent_entry entry file pattern_of is_closed_from last_part_from has_hyphen_from is_key_byte begins_name goes_on_name is_config_byte is_other_option mode_item before_blanks is_among parts_at ends_with lines_of_ini literal_rest uncommented before_hash holds_variable answers_of time_limit_of place_of chars is_utf8 encode body_parts angle_value optional_value angles interface_name parametric submodule_type optional_condition condition submodule_rest inside compound_kind allowance connection_section connections item no_type
 ini = record {
   small = leb-true _ _ refl;
   lines = (
@@ -107,7 +107,7 @@ unfolding types_of
 types_are = two_levels ((tick, []) ∷ (network (codes "t" ∷ []), []) ∷ [])
 
 model : IsModelOf (ned_text ∷ []) ini_text (codes "General") three_ticks
-unfolding time_unit balanced_read word_at token_at token_of scan scanned line_tokens lines_of tokens_of_lines numbers_of_lines last_line blamed_line through_line arrow_of pair_of bracket_of operator_of mark_of mark_at number_of number_at pieces_from row_from quantity_at many_read rate_unit length_unit unit_of head_word section_word member_word value_word keyword_of word mark name plain_literal in_parens default_value value_rule property_name bracketed index body property mode_word question mode_rule next_mode modes group loose_token piece pieces loose_text no_value source_value record_value source_tail record_tail source_word record_word source_part record_part other_part record_or_other any_part part next_part statistic_body optional_body indexed_statistic unnamed_statistic named_or_not statistic_tail statistic_word statistic plain_name plain_line property_text property_line valued tail parameter_word volatile any_declaration declaration assignment assigned_or_said any_line section_line heading section simple ignored_property assigned_or_ignored any_body_line body_line body_section optional_semi braced_body no_body any_body submodule_body submodule submodules inner_types compound any_type type_within package_line import_token import_text import_line file_property import_or_property silent silent_entry entry file pattern_of is_closed_from last_part_from has_hyphen_from is_key_byte begins_name goes_on_name is_config_byte is_other_option mode_item before_blanks is_among parts_at ends_with lines_of_ini literal_rest uncommented before_hash holds_variable answers_of time_limit_of path_of path_around chars is_utf8 encode body_parts angle_value optional_value angles interface_name parametric submodule_type optional_condition condition submodule_rest inside compound_kind allowance connection_section connections item no_type
+unfolding time_unit balanced_read word_at token_at token_of scan scanned line_tokens lines_of tokens_of_lines numbers_of_lines last_line blamed_line through_line arrow_of pair_of bracket_of operator_of mark_of mark_at number_of number_at pieces_from row_from quantity_at many_read rate_unit length_unit unit_of head_word section_word member_word value_word keyword_of word mark name plain_literal in_parens default_value value_rule property_name bracketed index body property mode_word question mode_rule next_mode modes group loose_token piece pieces loose_text no_value source_value record_value source_tail record_tail source_word record_word source_part record_part other_part record_or_other any_part part next_part statistic_body optional_body indexed_statistic unnamed_statistic named_or_not statistic_tail statistic_word statistic plain_name plain_line property_text property_line valued tail parameter_word volatile any_declaration declaration assignment assigned_or_said any_line section_line heading section simple ignored_property assigned_or_ignored any_body_line body_line body_section optional_semi braced_body no_body any_body submodule_body submodule submodules inner_types compound any_type type_within package_line import_token import_text import_line file_property import_or_property silent silent_entry entry file pattern_of is_closed_from last_part_from has_hyphen_from is_key_byte begins_name goes_on_name is_config_byte is_other_option mode_item before_blanks is_among parts_at ends_with lines_of_ini literal_rest uncommented before_hash holds_variable answers_of time_limit_of place_of chars is_utf8 encode body_parts angle_value optional_value angles interface_name parametric submodule_type optional_condition condition submodule_rest inside compound_kind allowance connection_section connections item no_type
 model = record {
   read = record {
     read = record {

@@ -7,7 +7,7 @@ use Rattle.asking.specs.Following.{value_of}
 use Rattle.model_answers.specs.Answering.{answers_of}
 use Rattle.model_settings.specs.Standings.{setting_of}
 use Rattle.models.specs.Models.{time_limit_of}
-use Rattle.run_questions.specs.Records.{path_around, path_of}
+use Rattle.run_questions.specs.Records.{place_of}
 use Rattle.recorders.specs.Hearing.{is_within}
 use Rattle.recorders.specs.Scalars.{statistic_lines}
 use Rattle.recorders.specs.Selection.{selected_modes}
@@ -23,5 +23,5 @@ use Rattle.worked_runs.proofs.Giving.{gives}
 use Rattle.worked_runs.proofs.two_modules.Goals as goal
 
 pub returns : goal.returns
-unfolding encode is_utf8 chars digits text_of_time path_of path_around answers_of setting_of value_of time_limit_of is_within statistic_lines selected_modes item_line stock number_of read_number state_of naming_of tick_script upcoming most_nested outer_first inner_first
+unfolding encode is_utf8 chars digits text_of_time place_of answers_of setting_of value_of time_limit_of is_within statistic_lines selected_modes item_line stock number_of read_number state_of naming_of tick_script upcoming most_nested outer_first inner_first
 returns c = gives _ _ _ _ _ refl refl refl

@@ -1,10 +1,10 @@
 use Rattle.std.proofs.Common.{refl}
-use Rattle.run_questions.specs.Records.{path_of}
+use Rattle.run_questions.specs.Records.{place_of}
 use Rattle.run_semantics.specs.Perform.{most_hops}
 use Rattle.run_semantics.proofs.laws.sending_example.Goals as goal
 
 pub returns : goal.returns
-unfolding path_of most_hops
+unfolding place_of most_hops
 returns c = λ b. record {
   datarate = refl;
   rounded = refl;

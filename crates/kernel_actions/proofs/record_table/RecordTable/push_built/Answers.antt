@@ -3,7 +3,7 @@ use Rattle.std.specs.HashMap.{get}
 use Rattle.kernel_actions.specs.Places.{equal}
 use Rattle.kernel_actions.specs.declared.record_table.Place.{Place}
 use Rattle.kernel_actions.proofs.Places.{ids_stay, ids_with}
-use Rattle.kernel_actions.proofs.record_table.RecordTable.push.Goals as goal
+use Rattle.kernel_actions.proofs.record_table.RecordTable.push_built.Goals as goal
 
 pub invariant_of-self-then-contains_key : goal.invariant_of-self-then-contains_key
 invariant_of-self-then-contains_key c =
