@@ -1,5 +1,5 @@
 -- A run that gets its boxes, one after the other.
-use Rattle.std.proofs.Common.{◌≡◌, ℕ, zero, suc, ◌≤◌, ◌<◌, Bool, true, false, List, [], ◌∷◌, ◌++◌, drop, take, Option, Some, None, option_map, refl, sym, ap, ◌∙◌, subst, arith, slice_get, length}
+use Rattle.std.proofs.Common.{◌≡◌, ◌⊎◌, ℕ, zero, suc, ◌≤◌, ◌<◌, ◌+◌, Bool, true, false, cond, List, [], ◌∷◌, ◌++◌, take, Option, Some, None, option_map, refl, sym, ap, ◌∙◌, subst, arith, append_assoc, append-nil, slice_get, length, map, IfOk, OnOk, Result, Ok, Err}
 use Rattle.module_api.specs.Behaviour.{Behaviour}
 use Rattle.module_api.specs.Meaning.{Module, IsFresh}
 use Rattle.run_questions.specs.Answers.{Answers}
@@ -11,14 +11,24 @@ use Rattle.run_semantics.specs.declared.outcome.Outcome.TheVariants as outcomes
 use Rattle.run_semantics.specs.declared.traces.Instance.{Instance}
 use Rattle.run_semantics.specs.World.{World}
 use Rattle.run_semantics.specs.Perform.{Flow, On, Stopped, Broken, ◌>>=◌}
-use Rattle.run_semantics.specs.Run.{Part, part_of, standing, parts_from, parts_of, with_class, prepared, place_parts, ready, placed, place, place_all, initialize_all, start, Running, Over, settled, is_fault}
+use Rattle.run_semantics.specs.Run.{Part, Stage, first_unknown, needs, parts_from, parts_of, standing, unless_unknown, with_class, prepared, place_parts, ready, initialize_all, start, Running, Over, after, next_stage, settled, Ran, is_fault}
 use Rattle.run_semantics.specs.Ending.{ending}
 use Rattle.run_semantics.proofs.Ends.{run_over}
+use Rattle.run_semantics.proofs.Placing.{IsBuilt, needs_all, prepared_built}
 use Rattle.run_semantics.proofs.Setting.{IsLasting, Stays, prepared_stays}
 use Rattle.kernel.specs.declared.request.Request.{Request}
-use Rattle.saved_boxes.specs.Seats.{AreBelow}
-use Rattle.kernel.specs.Seats.{request_for, missing_part, missing_of}
-use Rattle.checkpointed_runs.specs.Running.{wanted_after, wanted_by, IsFilled, IsDeclined, whole_run}
+use Rattle.saved_boxes.specs.Seats.{Seat, AreBelow, instance_of}
+use Rattle.kernel.specs.Seats.{AreFirst, AreFresh, first_without, missing_part, missing_of, request_for}
+use Rattle.kernel.proofs.Behind.{parts_rise}
+use Rattle.kernel.proofs.Waiting.{fresh_known, fresh_standing, wanted_next}
+use Rattle.checkpoints.specs.Stored.{begun, Timeline}
+use Rattle.checkpointed_runs.specs.declared.running.Advance.{Advance}
+use Rattle.checkpointed_runs.specs.declared.running.Advance.TheVariants as advance
+use Rattle.checkpointed_runs.specs.declared.running.Phase.{Phase}
+use Rattle.checkpointed_runs.specs.declared.running.Phase.TheVariants.{Declined}
+use Rattle.checkpointed_runs.specs.Positions.{cut, start_of}
+use Rattle.checkpointed_runs.proofs.Counting.{setup_after}
+use Rattle.checkpointed_runs.specs.Running.{boxes_left, boxes_of, boxes_unless, known_first, parts_in, needed_by, wanted_after, wanted_by, Advances, CanStart, IsFilled, IsDeclined, whole_run}
 
 -- ---- setup goes on, or ends in a fault
 
@@ -46,16 +56,16 @@ running_on (Stopped v) w h e = absurd h
 running_on (Broken v path f) w h e = cc
 
 -- set up, without a box
-pub filled_first : (b : Behaviour) (m : Answers) (w : World) → w.modules ≡ [] → Running w ≡ settled (prepared m) → IsFilled b m w
-filled_first b m w none e =
+pub filled_first : (b : Behaviour) (m : Answers) (w : World) (xs : List Seat) → xs ≡ [] → Running w ≡ settled (prepared m) → IsFilled b m w xs
+filled_first b m w xs none e =
     let r = running_on (prepared m) w (prepared_goes m) e in
+    let built : IsBuilt w = subst (Stays IsBuilt) r.0 (prepared_built m) in
     record {
-      base = w;
-      prepared_is = r.0;
-      records = refl;
+      prepared_is = sym r.0;
       next = r.1;
-      first = rw none refl;
-      flow = ap (λ (ms : List Instance). place_all b (drop (length ms) (parts_of w)) w) none ∙ sym (ap (λ (fl : Flow). fl >>= place_parts b) r.0);
+      none = built.modules;
+      unstarted = needs_all w built.dead built.started;
+      first = subst (AreFirst b w) (sym none) tt;
     }
 
 over_broken : (fl : Flow) (k : World → Flow) (w : World) (outcome : Outcome) → Over w outcome ≡ settled fl → Over w outcome ≡ settled (fl >>= k)
@@ -63,10 +73,10 @@ over_broken (On v) k w outcome e = cc
 over_broken (Stopped v) k w outcome e = cc
 over_broken (Broken v path f) k w outcome e = e
 
-over_wants_none : (fl : Flow) (held : ℕ) (w : World) (outcome : Outcome) → Over w outcome ≡ settled fl → wanted_after fl held ≡ None
-over_wants_none (On v) held w outcome e = cc
-over_wants_none (Stopped v) held w outcome e = cc
-over_wants_none (Broken v path f) held w outcome e = refl
+over_wants_none : (fl : Flow) (boxes : List Part) (w : World) (outcome : Outcome) → Over w outcome ≡ settled fl → wanted_after fl boxes ≡ None
+over_wants_none (On v) boxes w outcome e = cc
+over_wants_none (Stopped v) boxes w outcome e = cc
+over_wants_none (Broken v path f) boxes w outcome e = refl
 
 over_is_fault : (fl : Flow) (w : World) (outcome : Outcome) → Over w outcome ≡ settled fl → is_fault outcome ≡ true
 over_is_fault (On v) w outcome e = cc
@@ -81,18 +91,30 @@ start_is_fault b m w outcome e = over_is_fault (ready b m >>= initialize_all b m
 pub start_over : (b : Behaviour) (m : Answers) (w : World) (outcome : Outcome) → Over w outcome ≡ settled (prepared m) → Over w outcome ≡ start b m
 start_over b m w outcome e = over_broken (ready b m) (initialize_all b m) w outcome (over_broken (prepared m) (place_parts b) w outcome e)
 
-pub setup_wants_none : (m : Answers) (held : ℕ) (w : World) (outcome : Outcome) → Over w outcome ≡ settled (prepared m) → wanted_by m held ≡ None
-setup_wants_none m held w outcome e = over_wants_none (prepared m) held w outcome e
+pub setup_wants_none : (m : Answers) (boxes : List Part) (w : World) (outcome : Outcome) → Over w outcome ≡ settled (prepared m) → wanted_by m boxes ≡ None
+setup_wants_none m boxes w outcome e = over_wants_none (prepared m) boxes w outcome e
+
+-- no module has a state then, and there is no box
+over_none : (fl : Flow) (w : World) (outcome : Outcome) → Stays IsBuilt fl → Over w outcome ≡ settled fl → w.modules ≡ []
+over_none (On v) w outcome h e = cc
+over_none (Stopped v) w outcome h e = cc
+over_none (Broken v path f) w outcome h e = let s : w ≡ v = cc in ap (λ (u : World). u.modules) s ∙ h.modules
+
+pub setup_none : (m : Answers) (w : World) (outcome : Outcome) → Over w outcome ≡ settled (prepared m) → w.modules ≡ []
+setup_none m w outcome e = over_none (prepared m) w outcome (prepared_built m) e
+
+over_boxes : (b : Behaviour) (fl : Flow) (w : World) (outcome : Outcome) → Over w outcome ≡ settled fl → [] ≡ boxes_of b fl []
+over_boxes b (On v) w outcome e = cc
+over_boxes b (Stopped v) w outcome e = cc
+over_boxes b (Broken v path f) w outcome e = refl
+
+pub setup_boxes : (b : Behaviour) (m : Answers) (w : World) (xs : List Seat) (outcome : Outcome) → xs ≡ [] → Over w outcome ≡ settled (prepared m) → parts_in xs ≡ boxes_of b (prepared m) []
+setup_boxes b m w xs outcome none e = ap parts_in none ∙ over_boxes b (prepared m) w outcome e
 
 -- ---- what is wanted
 
-wanted_at : (fl : Flow) (base w : World) → fl ≡ On base → w.records ≡ base.records → missing_of w ≡ wanted_after fl (length w.modules)
-wanted_at fl base w e r =
-    ap (λ (rs : List Record). option_map (λ (p : Part). record { kind = p.kind; path = path_of rs p.id; id = p.id }) (slice_get (parts_from 1 rs) (length w.modules))) r
-    ∙ sym (ap (λ (f : Flow). wanted_after f (length w.modules)) e)
-
-pub filled_wants : (b : Behaviour) (m : Answers) (w : World) → IsFilled b m w → missing_of w ≡ wanted_by m (length w.modules)
-filled_wants b m w filled = wanted_at (prepared m) filled.base w filled.prepared_is filled.records
+pub filled_wants : (b : Behaviour) (m : Answers) (w : World) (xs : List Seat) → IsFilled b m w xs → missing_of w (parts_in xs) ≡ wanted_by m (parts_in xs)
+filled_wants b m w xs filled = ap (λ (fl : Flow). wanted_after fl (parts_in xs)) filled.prepared_is
 
 none_part : {A B : Type 0} (f : A → B) (o : Option A) → option_map f o ≡ None → o ≡ None
 none_part f None e = refl
@@ -102,34 +124,33 @@ pub some_part : {A B : Type 0} (f : A → B) (o : Option A) (y : B) → option_m
 some_part f None y e = cc
 some_part f (Some x) y e = (x, refl, cc)
 
-drop_none : (ps : List Part) (n : ℕ) → slice_get ps n ≡ None → drop n ps ≡ []
-drop_none [] zero e = refl
-drop_none [] (suc n) e = refl
-drop_none (p ∷ ps) zero e = cc
-drop_none (p ∷ ps) (suc n) e = drop_none ps n e
+-- the boxes are of the first so many of the modules that need one
+filled_parts : (b : Behaviour) (m : Answers) (w : World) (xs : List Seat) → IsFilled b m w xs → parts_in xs ≡ take (length xs) (needs w)
+filled_parts b m w xs filled = fresh_standing b (take (length xs) (needs w)) xs filled.first
+
+-- so the one that is wanted is the next one
+filled_missing : (b : Behaviour) (m : Answers) (w : World) (xs : List Seat) → IsFilled b m w xs → missing_part w (parts_in xs) ≡ slice_get (needs w) (length xs)
+filled_missing b m w xs filled =
+    ap (λ boxes. first_without boxes (needs w)) (filled_parts b m w xs filled)
+    ∙ subst (λ ps. first_without (take (length xs) ps) ps ≡ slice_get ps (length xs)) (sym filled.unstarted)
+    (wanted_next (1 + length w.records) (length xs) (parts_of w) (parts_rise 1 (1 + length w.records) w.records (omega arith)))
+
+take_none : (ps : List Part) (n : ℕ) → slice_get ps n ≡ None → take n ps ≡ ps
+take_none [] zero e = refl
+take_none [] (suc n) e = refl
+take_none (p ∷ ps) zero e = cc
+take_none (p ∷ ps) (suc n) e = ap (λ qs. p ∷ qs) (take_none ps n e)
 
 -- all boxes are there
-pub filled_ready : (b : Behaviour) (m : Answers) (w : World) → IsFilled b m w → missing_of w ≡ None → On w ≡ ready b m
-filled_ready b m w filled e =
-    ap (λ (ps : List Part). place_all b ps w) (sym (drop_none (parts_of w) (length w.modules) (none_part (request_for w) (missing_part w) e)))
-    ∙ filled.flow
-
--- ---- one more box
-
-drop_get : (ps : List Part) (n : ℕ) (p : Part) → slice_get ps n ≡ Some p → drop n ps ≡ p ∷ drop (suc n) ps
-drop_get [] n p e = cc
-drop_get (q ∷ ps) zero p e = let a : q ≡ p = cc in ap (λ r. r ∷ ps) a
-drop_get (q ∷ ps) (suc n) p e = drop_get ps n p e
-
-length_more : (is : List Instance) (i : Instance) → length (is ++ i ∷ []) ≡ suc (length is)
-length_more [] i = refl
-length_more (j ∷ is) i = ap suc (length_more is i)
-
-known_place : (b : Behaviour) (p : Part) (w : World) (c : Bool) → b.known p.kind ≡ c → c ≡ true → place b p w ≡ On (placed p (b.naming p.kind).initial w)
-known_place b p w c e d = rw (e ∙ d) refl
-
-unknown_place : (b : Behaviour) (p : Part) (w : World) → b.known p.kind ≡ false → place b p w ≡ Broken w (path_of w.records p.id) UnknownClass
-unknown_place b p w e = rw e refl
+pub filled_ready : (b : Behaviour) (m : Answers) (w : World) (xs : List Seat) → IsFilled b m w xs → missing_of w (parts_in xs) ≡ None → CanStart b m w xs
+filled_ready b m w xs filled e =
+    let none : slice_get (needs w) (length xs) ≡ None = sym (filled_missing b m w xs filled) ∙ none_part (request_for w) (missing_part w (parts_in xs)) e in
+    record {
+      prepared_is = filled.prepared_is;
+      next = filled.next;
+      none = filled.none;
+      fresh = subst (λ ps. AreFresh b ps xs) (take_none (needs w) (length xs) none) filled.first;
+    }
 
 -- ---- a run that can't begin
 
@@ -144,47 +165,54 @@ whole_over b m limit w outcome e =
 -- ---- a box is supplied, or there is none
 
 -- the part that a request is for
-requested : (w : World) (r : Request) → missing_of w ≡ Some r → (p : Part) × (missing_part w ≡ Some p) × (r ≡ request_for w p)
-requested w r e = some_part (request_for w) (missing_part w) r e
-
-standing_more : (is : List Instance) (i : Instance) → standing (is ++ i ∷ []) ≡ standing is ++ part_of i ∷ []
-standing_more [] i = refl
-standing_more (j ∷ is) i = ap (λ (ps : List Part). part_of j ∷ ps) (standing_more is i)
+requested : (w : World) (xs : List Seat) (r : Request) → missing_of w (parts_in xs) ≡ Some r → (p : Part) × (missing_part w (parts_in xs) ≡ Some p) × (r ≡ request_for w p)
+requested w xs r e = some_part (request_for w) (missing_part w (parts_in xs)) r e
 
 take_more : (ps : List Part) (n : ℕ) (p : Part) → slice_get ps n ≡ Some p → take (suc n) ps ≡ take n ps ++ p ∷ []
 take_more [] n p e = cc
 take_more (q ∷ ps) zero p e = let a : q ≡ p = cc in ap (λ r. r ∷ []) a
 take_more (q ∷ ps) (suc n) p e = ap (λ (qs : List Part). q ∷ qs) (take_more ps n p e)
 
+length_more : {X : Type 0} (xs : List X) (x : X) → length (xs ++ x ∷ []) ≡ suc (length xs)
+length_more [] x = refl
+length_more (y ∷ xs) x = ap suc (length_more xs x)
+
+fresh_more : (b : Behaviour) (ps : List Part) (xs : List Seat) (p : Part) (s : Seat) → AreFresh b ps xs → s.id ≡ p.id → IsFresh b p.kind s.box → AreFresh b (ps ++ p ∷ []) (xs ++ s ∷ [])
+fresh_more b [] [] p s h id fresh = (id, fresh, tt)
+fresh_more b [] (x ∷ xs) p s h id fresh = absurd h
+fresh_more b (q ∷ ps) [] p s h id fresh = absurd h
+fresh_more b (q ∷ ps) (x ∷ xs) p s h id fresh = (h.0, h.1, fresh_more b ps xs p s h.2 id fresh)
+
 -- one more box
-pub filled_next : (b : Behaviour) (m : Answers) (w u : World) (r : Request) (box : Module) → IsFilled b m w → missing_of w ≡ Some r → IsFresh b r.kind box → u ≡ placed (record { id = r.id; kind = box.kind }) box.state w → IsFilled b m u
-filled_next b m w u r box filled wanted fresh e =
-    let q = requested w r wanted in
-    let kind : r.kind ≡ q.0.kind = ap (λ (x : Request). x.kind) q.2 in
+pub filled_next : (b : Behaviour) (m : Answers) (w : World) (xs ys : List Seat) (r : Request) (box : Module) → IsFilled b m w xs → missing_of w (parts_in xs) ≡ Some r → IsFresh b r.kind box → ys ≡ xs ++ record { id = r.id; box = box } ∷ [] → IsFilled b m w ys
+filled_next b m w xs ys r box filled wanted fresh e =
+    let q = requested w xs r wanted in
+    let s : Seat = record { id = r.id; box = box } in
+    let at : slice_get (needs w) (length xs) ≡ Some q.0 = sym (filled_missing b m w xs filled) ∙ q.1 in
     let id : r.id ≡ q.0.id = ap (λ (x : Request). x.id) q.2 in
-    let here : placed (record { id = r.id; kind = box.kind }) box.state w ≡ placed q.0 (b.naming q.0.kind).initial w =
-    ap (λ i. placed (record { id = i; kind = box.kind }) box.state w) id
-    ∙ ap (λ k. placed (record { id = q.0.id; kind = k }) box.state w) (fresh.kind ∙ kind)
-    ∙ ap (λ s. placed q.0 s w) (fresh.initial ∙ ap (λ k. (b.naming k).initial) kind) in
-    let known : b.known q.0.kind ≡ true = ap b.known (sym (fresh.kind ∙ kind)) ∙ fresh.of_kind.known in
-    let now : u ≡ placed q.0 (b.naming q.0.kind).initial w = e ∙ here in
-    let more : length (placed q.0 (b.naming q.0.kind).initial w).modules ≡ suc (length w.modules) = length_more w.modules _ in
-    subst (IsFilled b m) (sym now) (record {
-      base = filled.base;
+    let kind : r.kind ≡ q.0.kind = ap (λ (x : Request). x.kind) q.2 in
+    let more : AreFresh b (take (length xs) (needs w) ++ q.0 ∷ []) (xs ++ s ∷ []) =
+    fresh_more b (take (length xs) (needs w)) xs q.0 s filled.first id (subst (λ k. IsFresh b k box) kind fresh) in
+    let all : take (length (xs ++ s ∷ [])) (needs w) ≡ take (length xs) (needs w) ++ q.0 ∷ [] =
+    ap (λ n. take n (needs w)) (length_more xs s) ∙ take_more (needs w) (length xs) q.0 at in
+    record {
       prepared_is = filled.prepared_is;
-      records = filled.records;
       next = filled.next;
-      first =
-          standing_more w.modules _
-          ∙ ap (λ (ps : List Part). ps ++ q.0 ∷ []) filled.first
-          ∙ sym (take_more (parts_of w) (length w.modules) q.0 q.1)
-          ∙ sym (ap (λ n. take n (parts_of w)) more);
-      flow =
-          ap (λ n. place_all b (drop n (parts_of w)) (placed q.0 (b.naming q.0.kind).initial w)) more
-          ∙ sym (ap (λ (fl : Flow). fl >>= place_all b (drop (suc (length w.modules)) (parts_of w))) (known_place b q.0 w true known refl))
-          ∙ ap (λ (ps : List Part). place_all b ps w) (sym (drop_get (parts_of w) (length w.modules) q.0 q.1))
-          ∙ filled.flow;
-    })
+      none = filled.none;
+      unstarted = filled.unstarted;
+      first = subst (AreFirst b w) (sym e) (subst (λ ps. AreFresh b ps (xs ++ s ∷ [])) (sym all) more);
+    }
+
+-- the modules of the boxes with one more
+parts_more : (xs : List Seat) (s : Seat) → parts_in (xs ++ s ∷ []) ≡ parts_in xs ++ record { id = s.id; kind = s.box.kind } ∷ []
+parts_more [] s = refl
+parts_more (x ∷ xs) s = ap (λ (ps : List Part). record { id = x.id; kind = x.box.kind } ∷ ps) (parts_more xs s)
+
+pub supplied_part : (is : List Instance) (xs ys : List Seat) (id : ℕ) (box : Module) → ys ≡ xs ++ record { id = id; box = box } ∷ [] → standing is ++ parts_in ys ≡ (standing is ++ parts_in xs) ++ record { id = id; kind = box.kind } ∷ []
+supplied_part is xs ys id box e =
+    ap (λ zs. standing is ++ parts_in zs) e
+    ∙ ap (λ ps. standing is ++ ps) (parts_more xs (record { id = id; box = box }))
+    ∙ sym (append_assoc (standing is) (parts_in xs) (record { id = id; kind = box.kind } ∷ []))
 
 -- ---- boxes are given by rising ids
 
@@ -219,23 +247,158 @@ before_part k (r ∷ rs) n p e = by r.class n (λ n e. before_part (suc k) rs n 
     by (Some kind) zero later e = tt
     by (Some kind) (suc n) later e = (at_least (suc k) rs n p e, later n e)
 
-pub filled_above : (b : Behaviour) (m : Answers) (w : World) (r : Request) → IsFilled b m w → missing_of w ≡ Some r → AreBelow r.id w.modules
-filled_above b m w r filled wanted =
-    let q = requested w r wanted in
+pub filled_above : (b : Behaviour) (m : Answers) (w : World) (xs : List Seat) (r : Request) → IsFilled b m w xs → missing_of w (parts_in xs) ≡ Some r → AreBelow r.id (map instance_of xs)
+filled_above b m w xs r filled wanted =
+    let q = requested w xs r wanted in
     let id : r.id ≡ q.0.id = ap (λ (x : Request). x.id) q.2 in
-    below_instances r.id w.modules (rw (id, filled.first) (before_part 1 w.records (length w.modules) q.0 q.1))
+    let at : slice_get (parts_of w) (length xs) ≡ Some q.0 = ap (λ ps. slice_get ps (length xs)) (sym filled.unstarted) ∙ sym (filled_missing b m w xs filled) ∙ q.1 in
+    let parts : parts_in xs ≡ take (length xs) (parts_of w) = filled_parts b m w xs filled ∙ ap (take (length xs)) filled.unstarted in
+    below_instances r.id (map instance_of xs) (subst (AreBelowPart r.id) (sym parts) (subst (λ i. AreBelowPart i (take (length xs) (parts_of w))) (sym id) (before_part 1 w.records (length xs) q.0 at)))
 
 -- there is none
-pub filled_declined : (b : Behaviour) (m : Answers) (w : World) (r : Request) → IsFilled b m w → missing_of w ≡ Some r → b.known r.kind ≡ false → IsDeclined b m w
-filled_declined b m w r filled wanted unknown =
-    let q = requested w r wanted in
-    let none : b.known q.0.kind ≡ false = ap (λ (x : Request). b.known x.kind) (sym q.2) ∙ unknown in
+pub filled_declined : (b : Behaviour) (m : Answers) (w : World) (xs : List Seat) (r : Request) → IsFilled b m w xs → missing_of w (parts_in xs) ≡ Some r → b.known r.kind ≡ false → IsDeclined b m w xs
+filled_declined b m w xs r filled wanted unknown =
+    let q = requested w xs r wanted in
     record {
+      filled = filled;
       part = q.0;
       missing = q.1;
-      first = filled.first;
-      flow =
-          sym (ap (λ (fl : Flow). fl >>= place_all b (drop (suc (length w.modules)) (parts_of w))) (unknown_place b q.0 w none))
-          ∙ ap (λ (ps : List Part). place_all b ps w) (sym (drop_get (parts_of w) (length w.modules) q.0 q.1))
-          ∙ filled.flow;
+      unknown = ap (λ (x : Request). b.known x.kind) (sym q.2) ∙ unknown;
+    }
+
+-- after modules that have boxes comes one of a class that is not known
+unknown_at : (b : Behaviour) (ps : List Part) (xs : List Seat) (p : Part) → AreFresh b (take (length xs) ps) xs → slice_get ps (length xs) ≡ Some p → b.known p.kind ≡ false → first_unknown b ps ≡ Some p
+unknown_at b [] xs p h e u = cc
+unknown_at b (q ∷ ps) [] p h e u =
+    let same : q ≡ p = cc in
+    rw (ap (λ (x : Part). b.known x.kind) same ∙ u) (ap Some same)
+unknown_at b (q ∷ ps) (x ∷ xs) p h e u =
+    let known : b.known q.kind ≡ true = ap b.known (sym h.1.kind) ∙ h.1.of_kind.known in
+    rw known (unknown_at b ps xs p h.2 e u)
+
+known_at : (b : Behaviour) (ps : List Part) (xs : List Seat) (p : Part) → AreFresh b (take (length xs) ps) xs → slice_get ps (length xs) ≡ Some p → b.known p.kind ≡ false → known_first b ps ≡ take (length xs) ps
+known_at b [] xs p h e u = cc
+known_at b (q ∷ ps) [] p h e u =
+    let same : q ≡ p = cc in
+    rw (ap (λ (x : Part). b.known x.kind) same ∙ u) refl
+known_at b (q ∷ ps) (x ∷ xs) p h e u =
+    let known : b.known q.kind ≡ true = ap b.known (sym h.1.kind) ∙ h.1.of_kind.known in
+    rw known (ap (λ qs. q ∷ qs) (known_at b ps xs p h.2 e u))
+
+declined_at : (b : Behaviour) (m : Answers) (w : World) (xs : List Seat) → (d : IsDeclined b m w xs) → slice_get (needs w) (length xs) ≡ Some d.part
+declined_at b m w xs d = sym (filled_missing b m w xs d.filled) ∙ d.missing
+
+-- THE START CAN'T BE MADE where a box was declined
+pub declined_over : (b : Behaviour) (m : Answers) (w : World) (xs : List Seat) → (d : IsDeclined b m w xs) → Over w (outcomes.Fault w.count (path_of w.records d.part.id) UnknownClass) ≡ start b m
+declined_over b m w xs d =
+    let at = unknown_at b (needs w) xs d.part d.filled.first (declined_at b m w xs d) d.unknown in
+    ap (λ o. settled (unless_unknown b (needs w) w o >>= initialize_all b m)) (sym at)
+    ∙ ap (λ (fl : Flow). settled ((fl >>= place_parts b) >>= initialize_all b m)) d.filled.prepared_is
+
+-- the same, by the request that is missing
+pub declined_request : (b : Behaviour) (m : Answers) (w : World) (xs : List Seat) (r : Request) → IsDeclined b m w xs → missing_of w (parts_in xs) ≡ Some r → Over w (outcomes.Fault w.count r.path UnknownClass) ≡ start b m
+declined_request b m w xs r d e =
+    let q = requested w xs r e in
+    let same : q.0 ≡ d.part = let both : Some q.0 ≡ Some d.part = sym q.1 ∙ d.missing in cc in
+    let path : r.path ≡ path_of w.records d.part.id = ap (λ (x : Request). x.path) q.2 ∙ ap (λ (p : Part). path_of w.records p.id) same in
+    ap (λ p. Over w (outcomes.Fault w.count p UnknownClass)) path ∙ declined_over b m w xs d
+
+-- there is a request
+pub declined_some : (b : Behaviour) (m : Answers) (w : World) (xs : List Seat) → (d : IsDeclined b m w xs) → missing_of w (parts_in xs) ≡ Some (request_for w d.part)
+declined_some b m w xs d = ap (option_map (request_for w)) d.missing
+
+pub declined_boxes : (b : Behaviour) (m : Answers) (w : World) (xs : List Seat) → IsDeclined b m w xs → parts_in xs ≡ boxes_of b (prepared m) []
+declined_boxes b m w xs d =
+    let at = unknown_at b (needs w) xs d.part d.filled.first (declined_at b m w xs d) d.unknown in
+    filled_parts b m w xs d.filled
+    ∙ sym (known_at b (needs w) xs d.part d.filled.first (declined_at b m w xs d) d.unknown)
+    ∙ ap (λ o. boxes_unless o [] (known_first b (needs w))) (sym at)
+    ∙ ap (λ (fl : Flow). boxes_of b fl []) d.filled.prepared_is
+
+-- where no module stands the boxes are those that wait
+pub filled_boxes : (b : Behaviour) (m : Answers) (w : World) (xs : List Seat) → IsFilled b m w xs → standing w.modules ++ parts_in xs ≡ parts_in xs
+filled_boxes b m w xs filled = ap (λ (is : List Instance). standing is ++ parts_in xs) filled.none
+
+-- a run that can't begin leaves the boxes that wait
+pub over_left : (b : Behaviour) (m : Answers) (limit : ℕ) (w : World) (xs : List Seat) (outcome : Outcome) → whole_run b m limit w outcome → w.modules ≡ [] → parts_in xs ≡ boxes_of b (prepared m) [] → standing w.modules ++ parts_in xs ≡ boxes_left b m limit
+over_left b m limit w xs outcome whole none boxes =
+    ap (λ (is : List Instance). standing is ++ parts_in xs) none
+    ∙ boxes
+    ∙ sym (ap (λ (r : Ran). boxes_of b (prepared m) (standing r.world.modules)) whole ∙ ap (λ (is : List Instance). boxes_of b (prepared m) (standing is)) none)
+
+-- one that began leaves those of the modules that stand
+pub ended_left : (b : Behaviour) (m : Answers) (limit : ℕ) (w : World) (xs : List Seat) (outcome : Outcome) → whole_run b m limit w outcome → xs ≡ [] → ((all : List Part) → boxes_of b (prepared m) all ≡ all) → standing w.modules ++ parts_in xs ≡ boxes_left b m limit
+ended_left b m limit w xs outcome whole none has =
+    ap (λ ys. standing w.modules ++ parts_in ys) none
+    ∙ append-nil (standing w.modules)
+    ∙ sym (has (standing w.modules))
+    ∙ sym (ap (λ (r : Ran). boxes_of b (prepared m) (standing r.world.modules)) whole)
+
+-- the same, where memory did not run out
+pub left_if_ok : {E : Type 0} (b : Behaviour) (m : Answers) (limit : ℕ) (w : World) (xs : List Seat) (result : Result Outcome E) → IfOk result (λ o. whole_run b m limit w o) → xs ≡ [] → ((all : List Part) → boxes_of b (prepared m) all ≡ all) → OnOk result (standing w.modules ++ parts_in xs ≡ boxes_left b m limit)
+left_if_ok b m limit w xs (Ok o) whole none has = ended_left b m limit w xs o whole none has
+left_if_ok b m limit w xs (Err e) whole none has = tt
+
+-- ---- the boxes of a run that began
+
+pub started_boxes : (b : Behaviour) (m : Answers) (w : World) (xs : List Seat) (all : List Part) → CanStart b m w xs → boxes_of b (prepared m) all ≡ all
+started_boxes b m w xs all h =
+    sym (ap (λ (fl : Flow). boxes_of b fl all) h.prepared_is)
+    ∙ ap (λ o. boxes_unless o all (known_first b (needs w))) (fresh_known b (needs w) xs h.fresh)
+
+-- a run that goes on has begun
+abbrev HasBegun : Behaviour → Answers → Stage → Type 0
+HasBegun b m (Running w) = (all : List Part) → boxes_of b (prepared m) all ≡ all
+HasBegun b m (Over w outcome) = Unit {0}
+
+next_begun : (b : Behaviour) (m : Answers) (s : Stage) → HasBegun b m s → HasBegun b m (next_stage b m s)
+next_begun b m (Over w outcome) h = tt
+next_begun b m (Running w) h = any (next_stage b m (Running w))
+  where
+    any : (s : Stage) → HasBegun b m s
+    any (Running v) = h
+    any (Over v outcome) = tt
+
+flow_begun : (b : Behaviour) (m : Answers) (fl : Flow) → prepared m ≡ fl → HasBegun b m (settled ((fl >>= place_parts b) >>= initialize_all b m))
+flow_begun b m (Stopped w) e = λ all. ap (λ (fl : Flow). boxes_of b fl all) e
+flow_begun b m (Broken w path f) e = tt
+flow_begun b m (On w) e = by (first_unknown b (needs w)) refl
+  where
+    any : ((all : List Part) → boxes_of b (prepared m) all ≡ all) → (s : Stage) → HasBegun b m s
+    any h (Running v) = h
+    any h (Over v outcome) = tt
+
+    by : (o : Option Part) → first_unknown b (needs w) ≡ o → HasBegun b m (settled (unless_unknown b (needs w) w o >>= initialize_all b m))
+    by None u = any (λ all. ap (λ (fl : Flow). boxes_of b fl all) e ∙ ap (λ o. boxes_unless o all (known_first b (needs w))) u) (settled (unless_unknown b (needs w) w None >>= initialize_all b m))
+    by (Some p) u = tt
+
+begun_after : (b : Behaviour) (m : Answers) (k : ℕ) → HasBegun b m (after b m k)
+begun_after b m zero = flow_begun b m (prepared m) refl
+begun_after b m (suc k) = next_begun b m (after b m k) (begun_after b m k)
+
+pub going_boxes : (b : Behaviour) (m : Answers) (k : ℕ) (w : World) (all : List Part) → Running w ≡ after b m k → boxes_of b (prepared m) all ≡ all
+going_boxes b m k w all e = (subst (HasBegun b m) (sym e) (begun_after b m k)) all
+
+-- ---- a run that begins with setup
+
+-- where no position is up to the limit, what a run comes to with none is what it comes to
+pub setup_advances : (b : Behaviour) (m : Answers) (limit : ℕ) (kept : List Part) (phase : Phase) (old cleared : Timeline ℕ) (w : World) (waiting : List Seat) (new : Timeline ℕ) (a : Advance) → start_of limit old.stored ≡ None → cleared ≡ begun old.first
+    → Advances b m limit kept phase cleared w waiting new a → Advances b m limit kept phase old w waiting new a
+setup_advances b m limit kept phase old cleared w waiting new (advance.Waits request) none is h = record {
+  filled = h.filled;
+  kept_is = h.kept_is;
+  undeclined = h.undeclined;
+  wanted = h.wanted;
+  start = none;
+  positions = h.positions ∙ ap (cut None) is;
+}
+setup_advances b m limit kept phase old cleared w waiting new (advance.Ends from outcome) none is h =
+    let starts : start_of limit cleared.stored ≡ start_of limit old.stored = ap (λ (t : Timeline ℕ). start_of limit t.stored) is ∙ sym none in
+    record {
+      whole = h.whole;
+      boxes = h.boxes;
+      start = h.start ∙ starts;
+      within = h.within;
+      needs_none = subst (λ o. (phase ≡ Declined) ⊎ (needed_by m o kept ≡ None)) starts h.needs_none;
+      positions = setup_after b m limit old cleared new none is h.positions;
     }

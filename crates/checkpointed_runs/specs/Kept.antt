@@ -1,5 +1,5 @@
 -- Stored positions, and how a run leaves them.
-use Rattle.std.specs.Prelude.{◌≡◌, ◌⊎◌, ◌≤◌, ℕ, suc, ◌-◌, ◌<◌, ◌&&◌, nat_lt, not, Bool, true, false, List, [], ◌∷◌, Option, Some, None, map, if◌then◌else◌}
+use Rattle.std.specs.Prelude.{◌≡◌, ◌⊎◌, ◌≤◌, ℕ, suc, ◌-◌, ◌<◌, ◌&&◌, nat_lt, not, Bool, true, false, List, [], ◌∷◌, ◌++◌, Option, Some, None, map, if◌then◌else◌}
 use Rattle.checkpoints.specs.Stored.{counts_in, cut_after, ends_at, begun, is_multiple, with_position, AreBelow, Timeline}
 use Rattle.kernel_actions.specs.declared.position.Position.{Position}
 use Rattle.saved_boxes.specs.Seats.{Members}
@@ -9,9 +9,11 @@ use Rattle.saved_boxes.specs.Seats.{Seat, instance_of}
 use Rattle.module_api.specs.Behaviour.{Behaviour}
 use Rattle.run_questions.specs.Answers.{Answers}
 use Rattle.run_semantics.specs.declared.outcome.Outcome.{Outcome}
-use Rattle.run_semantics.specs.Run.{Running, Ran, after, run_to, standing, is_fault}
+use Rattle.run_semantics.specs.Run.{Running, Part, Ran, after, run_to, standing, is_fault}
 use Rattle.run_semantics.specs.World.{World, HasRoom}
+use Rattle.saved_boxes.specs.Saved.{seats_held}
 use Rattle.checkpointed_runs.specs.Positions.{behind, CanGoOn, is_left, numbers_from}
+use Rattle.checkpointed_runs.specs.Running.{parts_in}
 use Rattle.checkpointed_runs.specs.declared.running.Runner.{Runner}
 use Rattle.checkpointed_runs.specs.declared.running.Stood.{Stood}
 use Rattle.checkpointed_runs.specs.declared.running.Stood.TheVariants as stood
@@ -99,12 +101,21 @@ module _ {C X : Type 0} {Y : X → Type 0} where
     pub below : AreBelow (suc (world_in members r.kernel).count) r.positions.stored
     pub stood : r.stood ≡ stood.After (world_in members r.kernel).count
 
-  -- Where there is a start the run goes on from there, and of the positions those up to it are left; else nothing has changed.
+  -- what the boxes are that wait for the start of their modules
+  abbrev pub waiting_in : Members X Y → Runner C X Y → List Seat
+  waiting_in members r = seats_held members r.waiting
+
+  -- THE MODULES THAT HAVE BOXES: those that were started, and then those whose boxes wait
+  abbrev pub boxes_in : Members X Y → Runner C X Y → List Part
+  boxes_in members r = standing (world_in members r.kernel).modules ++ parts_in (waiting_in members r)
+
+  -- Where there is a start the run goes on from there, of the positions those up to it are left, and no box waits; else nothing has changed.
   abbrev pub IsBack : Behaviour → Answers → Members X Y → ℕ → Runner C X Y → Runner C X Y → Option ℕ → Type 0
   IsBack b m members limit before after None = after ≡ before
   IsBack b m members limit before after (Some start) =
       IsGoing b m members limit after × ((world_in members after.kernel).count ≡ start) × (after.positions ≡ cut_after start before.positions)
+      × (waiting_in members after ≡ [])
 
-  -- all but its kernel stays
+  -- all but its kernel and its boxes stays
   abbrev pub IsBesideKernel : Runner C X Y → Runner C X Y → Type 0
   IsBesideKernel before after = (after.positions ≡ before.positions) × (after.stood ≡ before.stood)

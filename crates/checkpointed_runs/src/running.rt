@@ -1,15 +1,16 @@
 //! A run, from setup or from a position, and the positions that it leaves.
 
-ghost use Rattle.std.specs.Prelude.{◌≡◌, ◌≤◌, ◌&&◌, [], nat_lt, not, true, None, OnOk, OnErr, IfOk, length};
+ghost use Rattle.std.specs.Prelude.{◌≡◌, ◌≤◌, ◌&&◌, ◌++◌, ◌∷◌, [], nat_lt, not, true, None, OnOk, OnErr, IfOk, IfErr, length};
 ghost use Rattle.model_answers.specs.Answering.{answers_of};
-ghost use Rattle.run_semantics.specs.Perform.{On};
-ghost use Rattle.run_semantics.specs.Run.{prepared, ready, run_to, settled, stage_of};
+ghost use Rattle.run_semantics.specs.Run.{prepared, run_to, settled, stage_of};
 ghost use Rattle.kernel_actions.specs.Positions.{position_of};
 ghost use Rattle.kernel.specs.Kernels.{seats_in, world_in, ran_in, HasKinds};
 ghost use Rattle.checkpoints.specs.Stored.{counts_in, counts_of, is_multiple, last_of, AreBelow, AreRising, IsBegun};
-ghost use Rattle.checkpointed_runs.specs.Running.{fresh_run, kept_boxes, Advances, IsDeclined, IsFilled, IsLive, IsStopped, IsUndeclined, Stands, Wants};
-ghost use Rattle.checkpointed_runs.specs.Kept.{cut_to_last, kept_up_to, taken_if, HasBegun, HasGood, HasGoneOn, HasLeft, IsBack, IsBesideKernel, IsGoing};
+ghost use Rattle.checkpointed_runs.specs.Running.{boxes_left, fresh_run, kept_boxes, parts_in, Advances, CanStart, IsDeclined, IsFilled, IsLive, IsStopped, IsUndeclined, Stands, Wants};
+ghost use Rattle.checkpointed_runs.specs.Kept.{boxes_in, cut_to_last, kept_up_to, taken_if, waiting_in, HasBegun, HasGood, HasGoneOn, HasLeft, IsBack, IsBesideKernel, IsGoing};
 ghost use Rattle.checkpointed_runs.specs.Positions.{last_count, positions_after, start_of, HasStored};
+ghost use Rattle.saved_boxes.specs.Seats.{Seat, AreBelow as AreOfSmallerIds};
+ghost use Rattle.saved_boxes.specs.Saved.{instances_held};
 ghost use Rattle.checkpointed_runs.specs.declared.running.Phase.{Phase};
 ghost use Rattle.checkpointed_runs.specs.declared.running.Stood.{Stood};
 
@@ -21,10 +22,11 @@ use model_answers::evaluated::EvaluatedModel;
 use model_answers::plain::PlainAnswers;
 use module_api::catalogue::Catalogue;
 use module_api::simple_module::SimpleModule;
+use module_tree::Tree;
 use run_semantics::outcome::{Fault, Outcome};
 use shown_modules::ShownModules;
 use sim_values::NoMemory;
-use std::alloc::Global;
+use std::alloc::{AllocFailed, Global};
 use std::marker::PhantomData;
 
 /// Where a run stands between two calls.
@@ -74,6 +76,8 @@ pub enum Advance {
 /// The kernel of a session, and the positions to which it can go back.
 pub struct Runner<C: Catalogue> {
     pub kernel: Kernel<C>,
+    /// The boxes that wait for the start of their modules: no world knows of them.
+    pub waiting: Tree<Box<dyn SimpleModule>>,
     /// With the interval: after each multiple of so many events a run leaves a position.
     pub positions: Positions,
     /// Where the run stands that was asked for last.
@@ -87,6 +91,7 @@ impl<C: Catalogue> Drop for Runner<C> {
     fn drop(self) {
         let Runner {
             kernel: _,
+            waiting: _,
             positions: _,
             stood: _,
             holds: _,
@@ -99,17 +104,18 @@ impl<C: Catalogue> Runner<C> {
 
     /// The module that a run which is set up needs a box for, if there is one.
     fn next_box(&self, alloc: Global, model: &EvaluatedModel) -> Result<Standing, NoMemory>
-        requires filled { let world = world_in SimpleModule-box self.now.kernel in
-            IsFilled C.behaviour (answers_of model.now) world }
+        requires filled { let waiting = waiting_in SimpleModule-box self.now in
+            IsFilled C.behaviour (answers_of model.now) (world_in SimpleModule-box self.now.kernel) waiting }
         ensures stands { let world = world_in SimpleModule-box self.now.kernel in
+            let waiting = waiting_in SimpleModule-box self.now in
             IfOk result (λ standing.
-            Stands C.behaviour (answers_of model.now) (length world.modules) world standing) }
-        ensures wants { let world = world_in SimpleModule-box self.now.kernel in
+            Stands C.behaviour (answers_of model.now) (parts_in waiting) world waiting standing) }
+        ensures wants { let waiting = waiting_in SimpleModule-box self.now in
             IfOk result (λ standing. (phase : Phase)
-            → IsUndeclined phase → Wants (answers_of model.now) (length world.modules) phase standing) }
+            → IsUndeclined phase → Wants (answers_of model.now) (parts_in waiting) phase standing) }
     {
         let _model = model;
-        match self.kernel.missing(alloc)? {
+        match self.kernel.missing(alloc, &self.waiting)? {
             Some(request) => Ok(Standing::Missing(request)),
             None => Ok(Standing::Ready),
         }
@@ -125,9 +131,11 @@ impl<C: Catalogue> Runner<C> {
         ensures kinds { HasKinds C.behaviour SimpleModule-box self.new.kernel }
         ensures kept { IsBesideKernel self.old self.new }
         ensures empty { OnOk result (seats_in SimpleModule-box self.new.kernel ≡ []) }
+        ensures none { waiting_in SimpleModule-box self.new ≡ [] }
         ensures step { IfOk result (λ over.
             stage_of over (world_in SimpleModule-box self.new.kernel) ≡ settled (prepared (answers_of model.now))) }
     {
+        self.waiting.clear();
         let answers = PlainAnswers::new(alloc, model)?;
         self.kernel.setup(alloc, &answers)
     }
@@ -137,10 +145,12 @@ impl<C: Catalogue> Runner<C> {
         requires { HasKinds C.behaviour SimpleModule-box self.old.kernel }
         ensures kinds { HasKinds C.behaviour SimpleModule-box self.new.kernel }
         ensures kept { IsBesideKernel self.old self.new }
-        ensures stands { IfOk result (λ standing.
-            Stands C.behaviour (answers_of model.now) 0 (world_in SimpleModule-box self.new.kernel) standing) }
+        ensures stands { let left = world_in SimpleModule-box self.new.kernel in
+            let waiting = waiting_in SimpleModule-box self.new in
+            IfOk result (λ standing.
+            Stands C.behaviour (answers_of model.now) [] left waiting standing) }
         ensures wants { IfOk result (λ standing.
-            (phase : Phase) → IsUndeclined phase → Wants (answers_of model.now) 0 phase standing) }
+            (phase : Phase) → IsUndeclined phase → Wants (answers_of model.now) [] phase standing) }
     {
         match self.set_network_up(alloc, model)? {
             Some(outcome) => Ok(Standing::Over(outcome)),
@@ -153,14 +163,16 @@ impl<C: Catalogue> Runner<C> {
 
     /// The end of a run for one of whose modules there is no box.
     fn declined(&self, alloc: Global, model: &EvaluatedModel) -> Result<Standing, NoMemory>
-        requires declined { let world = world_in SimpleModule-box self.now.kernel in
-            IsDeclined C.behaviour (answers_of model.now) world }
-        ensures stands { IfOk result (λ standing.
-            Stands C.behaviour (answers_of model.now) 0 (world_in SimpleModule-box self.now.kernel) standing) }
-        ensures over { IfOk result (λ standing. Wants (answers_of model.now) 0 Phase.Declined standing) }
+        requires declined { let waiting = waiting_in SimpleModule-box self.now in
+            IsDeclined C.behaviour (answers_of model.now) (world_in SimpleModule-box self.now.kernel) waiting }
+        ensures stands { let world = world_in SimpleModule-box self.now.kernel in
+            let waiting = waiting_in SimpleModule-box self.now in
+            IfOk result (λ standing.
+            Stands C.behaviour (answers_of model.now) [] world waiting standing) }
+        ensures over { IfOk result (λ standing. Wants (answers_of model.now) [] Phase.Declined standing) }
     {
         let _model = model;
-        let request = self.kernel.missing(alloc)?.unwrap();
+        let request = self.kernel.missing(alloc, &self.waiting)?.unwrap();
         Ok(Standing::Over(Outcome::Fault(self.kernel.count(), request.path, Fault::UnknownClass)))
     }
 
@@ -172,16 +184,16 @@ impl<C: Catalogue> Runner<C> {
         phase: Phase,
     ) -> Result<Standing, NoMemory>
         requires live { let world = world_in SimpleModule-box self.old.kernel in
-            IsLive C.behaviour (answers_of model.now) world phase }
+            let waiting = waiting_in SimpleModule-box self.old in
+            IsLive C.behaviour (answers_of model.now) world waiting phase }
         requires kinds { HasKinds C.behaviour SimpleModule-box self.old.kernel }
         ensures kinds { HasKinds C.behaviour SimpleModule-box self.new.kernel }
         ensures kept { IsBesideKernel self.old self.new }
-        ensures stands { let world = world_in SimpleModule-box self.old.kernel in
-            let kept = kept_boxes phase (length world.modules) in
+        ensures stands { let kept = kept_boxes phase (boxes_in SimpleModule-box self.old) in
             let left = world_in SimpleModule-box self.new.kernel in
-            IfOk result (λ standing. Stands C.behaviour (answers_of model.now) kept left standing) }
-        ensures wants { let world = world_in SimpleModule-box self.old.kernel in
-            let kept = kept_boxes phase (length world.modules) in
+            let waiting = waiting_in SimpleModule-box self.new in
+            IfOk result (λ standing. Stands C.behaviour (answers_of model.now) kept left waiting standing) }
+        ensures wants { let kept = kept_boxes phase (boxes_in SimpleModule-box self.old) in
             IfOk result (λ standing. Wants (answers_of model.now) kept phase standing) }
     {
         match phase {
@@ -200,6 +212,32 @@ impl<C: Catalogue> Runner<C> {
         }
     }
 
+    /// Supplies the box of the module of that id, or hands it back where memory runs out. All that wait are of smaller ids.
+    pub fn supply(
+        &mut self,
+        id: u32,
+        held: Box<dyn SimpleModule>,
+    ) -> Result<(), AllocFailed<Box<dyn SimpleModule>>>
+        requires above { AreOfSmallerIds id (instances_held SimpleModule-box self.old.waiting) }
+        ensures kernel { self.new.kernel ≡ self.old.kernel }
+        ensures kept { IsBesideKernel self.old self.new }
+        ensures ok { let supplied : Seat = record { id = id; box = meaning held } in
+            OnOk result (waiting_in SimpleModule-box self.new
+            ≡ waiting_in SimpleModule-box self.old ++ supplied ∷ []) }
+        ensures err { OnErr result
+            (waiting_in SimpleModule-box self.new ≡ waiting_in SimpleModule-box self.old) }
+        ensures returned { IfErr result (λ failed. failed.value ≡ held) }
+    {
+        self.waiting.place(id, held)
+    }
+
+    /// How many boxes there are: those of the modules that were started, and those that wait.
+    pub fn held(&self) -> u128
+        ensures { result ≡ length (boxes_in SimpleModule-box self.now) }
+    {
+        self.kernel.held() as u128 + self.waiting.len() as u128
+    }
+
     // ---- positions
 
     /// Stores the position where the run stands, if it is due, and notes where that is. Where memory runs out the stored ones stay.
@@ -207,6 +245,7 @@ impl<C: Catalogue> Runner<C> {
         requires below { due ≡ true
             → AreBelow (world_in SimpleModule-box self.old.kernel).count self.old.positions.stored }
         ensures kept { self.new.kernel ≡ self.old.kernel }
+        ensures waiting { self.new.waiting ≡ self.old.waiting }
         ensures ok { let position = position_of (world_in SimpleModule-box self.old.kernel) in
             OnOk result (self.new.positions ≡ taken_if due position self.old.positions) }
         ensures stood { let count = (world_in SimpleModule-box self.old.kernel).count in
@@ -249,6 +288,7 @@ impl<C: Catalogue> Runner<C> {
             return Ok(None);
         };
         let start = position.count();
+        self.waiting.clear();
         self.stood = Stood::After(start);
         let back = self.kernel.go_back(alloc, position);
         self.positions.cut_after(start);
@@ -259,6 +299,7 @@ impl<C: Catalogue> Runner<C> {
     /// Gives up the positions after an event, or all of them.
     pub fn keep_up_to(&mut self, event: Option<u64>)
         ensures kernel { self.new.kernel ≡ self.old.kernel }
+        ensures waiting { self.new.waiting ≡ self.old.waiting }
         ensures positions { self.new.positions ≡ kept_up_to event self.old.positions }
     {
         match event {
@@ -273,6 +314,7 @@ impl<C: Catalogue> Runner<C> {
         requires { HasKinds C.behaviour SimpleModule-box self.old.kernel }
         ensures seats { seats_in SimpleModule-box self.new.kernel
             ≡ seats_in SimpleModule-box self.old.kernel }
+        ensures waiting { self.new.waiting ≡ self.old.waiting }
         ensures positions { self.new.positions ≡ self.old.positions }
         ensures stood { self.new.stood ≡ self.old.stood }
         ensures rising { AreRising self.old.positions.stored }
@@ -307,6 +349,7 @@ impl<C: Catalogue> Runner<C> {
         requires kinds { HasKinds C.behaviour SimpleModule-box self.old.kernel }
         ensures kinds { HasKinds C.behaviour SimpleModule-box self.new.kernel }
         ensures good { HasGood C.behaviour (answers_of model.now) SimpleModule-box self.new }
+        ensures waiting { self.new.waiting ≡ self.old.waiting }
         ensures begun { let from = (world_in SimpleModule-box self.old.kernel).count in
             OnErr result (HasBegun C.behaviour (answers_of model.now) limit from self.new.stood self.old.positions
             self.new.positions) }
@@ -343,6 +386,7 @@ impl<C: Catalogue> Runner<C> {
         requires kinds { HasKinds C.behaviour SimpleModule-box self.old.kernel }
         ensures kinds { HasKinds C.behaviour SimpleModule-box self.new.kernel }
         ensures good { HasGood C.behaviour (answers_of model.now) SimpleModule-box self.new }
+        ensures waiting { self.new.waiting ≡ self.old.waiting }
         ensures ran { IfOk result (λ outcome. fresh_run C.behaviour (answers_of model.now) limit
             ≡ ran_in SimpleModule-box outcome self.new.kernel) }
         ensures left { let from = (world_in SimpleModule-box self.old.kernel).count in
@@ -370,22 +414,23 @@ impl<C: Catalogue> Runner<C> {
         limit: u64,
         observer: &mut W,
     ) -> Result<Outcome, NoMemory>
-        requires ready { let world = world_in SimpleModule-box self.old.kernel in
-            On world ≡ ready C.behaviour (answers_of model.now) }
-        requires next { (world_in SimpleModule-box self.old.kernel).next ≡ 0 }
-        requires kinds { HasKinds C.behaviour SimpleModule-box self.old.kernel }
+        requires ready { let waiting = waiting_in SimpleModule-box self.old in
+            CanStart C.behaviour (answers_of model.now) (world_in SimpleModule-box self.old.kernel) waiting }
         requires none { IsBegun self.old.positions }
         requires stood { self.old.stood ≡ Stood.Before }
         ensures kinds { HasKinds C.behaviour SimpleModule-box self.new.kernel }
+        ensures none { waiting_in SimpleModule-box self.new ≡ [] }
         ensures good { HasGood C.behaviour (answers_of model.now) SimpleModule-box self.new }
         ensures ran { IfOk result (λ outcome. fresh_run C.behaviour (answers_of model.now) limit
             ≡ ran_in SimpleModule-box outcome self.new.kernel) }
+        ensures boxes { let left = boxes_in SimpleModule-box self.new in
+            OnOk result (left ≡ boxes_left C.behaviour (answers_of model.now) limit) }
         ensures left { OnOk result (counts_in self.new.positions
             ≡ positions_after C.behaviour (answers_of model.now) limit (counts_in self.old.positions)) }
         ensures stopped { HasStored C.behaviour (answers_of model.now) limit (counts_in self.old.positions)
             self.new.stood (counts_in self.new.positions) }
     {
-        match self.kernel.start(alloc, model)? {
+        match self.kernel.start(alloc, model, &mut self.waiting)? {
             Some(outcome) => self.kernel.finish(alloc, model, outcome),
             None => {
                 self.keep_if(alloc, true)?;
@@ -404,17 +449,18 @@ impl<C: Catalogue> Runner<C> {
         observer: &mut W,
     ) -> Result<Advance, NoMemory>
         requires live { let world = world_in SimpleModule-box self.old.kernel in
-            IsLive C.behaviour (answers_of model.now) world phase }
+            let waiting = waiting_in SimpleModule-box self.old in
+            IsLive C.behaviour (answers_of model.now) world waiting phase }
         requires kinds { HasKinds C.behaviour SimpleModule-box self.old.kernel }
         requires none { IsBegun self.old.positions }
         requires stood { self.old.stood ≡ Stood.Before }
         ensures kinds { HasKinds C.behaviour SimpleModule-box self.new.kernel }
         ensures good { HasGood C.behaviour (answers_of model.now) SimpleModule-box self.new }
-        ensures advances { let world = world_in SimpleModule-box self.old.kernel in
-            let kept = kept_boxes phase (length world.modules) in
+        ensures advances { let kept = kept_boxes phase (boxes_in SimpleModule-box self.old) in
             let left = world_in SimpleModule-box self.new.kernel in
+            let waiting = waiting_in SimpleModule-box self.new in
             IfOk result (λ advance.
-            Advances C.behaviour (answers_of model.now) limit kept phase (counts_in self.old.positions) left
+            Advances C.behaviour (answers_of model.now) limit kept phase (counts_in self.old.positions) left waiting
             (counts_in self.new.positions) advance) }
         ensures stopped { HasStored C.behaviour (answers_of model.now) limit (counts_in self.old.positions)
             self.new.stood (counts_in self.new.positions) }
@@ -441,16 +487,17 @@ impl<C: Catalogue> Runner<C> {
         observer: &mut W,
     ) -> Result<Advance, NoMemory>
         requires live { let world = world_in SimpleModule-box self.old.kernel in
-            IsLive C.behaviour (answers_of model.now) world phase }
+            let waiting = waiting_in SimpleModule-box self.old in
+            IsLive C.behaviour (answers_of model.now) world waiting phase }
         requires kinds { HasKinds C.behaviour SimpleModule-box self.old.kernel }
         requires good { HasGood C.behaviour (answers_of model.now) SimpleModule-box self.old }
         ensures kinds { HasKinds C.behaviour SimpleModule-box self.new.kernel }
         ensures good { HasGood C.behaviour (answers_of model.now) SimpleModule-box self.new }
-        ensures advances { let world = world_in SimpleModule-box self.old.kernel in
-            let kept = kept_boxes phase (length world.modules) in
+        ensures advances { let kept = kept_boxes phase (boxes_in SimpleModule-box self.old) in
             let left = world_in SimpleModule-box self.new.kernel in
+            let waiting = waiting_in SimpleModule-box self.new in
             IfOk result (λ advance.
-            Advances C.behaviour (answers_of model.now) limit kept phase (counts_in self.old.positions) left
+            Advances C.behaviour (answers_of model.now) limit kept phase (counts_in self.old.positions) left waiting
             (counts_in self.new.positions) advance) }
         ensures stopped { HasStored C.behaviour (answers_of model.now) limit (counts_in self.old.positions)
             self.new.stood (counts_in self.new.positions) }

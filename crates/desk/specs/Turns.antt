@@ -1,5 +1,5 @@
 -- What the desk answers, and what it keeps.
-use Rattle.std.specs.Prelude.{◌≡◌, ◌⊎◌, ℕ, List, Option, Some, None, codes}
+use Rattle.std.specs.Prelude.{◌≡◌, ◌⊎◌, ℕ, List, length, Option, Some, None, codes}
 use Rattle.module_api.specs.Behaviour.{Behaviour}
 use Rattle.models.specs.declared.model.Model.{Model}
 use Rattle.model_answers.specs.Answering.{answers_of}
@@ -10,8 +10,8 @@ use Rattle.command_lines.specs.Commands.{command_of}
 use Rattle.command_lines.specs.declared.commands.Command.{Command}
 use Rattle.command_lines.specs.declared.commands.Command.TheVariants as command
 use Rattle.saved_boxes.specs.Seats.{Members}
-use Rattle.edit_session.specs.Editing.{Editing, boxes_left, completed, IsGivenUp, WaitsFor}
-use Rattle.checkpointed_runs.specs.Running.{fresh_run}
+use Rattle.edit_session.specs.Editing.{Editing, completed, IsGivenUp, WaitsFor}
+use Rattle.checkpointed_runs.specs.Running.{boxes_left, fresh_run}
 use Rattle.checkpointed_runs.specs.Positions.{cut, events_behind, positions_after, start_of}
 use Rattle.checkpointed_runs.specs.declared.running.Phase.TheVariants.{Idle}
 use Rattle.edit_session.specs.Reuse.{IsValidTo}
@@ -53,7 +53,7 @@ run_answer b m limit old = answer_from b m limit (start_of limit old)
 -- A run to that limit is done: what is kept of it, and what it leaves.
 pub record IsDone (b : Behaviour) (before : Editing) (limit : ℕ) (after : Editing) : Type 0 where
   pub done : after.done ≡ Some (completed b before.model limit)
-  pub held : after.held ≡ boxes_left b before.model limit
+  pub boxes : after.boxes ≡ boxes_left b (answers_of before.model) limit
   pub known : after.known ≡ Some (fresh_run b (answers_of before.model) limit).world.count
   pub positions : after.positions ≡ positions_after b (answers_of before.model) limit before.positions
 
@@ -92,7 +92,7 @@ pub record IsRefused (m : Model) (e : Edit) (text : List ℕ) : Type 0 where
 abbrev pub AnswersEdit : Behaviour → Editing → Edit → List ℕ → Editing → Type 0
 AnswersEdit b before e text after =
     ((valid : Option ℕ) × IsMade b before.model before.known e text after.model valid
-    × (after ≡ record { model = after.model; done = None; phase = Idle; held = before.held; known = valid; positions = cut valid before.positions }))
+    × (after ≡ record { model = after.model; done = None; phase = Idle; boxes = before.boxes; known = valid; positions = cut valid before.positions }))
     ⊎ (IsRefused before.model e text × (after ≡ before))
 
 -- ---- lines
@@ -113,7 +113,7 @@ AnswersCommand b before (command.Run limit) answer after = IsRunTurn b before li
 AnswersCommand b before (command.Edit e) answer after = IsTextOf answer (λ text. AnswersEdit b before e text after)
 AnswersCommand b before (command.Ned number path) answer after = IsTextOf answer (λ text. text ≡ codes "refused Command") × (after ≡ before)
 AnswersCommand b before command.Positions answer after = IsTextOf answer (λ text. text ≡ positions_text before.positions.stored) × (after ≡ before)
-AnswersCommand b before command.Held answer after = IsTextOf answer (λ text. text ≡ held_text before.held) × (after ≡ before)
+AnswersCommand b before command.Held answer after = IsTextOf answer (λ text. text ≡ held_text (length before.boxes)) × (after ≡ before)
 AnswersCommand b before command.Write answer after = IsTextOf answer (λ text. text ≡ codes "refused Command") × (after ≡ before)
 AnswersCommand b before command.Unknown answer after = IsTextOf answer (λ text. text ≡ codes "refused Command") × (after ≡ before)
 AnswersCommand b before command.TooLarge answer after = IsTextOf answer (λ text. text ≡ codes "refused TooLarge") × (after ≡ before)

@@ -250,12 +250,13 @@ pub fn edited_text(
 }
 
 /// The text for `held`.
-pub fn held_text(alloc: Global, held: usize) -> Result<Text, AllocError>
+pub fn held_text(alloc: Global, held: u128) -> Result<Text, AllocError>
     ensures { IfOk result (λ text. text ≡ held_text held) }
 {
     let mut text = Vec::new(alloc);
     push(&mut text, b"held ")?;
-    push_number(&mut text, held as u64)?;
+    let mut digits = Digits::new();
+    push(&mut text, digits.format(held).as_bytes())?;
     Ok(Text::from_vec(text))
 }
 

@@ -1,7 +1,7 @@
 //! The desk.
 
-ghost use Rattle.std.specs.Prelude.{◌≡◌, ◌↔◌, ◌+◌, None, IsSome, OnOk, OnErr, IfOk, IfErr, option_map, option_copied};
-ghost use Rattle.edit_session.specs.Editing.{Completed, IsFor, IsUnknown, wanted_of};
+ghost use Rattle.std.specs.Prelude.{◌≡◌, ◌↔◌, None, IsSome, length, OnOk, OnErr, IfOk, IfErr, option_map, option_copied};
+ghost use Rattle.edit_session.specs.Editing.{Completed, IsFor, IsUnknown, wanted_of, with_box};
 ghost use Rattle.edit_session.specs.Files.{scalars_of_run, vectors_of_run, FileWritten};
 ghost use Rattle.edit_session.specs.Sessions.{editing_of, IsSound};
 ghost use Rattle.checkpointed_runs.specs.declared.running.Phase.{Phase};
@@ -190,7 +190,7 @@ impl<C: Catalogue> Desk<C> {
         ensures sound { IsSettled C.behaviour SimpleModule-box self.new }
         ensures ok { let editing = editing_at SimpleModule-box self.old in
             OnOk result (IsSome (wanted_of editing)
-            × (editing_at SimpleModule-box self.new ≡ record editing { held = editing.held + 1 })) }
+            × (editing_at SimpleModule-box self.new ≡ with_box editing)) }
         ensures err { let editing = editing_at SimpleModule-box self.old in
             IfErr result (λ fault. (fault.held ≡ held)
             × (editing_at SimpleModule-box self.new ≡ editing)
@@ -232,7 +232,7 @@ impl<C: Catalogue> Desk<C> {
     /// Answers how many boxes there are.
     pub fn held(&self) -> Result<Answer, NoMemory>
         ensures text { let editing = editing_at SimpleModule-box self.now in
-            IfOk result (λ answer. answer.text ≡ held_text editing.held) }
+            IfOk result (λ answer. answer.text ≡ held_text (length editing.boxes)) }
         ensures told { IfOk result (λ answer. IsTold answer.told answer.text) }
     {
         Ok(Answer {

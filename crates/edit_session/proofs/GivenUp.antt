@@ -33,9 +33,9 @@ known_cut b m ss w u p h e =
       agrees = agrees_itself p.count m u.records u.questions;
     }
 
-cut_kept : (b : Behaviour) (m : Model) (ss : List Seat) (w u : World) (ps : Timeline Position) (last : Option Position) → last_of ps.stored ≡ last → AreOfKinds b ss → AreGood b (answers_of m) ss w ps.stored → AreRising ps.stored
-    → CanBeStored (counts_in ps) → u ≡ cut_to_last last w → IsKept b ss u m Idle None (option_map (λ (p : Position). p.count) last) ps
-cut_kept b m ss w u ps None l kinds good rising stored e = record {
+cut_kept : (b : Behaviour) (m : Model) (ss xs : List Seat) (w u : World) (ps : Timeline Position) (last : Option Position) → last_of ps.stored ≡ last → AreOfKinds b ss → AreGood b (answers_of m) ss w ps.stored → AreRising ps.stored
+    → CanBeStored (counts_in ps) → u ≡ cut_to_last last w → IsKept b ss xs u m Idle None (option_map (λ (p : Position). p.count) last) ps
+cut_kept b m ss xs w u ps None l kinds good rising stored e = record {
   kinds = kinds;
   live = tt;
   left = tt;
@@ -44,7 +44,7 @@ cut_kept b m ss w u ps None l kinds good rising stored e = record {
   good = subst (λ (x : World). AreGood b (answers_of m) ss x ps.stored) (sym e) good;
   stored = stored;
 }
-cut_kept b m ss w u ps (Some p) l kinds good rising stored e =
+cut_kept b m ss xs w u ps (Some p) l kinds good rising stored e =
     let h : IsGood b (answers_of m) ss w p = good_last b (answers_of m) ss w ps.stored p good l in
     let cut : u ≡ cut_to (lengths_of h.world) w = e ∙ ap (λ (q : Position). cut_to q.lengths w) h.position in
     record {
@@ -58,11 +58,11 @@ cut_kept b m ss w u ps (Some p) l kinds good rising stored e =
     }
 
 -- WHAT A SESSION KEEPS of a run that is given up
-pub kept_given_up : (b : Behaviour) (m : Model) (ss : List Seat) (w u : World) (ps : Timeline Position) → AreOfKinds b ss → AreGood b (answers_of m) ss w ps.stored → AreRising ps.stored → CanBeStored (counts_in ps) → u ≡ cut_to_last (last_of ps.stored) w
-    → IsKept b ss u m Idle None (last_count (counts_of ps.stored)) ps
-kept_given_up b m ss w u ps kinds good rising stored e =
-    subst (λ k. IsKept b ss u m Idle None k ps) (sym (last_count_is ps.stored)) (cut_kept b m ss w u ps (last_of ps.stored) refl kinds good rising stored e)
+pub kept_given_up : (b : Behaviour) (m : Model) (ss xs : List Seat) (w u : World) (ps : Timeline Position) → AreOfKinds b ss → AreGood b (answers_of m) ss w ps.stored → AreRising ps.stored → CanBeStored (counts_in ps) → u ≡ cut_to_last (last_of ps.stored) w
+    → IsKept b ss xs u m Idle None (last_count (counts_of ps.stored)) ps
+kept_given_up b m ss xs w u ps kinds good rising stored e =
+    subst (λ k. IsKept b ss xs u m Idle None k ps) (sym (last_count_is ps.stored)) (cut_kept b m ss xs w u ps (last_of ps.stored) refl kinds good rising stored e)
 
-pub kept_cut : (b : Behaviour) (m : Model) (ss ts : List Seat) (w u : World) (ps qs : Timeline Position) (known : Option ℕ) → ts ≡ ss → qs ≡ ps → known ≡ last_count (counts_of ps.stored)
-    → AreOfKinds b ss → AreGood b (answers_of m) ss w ps.stored → AreRising ps.stored → CanBeStored (counts_in ps) → u ≡ cut_to_last (last_of ps.stored) w → IsKept b ts u m Idle None known qs
-kept_cut b m ss ts w u ps qs known t q k kinds good rising stored e = rw (t, q, k) (kept_given_up b m ss w u ps kinds good rising stored e)
+pub kept_cut : (b : Behaviour) (m : Model) (ss ts xs : List Seat) (w u : World) (ps qs : Timeline Position) (known : Option ℕ) → ts ≡ ss → qs ≡ ps → known ≡ last_count (counts_of ps.stored)
+    → AreOfKinds b ss → AreGood b (answers_of m) ss w ps.stored → AreRising ps.stored → CanBeStored (counts_in ps) → u ≡ cut_to_last (last_of ps.stored) w → IsKept b ts xs u m Idle None known qs
+kept_cut b m ss ts xs w u ps qs known t q k kinds good rising stored e = rw (t, q, k) (kept_given_up b m ss xs w u ps kinds good rising stored e)

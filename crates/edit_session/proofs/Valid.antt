@@ -1,5 +1,5 @@
 -- Up to which event a run stays valid.
-use Rattle.std.proofs.Common.{◌≡◌, ◌≤◌, ◌<◌, ℕ, List, [], ◌∷◌, Option, Some, None, Result, Ok, Err, IfOk, refl, sym, ap, ◌∙◌, arith, subst}
+use Rattle.std.proofs.Common.{◌≡◌, ◌≤◌, ◌<◌, ℕ, List, [], ◌∷◌, ◌++◌, Option, Some, None, Result, Ok, Err, IfOk, refl, sym, ap, ◌∙◌, arith, subst}
 use Rattle.sim_values.specs.declared.NoMemory.{NoMemory}
 use Rattle.module_api.specs.Behaviour.{Behaviour}
 use Rattle.module_api.specs.Laws.{IsLawful}
@@ -11,7 +11,7 @@ use Rattle.run_questions.specs.declared.record.Record.{Record}
 use Rattle.run_semantics.specs.declared.outcome.Outcome.{Outcome}
 use Rattle.run_semantics.specs.Agreement.{AgreesUpTo, IsAgreement}
 use Rattle.run_semantics.specs.Ending.{ending}
-use Rattle.run_semantics.specs.Run.{Stage, IsReached, after, run_to, world_at}
+use Rattle.run_semantics.specs.Run.{Part, Ran, Stage, IsReached, after, run_to, standing, world_at}
 use Rattle.run_semantics.specs.World.{World}
 use Rattle.run_semantics.proofs.Agreeing.{shorter_agrees, longer_agrees}
 use Rattle.run_semantics.proofs.Closing.{ending_closed}
@@ -25,14 +25,18 @@ use Rattle.checkpointed_runs.specs.declared.running.Phase.{Phase}
 use Rattle.checkpointed_runs.specs.declared.running.Phase.TheVariants.{Idle}
 use Rattle.edit_session.specs.declared.session.Change.{Change}
 use Rattle.checkpoints.specs.Stored.{begun, counts_in, Timeline}
-use Rattle.checkpointed_runs.specs.Positions.{cut, CanBeStored, begins, is_cut}
-use Rattle.edit_session.specs.Editing.{Completed, Editing, edited_by, files_in, IsKept}
-use Rattle.checkpointed_runs.specs.Running.{whole_run}
+use Rattle.checkpointed_runs.specs.Positions.{cut, events_behind, start_of, CanBeStored, begins, is_cut}
+use Rattle.edit_session.specs.Editing.{Completed, Editing, edited_by, files_in, IsFreshRun, IsKept}
+use Rattle.edit_session.specs.declared.session.Report.{Report}
+use Rattle.checkpointed_runs.specs.Running.{fresh_run, kept_boxes, parts_in, whole_run, IsEnded}
 use Rattle.checkpointed_runs.proofs.Whole.{stopped_world}
 use Rattle.checkpointed_runs.proofs.Counting.{kept_counts}
 use Rattle.edit_session.specs.Reuse.{IsValidTo, IsAskedUpTo, IsKnown}
 
 -- ---- a run that is done
+
+abbrev completed_with : ℕ → Outcome → ResultFiles → Completed
+completed_with limit outcome files = record { limit = limit; outcome = outcome; files = files }
 
 -- each model agrees with itself
 pub agrees_itself : (v : ℕ) (m : Answers) (rs : List Record) (qs : List Asked) → AgreesUpTo v m m rs qs
@@ -129,9 +133,9 @@ known_of b m n w known last (Err error) e h a = tt
 known_of b m n w known last (Ok found) e h a = known_edited b m n w last found (subst (IsKnown b m w) e h) a
 
 -- what is kept of a run that is done
-pub kept_done : (b : Behaviour) (ss : List Seat) (w : World) (m : Model) (limit : ℕ) (outcome : Outcome) (files : ResultFiles) (known : ℕ) (ps : Timeline Position) → AreOfKinds b ss → whole_run b (answers_of m) limit w outcome
-    → files ≡ files_in m w → known ≡ w.count → AreGood b (answers_of m) ss w ps.stored → CanBeStored (counts_in ps) → IsKept b ss w m Idle (Some (record { limit = limit; outcome = outcome; files = files })) (Some known) ps
-kept_done b ss w m limit outcome files known ps kinds whole e n good stored = record {
+pub kept_done : (b : Behaviour) (ss xs : List Seat) (w : World) (m : Model) (limit : ℕ) (outcome : Outcome) (files : ResultFiles) (known : ℕ) (ps : Timeline Position) → AreOfKinds b ss → whole_run b (answers_of m) limit w outcome
+    → files ≡ files_in m w → known ≡ w.count → AreGood b (answers_of m) ss w ps.stored → CanBeStored (counts_in ps) → IsKept b ss xs w m Idle (Some (record { limit = limit; outcome = outcome; files = files })) (Some known) ps
+kept_done b ss xs w m limit outcome files known ps kinds whole e n good stored = record {
   kinds = kinds;
   live = tt;
   left = (whole, e);
@@ -141,9 +145,34 @@ kept_done b ss w m limit outcome files known ps kinds whole e n good stored = re
   stored = stored;
 }
 
+-- what it tells, and what callers see of it
+pub fresh_done : (b : Behaviour) (before after : Editing) (limit : ℕ) (report : Report) (w : World) (waiting : List Seat) (new : Timeline ℕ) (start : Option ℕ) (outcome : Outcome) (files : ResultFiles) (count : ℕ)
+    → IsEnded b (answers_of before.model) limit (kept_boxes before.phase before.boxes) before.phase before.positions w waiting new start outcome
+    → report ≡ record { outcome = outcome; started_from = start; executed = events_behind start count } → files ≡ files_in before.model w → count ≡ w.count
+    → after.done ≡ Some (record { limit = limit; outcome = outcome; files = files }) → after.boxes ≡ standing w.modules ++ parts_in waiting → after.known ≡ Some count → after.positions ≡ new
+    → IsFreshRun b before limit report after
+fresh_done b before after limit report w waiting new start outcome files count h told written n d boxes known positions =
+    let m : Answers = answers_of before.model in
+    let world : w ≡ (fresh_run b m limit).world = sym (ap (λ (r : Ran). r.world) h.whole) in
+    let ended : outcome ≡ (fresh_run b m limit).outcome = sym (ap (λ (r : Ran). r.outcome) h.whole) in
+    let counted : count ≡ (fresh_run b m limit).world.count = n ∙ ap (λ (v : World). v.count) world in
+    record {
+      outcome = ap (λ (r : Report). r.outcome) told ∙ ended;
+      started_from = ap (λ (r : Report). r.started_from) told ∙ h.start;
+      executed = ap (λ (r : Report). r.executed) told ∙ ap (λ s. events_behind s count) h.start ∙ ap (events_behind (start_of limit before.positions.stored)) counted;
+      done = d ∙ ap Some (completed_is limit outcome (fresh_run b m limit).outcome files (files_in before.model (fresh_run b m limit).world) ended (written ∙ ap (files_in before.model) world));
+      boxes = boxes ∙ h.boxes;
+      known = known ∙ ap Some counted;
+      positions = positions ∙ h.positions;
+      needs_none = h.needs_none;
+    }
+  where
+    completed_is : (limit : ℕ) (o p : Outcome) (f g : ResultFiles) → o ≡ p → f ≡ g → completed_with limit o f ≡ completed_with limit p g
+    completed_is limit o p f g e d = ap (λ x. completed_with limit x f) e ∙ ap (completed_with limit p) d
+
 -- what is kept without a run
-pub kept_begun : (b : Behaviour) (ss : List Seat) (w : World) (m : Model) (interval : ℕ) (ps : Timeline Position) → 1 ≤ interval → AreOfKinds b ss → ps ≡ begun interval → IsKept b ss w m Idle None None ps
-kept_begun b ss w m interval ps some kinds e = rw e (record {
+pub kept_begun : (b : Behaviour) (ss xs : List Seat) (w : World) (m : Model) (interval : ℕ) (ps : Timeline Position) → 1 ≤ interval → AreOfKinds b ss → ps ≡ begun interval → IsKept b ss xs w m Idle None None ps
+kept_begun b ss xs w m interval ps some kinds e = rw e (record {
   kinds = kinds;
   live = tt;
   left = tt;
@@ -154,9 +183,9 @@ kept_begun b ss w m interval ps some kinds e = rw e (record {
 })
 
 -- what is kept after an accepted edit
-pub kept_edited : (b : Behaviour) (ss ts : List Seat) (w u : World) (m n : Model) (phase : Phase) (done : Option Completed) (known valid : Option ℕ) (ps qs : Timeline Position) → IsKept b ss w m phase done known ps → ts ≡ ss → u ≡ w → qs ≡ kept_up_to valid ps
-    → IsKnown b (answers_of n) w valid → AreGood b (answers_of n) ss w (kept_up_to valid ps).stored → IsKept b ts u n Idle None valid qs
-kept_edited b ss ts w u m n phase last known valid ps qs kept t e q asked good = rw (t, e, q) (record {
+pub kept_edited : (b : Behaviour) (ss ts ws xs : List Seat) (w u : World) (m n : Model) (phase : Phase) (done : Option Completed) (known valid : Option ℕ) (ps qs : Timeline Position) → IsKept b ss ws w m phase done known ps → ts ≡ ss → u ≡ w → qs ≡ kept_up_to valid ps
+    → IsKnown b (answers_of n) w valid → AreGood b (answers_of n) ss w (kept_up_to valid ps).stored → IsKept b ts xs u n Idle None valid qs
+kept_edited b ss ts ws xs w u m n phase last known valid ps qs kept t e q asked good = rw (t, e, q) (record {
   kinds = kept.kinds;
   live = tt;
   left = tt;
@@ -167,6 +196,6 @@ kept_edited b ss ts w u m n phase last known valid ps qs kept t e q asked good =
 })
 
 -- what an accepted edit leaves
-pub edited_same : (before : Editing) (change : Change) (held : ℕ) (positions : Timeline ℕ) → held ≡ before.held → positions ≡ cut change.edited.valid_to before.positions
-    → record { model = change.model; done = None; phase = Idle; held = held; known = change.edited.valid_to; positions = positions } ≡ edited_by before change
-edited_same before change held positions h p = rw (h, p) refl
+pub edited_same : (before : Editing) (change : Change) (boxes : List Part) (positions : Timeline ℕ) → boxes ≡ before.boxes → positions ≡ cut change.edited.valid_to before.positions
+    → record { model = change.model; done = None; phase = Idle; boxes = boxes; known = change.edited.valid_to; positions = positions } ≡ edited_by before change
+edited_same before change boxes positions h p = rw (h, p) refl

@@ -1,12 +1,12 @@
 -- What a session keeps.
-use Rattle.std.specs.Prelude.{◌≡◌, ◌⊎◌, ◌≤◌, ◌<◌, ◌^◌, ℕ, false, List, [], Option, Some, None, length}
+use Rattle.std.specs.Prelude.{◌≡◌, ◌⊎◌, ◌≤◌, ◌<◌, ◌^◌, ℕ, false, List, [], ◌∷◌, ◌++◌, Option, Some, None}
 use Rattle.module_api.specs.Behaviour.{Behaviour}
 use Rattle.module_api.specs.Meaning.{Module, IsFresh}
 use Rattle.models.specs.declared.model.Model.{Model}
 use Rattle.model_answers.specs.Answering.{answers_of}
 use Rattle.run_semantics.specs.declared.outcome.Outcome.{Outcome}
 use Rattle.run_semantics.specs.World.{World}
-use Rattle.run_semantics.specs.Run.{start}
+use Rattle.run_semantics.specs.Run.{Part}
 use Rattle.model_edits.specs.declared.edit.Edit.{Edit}
 use Rattle.model_edits.specs.Edited.{number_given, IsEditOf, IsOnlyEditOf}
 use Rattle.result_files.specs.declared.files.ResultFiles.{ResultFiles}
@@ -25,7 +25,7 @@ use Rattle.edit_session.specs.declared.session.Report.{Report}
 use Rattle.checkpointed_runs.specs.Kept.{AreGood}
 use Rattle.checkpointed_runs.specs.declared.running.Stood.{Stood}
 use Rattle.checkpointed_runs.specs.Positions.{cut, events_behind, last_count, positions_after, start_of, HasStored, CanBeStored}
-use Rattle.checkpointed_runs.specs.Running.{fresh_run, kept_boxes, needed_by, wanted_by, whole_run, IsLive, IsUndeclined}
+use Rattle.checkpointed_runs.specs.Running.{boxes_left, fresh_run, kept_boxes, needed_by, wanted_by, whole_run, IsLive, IsUndeclined}
 use Rattle.edit_session.specs.Reuse.{IsKnown, IsValidTo}
 
 -- a run that is done: its limit, its outcome, and what is known of its result files before they are written
@@ -44,33 +44,37 @@ completed b m limit =
     let ran = fresh_run b (answers_of m) limit in
     record { limit = limit; outcome = ran.outcome; files = files_in m ran.world }
 
--- how many boxes it leaves: one for each of its simple modules
-abbrev pub boxes_left : Behaviour → Model → ℕ → ℕ
-boxes_left b m limit = length (fresh_run b (answers_of m) limit).world.modules
-
--- what callers see of a session: the model; the last run, where it is done; where a run stands that isn't; how many boxes it holds; the last
--- event of a run of the model whose questions are known, where there is one; and the positions that are stored, by their counts of events, with the
--- interval
+-- what callers see of a session: the model; the last run, where it is done; where a run stands that isn't; the modules whose boxes it holds, by their
+-- ids and kinds; the last event of a run of the model whose questions are known, where there is one; and the positions that are stored, by their counts
+-- of events, with the interval
 pub record Editing : Type 0 where
   pub model : Model
   pub done : Option Completed
   pub phase : Phase
-  pub held : ℕ
+  pub boxes : List Part
   pub known : Option ℕ
   pub positions : Timeline ℕ
 
 -- what a session waits for
-abbrev pub waited_for : Phase → Model → ℕ → Option Request
-waited_for Waiting m held = wanted_by (answers_of m) held
-waited_for Idle m held = None
-waited_for Declined m held = None
+abbrev pub waited_for : Phase → Model → List Part → Option Request
+waited_for Waiting m boxes = wanted_by (answers_of m) boxes
+waited_for Idle m boxes = None
+waited_for Declined m boxes = None
 
 abbrev pub wanted_of : Editing → Option Request
-wanted_of e = waited_for e.phase e.model e.held
+wanted_of e = waited_for e.phase e.model e.boxes
+
+-- the boxes after one more is supplied: that of the module that it was asked for
+abbrev pub with_wanted : Option Request → List Part → List Part
+with_wanted None boxes = boxes
+with_wanted (Some r) boxes = boxes ++ record { id = r.id; kind = r.kind } ∷ []
+
+abbrev pub with_box : Editing → Editing
+with_box e = record e { boxes = with_wanted (wanted_of e) e.boxes }
 
 -- the box that a run to that limit needs first
 abbrev pub needed : Editing → ℕ → Option Request
-needed e limit = needed_by (answers_of e.model) (start_of limit e.positions.stored) (kept_boxes e.phase e.held)
+needed e limit = needed_by (answers_of e.model) (start_of limit e.positions.stored) (kept_boxes e.phase e.boxes)
 
 -- ---- what it keeps
 
@@ -87,9 +91,9 @@ IsUndone Waiting last known ps = (last ≡ None) × (known ≡ None) × IsBegun 
 IsUndone Declined last known ps = (last ≡ None) × (known ≡ None) × IsBegun ps
 
 -- all that a session keeps
-pub record IsKept (b : Behaviour) (seats : List Seat) (w : World) (m : Model) (phase : Phase) (done : Option Completed) (known : Option ℕ) (ps : Timeline Position) : Type 0 where
+pub record IsKept (b : Behaviour) (seats waiting : List Seat) (w : World) (m : Model) (phase : Phase) (done : Option Completed) (known : Option ℕ) (ps : Timeline Position) : Type 0 where
   pub kinds : AreOfKinds b seats
-  pub live : IsLive b (answers_of m) w phase
+  pub live : IsLive b (answers_of m) w waiting phase
   pub left : IsLeft b m w done
   pub undone : IsUndone phase done known ps
   pub asked : IsKnown b (answers_of m) w known
@@ -115,7 +119,7 @@ pub record IsFreshRun (b : Behaviour) (before : Editing) (limit : ℕ) (report :
   pub started_from : report.started_from ≡ start_of limit before.positions.stored
   pub executed : report.executed ≡ events_behind (start_of limit before.positions.stored) (fresh_run b (answers_of before.model) limit).world.count
   pub done : after.done ≡ Some (completed b before.model limit)
-  pub held : after.held ≡ boxes_left b before.model limit
+  pub boxes : after.boxes ≡ boxes_left b (answers_of before.model) limit
   pub known : after.known ≡ Some (fresh_run b (answers_of before.model) limit).world.count
   pub positions : after.positions ≡ positions_after b (answers_of before.model) limit before.positions
   pub needs_none : (before.phase ≡ Declined) ⊎ (needed before limit ≡ None)
@@ -125,8 +129,8 @@ pub record IsFreshRun (b : Behaviour) (before : Editing) (limit : ℕ) (report :
 pub record WaitsFor (before : Editing) (limit : ℕ) (request : Request) (after : Editing) : Type 0 where
   pub undeclined : IsUndeclined before.phase
   pub start : start_of limit before.positions.stored ≡ None
-  pub wanted : wanted_by (answers_of before.model) (kept_boxes before.phase before.held) ≡ Some request
-  pub waits : after ≡ record { model = before.model; done = None; phase = Waiting; held = kept_boxes before.phase before.held; known = None; positions = cut None before.positions }
+  pub wanted : wanted_by (answers_of before.model) (kept_boxes before.phase before.boxes) ≡ Some request
+  pub waits : after ≡ record { model = before.model; done = None; phase = Waiting; boxes = kept_boxes before.phase before.boxes; known = None; positions = cut None before.positions }
 
 -- the last number that was used, where one was given
 abbrev pub last_used : ℕ → Option ℕ → Option ℕ
@@ -148,7 +152,7 @@ edited_by before change = record {
   model = change.model;
   done = None;
   phase = Idle;
-  held = before.held;
+  boxes = before.boxes;
   known = change.edited.valid_to;
   positions = cut change.edited.valid_to before.positions;
 }
@@ -171,7 +175,7 @@ pub record IsGivenUp (b : Behaviour) (before : Editing) (limit : ℕ) (after : E
 
 -- a session of that model, without a run
 abbrev pub fresh_editing : Model → ℕ → Editing
-fresh_editing m interval = record { model = m; done = None; phase = Idle; held = 0; known = None; positions = begun interval }
+fresh_editing m interval = record { model = m; done = None; phase = Idle; boxes = []; known = None; positions = begun interval }
 
 abbrev pub IfDone : Progress → (Report → Type 0) → Type 0
 IfDone (progress.Want request) P = Unit {0}

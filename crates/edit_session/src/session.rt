@@ -1,6 +1,6 @@
 //! A session.
 
-ghost use Rattle.std.specs.Prelude.{◌≡◌, ◌↔◌, ◌+◌, ◌≤◌, true, Some, None, IsSome, OnOk, OnErr, IfOk, IfErr, length, option_map, option_copied};
+ghost use Rattle.std.specs.Prelude.{◌≡◌, ◌↔◌, ◌≤◌, true, Some, None, IsSome, OnOk, OnErr, IfOk, IfErr, length, option_map, option_copied};
 ghost use Rattle.sim_values.specs.Memory.{no_memory};
 ghost use Rattle.models.specs.declared.model.Model.{Model};
 ghost use Rattle.model_answers.specs.Answering.{answers_of};
@@ -10,7 +10,7 @@ ghost use Rattle.result_lines.specs.VectorText.{vector_text};
 ghost use Rattle.model_texts.specs.Models.{IsModelOf, IsRuledOut, Refuses};
 ghost use Rattle.model_edits.specs.Edited.{number_given, IsRuledOut as IsEditRuledOut, Refuses as RefusesEdit};
 ghost use Rattle.edit_session.specs.Files.{scalars_of_run, vectors_of_run, FileWritten, TextWritten};
-ghost use Rattle.edit_session.specs.Editing.{Completed, edited_by, fresh_editing, last_used, wanted_of, IfDone, IfWant, IsAccepted, IsFor, IsFreshRun, IsGivenUp, IsUnknown, WaitsFor};
+ghost use Rattle.edit_session.specs.Editing.{Completed, edited_by, fresh_editing, last_used, wanted_of, with_box, IfDone, IfWant, IsAccepted, IsFor, IsFreshRun, IsGivenUp, IsUnknown, WaitsFor};
 ghost use Rattle.checkpointed_runs.specs.Kept.{kept_up_to, AreGood, HasGood};
 ghost use Rattle.checkpointed_runs.specs.Positions.{events_behind, starts_within, HasStored};
 ghost use Rattle.kernel.specs.declared.request.Request.{Request};
@@ -189,6 +189,7 @@ impl<C: Catalogue> Session<C> {
             // did not take.
             runner: Runner {
                 kernel: Kernel::new(alloc, Tree::new(alloc)),
+                waiting: Tree::new(alloc),
                 positions: Positions::new(alloc, interval),
                 stood: Stood::Before,
                 holds: PhantomData,
@@ -454,7 +455,7 @@ impl<C: Catalogue> Session<C> {
         ensures sound { IsSound C.behaviour SimpleModule-box self.new }
         ensures ok { let editing = editing_of SimpleModule-box self.old in
             OnOk result (IsSome (wanted_of editing)
-            × (editing_of SimpleModule-box self.new ≡ record editing { held = editing.held + 1 })) }
+            × (editing_of SimpleModule-box self.new ≡ with_box editing)) }
         ensures err { let editing = editing_of SimpleModule-box self.old in
             IfErr result (λ fault. (fault.held ≡ held)
             × (editing_of SimpleModule-box self.new ≡ editing)
@@ -465,7 +466,7 @@ impl<C: Catalogue> Session<C> {
                 held,
                 reason: SupplyReason::NotWanted,
             }),
-            Some(id) => match self.runner.kernel.supply(id, held) {
+            Some(id) => match self.runner.supply(id, held) {
                 Ok(()) => Ok(()),
                 Err(failed) => Err(no_room_for(failed)),
             },
@@ -502,7 +503,7 @@ impl<C: Catalogue> Session<C> {
             result ≡ option_map (λ (r : Request). r.id) (wanted_of editing) }
     {
         match self.phase {
-            Phase::Waiting => self.runner.kernel.missing_id(),
+            Phase::Waiting => self.runner.kernel.missing_id(&self.runner.waiting),
             _ => None,
         }
     }
@@ -555,10 +556,10 @@ impl<C: Catalogue> Session<C> {
     }
 
     /// How many boxes the session holds.
-    pub fn held(&self) -> usize
-        ensures { result ≡ (editing_of SimpleModule-box self.now).held }
+    pub fn held(&self) -> u128
+        ensures { result ≡ length (editing_of SimpleModule-box self.now).boxes }
     {
-        self.runner.kernel.held()
+        self.runner.held()
     }
 
     /// How the last run ended, where one is done.

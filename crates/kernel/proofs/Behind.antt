@@ -1,13 +1,16 @@
 -- The first module of a greater id than all that have boxes.
 use Rattle.std.proofs.Common.{◌≡◌, ℕ, zero, suc, ◌+◌, ◌≤◌, ◌<◌, nat_lt, true, false, List, [], ◌∷◌, Option, Some, None, refl, sym, ap, ◌∙◌, arith, map, length, slice_get, drop, take, unwrap_or, if◌then◌else◌}
 use Rattle.std.proofs.lemmas.Bool.Decides.{nat_tests}
+use Rattle.std.proofs.lemmas.List.{length-map}
 use Rattle.module_api.specs.Meaning.{Module}
 use Rattle.module_tree.specs.Boxes.{Seated, AreRising, last_after, last_id}
 use Rattle.run_questions.specs.declared.record.Record.{Record}
 use Rattle.run_semantics.specs.Run.{Part, standing, with_class, parts_from}
 use Rattle.saved_boxes.specs.Seats.{instance_of}
 use Rattle.saved_boxes.proofs.Seating.{seat}
+use Rattle.kernel.specs.Seats.{first_without}
 use Rattle.kernel.proofs.Rising.{Rise}
+use Rattle.kernel.proofs.Waiting.{wanted_next}
 
 -- the first part of a greater id
 abbrev behind : ℕ → List Part → Option Part
@@ -95,3 +98,14 @@ module _ {A : Type 0} (means : A → Module) where
       ∙ ap (λ i. behind i (parts_from 1 rs)) (last_or ss ∙ sym is)
       ∙ left_behind 0 last last rs (omega arith)
       ∙ ap (λ i. slice_get (parts_from i (drop last rs)) 0) step)
+
+  -- THE NEXT MODULE that is wanted, where the boxes are those of the first parts
+  pub next_missing : (rs : List Record) (above last : ℕ) (ss : List (Seated A)) → AreRising 0 above ss → standing (map instance_of (map (seat means) ss)) ≡ take (length (map (seat means) ss)) (parts_from 1 rs) → last ≡ unwrap_or (last_id ss) 0
+      → slice_get (parts_from (last + 1) (drop last rs)) 0 ≡ first_without (standing (map instance_of (map (seat means) ss))) (parts_from 1 rs)
+  next_missing rs above last ss q first is =
+      let n : ℕ = length (map (seat means) ss) in
+      let same : length (map instance_of (map (seat means) ss)) ≡ n = length-map (map (seat means) ss) instance_of in
+      next_part rs above last ss q (first ∙ sym (ap (λ k. take k (parts_from 1 rs)) same)) is
+      ∙ ap (slice_get (parts_from 1 rs)) same
+      ∙ sym (wanted_next (1 + length rs) n (parts_from 1 rs) (parts_rise 1 (1 + length rs) rs (omega arith)))
+      ∙ ap (λ held. first_without held (parts_from 1 rs)) (sym first)

@@ -6,6 +6,7 @@ pub mod Rising
 pub mod Starting
 pub mod Targets
 pub mod Upcoming
+pub mod Waiting
 pub mod Shown
 mod Following
 pub mod Sendings

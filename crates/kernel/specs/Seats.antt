@@ -1,13 +1,15 @@
 -- The world that a core and its boxes make.
-use Rattle.std.specs.Prelude.{◌≡◌, ℕ, Bool, false, bytes_eq, List, Option, Some, None, option_map, Result, map, length, slice_get, take}
+use Rattle.std.specs.Prelude.{◌≡◌, ℕ, ◌==◌, Bool, false, bytes_eq, List, [], ◌∷◌, Option, Some, None, option_map, Result, map, length, take, if◌then◌else◌}
+use Rattle.std.specs.List.{list_any}
 use Rattle.sim_values.specs.declared.NoMemory.{NoMemory}
 use Rattle.module_api.specs.declared.call.Call.{Call}
 use Rattle.module_api.specs.declared.reply.Reply.{Reply}
-use Rattle.module_api.specs.Meaning.{Module, Answered, IsSameModule}
+use Rattle.module_api.specs.Behaviour.{Behaviour}
+use Rattle.module_api.specs.Meaning.{Module, Answered, IsFresh, IsSameModule}
 use Rattle.run_questions.specs.declared.record.Record.{Record}
 use Rattle.run_questions.specs.Records.{path_of}
 use Rattle.run_semantics.specs.World.{World}
-use Rattle.run_semantics.specs.Run.{Part, parts_of, standing}
+use Rattle.run_semantics.specs.Run.{Part, needs, parts_of}
 use Rattle.saved_boxes.specs.Seats.{Seat, instance_of, module_in, with_module}
 use Rattle.kernel.specs.declared.request.Request.{Request}
 
@@ -29,10 +31,6 @@ abbrev pub IsServed : ℕ → List Seat → List Seat → Call → Option (Resul
 IsServed id old new call None = (module_in id old ≡ None) × (new ≡ old)
 IsServed id old new call (Some result) = IsCalled id old new call result
 
--- the modules that have boxes are the first of the simple modules: they get them by rising ids
-abbrev pub AreFirst : World → Type 0
-AreFirst w = standing w.modules ≡ take (length w.modules) (parts_of w)
-
 -- whether the module of that id has a box, and stands at a path
 abbrev pub stands_at : List Record → List ℕ → ℕ → Option Module → Bool
 stands_at records path id None = false
@@ -47,9 +45,35 @@ stages_of (Some box) = Some box.naming.stages
 abbrev pub request_for : World → Part → Request
 request_for w p = record { kind = p.kind; path = path_of w.records p.id; id = p.id }
 
--- the simple module that has no box yet, of the least id
-abbrev pub missing_part : World → Option Part
-missing_part w = slice_get (parts_of w) (length w.modules)
+-- whether the module of that id has one of these boxes
+abbrev pub is_held : ℕ → List Part → Bool
+is_held id boxes = list_any (λ (p : Part). p.id == id) boxes
 
-abbrev pub missing_of : World → Option Request
-missing_of w = option_map (request_for w) (missing_part w)
+-- of these modules the first one that has none of these boxes
+abbrev pub first_without : List Part → List Part → Option Part
+first_without boxes [] = None
+first_without boxes (p ∷ ps) = if is_held p.id boxes then first_without boxes ps else Some p
+
+-- THE BOX THAT IS WANTED where there are these: for the first of the modules that need one and have none
+abbrev pub missing_part : World → List Part → Option Part
+missing_part w boxes = first_without boxes (needs w)
+
+abbrev pub missing_of : World → List Part → Option Request
+missing_of w boxes = option_map (request_for w) (missing_part w boxes)
+
+-- ---- boxes that wait for the start of their modules
+
+-- These boxes are of these modules, each of its kind and in its state at first.
+abbrev pub AreFresh : Behaviour → List Part → List Seat → Type 0
+AreFresh b [] [] = Unit {0}
+AreFresh b [] (s ∷ ss) = ⊥
+AreFresh b (p ∷ ps) [] = ⊥
+AreFresh b (p ∷ ps) (s ∷ ss) = (s.id ≡ p.id) × IsFresh b p.kind s.box × AreFresh b ps ss
+
+-- those of the first of the modules that need one: they get them by rising ids
+abbrev pub AreFirst : Behaviour → World → List Seat → Type 0
+AreFirst b w ss = AreFresh b (take (length ss) (needs w)) ss
+
+-- no module was started, and none is dead: all simple modules need boxes
+abbrev pub IsUnstarted : World → Type 0
+IsUnstarted w = needs w ≡ parts_of w

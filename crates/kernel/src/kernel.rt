@@ -1,8 +1,8 @@
 //! A world in code, one event at a time.
 
 ghost use Rattle.model_answers.specs.Answering.{answers_of};
-ghost use Rattle.std.specs.Prelude.{◌≡◌, ◌+◌, ◌^◌, ◌<◌, ◌≤◌, OnOk, OnErr, IfOk, IfErr, [], length, max, slice_get, drop, option_map};
-ghost use Rattle.module_api.specs.Meaning.{IsOfKind, Answered, IsSameModule};
+ghost use Rattle.std.specs.Prelude.{◌≡◌, ◌+◌, ◌^◌, ◌<◌, ◌≤◌, OnOk, OnErr, IfOk, [], length, max, slice_get, drop, option_map};
+ghost use Rattle.module_api.specs.Meaning.{Answered, IsSameModule};
 ghost use Rattle.module_tree.specs.Boxes.{nothing};
 ghost use Rattle.question_log.specs.Entries.{noted_in};
 ghost use Rattle.run_semantics.specs.World.{empty, HasRoom};
@@ -13,12 +13,12 @@ ghost use Rattle.run_semantics.specs.Upcoming.{target_of, upcoming};
 ghost use Rattle.shown_modules.specs.Tables.{AreShown};
 ghost use Rattle.kernel_actions.specs.Upcoming.{looked, upcoming_of};
 ghost use Rattle.kernel.specs.Looks.{LooksOn};
-ghost use Rattle.run_semantics.specs.Run.{Running, Part, stage_of, settled, prepared, ready, placed, parts_from, initialize, most_stages, one_stage, stages_from, stages_in, start, next_stage, stopped};
+ghost use Rattle.run_semantics.specs.Run.{Running, Part, stage_of, standing, needs, settled, prepared, ready, parts_from, initialize, most_stages, one_stage, stages_from, stages_in, start, next_stage, stopped};
 ghost use Rattle.run_semantics.specs.Ending.{call_last, finish, finish_all, ending};
-ghost use Rattle.kernel.specs.Seats.{stages_of, stands_at, AreFirst, IsServed, missing_of, missing_part};
+ghost use Rattle.kernel.specs.Seats.{stages_of, stands_at, AreFirst, AreFresh, IsServed, IsUnstarted, missing_of, missing_part};
 ghost use Rattle.kernel_actions.specs.Positions.{position_of, cut_to, world_back, IsGrownFrom, IsSameBesideModules};
-ghost use Rattle.saved_boxes.specs.Seats.{module_in, AreBelow};
-ghost use Rattle.saved_boxes.specs.Saved.{CanTake, Takes};
+ghost use Rattle.saved_boxes.specs.Seats.{module_in};
+ghost use Rattle.saved_boxes.specs.Saved.{CanTake, Takes, instances_held, seats_held};
 ghost use Rattle.kernel.specs.Kernels.{seats_in, world_in, ran_in, HasKinds, IsCallable, KeepsBoxes};
 
 use crate::from_model::{ask_injection, call, call_shown, prepare, read_fault};
@@ -45,8 +45,9 @@ use shown_modules::{Shown, ShownModules};
 use sim_time::SimTime;
 use sim_values::NoMemory;
 use sim_values::text::Text;
-use std::alloc::{AllocFailed, Global};
+use std::alloc::Global;
 use std::marker::PhantomData;
+use std::mem::swap;
 
 /// How many actions a reply has at most.
 const MAX_ACTIONS: usize = 1000;
@@ -173,21 +174,32 @@ impl<C: Catalogue> Kernel<C> {
         Ok(self.settle(turn))
     }
 
-    /// The simple module that has no box yet, of the least id, and its class.
-    fn missing_part(&self) -> Option<(u32, &[u8])>
-        requires { AreFirst (world_in SimpleModule-box self.now) }
-        ensures { option_map (λ part. record { id = part.0; kind = part.1.now }) result
-            ≡ missing_part (world_in SimpleModule-box self.now) }
+    /// The first module that needs a box and has none yet, and its class.
+    fn missing_part(&self, waiting: &Tree<Box<dyn SimpleModule>>) -> Option<(u32, &[u8])>
+        requires unstarted { IsUnstarted (world_in SimpleModule-box self.now) }
+        requires first { AreFirst C.behaviour (world_in SimpleModule-box self.now)
+            (seats_held SimpleModule-box waiting.now) }
+        ensures { let held = standing (instances_held SimpleModule-box waiting.now) in
+            option_map (λ part. record { id = part.0; kind = part.1.now }) result
+            ≡ missing_part (world_in SimpleModule-box self.now) held }
     {
-        part_behind(self.core.records(), self.boxes.last().unwrap_or(0))
+        part_behind(self.core.records(), waiting.last().unwrap_or(0))
     }
 
-    /// The simple module that has no box yet, of the least id. Those that have boxes are the first ones.
-    pub fn missing(&self, alloc: Global) -> Result<Option<Request>, NoMemory>
-        requires { AreFirst (world_in SimpleModule-box self.now) }
-        ensures { IfOk result (λ wanted. wanted ≡ missing_of (world_in SimpleModule-box self.now)) }
+    /// What the run asks for before the network is started: a box for the first module that needs one and has none of those that wait.
+    /// They were supplied by rising ids.
+    pub fn missing(
+        &self,
+        alloc: Global,
+        waiting: &Tree<Box<dyn SimpleModule>>,
+    ) -> Result<Option<Request>, NoMemory>
+        requires unstarted { IsUnstarted (world_in SimpleModule-box self.now) }
+        requires first { AreFirst C.behaviour (world_in SimpleModule-box self.now)
+            (seats_held SimpleModule-box waiting.now) }
+        ensures { let held = standing (instances_held SimpleModule-box waiting.now) in
+            IfOk result (λ wanted. wanted ≡ missing_of (world_in SimpleModule-box self.now) held) }
     {
-        let Some((id, kind)) = self.missing_part() else {
+        let Some((id, kind)) = self.missing_part(waiting) else {
             return Ok(None);
         };
         Ok(Some(Request {
@@ -197,36 +209,18 @@ impl<C: Catalogue> Kernel<C> {
         }))
     }
 
-    /// The id of the simple module that has no box yet, the least such id.
-    pub fn missing_id(&self) -> Option<u32>
-        requires { AreFirst (world_in SimpleModule-box self.now) }
-        ensures { let world = world_in SimpleModule-box self.now in
-            result ≡ option_map (λ (p : Part). p.id) (missing_part world) }
+    /// The id of the first module that needs a box and has none of those that wait.
+    pub fn missing_id(&self, waiting: &Tree<Box<dyn SimpleModule>>) -> Option<u32>
+        requires unstarted { IsUnstarted (world_in SimpleModule-box self.now) }
+        requires first { AreFirst C.behaviour (world_in SimpleModule-box self.now)
+            (seats_held SimpleModule-box waiting.now) }
+        ensures { let held = standing (instances_held SimpleModule-box waiting.now) in
+            result ≡ option_map (λ (p : Part). p.id) (missing_part (world_in SimpleModule-box self.now) held) }
     {
-        match self.missing_part() {
+        match self.missing_part(waiting) {
             Some((id, _)) => Some(id),
             None => None,
         }
-    }
-
-    /// Gives the module of that id its box, or hands the box back where memory runs out. All that have boxes are of smaller ids.
-    pub fn supply(
-        &mut self,
-        id: u32,
-        held: Box<dyn SimpleModule>,
-    ) -> Result<(), AllocFailed<Box<dyn SimpleModule>>>
-        requires of_kind { IsOfKind C.behaviour (meaning held) }
-        requires above { AreBelow id (world_in SimpleModule-box self.old).modules }
-        requires kinds { HasKinds C.behaviour SimpleModule-box self.old }
-        ensures kinds { HasKinds C.behaviour SimpleModule-box self.new }
-        ensures ok { let part : Part = record { id = id; kind = (meaning held).kind } in
-            OnOk result (world_in SimpleModule-box self.new
-            ≡ placed part (meaning held).state (world_in SimpleModule-box self.old)) }
-        ensures err { OnErr result
-            (world_in SimpleModule-box self.new ≡ world_in SimpleModule-box self.old) }
-        ensures returned { IfErr result (λ failed. failed.value ≡ held) }
-    {
-        self.boxes.place(id, held)
     }
 
     // ---- replies
@@ -560,8 +554,8 @@ impl<C: Catalogue> Kernel<C> {
         Ok(Turn::GoOn)
     }
 
-    /// Initializes all modules, where each has its box: the end of event zero.
-    pub fn start(
+    /// Initializes all modules, where each has its box.
+    fn initialize_all(
         &mut self,
         alloc: Global,
         model: &PlainAnswers<'_>,
@@ -580,6 +574,31 @@ impl<C: Catalogue> Kernel<C> {
         self.core.mark_started(alloc)?;
         let turn = self.stages(alloc, model, most, calls.as_slice())?;
         Ok(self.settle(turn))
+    }
+
+    /// Starts the network that was set up, the end of event zero: each simple module has its box, of those that waited, and all modules are
+    /// initialized. None waits from then on.
+    pub fn start(
+        &mut self,
+        alloc: Global,
+        model: &PlainAnswers<'_>,
+        waiting: &mut Tree<Box<dyn SimpleModule>>,
+    ) -> Result<Option<Outcome>, NoMemory>
+        requires prepared { On (world_in SimpleModule-box self.old) ≡ prepared (answers_of model.now) }
+        requires next { (world_in SimpleModule-box self.old).next ≡ 0 }
+        requires none { (world_in SimpleModule-box self.old).modules ≡ [] }
+        requires fresh { AreFresh C.behaviour (needs (world_in SimpleModule-box self.old))
+            (seats_held SimpleModule-box waiting.old) }
+        ensures kinds { HasKinds C.behaviour SimpleModule-box self.new }
+        ensures stands { standing (world_in SimpleModule-box self.new).modules
+            ≡ needs (world_in SimpleModule-box self.old) }
+        ensures none { seats_held SimpleModule-box waiting.new ≡ [] }
+        ensures next { OnOk result ((world_in SimpleModule-box self.new).next ≤ 2 ^ 82) }
+        ensures step { IfOk result (λ over.
+            stage_of over (world_in SimpleModule-box self.new) ≡ start C.behaviour (answers_of model.now)) }
+    {
+        swap(&mut self.boxes, waiting);
+        self.initialize_all(alloc, model)
     }
 
     // ---- events

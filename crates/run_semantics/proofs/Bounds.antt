@@ -1,10 +1,10 @@
 -- At most so many modules live in a run, and at most so many were created.
-use Rattle.std.proofs.Common.{◌≡◌, ℕ, zero, suc, ◌+◌, ◌-◌, ◌≤◌, min, Bool, true, false, List, [], ◌∷◌, None, refl, ap, ◌∙◌, arith, length, slice_get, if◌then◌else◌}
+use Rattle.std.proofs.Common.{◌≡◌, ℕ, zero, suc, ◌+◌, ◌-◌, ◌≤◌, min, Bool, true, false, List, [], ◌∷◌, Option, Some, None, refl, ap, ◌∙◌, arith, length, slice_get, if◌then◌else◌}
 use Rattle.module_api.specs.Behaviour.{Behaviour}
 use Rattle.run_questions.specs.Answers.{Answers}
 use Rattle.run_semantics.specs.World.{World}
 use Rattle.run_semantics.specs.Perform.{Flow, On, Stopped, Broken, ◌>>=◌}
-use Rattle.run_semantics.specs.Run.{Part, room_in, prepared, parts_of, place, place_all, place_parts, ready, initialize_all, world_at, settled, after}
+use Rattle.run_semantics.specs.Run.{Part, room_in, prepared, needs, first_unknown, unless_unknown, place_parts, ready, initialize_all, world_at, settled, after}
 use Rattle.run_semantics.specs.Laws.{IsBounded}
 use Rattle.run_semantics.proofs.Flows.{in_flow}
 use Rattle.run_semantics.proofs.Living.{all_live, length-ids}
@@ -42,19 +42,18 @@ then_few (On w) k f h = h w f
 then_few (Stopped w) k f h = f
 then_few (Broken w path e) k f h = f
 
-either_few : (c : Bool) (f g : Flow) → IsFew (in_flow f) → IsFew (in_flow g) → IsFew (in_flow (if c then f else g))
-either_few true f g x y = x
-either_few false f g x y = y
-
-place_all_few : (b : Behaviour) (ps : List Part) (w : World) → IsFew w → IsFew (in_flow (place_all b ps w))
-place_all_few b [] w f = f
-place_all_few b (p ∷ ps) w f = then_few (place b p w) (place_all b ps) (either_few (b.known p.kind) _ _ (record { dead = f.dead; few = f.few }) f) (place_all_few b ps)
+place_parts_few : (b : Behaviour) (w : World) → IsFew w → IsFew (in_flow (place_parts b w))
+place_parts_few b w f = by (first_unknown b (needs w))
+  where
+    by : (o : Option Part) → IsFew (in_flow (unless_unknown b (needs w) w o))
+    by None = record { dead = f.dead; few = f.few }
+    by (Some p) = f
 
 ready_few : (b : Behaviour) (m : Answers) → IsFew (in_flow (ready b m))
 ready_few b m =
     then_few (prepared m) (place_parts b)
     (stays_in IsFew (prepared m) (prepared_stays IsFew m few_last (record { dead = refl; few = omega arith }) (λ name. record { dead = refl; few = omega arith })))
-    (λ w f. place_all_few b (parts_of w) w f)
+    (place_parts_few b)
 
 -- nor does an initialization
 begun_few : (b : Behaviour) (m : Answers) (fl : Flow) → IsFew (in_flow fl) → (in_flow fl).pending ≡ [] → OnlyOn IsReady fl → IsFew (in_flow (fl >>= initialize_all b m))

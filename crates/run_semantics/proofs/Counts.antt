@@ -10,7 +10,7 @@ use Rattle.run_semantics.specs.World.{World, live_of}
 use Rattle.run_semantics.specs.Perform.{Flow, On, Stopped, Broken, ◌>>=◌, for_each}
 use Rattle.run_semantics.specs.Event.{begun, event, instance_in, message_of}
 use Rattle.run_semantics.specs.Subtree.{outer_first}
-use Rattle.run_semantics.specs.Run.{prepared, Part, parts_of, place, place_all, place_parts, ready, stages_in, most_stages, initialize, one_stage, stages_from, initialize_all, with_started, Stage, Running, Over, world_at, settled, start, is_after_limit, went, next_stage, after, IsReached}
+use Rattle.run_semantics.specs.Run.{prepared, Part, needs, first_unknown, unless_unknown, place_parts, ready, stages_in, most_stages, initialize, one_stage, stages_from, initialize_all, with_started, Stage, Running, Over, world_at, settled, start, is_after_limit, went, next_stage, after, IsReached}
 use Rattle.run_semantics.specs.Upcoming.{Upcoming, Comes, Nothing, upcoming}
 use Rattle.run_semantics.proofs.Looking.{beside, looked_count, upcoming_looks}
 use Rattle.run_semantics.proofs.Setting.{IsLasting, stays_in, prepared_stays}
@@ -36,15 +36,15 @@ prepared_count m = stays_in (λ w. w.count ≡ 0) (prepared m) (prepared_stays (
 
 -- ---- boxes and initialization
 
-place_count : (b : Behaviour) (p : Part) (w : World) → (in_flow (place b p w)).count ≡ w.count
-place_count b p w = either_count w.count (b.known p.kind) _ _ refl refl
-
-place_all_count : (b : Behaviour) (n : ℕ) (ps : List Part) (w : World) → w.count ≡ n → (in_flow (place_all b ps w)).count ≡ n
-place_all_count b n [] w e = e
-place_all_count b n (p ∷ ps) w e = then_count n (place b p w) (place_all b ps) (place_count b p w ∙ e) (place_all_count b n ps)
+place_parts_count : (b : Behaviour) (w : World) → (in_flow (place_parts b w)).count ≡ w.count
+place_parts_count b w = by (first_unknown b (needs w))
+  where
+    by : (o : Option Part) → (in_flow (unless_unknown b (needs w) w o)).count ≡ w.count
+    by None = refl
+    by (Some p) = refl
 
 pub ready_count : (b : Behaviour) (m : Answers) → (in_flow (ready b m)).count ≡ 0
-ready_count b m = then_count 0 (prepared m) (place_parts b) (prepared_count m) (λ w e. place_all_count b 0 (parts_of w) w e)
+ready_count b m = then_count 0 (prepared m) (place_parts b) (prepared_count m) (λ w e. place_parts_count b w ∙ e)
 
 initialize_count : (b : Behaviour) (m : Answers) (stage id : ℕ) (w : World) → (in_flow (initialize b m stage id w)).count ≡ w.count
 initialize_count b m stage id w =

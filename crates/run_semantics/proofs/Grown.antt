@@ -9,11 +9,11 @@ use Rattle.run_semantics.specs.Subtree.{among, ids_from}
 use Rattle.run_semantics.specs.World.{World, live_of}
 use Rattle.run_semantics.specs.Perform.{Flow, On, Stopped, Broken, ◌>>=◌}
 use Rattle.run_semantics.specs.Event.{instance_in}
-use Rattle.run_semantics.specs.Run.{Part, with_class, parts_from, parts_of, placed, ready, initialize_all, with_started, standing, Stage, Running, Over, world_at, settled, after}
+use Rattle.run_semantics.specs.Run.{Part, parts_from, parts_of, ready, initialize_all, with_started, standing, Stage, Running, Over, world_at, settled, after}
 use Rattle.run_semantics.specs.Laws.{Each, IsAmong, ids_of, GoesOn, HasGrown, CanBeCalled, parts_standing}
 use Rattle.run_semantics.proofs.Bounds.{nobody_after}
 use Rattle.run_semantics.proofs.Living.{all_kept, all_live, both_pass, is_among, same_live}
-use Rattle.run_semantics.proofs.Placing.{OnlyOn, IsReady, ready_ready}
+use Rattle.run_semantics.proofs.Placing.{OnlyOn, IsReady, parts_among, ready_ready}
 use Rattle.run_semantics.proofs.Flows.{in_flow}
 use Rattle.event_set.proofs.Order.{each_map}
 use Rattle.run_semantics.proofs.Reuse.{after_later}
@@ -81,15 +81,6 @@ alike_after b m n (suc k) h =
     (eq-or-lt_of_le h)
 
 -- ---- the modules that are placed live
-
--- the ids of parts are those of records
-parts_among : (id : ℕ) (rs : List Record) → Each (λ p. IsAmong p.id (ids_from id rs)) (parts_from id rs)
-parts_among id [] = tt
-parts_among id (r ∷ rs) = by r.class (each_map (λ p. IsAmong p.id (ids_from (suc id) rs)) (λ p. IsAmong p.id (ids_from id (r ∷ rs))) (parts_from (suc id) rs) (λ p h. inr h) (parts_among (suc id) rs))
-  where
-    by : (class : Option (List ℕ)) → Each (λ p. IsAmong p.id (ids_from id (r ∷ rs))) (parts_from (suc id) rs) → Each (λ p. IsAmong p.id (ids_from id (r ∷ rs))) (with_class id class (parts_from (suc id) rs))
-    by None h = h
-    by (Some kind) h = (inl refl, h)
 
 -- what holds of the ids of what stands
 each_id : (live : List ℕ) (is : List Instance) → Each (λ p. IsAmong p.id live) (standing is) → Each (λ id. IsAmong id live) (ids_of is)

@@ -1,5 +1,5 @@
 -- What parts of an event add to a world: questions, and modules.
-use Rattle.std.proofs.Common.{◌≡◌, ℕ, zero, suc, ◌+◌, ◌≤◌, ◌==◌, cond, Bool, true, false, List, [], ◌∷◌, ◌++◌, Option, Some, None, refl, sym, ap, ◌∙◌, arith, subst, append_assoc, append-nil, length-append, slice_get, length, map, if◌then◌else◌, nat_lt, eqb-true, ℤ}
+use Rattle.std.proofs.Common.{◌≡◌, ℕ, zero, suc, ◌+◌, ◌≤◌, ◌==◌, cond, filter, Bool, true, false, List, [], ◌∷◌, ◌++◌, Option, Some, None, refl, sym, ap, ◌∙◌, arith, subst, append_assoc, append-nil, length-append, slice_get, length, map, if◌then◌else◌, nat_lt, eqb-true, ℤ}
 use Rattle.sim_time.specs.Time.{time_sum}
 use Rattle.module_api.specs.Behaviour.{Behaviour, Replied}
 use Rattle.module_api.specs.declared.call.Prompt.{Prompt}
@@ -30,7 +30,7 @@ use Rattle.run_semantics.specs.World.{World, asked, empty, is_asked, live_of, ti
 use Rattle.event_set.specs.Timers.{has_timer}
 use Rattle.run_semantics.specs.Perform.{Flow, On, Stopped, Broken, ◌>>=◌, asking, for_each, scheduled_at, scheduled, appointed, deed, is_allowed, perform, act, act_all, ask_all, question_of, acted, read_fault, unless_fault, answered}
 use Rattle.run_semantics.specs.Event.{call_of, instance_in, with_state, changed, replied, called, call_module, event}
-use Rattle.run_semantics.specs.Run.{with_network, rooted, record_under, with_submodules, room_in, unless_many, created, set_up, Part, with_class, parts_from, parts_of, place, place_all, place_parts, stages_in, most_stages, initialize, one_stage, stages_from, started, initialize_all, with_started}
+use Rattle.run_semantics.specs.Run.{with_network, rooted, record_under, with_submodules, room_in, unless_many, created, set_up, Part, with_class, parts_from, parts_of, needs, fresh, first_unknown, unless_unknown, place_parts, stages_in, most_stages, initialize, one_stage, stages_from, started, initialize_all, with_started}
 use Rattle.run_semantics.specs.Subtree.{outer_first}
 use Rattle.run_semantics.proofs.Setting.{IsLasting, stays_in, set_up_stays}
 use Rattle.run_semantics.proofs.Flows.{in_flow}
@@ -357,33 +357,39 @@ parts_within id (r ∷ rs) n l = by r.class (parts_within (suc id) rs n (omega (
     by None h = h
     by (Some kind) h = (omega (arith, l), h)
 
--- a module is placed
-place_grows : (b : Behaviour) (p : Part) (w : World) → Fits w → p.id ≤ length w.records → IsGrown w (in_flow (place b p w))
-place_grows b p w f l = either_grows w (b.known p.kind) _ _ (record {
-  rest = [];
-  joined = append-nil w.questions;
-  present = tt;
-  count = refl;
-  more = [];
-  records = append-nil w.records;
-  fits = record { nested = f.nested; modules = AllWithin-append (length w.records) w.modules _ f.modules (l, tt); questions = f.questions };
-}) (grown_same w f)
+-- some of these parts
+PartsWithin-some : (n : ℕ) (is : Part → Bool) (ps : List Part) → PartsWithin n ps → PartsWithin n (filter is ps)
+PartsWithin-some n is [] h = tt
+PartsWithin-some n is (p ∷ ps) h = by (is p) (PartsWithin-some n is ps h.1)
+  where
+    by : (t : Bool) → PartsWithin n (filter is ps) → PartsWithin n (cond t (p ∷ filter is ps) (filter is ps))
+    by true later = (h.0, later)
+    by false later = later
 
--- more ids were given
-PartsWithin-more : (n k : ℕ) (ps : List Part) → n ≤ k → PartsWithin n ps → PartsWithin k ps
-PartsWithin-more n k [] h f = tt
-PartsWithin-more n k (p ∷ ps) h f = (omega (arith, f.0), PartsWithin-more n k ps h f.1)
+-- modules in their states at first
+fresh_within : (b : Behaviour) (n : ℕ) (ps : List Part) → PartsWithin n ps → AllWithin n (map (fresh b) ps)
+fresh_within b n [] h = tt
+fresh_within b n (p ∷ ps) h = (h.0, fresh_within b n ps h.1)
 
--- all modules are placed
-place_all_grows : (b : Behaviour) (n : ℕ) (ps : List Part) (w : World) → PartsWithin n ps → Fits w → n ≤ length w.records → IsGrown w (in_flow (place_all b ps w))
-place_all_grows b n [] w h f l = grown_same w f
-place_all_grows b n (p ∷ ps) w h f l =
-    let g = place_grows b p w f (omega (arith, h.0, l)) in
-    grown_on g (then_grows_where n (place b p w) (place_all b ps) g.fits (omega (arith, longer w (in_flow (place b p w)) g, l)) (λ v. place_all_grows b n ps v h.1))
-
--- those of the records
+-- they are placed
 pub place_parts_grows : (b : Behaviour) (w : World) → Fits w → IsGrown w (in_flow (place_parts b w))
-place_parts_grows b w f = place_all_grows b (length w.records) (parts_of w) w (parts_within 1 w.records (length w.records) (omega arith)) f (omega arith)
+place_parts_grows b w f = by (first_unknown b (needs w))
+  where
+    by : (o : Option Part) → IsGrown w (in_flow (unless_unknown b (needs w) w o))
+    by None = record {
+      rest = [];
+      joined = append-nil w.questions;
+      present = tt;
+      count = refl;
+      more = [];
+      records = append-nil w.records;
+      fits = record {
+        nested = f.nested;
+        modules = AllWithin-append (length w.records) w.modules _ f.modules (fresh_within b (length w.records) (needs w) (PartsWithin-some (length w.records) _ (parts_of w) (parts_within 1 w.records (length w.records) (omega arith))));
+        questions = f.questions;
+      };
+    }
+    by (Some p) = grown_same w f
 
 -- one module is initialized, where it has the stage
 initialize_grows : (b : Behaviour) (m : Answers) (stage id : ℕ) (w : World) → Fits w → IsGrown w (in_flow (initialize b m stage id w))

@@ -31,7 +31,7 @@ use Rattle.event_set.specs.Order.{inserted}
 use Rattle.event_set.specs.Timers.{has_timer}
 use Rattle.run_semantics.specs.Perform.{Flow, On, Stopped, Broken, ◌>>=◌, broken, for_each, with_scalar, scheduled_at, scheduled, appointed, with_cancelled, deed, is_allowed, perform, act, act_all, ask_all, question_of, acted, read_fault, unless_fault, answered}
 use Rattle.run_semantics.specs.Event.{call_of, instance_in, with_state, changed, called, call_module, begun, event, message_of}
-use Rattle.run_semantics.specs.Run.{prepared, Part, parts_from, parts_of, place, place_all, place_parts, ready, standing, stages_in, most_stages, initialize, one_stage, stages_from, started, initialize_all, with_started, part_of, Stage, Running, Over, world_at, settled, is_after_limit, went, next_stage, after}
+use Rattle.run_semantics.specs.Run.{prepared, Part, parts_from, parts_of, needs, first_unknown, unless_unknown, place_parts, ready, standing, stages_in, most_stages, initialize, one_stage, stages_from, started, initialize_all, with_started, part_of, Stage, Running, Over, world_at, settled, is_after_limit, went, next_stage, after}
 use Rattle.run_semantics.specs.Laws.{Each, AreInOrder, AreInTurn, HaveOwnNumbers, IsAmong, ids_of, GoesOn}
 use Rattle.run_semantics.specs.Subtree.{outer_first}
 use Rattle.run_semantics.specs.Upcoming.{Upcoming, Comes, Nothing, upcoming}
@@ -405,24 +405,22 @@ then_none (On w) k e h = h w e
 then_none (Stopped w) k e h = e
 then_none (Broken w path f) k e h = e
 
--- of two ways on, whichever is taken
-either_none : (c : Bool) (f g : Flow) → IsQuiet (in_flow f) → IsQuiet (in_flow g) → IsQuiet (in_flow (if c then f else g))
-either_none true f g e d = e
-either_none false f g e d = d
-
 -- a setup leaves it so
 quiet_lasts : IsLasting IsQuiet
 quiet_lasts = record { asked = λ id w e l. e; created = λ parent bs w e l few. e }
 
 -- modules are placed
-place_all_none : (b : Behaviour) (ps : List Part) (w : World) → IsQuiet w → IsQuiet (in_flow (place_all b ps w))
-place_all_none b [] w e = e
-place_all_none b (p ∷ ps) w e = then_none (place b p w) (place_all b ps) (either_none (b.known p.kind) _ _ e e) (place_all_none b ps)
+place_parts_none : (b : Behaviour) (w : World) → IsQuiet w → IsQuiet (in_flow (place_parts b w))
+place_parts_none b w e = by (first_unknown b (needs w))
+  where
+    by : (o : Option Part) → IsQuiet (in_flow (unless_unknown b (needs w) w o))
+    by None = e
+    by (Some p) = e
 
 -- so it is when all boxes are there
 pub ready_none : (b : Behaviour) (m : Answers) → IsQuiet (in_flow (ready b m))
 ready_none b m =
-    then_none (prepared m) (place_parts b) (stays_in IsQuiet (prepared m) (prepared_stays IsQuiet m quiet_lasts (refl, refl, refl, refl) (λ name. (refl, refl, refl, refl)))) (λ w e. place_all_none b (parts_of w) w e)
+    then_none (prepared m) (place_parts b) (stays_in IsQuiet (prepared m) (prepared_stays IsQuiet m quiet_lasts (refl, refl, refl, refl) (λ name. (refl, refl, refl, refl)))) (place_parts_none b)
 
 -- with no event to come all is in order
 pub orderly_none : (w : World) → w.pending ≡ [] → IsOrderly w

@@ -1,14 +1,17 @@
 -- After setup exactly the simple modules that were created stand.
-use Rattle.std.proofs.Common.{◌≡◌, inl, inr, ℕ, zero, suc, ◌+◌, Bool, true, false, is_some, List, [], ◌∷◌, ◌++◌, Option, Some, None, refl, sym, ap, ◌∙◌, arith, subst, append-nil, length, map, slice_get, if◌then◌else◌}
+use Rattle.std.proofs.Common.{◌≡◌, inl, inr, ℕ, zero, suc, ◌+◌, Bool, true, not, ◌&&◌, is_some, List, [], ◌∷◌, ◌++◌, Option, Some, None, refl, sym, ap, ◌∙◌, arith, subst, map, slice_get}
+use Rattle.event_set.proofs.Order.{each_map}
 use Rattle.module_api.specs.Behaviour.{Behaviour}
 use Rattle.run_questions.specs.Answers.{Answers}
 use Rattle.run_questions.specs.declared.record.Record.{Record}
 use Rattle.run_semantics.specs.declared.traces.Instance.{Instance}
-use Rattle.run_semantics.specs.World.{World}
+use Rattle.run_semantics.specs.Subtree.{among, ids_from}
+use Rattle.run_semantics.specs.World.{World, live_of}
 use Rattle.run_semantics.specs.Perform.{Flow, On, Stopped, Broken, ◌>>=◌}
 use Rattle.run_semantics.specs.Routes.{has_class, is_simple}
-use Rattle.run_semantics.specs.Run.{prepared, Part, with_class, parts_from, parts_of, placed, place_all, place_parts, ready, standing, part_of}
-use Rattle.run_semantics.specs.Laws.{IsAmong, ids_of}
+use Rattle.run_semantics.specs.Run.{prepared, Part, with_class, parts_from, parts_of, needs, fresh, first_unknown, unless_unknown, place_parts, ready, standing}
+use Rattle.run_semantics.specs.Laws.{Each, IsAmong, ids_of}
+use Rattle.run_semantics.proofs.Living.{all_kept, all_live, both_pass, is_among}
 use Rattle.run_semantics.proofs.Setting.{IsLasting, Stays, prepared_stays}
 
 -- the flow goes on in a world with the property, or it is broken
@@ -24,10 +27,10 @@ only_then P Q (Stopped w) k p h = p
 only_then P Q (Broken w path f) k p h = tt
 
 -- nobody is dead, no module has a state yet, and none was started
-record IsBuilt (w : World) : Type 0 where
-  dead : w.dead ≡ []
-  modules : w.modules ≡ []
-  started : w.started ≡ []
+pub record IsBuilt (w : World) : Type 0 where
+  pub dead : w.dead ≡ []
+  pub modules : w.modules ≡ []
+  pub started : w.started ≡ []
 
 -- a setup leaves it so
 built_lasts : IsLasting IsBuilt
@@ -37,7 +40,7 @@ built_lasts = record {
 }
 
 -- so it is after setup
-prepared_built : (m : Answers) → Stays IsBuilt (prepared m)
+pub prepared_built : (m : Answers) → Stays IsBuilt (prepared m)
 prepared_built m = prepared_stays IsBuilt m built_lasts (record { dead = refl; modules = refl; started = refl }) (λ name. record { dead = refl; modules = refl; started = refl })
 
 -- exactly the simple modules that were created stand, nobody is dead, and none was started
@@ -46,38 +49,47 @@ pub record IsReady (w : World) : Type 0 where
   pub dead : w.dead ≡ []
   pub started : w.started ≡ []
 
--- these parts stand at last, and records, the dead and what was started are those of that world
-record StandAll (ps : List Part) (u w : World) : Type 0 where
-  parts : standing w.modules ≡ ps
-  dead : w.dead ≡ u.dead
-  records : w.records ≡ u.records
-  started : w.started ≡ u.started
+-- ---- which modules need a box
 
--- one more stands
-standing_one_more : (is : List Instance) (i : Instance) (ps : List Part) → standing (is ++ i ∷ []) ++ ps ≡ standing is ++ part_of i ∷ ps
-standing_one_more [] i ps = refl
-standing_one_more (j ∷ js) i ps = ap (λ qs. part_of j ∷ qs) (standing_one_more js i ps)
+-- the ids of parts are those of records
+pub parts_among : (id : ℕ) (rs : List Record) → Each (λ p. IsAmong p.id (ids_from id rs)) (parts_from id rs)
+parts_among id [] = tt
+parts_among id (r ∷ rs) = by r.class (each_map (λ p. IsAmong p.id (ids_from (suc id) rs)) (λ p. IsAmong p.id (ids_from id (r ∷ rs))) (parts_from (suc id) rs) (λ p h. inr h) (parts_among (suc id) rs))
+  where
+    by : (class : Option (List ℕ)) → Each (λ p. IsAmong p.id (ids_from id (r ∷ rs))) (parts_from (suc id) rs) → Each (λ p. IsAmong p.id (ids_from id (r ∷ rs))) (with_class id class (parts_from (suc id) rs))
+    by None h = h
+    by (Some kind) h = (inl refl, h)
 
--- where the kind is known the module is placed
-place_stands : (b : Behaviour) (all ps : List Part) (u : World) (p : Part) (w : World) (c : Bool) (g : Flow) → (OnlyOn (StandAll all u) (On (placed p (b.naming p.kind).initial w) >>= place_all b ps)) → OnlyOn (StandAll all u) (g >>= place_all b ps) → OnlyOn (StandAll all u) ((if c then On (placed p (b.naming p.kind).initial w) else g) >>= place_all b ps)
-place_stands b all ps u p w true g h l = h
-place_stands b all ps u p w false g h l = l
+-- whether a module needs a box
+abbrev is_needed : World → Part → Bool
+is_needed w p = not (among p.id w.started) && among p.id (live_of w)
 
--- all parts are placed
-place_all_stands : (b : Behaviour) (all ps : List Part) (u w : World) → standing w.modules ++ ps ≡ all → w.dead ≡ u.dead → w.records ≡ u.records → w.started ≡ u.started → OnlyOn (StandAll all u) (place_all b ps w)
-place_all_stands b all [] u w e dead records began = record { parts = sym (append-nil (standing w.modules)) ∙ e; dead = dead; records = records; started = began }
-place_all_stands b all (p ∷ ps) u w e dead records began =
-    let v : World = placed p (b.naming p.kind).initial w in
-    place_stands b all ps u p w (b.known p.kind) _ (place_all_stands b all ps u v (standing_one_more w.modules _ ps ∙ e) dead records began) tt
+-- where nobody is dead and none was started these are all simple modules
+pub needs_all : (w : World) → w.dead ≡ [] → w.started ≡ [] → needs w ≡ parts_of w
+needs_all w dead started =
+    let live : Each (λ p. IsAmong p.id (live_of w)) (parts_of w) = subst (λ ids. Each (λ (p : Part). IsAmong p.id ids) (parts_of w)) (sym (all_live w dead)) (parts_among 1 w.records) in
+    let each : Each (λ p. is_needed w p ≡ true) (parts_of w) =
+    each_map (λ (p : Part). IsAmong p.id (live_of w)) (λ (p : Part). is_needed w p ≡ true) (parts_of w)
+    (λ p h. both_pass (not (among p.id w.started)) (among p.id (live_of w)) (ap (λ ids. not (among p.id ids)) started) (is_among p.id (live_of w) h)) live in
+    all_kept (is_needed w) (parts_of w) each
+
+-- ---- they are placed
+
+-- the parts of modules in their states at first
+pub standing_fresh : (b : Behaviour) (ps : List Part) → standing (map (fresh b) ps) ≡ ps
+standing_fresh b [] = refl
+standing_fresh b (p ∷ ps) = ap (λ qs. p ∷ qs) (standing_fresh b ps)
+
+placed_stand : (b : Behaviour) (ps : List Part) (is : List Instance) → is ≡ [] → standing (is ++ map (fresh b) ps) ≡ ps
+placed_stand b ps is e = ap (λ js. standing (js ++ map (fresh b) ps)) e ∙ standing_fresh b ps
 
 -- those of the records
 place_parts_ready : (b : Behaviour) (w : World) → IsBuilt w → OnlyOn IsReady (place_parts b w)
-place_parts_ready b w f = by (place_parts b w) (place_all_stands b (parts_of w) (parts_of w) w w (rw f.modules refl) refl refl refl)
+place_parts_ready b w f = by (first_unknown b (needs w))
   where
-    by : (fl : Flow) → OnlyOn (StandAll (parts_of w) w) fl → OnlyOn IsReady fl
-    by (On v) h = record { parts = h.parts ∙ ap (parts_from 1) (sym h.records); dead = h.dead ∙ f.dead; started = h.started ∙ f.started }
-    by (Stopped v) h = h
-    by (Broken v path fault) h = tt
+    by : (o : Option Part) → OnlyOn IsReady (unless_unknown b (needs w) w o)
+    by None = record { parts = placed_stand b (needs w) w.modules f.modules ∙ needs_all w f.dead f.started; dead = f.dead; started = f.started }
+    by (Some p) = tt
 
 -- so it is when all boxes are there
 pub ready_ready : (b : Behaviour) (m : Answers) → OnlyOn IsReady (ready b m)

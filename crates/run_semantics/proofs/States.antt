@@ -1,5 +1,5 @@
 -- In every world of a run each module's state is one of its kind.
-use Rattle.std.proofs.Common.{◌≡◌, ℕ, zero, suc, ◌==◌, cond, Bool, true, false, List, [], ◌∷◌, Option, Some, None, IsTrue, refl, subst, length, if◌then◌else◌, nat_lt, ℤ}
+use Rattle.std.proofs.Common.{◌≡◌, ℕ, zero, suc, ◌==◌, cond, Bool, true, false, List, [], ◌∷◌, Option, Some, None, IsTrue, refl, subst, length, map, if◌then◌else◌, nat_lt, ℤ}
 use Rattle.sim_time.specs.Time.{time_sum}
 use Rattle.module_api.specs.Behaviour.{Behaviour, Replied}
 use Rattle.module_api.specs.Laws.{IsLawful}
@@ -28,7 +28,7 @@ use Rattle.run_semantics.specs.declared.traces.Instance.{Instance}
 use Rattle.run_semantics.specs.World.{World, asked, live_of}
 use Rattle.run_semantics.specs.Perform.{Flow, On, Stopped, Broken, ◌>>=◌, broken, for_each, scheduled_at, scheduled, appointed, deed, is_allowed, perform, act, act_all, ask_all, question_of, acted, read_fault, unless_fault, answered}
 use Rattle.run_semantics.specs.Event.{call_of, instance_in, with_state, changed, called, call_module, begun, event, message_of}
-use Rattle.run_semantics.specs.Run.{prepared, Part, parts_of, placed, place, place_all, place_parts, ready, stages_in, most_stages, initialize, one_stage, stages_from, started, initialize_all, with_started, Stage, Running, Over, world_at, settled, is_after_limit, went, next_stage, after}
+use Rattle.run_semantics.specs.Run.{prepared, Part, needs, fresh, first_unknown, unless_unknown, place_parts, ready, stages_in, most_stages, initialize, one_stage, stages_from, started, initialize_all, with_started, Stage, Running, Over, world_at, settled, is_after_limit, went, next_stage, after}
 use Rattle.run_semantics.specs.Laws.{Each, AreStates}
 use Rattle.run_semantics.specs.Subtree.{outer_first}
 use Rattle.run_semantics.specs.Upcoming.{Upcoming, Comes, Nothing, upcoming}
@@ -166,20 +166,24 @@ states_last b = record { asked = λ id w h l. h; created = λ parent bs w h l fe
 prepared_in : (b : Behaviour) (m : Answers) → AllIn b (in_flow (prepared m))
 prepared_in b m = stays_in (AllIn b) (prepared m) (prepared_stays (AllIn b) m (states_last b) tt (λ name. tt))
 
--- only a module of a known kind is placed
-place_in : (b : Behaviour) → IsLawful b → (p : Part) (w : World) → AllIn b w → AllIn b (in_flow (place b p w))
-place_in b l p w h = by (b.known p.kind) refl
+-- where no kind is unknown each module is at home in its state at first
+fresh_in : (b : Behaviour) → IsLawful b → (ps : List Part) → first_unknown b ps ≡ None → Each (IsAtHome b) (map (fresh b) ps)
+fresh_in b l [] e = tt
+fresh_in b l (p ∷ ps) e = by (b.known p.kind) refl e (fresh_in b l ps)
   where
-    by : (t : Bool) → b.known p.kind ≡ t → AllIn b (in_flow (if t then On (placed p (b.naming p.kind).initial w) else broken p.id fault.UnknownClass w))
-    by true e = each_append (IsAtHome b) w.modules (record { id = p.id; kind = p.kind; state = (b.naming p.kind).initial } ∷ []) h (record { known = e; state = (l.states p.kind e).starts }, tt)
-    by false e = h
+    by : (t : Bool) → b.known p.kind ≡ t → cond t (first_unknown b ps) (Some p) ≡ None → (first_unknown b ps ≡ None → Each (IsAtHome b) (map (fresh b) ps)) → Each (IsAtHome b) (map (fresh b) (p ∷ ps))
+    by true k e later = (record { known = k; state = (l.states p.kind k).starts }, later e)
+    by false k e later = cc
 
-place_all_in : (b : Behaviour) → IsLawful b → (ps : List Part) (w : World) → AllIn b w → AllIn b (in_flow (place_all b ps w))
-place_all_in b l [] w h = h
-place_all_in b l (p ∷ ps) w h = then_in b (place b p w) (place_all b ps) (place_in b l p w h) (place_all_in b l ps)
+place_parts_in : (b : Behaviour) → IsLawful b → (w : World) → AllIn b w → AllIn b (in_flow (place_parts b w))
+place_parts_in b l w h = by (first_unknown b (needs w)) refl
+  where
+    by : (o : Option Part) → first_unknown b (needs w) ≡ o → AllIn b (in_flow (unless_unknown b (needs w) w o))
+    by None e = each_append (IsAtHome b) w.modules (map (fresh b) (needs w)) h (fresh_in b l (needs w) e)
+    by (Some p) e = h
 
 ready_in : (b : Behaviour) → IsLawful b → (m : Answers) → AllIn b (in_flow (ready b m))
-ready_in b l m = then_in b (prepared m) (place_parts b) (prepared_in b m) (λ w h. place_all_in b l (parts_of w) w h)
+ready_in b l m = then_in b (prepared m) (place_parts b) (prepared_in b m) (place_parts_in b l)
 
 -- ---- initialization
 

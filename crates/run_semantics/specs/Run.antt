@@ -1,5 +1,6 @@
 -- Whole runs.
-use Rattle.std.specs.Prelude.{◌≡◌, ℕ, suc, zero, ◌-◌, nat_lt, max, min, Bool, true, false, List, [], ◌∷◌, ◌++◌, Option, Some, None, map, length, slice_get, if◌then◌else◌}
+use Rattle.std.specs.Prelude.{◌≡◌, ℕ, suc, zero, ◌-◌, nat_lt, max, min, ◌&&◌, not, Bool, true, false, List, [], ◌∷◌, ◌++◌, Option, Some, None, map, length, slice_get, if◌then◌else◌}
+use Rattle.std.specs.List.{filter}
 use Rattle.module_api.specs.declared.call.Prompt.TheVariants as prompt
 use Rattle.module_api.specs.Behaviour.{Behaviour}
 use Rattle.run_questions.specs.declared.answer.Answer.{Answer}
@@ -7,8 +8,8 @@ use Rattle.run_questions.specs.declared.answer.Answer.TheVariants as answer
 use Rattle.run_questions.specs.declared.answer.Built.{Built}
 use Rattle.run_questions.specs.declared.answer.Question.TheVariants.{Root, Build, BeyondLimit}
 use Rattle.run_questions.specs.Answers.{Answers, answer_of}
-use Rattle.run_questions.specs.declared.record.Record.{Record}
 use Rattle.run_questions.specs.declared.record.Origin.TheVariants as origin
+use Rattle.run_questions.specs.declared.record.Record.{Record}
 use Rattle.run_questions.specs.Records.{path_of, path_under, own_name}
 use Rattle.run_semantics.specs.declared.outcome.Fault.TheVariants as fault
 use Rattle.run_semantics.specs.declared.outcome.Outcome.{Outcome}
@@ -18,7 +19,7 @@ use Rattle.run_semantics.specs.declared.traces.Instance.{Instance}
 use Rattle.run_semantics.specs.World.{World, empty, live_count, live_of}
 use Rattle.run_semantics.specs.Perform.{Flow, On, Stopped, Broken, ◌>>=◌, asking, broken, for_each, model_fault}
 use Rattle.run_semantics.specs.Event.{call_module, event, instance_in}
-use Rattle.run_semantics.specs.Subtree.{outer_first}
+use Rattle.run_semantics.specs.Subtree.{among, outer_first}
 use Rattle.run_semantics.specs.Upcoming.{Upcoming, Comes, Nothing, upcoming}
 
 -- ---- setup
@@ -109,7 +110,7 @@ root_asked m = asking m Root rooted empty
 abbrev pub prepared : Answers → Flow
 prepared m = root_asked m >>= set_up most_nested m 1
 
--- ---- the start: every simple module has a box in its state at first, and is initialized
+-- ---- the start: every simple module has a box, in its state at first, and is initialized
 
 -- a simple module: its id and its kind
 pub record Part : Type 0 where
@@ -124,20 +125,31 @@ abbrev pub parts_from : ℕ → List Record → List Part
 parts_from id [] = []
 parts_from id (r ∷ rs) = with_class id r.class (parts_from (suc id) rs)
 
--- the simple modules that are to be started, by rising id
+-- the simple modules that were created, by rising id
 abbrev pub parts_of : World → List Part
 parts_of w = parts_from 1 w.records
 
-abbrev pub placed : Part → List ℕ → World → World
-placed p state w = record w { modules = w.modules ++ record { id = p.id; kind = p.kind; state = state } ∷ [] }
+-- THE MODULES THAT NEED A BOX for the start that comes next, by rising id: the simple modules that live and were not started
+abbrev pub needs : World → List Part
+needs w = filter (λ (p : Part). not (among p.id w.started) && among p.id (live_of w)) (parts_of w)
 
-abbrev pub place : Behaviour → Part → World → Flow
-place b p w = if b.known p.kind then On (placed p (b.naming p.kind).initial w) else broken p.id fault.UnknownClass w
+-- a module in its state at first
+abbrev pub fresh : Behaviour → Part → Instance
+fresh b p = record { id = p.id; kind = p.kind; state = (b.naming p.kind).initial }
 
--- the modules in their states at first, before any call
-abbrev pub place_all : Behaviour → List Part → World → Flow
-place_all b [] w = On w
-place_all b (p ∷ ps) w = place b p w >>= place_all b ps
+-- these modules stand besides, each in its state at first
+abbrev pub placed : Behaviour → List Part → World → World
+placed b ps w = record w { modules = w.modules ++ map (fresh b) ps }
+
+-- the first of these modules whose class the catalogue doesn't know
+abbrev pub first_unknown : Behaviour → List Part → Option Part
+first_unknown b [] = None
+first_unknown b (p ∷ ps) = if b.known p.kind then first_unknown b ps else Some p
+
+-- where there is such a one it is the fault, and none of these modules has a state
+abbrev pub unless_unknown : Behaviour → List Part → World → Option Part → Flow
+unless_unknown b ps w None = On (placed b ps w)
+unless_unknown b ps w (Some p) = broken p.id fault.UnknownClass w
 
 -- what stands of them: their ids and kinds
 abbrev pub part_of : Instance → Part
@@ -182,8 +194,9 @@ started b m ids calls w = stages_from b m calls 0 (most_stages b w.modules calls
 abbrev pub initialize_all : Behaviour → Answers → World → Flow
 initialize_all b m w = started b m (live_of w) (outer_first w.records (live_of w) 1) w
 
+-- the modules that need boxes have them, each in its state at first: before its start no module has a state
 abbrev pub place_parts : Behaviour → World → Flow
-place_parts b w = place_all b (parts_of w) w
+place_parts b w = unless_unknown b (needs w) w (first_unknown b (needs w))
 
 -- ---- runs
 

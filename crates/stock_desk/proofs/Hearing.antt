@@ -1,10 +1,11 @@
 -- What a client hears of one command.
-use Rattle.std.proofs.Common.{◌≡◌, ℕ, Bor, true, false, List, [], ◌∷◌, ◌++◌, Option, Some, None, IsSome, is_some, option_copied, option_map, codes, inl, inr, refl, sym, ap, ◌∙◌, subst}
+use Rattle.std.proofs.Common.{◌≡◌, ℕ, Bor, true, false, List, [], ◌∷◌, ◌++◌, Option, Some, None, IsSome, is_some, length, option_copied, option_map, codes, inl, inr, refl, sym, ap, ◌∙◌, subst}
 use Rattle.module_api.specs.Behaviour.{Behaviour}
 use Rattle.models.specs.declared.model.Model.{Model}
 use Rattle.model_answers.specs.Answering.{answers_of}
+use Rattle.checkpointed_runs.specs.Running.{boxes_left}
 use Rattle.run_semantics.specs.declared.outcome.Outcome.{Outcome}
-use Rattle.edit_session.specs.Editing.{Completed, Editing, boxes_left, completed}
+use Rattle.edit_session.specs.Editing.{Completed, Editing, completed}
 use Rattle.checkpointed_runs.specs.declared.running.Stood.{Stood}
 use Rattle.checkpoints.specs.Stored.{Timeline}
 use Rattle.checkpointed_runs.specs.Positions.{cut, last_count, HasStored}
@@ -82,7 +83,7 @@ at_done : (b : Behaviour) (limit : ℕ) (before after : Editing) (s : Machine) �
 at_done b limit before after s stays done same = record {
   model = stays.model ∙ same.model;
   done = done.done ∙ ap (λ (m : Model). Some (completed b m limit)) same.model;
-  held = done.held ∙ ap (λ (m : Model). boxes_left b m limit) same.model;
+  held = ap length done.boxes ∙ ap (λ (m : Model). length (boxes_left b (answers_of m) limit)) same.model;
   known = done.known ∙ ap (λ (m : Model). Some (events_of b m limit)) same.model;
   positions = done.positions ∙ same_positions b limit before s same;
 }
@@ -107,7 +108,7 @@ pub record LeavesNone (b : Behaviour) (before : Editing) (limit : ℕ) (after : 
 none_left : (b : Behaviour) (limit : ℕ) (before after : Editing) (s : Machine) → StaysOf before after → LeavesNone b before limit after → RunsAlike limit before s
     → Told b (command.Run limit) OutOfMemory s after
 none_left b limit before after s stays none same = (
-  record { model = s.model; last = None; held = after.held; known = last_count after.positions.stored; positions = after.positions },
+  record { model = s.model; last = None; held = length after.boxes; known = last_count after.positions.stored; positions = after.positions },
   inr (
     refl,
     inl (record { model = refl; last = refl; known = refl; stood = none.stood; positions = same_stored b limit before s none.stood after.positions same none.positions }),
@@ -154,7 +155,7 @@ edited b e before after text (inl made) s at = (
   record {
     model = refl;
     done = ap (λ (x : Editing). x.done) made.2;
-    held = ap (λ (x : Editing). x.held) made.2 ∙ at.held;
+    held = ap (λ (x : Editing). length x.boxes) made.2 ∙ at.held;
     known = ap (λ (x : Editing). x.known) made.2;
     positions = ap (λ (x : Editing). x.positions) made.2 ∙ ap (cut made.0) at.positions;
   },
@@ -255,7 +256,7 @@ tells_no_positions b before after n asked may running same heard =
 
 -- what is told of the boxes
 pub tells_held : (b : Behaviour) (before after : Seen) (text : List ℕ) (n : Next) → after.asked ≡ before.asked → after.may ≡ before.may → after.running ≡ None
-    → after.editing ≡ before.editing → text ≡ held_text before.editing.held → HearsOne (Answer text) before.heard after.heard n → HearsNext b command.Held before after n
+    → after.editing ≡ before.editing → text ≡ held_text (length before.editing.boxes) → HearsOne (Answer text) before.heard after.heard n → HearsNext b command.Held before after n
 tells_held b before after text n asked may running same is heard = tells b command.Held before after (Answer text) n asked may running heard (λ s at. (
   s,
   (inl (ap (λ (t : List ℕ). Answer t ∷ []) (is ∙ ap held_text at.held)), refl),

@@ -1,10 +1,11 @@
 -- One turn of a desk with a client after the other.
-use Rattle.std.proofs.Common.{◌≡◌, ℕ, ◌+◌, ◌*◌, ◌<◌, ◌≤◌, List, [], ◌∷◌, ◌++◌, Option, Some, None, IsSome, arith, inl, inr, refl, sym, ap, ◌∙◌, subst}
+use Rattle.std.proofs.Common.{◌≡◌, ℕ, ◌+◌, ◌*◌, ◌<◌, ◌≤◌, List, [], ◌∷◌, ◌++◌, length, Option, Some, None, IsSome, arith, inl, inr, refl, sym, ap, ◌∙◌, subst}
 use Rattle.module_api.specs.Behaviour.{Behaviour}
 use Rattle.checkpoints.specs.Stored.{begun, counts_in, IsBegun, Timeline}
 use Rattle.command_lines.specs.declared.commands.Command.{Command}
 use Rattle.command_lines.specs.declared.commands.Command.TheVariants as command
-use Rattle.edit_session.specs.Editing.{Completed, Editing, IsUndone, fresh_editing, waited_for, wanted_of}
+use Rattle.run_semantics.specs.Run.{Part}
+use Rattle.edit_session.specs.Editing.{Completed, Editing, IsUndone, fresh_editing, waited_for, wanted_of, with_box}
 use Rattle.checkpointed_runs.specs.declared.running.Stood.TheVariants.{Before}
 use Rattle.checkpointed_runs.specs.Positions.{last_count, start_of}
 use Rattle.checkpointed_runs.proofs.Counting.{begun_is}
@@ -15,7 +16,7 @@ use Rattle.stock_modules.specs.declared.modules.StockModule.{StockModule}
 use Rattle.checkpointed_runs.specs.declared.running.Phase.TheVariants.{Idle, Waiting, Declined}
 use Rattle.stock_desk.specs.Boxes.{most_boxes}
 use Rattle.stock_desk.specs.Served.{Machine, AreHeard, BeginsToHear, Hears, command_asked, fresh_machine}
-use Rattle.stock_desk.specs.Serving.{Seen, ComesTo, Ends, EndsServing, HearsNext, HearsOne, IsAt, IsCutOff, IsGoing, IsNextServing, IsRunIn, IsServed, IsServingTurn, NeedsBox, RunsAlike, Stands, StandsBy, WaitsIn, left_in_run, left_seen}
+use Rattle.stock_desk.specs.Serving.{Seen, ComesTo, Ends, EndsServing, HearsNext, HearsOne, IsAt, IsCutOff, IsGoing, IsNextServing, IsRunIn, IsServed, IsServingTurn, NeedsBox, RunsAlike, Stands, StandsBy, WaitsIn, going, left_in_run, left_seen}
 use Rattle.transcripts.specs.Heard.{Heard, OutOfMemory}
 use Rattle.transcripts.specs.declared.asked.Asked.{Asked}
 use Rattle.stock_desk.specs.declared.serving.Next.{Next}
@@ -26,7 +27,7 @@ use Rattle.stock_desk.specs.declared.serving.Turn.{Turn}
 use Rattle.stock_desk.specs.declared.serving.Turn.TheVariants as turn
 use Rattle.stock_desk.proofs.Alike.{at_alike, waits_alike}
 use Rattle.stock_desk.proofs.Hearing.{LeavesNone, heard_more, tells_none}
-use Rattle.stock_desk.proofs.Turning.{few_left}
+use Rattle.stock_desk.proofs.Turning.{few_left, supplied_left}
 
 -- ---- a run goes on
 
@@ -174,17 +175,17 @@ some_limit : (o : Option ℕ) → IsSome o → (limit : ℕ) × (o ≡ Some limi
 some_limit None is = absurd cc
 some_limit (Some limit) is = (limit, refl)
 
-undone : (phase : Phase) (m : Model) (held : ℕ) (done : Option Completed) (known : Option ℕ) (ps : Timeline Position) → IsSome (waited_for phase m held)
+undone : (phase : Phase) (m : Model) (boxes : List Part) (done : Option Completed) (known : Option ℕ) (ps : Timeline Position) → IsSome (waited_for phase m boxes)
     → IsUndone phase done known ps → (done ≡ None) × (known ≡ None) × IsBegun ps
-undone Idle m held d k ps is none = absurd cc
-undone Waiting m held d k ps is none = none
-undone Declined m held d k ps is none = absurd cc
+undone Idle m boxes d k ps is none = absurd cc
+undone Waiting m boxes d k ps is none = none
+undone Declined m boxes d k ps is none = absurd cc
 
 -- a run that waits leaves nothing: neither it nor one before it is done, and no position is stored
 waits_for_none : (b : Behaviour) (limit : ℕ) (e : Editing) (ps : Timeline Position) → IsSome (wanted_of e) → IsUndone e.phase e.done e.known ps
     → e.positions ≡ counts_in ps → LeavesNone b e limit e
 waits_for_none b limit e ps waits none counts =
-    let left = undone e.phase e.model e.held e.done e.known ps waits none in
+    let left = undone e.phase e.model e.boxes e.done e.known ps waits none in
     let no_counts : e.positions ≡ begun ps.first = counts ∙ ap counts_in left.2 in
     record {
       done = left.0;
@@ -203,6 +204,35 @@ memory_turn b before after n ps going waits none counts same asked may running h
     (tells_none b at.0 before after n asked may running
     (record { model = ap (λ (e : Editing). e.model) same })
     (subst (LeavesNone b before.editing at.0) (sym same) (waits_for_none b at.0 before.editing ps waits none counts)) heard)
+
+-- ---- a run that waits has one box more
+
+more_alike : (limit : ℕ) (e f : Editing) (s : Machine) → f ≡ with_box e → RunsAlike limit e s → RunsAlike limit f s
+more_alike limit e f s is h = subst (λ (x : Editing). RunsAlike limit x s) (sym is) (record { model = h.model; start = h.start; kept = h.kept })
+
+more_going : (b : Behaviour) (s : Machine) (limit : ℕ) (before after : Seen) → after.editing ≡ with_box before.editing → after.asked ≡ before.asked → after.heard ≡ before.heard → IsGoing b s limit before → IsGoing b s limit after
+more_going b s limit before after is asked heard h = record {
+  before = h.before;
+  last = h.last;
+  all = asked ∙ h.all;
+  runs = h.runs;
+  machine = h.machine;
+  alike = more_alike limit before.editing after.editing h.machine is h.alike;
+  heard = subst (λ told. AreHeard b s h.before told h.machine) (sym heard) h.heard;
+}
+
+-- it goes on, and less is left
+pub supplied_turn : (b : Behaviour) (before after : Seen) → IsSome before.running → IsSome (wanted_of before.editing) → after.editing ≡ with_box before.editing → after.asked ≡ before.asked → after.heard ≡ before.heard → after.may ≡ before.may → after.running ≡ before.running
+    → IsNextServing b before after next.GoOn
+supplied_turn b before after going_on wants is asked heard may running =
+    let at = some_limit before.running going_on in
+    let less : left_in_run after.editing < left_in_run before.editing = supplied_left before.editing after.editing wants is in
+    let new : going after.running (left_in_run after.editing) ≡ left_in_run after.editing + 1 = ap (λ o. going o (left_in_run after.editing)) (running ∙ at.1) in
+    let old : going before.running (left_in_run before.editing) ≡ left_in_run before.editing + 1 = ap (λ o. going o (left_in_run before.editing)) at.1 in
+    let same : after.may * (most_boxes + 4) ≡ before.may * (most_boxes + 4) = ap (λ n. n * (most_boxes + 4)) may in (
+      λ s stands. subst (λ o. StandsBy o b s after) (sym (running ∙ at.1)) (more_going b s at.0 before after is asked heard (subst (λ o. StandsBy o b s before) at.1 stands)),
+      omega (arith, less, new, old, same),
+    )
 
 -- a box is placed, or it isn't, and the turn goes on
 pub went_serving : (b : Behaviour) (before mid after : Seen) (made : StockModule) (n : Next) → NeedsBox b before mid made → IsNextServing b mid after n → IsNextServing b before after n
@@ -226,7 +256,7 @@ served_first b m interval v fresh asked heard = record {
   at = record {
     model = ap (λ (e : Editing). e.model) fresh;
     done = ap (λ (e : Editing). e.done) fresh;
-    held = ap (λ (e : Editing). e.held) fresh;
+    held = ap (λ (e : Editing). length e.boxes) fresh;
     known = ap (λ (e : Editing). e.known) fresh;
     positions = ap (λ (e : Editing). e.positions) fresh;
   };

@@ -1,5 +1,5 @@
 -- What a client asks of a desk, and what it hears: the plain machine.
-use Rattle.std.specs.Prelude.{◌≡◌, ◌⊎◌, ℕ, List, [], ◌∷◌, ◌++◌, Option, Some, None, codes}
+use Rattle.std.specs.Prelude.{◌≡◌, ◌⊎◌, ℕ, List, [], ◌∷◌, ◌++◌, length, Option, Some, None, codes}
 use Rattle.module_api.specs.Behaviour.{Behaviour}
 use Rattle.models.specs.declared.model.Model.{Model}
 use Rattle.model_answers.specs.Answering.{answers_of}
@@ -8,8 +8,7 @@ use Rattle.model_edits.specs.declared.edit.Edit.TheVariants as edit
 use Rattle.command_lines.specs.Commands.{command_of}
 use Rattle.command_lines.specs.declared.commands.Command.{Command}
 use Rattle.command_lines.specs.declared.commands.Command.TheVariants as command
-use Rattle.edit_session.specs.Editing.{boxes_left}
-use Rattle.checkpointed_runs.specs.Running.{fresh_run}
+use Rattle.checkpointed_runs.specs.Running.{boxes_left, fresh_run}
 use Rattle.edit_session.specs.Files.{scalars_of_run, vectors_of_run}
 use Rattle.checkpointed_runs.specs.declared.running.Stood.{Stood}
 use Rattle.checkpoints.specs.Stored.{begun, Timeline}
@@ -43,7 +42,7 @@ abbrev pub behind_run : Behaviour → Machine → ℕ → Machine
 behind_run b s limit = record {
   model = s.model;
   last = Some limit;
-  held = boxes_left b s.model limit;
+  held = length (boxes_left b (answers_of s.model) limit);
   known = Some (events_of b s.model limit);
   positions = positions_after b (answers_of s.model) limit s.positions;
 }

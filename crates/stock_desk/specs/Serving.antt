@@ -1,5 +1,5 @@
 -- A desk with a client, from one turn to the next.
-use Rattle.std.specs.Prelude.{◌≡◌, ◌⊎◌, ◌≤◌, ◌<◌, ℕ, ◌+◌, ◌*◌, List, [], ◌∷◌, ◌++◌, Option, Some, None, IsSome, option_map}
+use Rattle.std.specs.Prelude.{◌≡◌, ◌⊎◌, ◌≤◌, ◌<◌, ℕ, ◌+◌, ◌*◌, List, [], ◌∷◌, ◌++◌, length, Option, Some, None, IsSome, option_map}
 use Rattle.module_api.specs.Behaviour.{Behaviour}
 use Rattle.models.specs.declared.model.Model.{Model}
 use Rattle.command_lines.specs.declared.commands.Command.{Command}
@@ -12,7 +12,7 @@ use Rattle.checkpointed_runs.specs.Positions.{cut, start_of}
 use Rattle.saved_boxes.specs.Seats.{Members}
 use Rattle.desk.specs.Turns.{editing_at, IsSettled}
 use Rattle.checkpointed_runs.specs.declared.running.Phase.TheVariants.{Declined}
-use Rattle.stock_desk.specs.Boxes.{boxes_of, left_of, most_boxes}
+use Rattle.stock_desk.specs.Boxes.{left_of, most_boxes}
 use Rattle.stock_desk.specs.Served.{Machine, AreHeard, BeginsToHear, Hears, HearsRun, IsBroken, command_asked}
 use Rattle.transcripts.specs.Heard.{Heard}
 use Rattle.transcripts.specs.declared.asked.Asked.{Asked}
@@ -42,7 +42,7 @@ seen e asked heard may running = record { editing = e; asked = asked; heard = he
 pub record IsAt (b : Behaviour) (e : Editing) (s : Machine) : Type 0 where
   pub model : e.model ≡ s.model
   pub done : e.done ≡ option_map (completed b s.model) s.last
-  pub held : e.held ≡ s.held
+  pub held : length e.boxes ≡ s.held
   pub known : e.known ≡ s.known
   pub positions : e.positions ≡ s.positions
 
@@ -89,7 +89,7 @@ going None left = 0
 going (Some limit) left = left + 1
 
 abbrev pub left_in_run : Editing → ℕ
-left_in_run e = left_of e.phase (boxes_of e.model) e.held
+left_in_run e = left_of e.phase e.model e.boxes
 
 -- how many turns are left at most: for each thing that may be asked, as many as a model may need boxes, and four more
 abbrev pub left_seen : Seen → ℕ

@@ -28,6 +28,19 @@ supply-requires-clause-wanted g c =
     read_made own-1 (own-1.entry at-1-1) at-1-1 refl Module (λ j y. j.1.meaning y) c.into_dyn_box-held.result.vtable c.into_dyn_box-held.result.value c.in-Ok.held.value c.into_dyn_box-held.ensures.1 in
     subst (λ (m : Module). IsFor stock (wanted_of (editing_at (λ b. (own-1.entry b.vtable).1) c.turn.new.self.desk)) m) (sym (means ∙ ap module_of c.in-Ok.ensures.ok)) c.in-Need.ensures.comes.wanted
 
+-- each turn leaves less to be done
+pub turns-smaller : goal.turns-smaller
+turns-smaller g c =
+    let went : IsNextServing stock (seen_in (λ b. (own-1.entry b.vtable).1) g.K.Client.asked g.K.Client.heard g.K.Client.left c.turns.server) (seen_in (λ b. (own-1.entry b.vtable).1) g.K.Client.asked g.K.Client.heard g.K.Client.left c.match-turn.server) c.match-turn.next = elim c.match-turn.branch [
+      | in-Need+in-Ok w ↦ rw (w.server-is, w.next-is) (went_serving stock (seen_in (λ b. (own-1.entry b.vtable).1) g.K.Client.asked g.K.Client.heard g.K.Client.left c.turns.server) (seen_in (λ b. (own-1.entry b.vtable).1) g.K.Client.asked g.K.Client.heard g.K.Client.left c.turn.new.self) (seen_in (λ b. (own-1.entry b.vtable).1) g.K.Client.asked g.K.Client.heard g.K.Client.left w.supply.new.self) w.in-Need.made w.supply.result w.in-Need.ensures.comes w.supply.ensures.comes)
+      | in-Need+in-Err w ↦ rw (w.server-is, w.next-is) (went_serving stock (seen_in (λ b. (own-1.entry b.vtable).1) g.K.Client.asked g.K.Client.heard g.K.Client.left c.turns.server) (seen_in (λ b. (own-1.entry b.vtable).1) g.K.Client.asked g.K.Client.heard g.K.Client.left c.turn.new.self) (seen_in (λ b. (own-1.entry b.vtable).1) g.K.Client.asked g.K.Client.heard g.K.Client.left w.out_of_memory.new.self) w.in-Need.made w.out_of_memory.result w.in-Need.ensures.comes
+          (memory_turn stock (seen_in (λ b. (own-1.entry b.vtable).1) g.K.Client.asked g.K.Client.heard g.K.Client.left c.turn.new.self) (seen_in (λ b. (own-1.entry b.vtable).1) g.K.Client.asked g.K.Client.heard g.K.Client.left w.out_of_memory.new.self) w.out_of_memory.result _ w.in-Need.ensures.comes.going w.in-Need.ensures.comes.waits c.turn.ensures.sound.undone refl
+          (ap (editing_at (λ b. (own-1.entry b.vtable).1)) w.out_of_memory.ensures.desk) w.out_of_memory.ensures.asked w.out_of_memory.ensures.left w.out_of_memory.ensures.running w.out_of_memory.ensures.heard))
+      | in-Over w ↦ rw (w.server-is, w.next-is) w.in-Over.ensures.comes
+    ] in
+    let goes_on = subst (IsNextServing stock (seen_in (λ b. (own-1.entry b.vtable).1) g.K.Client.asked g.K.Client.heard g.K.Client.left c.turns.server) (seen_in (λ b. (own-1.entry b.vtable).1) g.K.Client.asked g.K.Client.heard g.K.Client.left c.match-turn.server)) c.in_default.is went in
+    goes_on.1
+
 pub turns-preserved : goal.turns-preserved
 turns-preserved g c =
     let went : IsNextServing stock (seen_in (λ b. (own-1.entry b.vtable).1) g.K.Client.asked g.K.Client.heard g.K.Client.left c.turns.server) (seen_in (λ b. (own-1.entry b.vtable).1) g.K.Client.asked g.K.Client.heard g.K.Client.left c.match-turn.server) c.match-turn.next = elim c.match-turn.branch [

@@ -1,10 +1,13 @@
 use Rattle.model_answers.specs.Answering.{answers_of}
-use Rattle.std.proofs.Common.{◌≡◌, Some, None, inr, length, refl, sym, ap, ◌∙◌, arith, subst}
+use Rattle.std.proofs.Common.{◌≡◌, Some, None, inr, refl, sym, ap, ◌∙◌, arith, subst}
 use Rattle.checkpoints.specs.Stored.{counts_in}
 use Rattle.kernel.specs.Kernels.{world_in}
 use Rattle.run_semantics.specs.Run.{run_to}
-use Rattle.checkpointed_runs.specs.Running.{kept_boxes, needed_by}
-use Rattle.checkpointed_runs.specs.Kept.{HasBegun, HasLeft}
+use Rattle.kernel.proofs.Calling.{ok_step}
+use Rattle.checkpointed_runs.specs.Running.{kept_boxes, needed_by, Advances, IsLive}
+use Rattle.saved_boxes.specs.Saved.{seats_held}
+use Rattle.checkpointed_runs.specs.Kept.{boxes_in, waiting_in, HasBegun, HasLeft}
+use Rattle.checkpointed_runs.proofs.Filling.{ended_left, going_boxes, setup_advances}
 use Rattle.checkpointed_runs.specs.Positions.{CanGoOn, HasStored}
 use Rattle.checkpointed_runs.specs.declared.running.Stood.TheVariants as stood
 use Rattle.checkpointed_runs.proofs.Counting.{back_stored, kept_counts, left_after_start, setup_stored, start_stored}
@@ -52,12 +55,16 @@ returns-in_ok-outcome-in-Some-clause-advances g c =
     let before = c.go_back.new.self.positions in
     let after = c.run_on.new.self.positions in
     let ran = run_to b m c.args.limit in
-    let kept = kept_boxes c.args.phase (length (world_in (λ b. (g.dyn-1.0.entry b.vtable).1) c.args.self.now.kernel).modules) in
+    let kept = kept_boxes c.args.phase (boxes_in (λ b. (g.dyn-1.0.entry b.vtable).1) c.args.self.now) in
     let back = rw c.in-Some.is at c.in_ok-start.ensures.back in
     let left : HasLeft c.in-Some.start before after ran = subst (λ n. HasLeft n before after ran) back.1.1 (rw c.in_ok-answers-in-Some.ensures at c.in_ok-outcome-in-Some.ensures.left) in
-    let count = whole_count b m c.args.limit (world_in (λ b. (g.dyn-1.0.entry b.vtable).1) c.run_on.new.self.kernel) c.in_ok-outcome-in-Some.outcome (rw c.in_ok-answers-in-Some.ensures at c.in_ok-outcome-in-Some.ensures.ran) in
+    let w = world_in (λ b. (g.dyn-1.0.entry b.vtable).1) c.run_on.new.self.kernel in
+    let whole = rw c.in_ok-answers-in-Some.ensures at c.in_ok-outcome-in-Some.ensures.ran in
+    let count = whole_count b m c.args.limit w c.in_ok-outcome-in-Some.outcome whole in
     record {
-      whole = rw c.in_ok-answers-in-Some.ensures at c.in_ok-outcome-in-Some.ensures.ran;
+      whole = whole;
+      boxes = ended_left b m c.args.limit w (waiting_in (λ b. (g.dyn-1.0.entry b.vtable).1) c.run_on.new.self) c.in_ok-outcome-in-Some.outcome whole (ap (seats_held (λ b. (g.dyn-1.0.entry b.vtable).1)) c.run_on.ensures.waiting ∙ back.1.3)
+          (λ all. going_boxes b m (world_in (λ b. (g.dyn-1.0.entry b.vtable).1) c.go_back.new.self.kernel).count (world_in (λ b. (g.dyn-1.0.entry b.vtable).1) c.go_back.new.self.kernel) all back.1.0.going);
       start = back.0;
       within = omega (arith, left.grew, count);
       needs_none = inr (subst (λ o. needed_by m o kept ≡ None) back.0 refl);
@@ -72,3 +79,22 @@ returns-in-None-clause-stopped g c =
     setup_stored g.C.Catalogue.behaviour (answers_of c.args.model.now) c.args.limit (counts_in c.args.self.now.positions) (counts_in c.clear.new.self) c.begin.new.self.stood (counts_in c.begin.new.self.positions) (sym back.0)
     (rw back.1 at (ap counts_in c.clear.ensures))
     c.begin.ensures.stopped
+
+pub begin-requires-clause-live : goal.begin-requires-clause-live
+begin-requires-clause-live g c =
+    let back = rw c.in-None.is at c.in_ok-start.ensures.back in
+    subst (λ r. IsLive g.C.Catalogue.behaviour (answers_of c.args.model.now) (world_in (λ b. (g.dyn-1.0.entry b.vtable).1) r.kernel) (waiting_in (λ b. (g.dyn-1.0.entry b.vtable).1) r) c.args.phase) (sym back.1) c.requires.live
+
+pub returns-in-None-clause-advances : goal.returns-in-None-clause-advances
+returns-in-None-clause-advances g c =
+    let b = g.C.Catalogue.behaviour in
+    let m = (answers_of c.args.model.now) in
+    let back = rw c.in-None.is at c.in_ok-start.ensures.back in
+    let old = counts_in c.args.self.now.positions in
+    let cleared = counts_in c.clear.new.self in
+    let w = world_in (λ b. (g.dyn-1.0.entry b.vtable).1) c.begin.new.self.kernel in
+    let xs = waiting_in (λ b. (g.dyn-1.0.entry b.vtable).1) c.begin.new.self in
+    let new = counts_in c.begin.new.self.positions in
+    ok_step c.begin.result c.begin.ensures.advances (λ advance h.
+    setup_advances b m c.args.limit (kept_boxes c.args.phase (boxes_in (λ b. (g.dyn-1.0.entry b.vtable).1) c.args.self.now)) c.args.phase old cleared w xs new advance (sym back.0) (rw back.1 at (ap counts_in c.clear.ensures))
+    (subst (λ r. Advances b m c.args.limit (kept_boxes c.args.phase (boxes_in (λ b. (g.dyn-1.0.entry b.vtable).1) r)) c.args.phase cleared w xs new advance) back.1 h))

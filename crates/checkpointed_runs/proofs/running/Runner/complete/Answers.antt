@@ -12,7 +12,9 @@ use Rattle.checkpointed_runs.specs.Running.{fresh_run}
 use Rattle.checkpointed_runs.specs.Kept.{AreGood, HasBegun, HasLeft}
 use Rattle.checkpointed_runs.specs.declared.running.Stood.TheVariants as stood
 use Rattle.checkpointed_runs.proofs.Counting.{fault_left, first_below, first_counts, first_untaken, none_stored, if_ok_from, on_ok, on_ok_map, setup_left_all, setup_stored_all}
-use Rattle.checkpointed_runs.proofs.Filling.{start_is_fault}
+use Rattle.saved_boxes.specs.Saved.{seats_held}
+use Rattle.checkpointed_runs.specs.Kept.{waiting_in}
+use Rattle.checkpointed_runs.proofs.Filling.{left_if_ok, start_is_fault, started_boxes}
 use Rattle.checkpointed_runs.proofs.Going.{count_is, going_at}
 use Rattle.checkpointed_runs.proofs.Good.{good_stored}
 use Rattle.checkpointed_runs.proofs.running.Runner.complete.Goals as goal
@@ -48,6 +50,21 @@ returns-in-Some-clause-ran g c =
     let over : Over w c.in-Some.outcome ≡ after b m 0 = rw c.in-Some.is at c.in_ok-outcome.ensures.step in
     if_ok_from c.finish.result (λ o. ran_in (λ b. (g.dyn-1.0.entry b.vtable).1) o c.finish.new.self) (fresh_run b m c.args.limit) (ending b m (ran_in (λ b. (g.dyn-1.0.entry b.vtable).1) c.in-Some.outcome c.start.new.self))
     (ap (ending b m) (run_over b m w c.in-Some.outcome zero c.args.limit (omega arith) over)) c.finish.ensures.step
+
+pub returns-in-Some-clause-boxes : goal.returns-in-Some-clause-boxes
+returns-in-Some-clause-boxes g c =
+    let b = g.C.Catalogue.behaviour in
+    let m = (answers_of c.args.model.now) in
+    left_if_ok b m c.args.limit (world_in (λ b. (g.dyn-1.0.entry b.vtable).1) c.finish.new.self) (seats_held (λ b. (g.dyn-1.0.entry b.vtable).1) c.start.new.waiting) c.finish.result (returns-in-Some-clause-ran g c) c.start.ensures.none
+    (λ all. started_boxes b m (world_in (λ b. (g.dyn-1.0.entry b.vtable).1) c.args.self.now.kernel) (waiting_in (λ b. (g.dyn-1.0.entry b.vtable).1) c.args.self.now) all c.requires.ready)
+
+pub returns-in_ok-keep_if-in-None-clause-boxes : goal.returns-in_ok-keep_if-in-None-clause-boxes
+returns-in_ok-keep_if-in-None-clause-boxes g c =
+    let b = g.C.Catalogue.behaviour in
+    let m = (answers_of c.args.model.now) in
+    let none = ap (seats_held (λ b. (g.dyn-1.0.entry b.vtable).1)) (c.run_on.ensures.waiting ∙ c.keep_if.ensures.waiting) ∙ c.start.ensures.none in
+    left_if_ok b m c.args.limit (world_in (λ b. (g.dyn-1.0.entry b.vtable).1) c.run_on.new.self.kernel) (waiting_in (λ b. (g.dyn-1.0.entry b.vtable).1) c.run_on.new.self) c.run_on.result c.run_on.ensures.ran none
+    (λ all. started_boxes b m (world_in (λ b. (g.dyn-1.0.entry b.vtable).1) c.args.self.now.kernel) (waiting_in (λ b. (g.dyn-1.0.entry b.vtable).1) c.args.self.now) all c.requires.ready)
 
 pub returns-in-Some-clause-left : goal.returns-in-Some-clause-left
 returns-in-Some-clause-left g c =

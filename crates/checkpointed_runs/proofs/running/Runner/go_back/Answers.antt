@@ -3,6 +3,7 @@ use Rattle.std.proofs.Common.{Some, option_map, refl, sym, ap, ◌∙◌, subst}
 use Rattle.kernel_actions.specs.declared.position.Position.{Position}
 use Rattle.kernel.specs.Kernels.{seats_in, world_in}
 use Rattle.checkpoints.specs.Stored.{counts_in, cut_after, Timeline}
+use Rattle.saved_boxes.specs.Saved.{seats_held}
 use Rattle.checkpointed_runs.specs.Kept.{AreGood}
 use Rattle.checkpointed_runs.specs.Positions.{CanGoOn}
 use Rattle.checkpointed_runs.specs.declared.running.Stood.TheVariants as stood
@@ -55,4 +56,4 @@ returns-clause-back g c =
     let back = back_at g.C.Catalogue.behaviour (answers_of c.args.model.now) c.args.limit (seats_in (λ b. (g.dyn-1.0.entry b.vtable).1) old) (seats_in (λ b. (g.dyn-1.0.entry b.vtable).1) new) (world_in (λ b. (g.dyn-1.0.entry b.vtable).1) old)
     (world_in (λ b. (g.dyn-1.0.entry b.vtable).1) new) c.in-Some.position.now c.args.self.now.positions.stored c.cut_after.new.self.stored c.requires.good (sym c.in-Some.ensures) c.go_back-back.ensures.kept c.in_ok-back.ensures.ok
     (ap (λ (t : Timeline Position). t.stored) (rw c.count-start.ensures at c.cut_after.ensures) ∙ left_stored c.args.self.now.positions _) in
-    (sym start, (record { going = back.going; within = back.within; room = back.room; good = back.good; below = back.below; stood = ap stood.After (c.count-start.ensures ∙ sym back.count) }, back.count ∙ sym c.count-start.ensures, c.cut_after.ensures))
+    (sym start, (record { going = back.going; within = back.within; room = back.room; good = back.good; below = back.below; stood = ap stood.After (c.count-start.ensures ∙ sym back.count) }, back.count ∙ sym c.count-start.ensures, c.cut_after.ensures, ap (seats_held (λ b. (g.dyn-1.0.entry b.vtable).1)) c.clear.ensures))

@@ -107,6 +107,7 @@ loop-k-preserved g c =
       good = subst (λ K. AreGood b m (seats_in (λ b. (g.dyn-1.0.entry b.vtable).1) K) (world_in (λ b. (g.dyn-1.0.entry b.vtable).1) K) new.stored) same
           (good_stored b m (seats_in (λ b. (g.dyn-1.0.entry b.vtable).1) c.step.new.self) v c.is_multiple-due.result old new (λ _. going_at b m (suc k) v going) c.in_ok-outcome.ensures.room refl c.in_ok-keep_if.ensures.ok good);
       shown = subst (λ K. AreShown m (world_in (λ b. (g.dyn-1.0.entry b.vtable).1) K).records c.step.new.shown) same c.step.ensures.shown;
+      waiting = c.in_ok-keep_if.ensures.waiting ∙ c.loop-k.invariant.waiting;
       stood = c.in_ok-keep_if.ensures.stood ∙ ap stood.After (count ∙ one);
       stored = subst (λ n. StoredAt from c.args.self.now.positions new n) one
           (stored_next from k c.args.self.now.positions old new (position_of v) c.loop-k.invariant.from count (c.in_ok-keep_if.ensures.ok ∙ ap (λ t. taken_if t (position_of v) old) due) c.loop-k.invariant.stored);

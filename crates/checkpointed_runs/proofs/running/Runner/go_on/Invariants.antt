@@ -21,6 +21,7 @@ invariant-loop-k g l =
       kinds : HasKinds g.C.Catalogue.behaviour (λ b. (g.dyn-1.0.entry b.vtable).1) l.self.kernel;
       good : HasGood g.C.Catalogue.behaviour (answers_of l.model) (λ b. (g.dyn-1.0.entry b.vtable).1) l.self;
       shown : AreShown (answers_of l.model) world.records l.shown;
+      waiting : l.self.waiting ≡ l.fn.self.waiting;
       stood : l.self.stood ≡ stood.After l._k;
       stored : StoredAt first.count l.fn.self.positions l.self.positions l._k;
     }

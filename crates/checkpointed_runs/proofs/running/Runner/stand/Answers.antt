@@ -1,8 +1,26 @@
+use Rattle.model_answers.specs.Answering.{answers_of}
+use Rattle.std.proofs.Common.{◌≡◌, List, sym, subst}
+use Rattle.run_semantics.specs.Run.{Part}
+use Rattle.kernel.specs.Kernels.{world_in}
+use Rattle.checkpointed_runs.specs.Kept.{boxes_in, waiting_in}
+use Rattle.checkpointed_runs.specs.Running.{parts_in, Stands, Wants}
 use Rattle.checkpointed_runs.specs.declared.running.Phase.TheVariants.{Idle, Waiting}
+use Rattle.checkpointed_runs.proofs.Filling.{filled_boxes}
 use Rattle.checkpointed_runs.proofs.running.Runner.stand.Goals as goal
 
 pub returns-in_ok-standing-in-Idle-clause-wants : goal.returns-in_ok-standing-in-Idle-clause-wants
 returns-in_ok-standing-in-Idle-clause-wants g c = rw c.in-Idle.is (c.in_ok-standing-in-Idle.ensures.wants Idle tt)
 
+pub returns-in_ok-standing-in-Waiting-clause-stands : goal.returns-in_ok-standing-in-Waiting-clause-stands
+returns-in_ok-standing-in-Waiting-clause-stands g c =
+    let w = world_in (λ b. (g.dyn-1.0.entry b.vtable).1) c.args.self.now.kernel in
+    let xs = waiting_in (λ b. (g.dyn-1.0.entry b.vtable).1) c.args.self.now in
+    let all : boxes_in (λ b. (g.dyn-1.0.entry b.vtable).1) c.args.self.now ≡ parts_in xs = filled_boxes g.C.Catalogue.behaviour (answers_of c.args.model.now) w xs (rw c.in-Waiting.is at c.requires.live) in
+    rw c.in-Waiting.is (subst (λ (kept : List Part). Stands g.C.Catalogue.behaviour (answers_of c.args.model.now) kept w xs c.in_ok-standing-in-Waiting.standing) (sym all) c.in_ok-standing-in-Waiting.ensures.stands)
+
 pub returns-in_ok-standing-in-Waiting-clause-wants : goal.returns-in_ok-standing-in-Waiting-clause-wants
-returns-in_ok-standing-in-Waiting-clause-wants g c = rw c.in-Waiting.is (c.in_ok-standing-in-Waiting.ensures.wants Waiting tt)
+returns-in_ok-standing-in-Waiting-clause-wants g c =
+    let w = world_in (λ b. (g.dyn-1.0.entry b.vtable).1) c.args.self.now.kernel in
+    let xs = waiting_in (λ b. (g.dyn-1.0.entry b.vtable).1) c.args.self.now in
+    let all : boxes_in (λ b. (g.dyn-1.0.entry b.vtable).1) c.args.self.now ≡ parts_in xs = filled_boxes g.C.Catalogue.behaviour (answers_of c.args.model.now) w xs (rw c.in-Waiting.is at c.requires.live) in
+    rw c.in-Waiting.is (subst (λ (kept : List Part). Wants (answers_of c.args.model.now) kept Waiting c.in_ok-standing-in-Waiting.standing) (sym all) (c.in_ok-standing-in-Waiting.ensures.wants Waiting tt))

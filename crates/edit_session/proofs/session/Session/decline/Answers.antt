@@ -1,11 +1,12 @@
-use Rattle.std.proofs.Common.{option_map, refl, sym, ◌∙◌}
+use Rattle.std.proofs.Common.{option_map, sym, ◌∙◌}
 use Rattle.kernel.specs.Kernels.{seats_in, world_in}
+use Rattle.checkpointed_runs.specs.Kept.{waiting_in}
 use Rattle.edit_session.specs.Sessions.{completed_of}
 use Rattle.edit_session.proofs.Boxes.{kept_declined}
 use Rattle.edit_session.proofs.session.Session.decline.Goals as goal
 
 pub returns-in-Some-clause-sound : goal.returns-in-Some-clause-sound
 returns-in-Some-clause-sound g c =
-    let kernel = c.args.self.now.runner.kernel in
-    kept_declined g.C.Catalogue.behaviour (seats_in (λ b. (g.dyn-1.0.entry b.vtable).1) kernel) (world_in (λ b. (g.dyn-1.0.entry b.vtable).1) kernel) c.args.self.now.model c.args.self.now.phase (option_map completed_of c.args.self.now.done) c.args.self.now.known c.args.self.now.runner.positions c.in-Some.field-0
-    refl c.requires.sound (sym c.wanted_id.ensures ∙ c.in-Some.is) c.requires.unknown
+    let runner = c.args.self.now.runner in
+    kept_declined g.C.Catalogue.behaviour (seats_in (λ b. (g.dyn-1.0.entry b.vtable).1) runner.kernel) (waiting_in (λ b. (g.dyn-1.0.entry b.vtable).1) runner) (world_in (λ b. (g.dyn-1.0.entry b.vtable).1) runner.kernel) c.args.self.now.model c.args.self.now.phase (option_map completed_of c.args.self.now.done) c.args.self.now.known c.args.self.now.runner.positions c.in-Some.field-0
+    c.requires.sound (sym c.wanted_id.ensures ∙ c.in-Some.is) c.requires.unknown

@@ -1,4 +1,4 @@
-use Rattle.std.proofs.Common.{rules, refl, ◌∙◌, sym, ap}
+use Rattle.std.proofs.Common.{rules, refl, ◌∙◌}
 use Rattle.stock_modules.specs.Stock.{stock}
 use Rattle.stock_desk.specs.Serving.{seen_in}
 use Rattle.stock_desk.proofs.Hearing.{misses_read, tells_replaced}
