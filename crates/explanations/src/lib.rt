@@ -3,6 +3,7 @@
 //! Everything here looks at the files once more, after they were refused or run. It decides nothing.
 #![tactic(auto)]
 
+mod built;
 mod configurations;
 mod foreign;
 mod given;

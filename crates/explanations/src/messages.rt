@@ -6,7 +6,7 @@ use model_answers::plain::PlainAnswers;
 use model_settings::standings::name_in;
 use model_texts::begin::model_of;
 use run_questions::answer::{Answer, Built, Question};
-use run_questions::record::{MAX_NESTING, Record, path_of, path_under};
+use run_questions::record::{MAX_NESTING, Origin, Record, path_of, path_under};
 use sim_values::NoMemory;
 use sim_values::text::Text;
 use sqlite_items::Items;
@@ -33,6 +33,7 @@ fn own_name(alloc: Global, built: &Built) -> Result<Text, NoMemory> {
         name: built.name.copy(alloc)?,
         index: built.index,
         class: None,
+        origin: Origin::Built,
     })?;
     Ok(path_of(alloc, records.as_slice(), 1)?)
 }
@@ -82,7 +83,7 @@ fn is_network(alloc: Global, answers: &PlainAnswers<'_>, name: &[u8]) -> Result<
 }
 
 /// The first name of a path, and what is after the dot that ends it, where one does.
-fn parted(path: &str) -> (&str, Option<&str>) {
+fn split_name(path: &str) -> (&str, Option<&str>) {
     match path.split_once('.') {
         Some((name, rest)) => (name, Some(rest)),
         None => (path, None),
@@ -95,7 +96,7 @@ fn standing_at(
     answers: &PlainAnswers<'_>,
     path: &str,
 ) -> Result<Standing, NoMemory> {
-    let (network, mut rest) = parted(path);
+    let (network, mut rest) = split_name(path);
     if !is_network(alloc, answers, network.as_bytes())? {
         return Ok(Standing::Nothing);
     }
@@ -108,7 +109,7 @@ fn standing_at(
         if standing != Standing::Compound {
             break;
         }
-        let (name, others) = parted(names);
+        let (name, others) = split_name(names);
         standing = standing_under(alloc, answers, above.as_bytes(), name.as_bytes())?;
         above = path_under(alloc, above.as_bytes(), name.as_bytes())?;
         rest = others;

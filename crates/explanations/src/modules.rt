@@ -11,7 +11,7 @@ use model_settings::setting::ModelSetting;
 use model_settings::standings::{around_of, before_last, name_in};
 use ned_trees::declarations::{Submodule, TypeDeclaration};
 use ned_types::flat::submodule_named;
-use run_questions::record::Record;
+use run_questions::record::{Origin, Record};
 use run_semantics::outcome;
 use sim_values::NoMemory;
 use sim_values::text::Text;
@@ -59,6 +59,7 @@ pub fn record_of(alloc: Global, path: &[u8]) -> Result<Items<Record>, NoMemory> 
         name: Text::from_bytes(alloc, path)?,
         index: None,
         class: None,
+        origin: Origin::Built,
     })?;
     Ok(records)
 }

@@ -5,21 +5,21 @@ use ini_pattern::Pattern;
 use ini_texts::speaks::last_name;
 use model_settings::standings::before_last;
 use ned_trees::declarations::{SectionLine, Submodule, SubmoduleType, TypeDeclaration, TypeKind};
-use ned_types::flat::type_name;
 use ned_types::given::{fixes, name_in};
 use sim_values::NoMemory;
 use std::alloc::Global;
 use std::fmt::Write;
-use text_explanations::bases::with_bases;
 use text_explanations::explanation::Explanation;
 use text_explanations::names::shown;
-use text_explanations::ned_files::type_named;
 
-/// Keys are compared with the names of a network at most so often.
+/// Keys are compared with the paths of a network at most so often.
 pub const MOST_TRIES: usize = 4_000_000;
 
-/// What a key can be for, each on a line: paths in a network of simple modules alone, or else the names that types declare, as the paths of
-/// modules in vectors and in one another are known only when the network is built.
+/// The names of the parameters of the built-in channels.
+const BUILT_IN: &str = "delay\ndisabled\ndatarate\nber\nper\n";
+
+/// What a key can be for, each on a line: paths in the network, or else the names that types declare, where the network can't be built or has
+/// very many modules.
 #[derive(Drop)]
 pub struct Paths {
     /// The parameters to which no NED file gives a fixed value.
@@ -27,7 +27,13 @@ pub struct Paths {
     /// Those to which one does.
     fixed: String,
     statistics: String,
+    /// The names of parameters that channels may have.
+    channels: String,
     pub count: usize,
+    /// How many of them are parameters to which no NED file gives a fixed value.
+    pub parameter_count: usize,
+    /// How many of them are statistics.
+    pub statistic_count: usize,
     /// They are paths, and not names.
     pub exact: bool,
     /// A submodule leaves its type open.
@@ -51,27 +57,14 @@ fn has_open(types: &[TypeDeclaration]) -> bool {
     false
 }
 
-/// Whether a submodule is one simple module, as it is declared.
-fn is_plain(types: &[TypeDeclaration], it: &Submodule) -> bool {
-    match type_named(types, type_name(it)) {
-        Some(of) => of.kind == TypeKind::Simple && it.size.is_none() && !is_open(it),
-        None => false,
-    }
-}
-
-/// Whether a network has simple modules alone, and no channels.
-fn is_flat(types: &[TypeDeclaration], along: &[&TypeDeclaration]) -> bool {
-    for of in along {
+/// Whether one of the types has connections.
+fn has_connections(types: &[TypeDeclaration]) -> bool {
+    for of in types {
         if !of.connections.items.is_empty() {
-            return false;
-        }
-        for it in of.submodules.as_slice() {
-            if !is_plain(types, it) {
-                return false;
-            }
+            return true;
         }
     }
-    true
+    false
 }
 
 /// Whether a name has a character that patterns read otherwise than as itself.
@@ -121,31 +114,33 @@ fn add_fixed<'a>(names: &mut Names<'a>, lines: &'a [SectionLine]) -> Result<(), 
     Ok(())
 }
 
-/// Adds the names of the parameters to which one of the types gives a fixed value.
-fn add_fixed_along<'a>(
-    names: &mut Names<'a>,
-    along: &[&'a TypeDeclaration],
-) -> Result<(), NoMemory> {
-    for it in along {
-        add_fixed(names, it.lines.as_slice())?;
-    }
-    Ok(())
-}
-
 /// What there is for an entry for parameters.
 #[derive(Clone, Copy)]
 pub enum Standing<'a> {
     /// A parameter, perhaps, whose value it gives.
     Open,
+    /// Parameters alone that entries before it in its section are for: the path of the first of them, and the line of the entry that is first for it.
+    Hidden(&'a str, usize),
     /// Parameters alone that have a fixed value: the first of them, by its path or its name.
     Fixed(&'a str),
     Nowhere,
 }
 
+/// An entry that gives statistics an option, and its line.
+#[derive(Clone, Copy)]
+pub struct OptionEntry<'a> {
+    pub key: &'a [u8],
+    pub pattern: &'a Pattern,
+    pub option: &'a str,
+    pub line: usize,
+}
+
 /// What there is for an option of statistics.
 #[derive(Clone, Copy)]
-pub enum Recorded {
+pub enum Recorded<'a> {
     There,
+    /// Statistics alone that entries before it in its section give the option: the path of the first of them, and the line of the entry that is first for it.
+    Hidden(&'a str, usize),
     /// A statistic, but the option is for other names of it.
     Misnamed,
     Nowhere,
@@ -160,6 +155,19 @@ fn endings_of(option: &str) -> &'static str {
         "scalar-recording" => ":count :sum :min :max :last",
         "vector-recording" => ":vector",
         _ => "",
+    }
+}
+
+/// For how many names of a statistic there are options: for five of scalars, and one of each other option.
+pub const NAMES: usize = 8;
+
+/// How many of these names are numbered before those of that option.
+fn names_before(option: &str) -> usize {
+    match option {
+        "statistic-recording" => 0,
+        "result-recording-modes" => 1,
+        "vector-recording" => 2,
+        _ => 3,
     }
 }
 
@@ -191,6 +199,39 @@ fn matching<'a>(lines: &'a str, pattern: &Pattern) -> Option<&'a str> {
     None
 }
 
+/// The line of the entry that was first for the parameter, or the name of a statistic, of that number. Where none was, 0, and then the one of this line is.
+fn first_for(taken: &mut [usize], number: usize, line: usize) -> usize {
+    match taken.get_mut(number) {
+        Some(it) => {
+            let before = *it;
+            if before == 0 {
+                *it = line;
+            }
+            before
+        }
+        None => 0,
+    }
+}
+
+/// What there is for an entry, with one more parameter or statistic that it matches, for which the entry of that line is first, or none where that is 0.
+fn with_match<'a>(standing: Standing<'a>, path: &'a str, first: usize) -> Standing<'a> {
+    if first == 0 {
+        return Standing::Open;
+    }
+    match standing {
+        Standing::Nowhere => Standing::Hidden(path, first),
+        it => it,
+    }
+}
+
+/// What there is, where no parameter without a fixed value is: one that has it, or none.
+fn fixed_or_none(fixed: Option<&str>) -> Standing<'_> {
+    match fixed {
+        Some(path) => Standing::Fixed(path),
+        None => Standing::Nowhere,
+    }
+}
+
 /// The line that is that name.
 fn named<'a>(lines: &'a str, name: &[u8]) -> Option<&'a str> {
     for line in lines.lines() {
@@ -208,7 +249,10 @@ impl Paths {
             parameters: String::new(alloc),
             fixed: String::new(alloc),
             statistics: String::new(alloc),
+            channels: String::new(alloc),
             count: 0,
+            parameter_count: 0,
+            statistic_count: 0,
             exact: true,
             open: false,
         }
@@ -226,10 +270,12 @@ impl Paths {
                 writeln!(self.fixed, "{path}.{}", shown(it.name.as_bytes()))?
             }
             SectionLine::Declaration(it) => {
-                writeln!(self.parameters, "{path}.{}", shown(it.name.as_bytes()))?
+                writeln!(self.parameters, "{path}.{}", shown(it.name.as_bytes()))?;
+                self.parameter_count = self.parameter_count.saturating_add(1);
             }
             SectionLine::Statistic(it) => {
-                writeln!(self.statistics, "{path}.{}", shown(it.name.as_bytes()))?
+                writeln!(self.statistics, "{path}.{}", shown(it.name.as_bytes()))?;
+                self.statistic_count = self.statistic_count.saturating_add(1);
             }
             _ => return Ok(()),
         }
@@ -237,71 +283,19 @@ impl Paths {
         Ok(())
     }
 
-    /// Adds what types have at a path, where parameters of these names have a fixed value in a body.
-    fn push_lines<'a>(
-        &mut self,
-        path: &str,
-        along: &[&'a TypeDeclaration],
-        fixed: &mut Names<'a>,
-    ) -> Result<(), NoMemory> {
-        add_fixed_along(fixed, along)?;
-        for it in along {
-            for line in it.lines.as_slice() {
-                self.push_line(path, line, fixed)?;
-            }
-        }
-        Ok(())
-    }
-
-    /// Adds what a type and those that it extends have at a path, where a body has these lines.
-    fn push_type(
+    /// Adds what a type has at a path, with all that it extends, where a body has these lines.
+    pub fn push_type(
         &mut self,
         alloc: Global,
-        types: &[TypeDeclaration],
         path: &str,
         of: &TypeDeclaration,
         body: &[SectionLine],
     ) -> Result<(), NoMemory> {
-        let along = with_bases(alloc, types, of)?;
         let mut fixed = IndexSet::new(alloc);
         add_fixed(&mut fixed, body)?;
-        self.push_lines(path, along.as_slice(), &mut fixed)
-    }
-
-    /// Adds what a submodule has in the network of that name.
-    fn push_submodule(
-        &mut self,
-        alloc: Global,
-        types: &[TypeDeclaration],
-        root: &str,
-        it: &Submodule,
-    ) -> Result<(), NoMemory> {
-        let Some(of) = type_named(types, type_name(it)) else {
-            return Ok(());
-        };
-        let path = format!(in alloc; "{root}.{}", shown(it.name.as_bytes()))?;
-        self.push_type(alloc, types, path.as_str(), of, it.body.lines.as_slice())
-    }
-
-    /// Adds what a network and its submodules have, of which these are the type and those that it extends.
-    fn push_network(
-        &mut self,
-        alloc: Global,
-        types: &[TypeDeclaration],
-        along: &[&TypeDeclaration],
-    ) -> Result<(), NoMemory> {
-        let Some(network) = along.first() else {
-            return Ok(());
-        };
-        let root = shown(network.name.as_bytes());
-        self.push_lines(root, along, &mut IndexSet::new(alloc))?;
-        for declared in along {
-            for it in declared.submodules.as_slice() {
-                if self.count > MOST_TRIES {
-                    return Ok(());
-                }
-                self.push_submodule(alloc, types, root, it)?;
-            }
+        add_fixed(&mut fixed, of.lines.as_slice())?;
+        for line in of.lines.as_slice() {
+            self.push_line(path, line, &fixed)?;
         }
         Ok(())
     }
@@ -325,9 +319,9 @@ impl Paths {
     }
 
     /// Adds the names that types declare, and those of the parameters of the built-in channels.
-    fn push_names(&mut self, types: &[TypeDeclaration]) -> Result<(), NoMemory> {
-        self.parameters
-            .push_str("delay\ndisabled\ndatarate\nber\nper\n")?;
+    pub fn push_names(&mut self, types: &[TypeDeclaration]) -> Result<(), NoMemory> {
+        self.exact = false;
+        self.parameters.push_str(BUILT_IN)?;
         for it in types {
             for line in it.lines.as_slice() {
                 self.push_name(line)?;
@@ -336,40 +330,76 @@ impl Paths {
         Ok(())
     }
 
-    /// Adds what a network of these types and its modules have.
-    pub fn push_all(
-        &mut self,
-        alloc: Global,
-        types: &[TypeDeclaration],
-        network: &TypeDeclaration,
-    ) -> Result<(), NoMemory> {
-        let along = with_bases(alloc, types, network)?;
-        self.open = has_open(types);
-        if is_flat(types, along.as_slice()) {
-            return self.push_network(alloc, types, along.as_slice());
+    /// Adds the names of the parameters that a channel of one of these types may have.
+    fn push_channel_names(&mut self, types: &[TypeDeclaration]) -> Result<(), NoMemory> {
+        self.channels.push_str(BUILT_IN)?;
+        for it in types {
+            if it.kind == TypeKind::Channel {
+                for line in it.lines.as_slice() {
+                    writeln!(self.channels, "{}", shown(name_in(line)))?;
+                }
+            }
         }
-        self.exact = false;
-        self.push_names(types)
+        Ok(())
     }
 
-    /// What there is for an entry for parameters of that key, which has that pattern.
-    pub fn parameter_for(&self, key: &[u8], pattern: &Pattern) -> Standing<'_> {
-        let name = last_name(key);
-        if !self.exact && is_named(self.parameters.as_str(), name) {
+    /// Adds what can be said of these types alone: whether a submodule leaves its type open, and what channels may have.
+    pub fn push_open(&mut self, types: &[TypeDeclaration]) -> Result<(), NoMemory> {
+        self.open = has_open(types);
+        if has_connections(types) {
+            self.push_channel_names(types)?;
+        }
+        Ok(())
+    }
+
+    /// Whether an entry may be for the parameter of a channel, by the last name of its key. The paths of channels are not looked at.
+    fn may_be_of_channel(&self, name: &[u8]) -> bool {
+        !self.channels.is_empty() && is_named(self.channels.as_str(), name)
+    }
+
+    /// The parameters that a pattern matches, where they are paths: whether the entry of that line is the first for one of them, of those of its
+    /// section. It is noted for which it is.
+    fn matched(&self, pattern: &Pattern, line: usize, taken: &mut [usize]) -> Standing<'_> {
+        let mut standing = Standing::Nowhere;
+        let mut number: usize = 0;
+        for path in self.parameters.lines() {
+            if pattern.matches(path) {
+                standing = with_match(standing, path, first_for(taken, number, line));
+            }
+            number = number.saturating_add(1);
+        }
+        match standing {
+            Standing::Nowhere => fixed_or_none(matching(self.fixed.as_str(), pattern)),
+            it => it,
+        }
+    }
+
+    /// What there is for an entry for parameters by the last name of its key.
+    fn parameter_named(&self, name: &[u8]) -> Standing<'_> {
+        if is_named(self.parameters.as_str(), name) {
             return Standing::Open;
         }
-        let fixed = if self.exact {
-            if matching(self.parameters.as_str(), pattern).is_some() {
-                return Standing::Open;
-            }
-            matching(self.fixed.as_str(), pattern)
-        } else {
-            named(self.fixed.as_str(), name)
-        };
-        match fixed {
-            Some(path) => Standing::Fixed(path),
-            None => Standing::Nowhere,
+        fixed_or_none(named(self.fixed.as_str(), name))
+    }
+
+    /// What there is for the entry for parameters in that line, of that key and pattern. `taken` are the lines of the first entries of its section for
+    /// each parameter, 0 where there is none yet.
+    pub fn parameter_for(
+        &self,
+        key: &[u8],
+        pattern: &Pattern,
+        line: usize,
+        taken: &mut [usize],
+    ) -> Standing<'_> {
+        let name = last_name(key);
+        if !self.exact {
+            return self.parameter_named(name);
         }
+        let standing = self.matched(pattern, line, taken);
+        if self.may_be_of_channel(name) {
+            return Standing::Open;
+        }
+        standing
     }
 
     /// Whether an option is for a statistic with one of these endings after its name, by a key of that pattern.
@@ -388,24 +418,43 @@ impl Paths {
         Ok(false)
     }
 
-    /// Where an option is for the statistics of a network of simple modules alone.
+    /// The statistics that get the option of an entry, where they are paths: whether the entry is the first for a name of one of them, of those of its
+    /// section. It is noted for which it is.
+    fn recorded(
+        &self,
+        alloc: Global,
+        entry: OptionEntry<'_>,
+        taken: &mut [usize],
+    ) -> Result<Standing<'_>, NoMemory> {
+        let mut standing = Standing::Nowhere;
+        let mut number = names_before(entry.option);
+        for path in self.statistics.lines() {
+            standing = with_names(alloc, standing, path, entry, number, taken)?;
+            number = number.saturating_add(NAMES);
+        }
+        Ok(standing)
+    }
+
+    /// Where an option is for the statistics, which are paths.
     fn exact_statistic(
         &self,
         alloc: Global,
-        pattern: &Pattern,
-        option: &str,
-    ) -> Result<Recorded, NoMemory> {
-        if self.has_ending(alloc, pattern, option, endings_of(option))? {
-            return Ok(Recorded::There);
+        entry: OptionEntry<'_>,
+        taken: &mut [usize],
+    ) -> Result<Recorded<'_>, NoMemory> {
+        match self.recorded(alloc, entry, taken)? {
+            Standing::Open => return Ok(Recorded::There),
+            Standing::Hidden(path, first) => return Ok(Recorded::Hidden(path, first)),
+            _ => {}
         }
-        if self.has_ending(alloc, pattern, option, ENDINGS)? {
+        if self.has_ending(alloc, entry.pattern, entry.option, ENDINGS)? {
             return Ok(Recorded::Misnamed);
         }
         Ok(Recorded::Nowhere)
     }
 
     /// Where an option is for a statistic, by the name that stands before it.
-    fn named_statistic(&self, name: &[u8], option: &str) -> Recorded {
+    fn named_statistic(&self, name: &[u8], option: &str) -> Recorded<'_> {
         let (statistic, ending) = split_mode(name);
         if !is_named(self.statistics.as_str(), statistic) {
             return Recorded::Nowhere;
@@ -416,22 +465,38 @@ impl Paths {
         Recorded::Misnamed
     }
 
-    /// Whether there may be a statistic for that key with that option after it, which has that pattern.
+    /// What there is for the option of an entry. `taken` are the lines of the first entries of its section for each name of each statistic, 0 where there
+    /// is none yet.
     pub fn statistic_for(
         &self,
         alloc: Global,
-        key: &[u8],
-        pattern: &Pattern,
-        option: &str,
-    ) -> Result<Recorded, NoMemory> {
+        entry: OptionEntry<'_>,
+        taken: &mut [usize],
+    ) -> Result<Recorded<'_>, NoMemory> {
         if self.exact {
-            return self.exact_statistic(alloc, pattern, option);
+            return self.exact_statistic(alloc, entry, taken);
         }
-        Ok(self.named_statistic(last_name(before_option(key)), option))
+        Ok(self.named_statistic(last_name(before_option(entry.key)), entry.option))
     }
 
-    /// Says the first parameter whose name is near, as a question.
+    /// The path of the first parameter of that name.
+    fn path_named(&self, name: &[u8]) -> Option<&str> {
+        for path in self.parameters.lines() {
+            if last_name(path.as_bytes()) == name {
+                return Some(path);
+            }
+        }
+        None
+    }
+
+    /// Says the path of the first parameter of that name; or, where there is none, the first whose name is near, as a question.
     pub fn say_near(&self, told: &mut Explanation, name: &[u8]) {
+        if let Some(path) = self.path_named(name) {
+            told.say("; one of that name is '");
+            told.say_front(path.as_bytes());
+            told.say("'");
+            return;
+        }
         for path in self.parameters.lines() {
             if told.say_if_near(name, last_name(path.as_bytes())) {
                 return;
@@ -466,4 +531,24 @@ fn is_for_statistic(
         }
     }
     Ok(false)
+}
+
+/// What there is for an entry, with one more statistic, the first of whose names for its option has that number.
+fn with_names<'a>(
+    alloc: Global,
+    before: Standing<'a>,
+    path: &'a str,
+    entry: OptionEntry<'_>,
+    first_number: usize,
+    taken: &mut [usize],
+) -> Result<Standing<'a>, NoMemory> {
+    let mut standing = before;
+    let mut number = first_number;
+    for ending in endings_of(entry.option).split(' ') {
+        if is_for_ending(alloc, entry.pattern, path, ending, entry.option)? {
+            standing = with_match(standing, path, first_for(taken, number, entry.line));
+        }
+        number = number.saturating_add(1);
+    }
+    Ok(standing)
 }

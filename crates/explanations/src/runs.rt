@@ -441,7 +441,7 @@ fn tell_classes(told: &mut Explanation, of: &TypeDeclaration, classes: &[&[u8]])
     told.say_list(classes);
 }
 
-/// What is behind a fault, where it is one of a message that a simple module sends.
+/// What led to a fault, where it is one of a message that a simple module sends.
 fn why_not_sent(fault: &Fault) -> Option<&'static str> {
     Some(match fault {
         Fault::NotConnected =>
@@ -459,7 +459,7 @@ fn why_not_sent(fault: &Fault) -> Option<&'static str> {
     })
 }
 
-/// Says what is behind a fault of a simple module's call, which is none of a parameter.
+/// Says what led to a fault of a simple module's call, which is none of a parameter.
 fn tell_call(
     told: &mut Explanation,
     fault: ToldFault<'_>,
@@ -479,7 +479,7 @@ fn tell_call(
     }
 }
 
-/// Says what is behind a fault of a simple module, where it is one of its calls. Answers whether it is.
+/// Says what led to a fault of a simple module, where it is one of its calls. Answers whether it is.
 fn tell_of_call(
     told: &mut Explanation,
     fault: ToldFault<'_>,
@@ -499,7 +499,7 @@ fn tell_of_call(
     false
 }
 
-/// Says what is behind a fault of a module's parameter or of its call. Answers whether it is one.
+/// Says what led to a fault of a module's parameter or of its call. Answers whether it is one.
 fn tell_own(
     told: &mut Explanation,
     sources: &Sources<'_>,
@@ -518,7 +518,7 @@ fn is_no_gate(fault: &Fault) -> bool {
     matches!(fault, Fault::NoGate)
 }
 
-/// Says what is behind a fault of the module that was found at its path, if one was.
+/// Says what led to a fault of the module that was found at its path, if one was.
 fn tell_found(
     told: &mut Explanation,
     sources: &Sources<'_>,
@@ -547,7 +547,7 @@ fn tell_found(
     }
 }
 
-/// Says what is behind a fault in a run of that model.
+/// Says what led to a fault in a run of that model.
 fn tell_fault(
     told: &mut Explanation,
     sources: &Sources<'_>,
@@ -561,7 +561,7 @@ fn tell_fault(
     tell_found(told, sources, &answers, found, fault, classes)
 }
 
-/// Says what is behind a fault in a run of the model that the files make, where they make one.
+/// Says what led to a fault in a run of the model that the files make, where they make one.
 fn tell_run(
     told: &mut Explanation,
     sources: &Sources<'_>,
@@ -579,7 +579,7 @@ fn tell_run(
     }
 }
 
-/// What is behind the fault that ended a run, which is told with that path, and what to change: a diagnostic. Empty where there is no more
+/// What led to the fault that ended a run, which is reported with that path, and what to change: a diagnostic. Empty where there is no more
 /// to say. `classes` are those that the program has modules of.
 pub fn fault_line(
     alloc: Global,

@@ -1,8 +1,11 @@
 //! Lines of an ini text that have no effect.
 
+use crate::built::{names_in, paths_in};
 use crate::configurations::{chain_of, is_among, lines_of};
 use crate::options::instead_of_option;
-use crate::paths::{MOST_TRIES, Paths, Recorded, Standing, before_option, without_mode};
+use crate::paths::{
+    MOST_TRIES, NAMES, OptionEntry, Paths, Recorded, Standing, before_option, without_mode,
+};
 use crate::reading::read_types;
 use crate::sections::{Numbered, Sections, sections_of};
 use indexmap::IndexMap;
@@ -11,9 +14,10 @@ use ini_texts::entries::network_entry;
 use ini_texts::entry::{EntryMeaning, ObjectEntry, ObjectOption};
 use ini_texts::lines::{Entry, IniLine, IniText};
 use ini_texts::speaks::last_name;
-use model_settings::standings::before_last;
-use ned_trees::declarations::{SectionLine, Submodule, TypeDeclaration};
-use ned_types::flat::{last_value, submodule_named, type_name};
+use model_settings::standings::{before_last, name_in as own_name};
+use model_texts::begin::{BeginFault, model_of};
+use ned_trees::declarations::{SectionLine, Submodule, SubmoduleType, TypeDeclaration};
+use ned_types::flat::{last_value, submodule_named};
 use ned_types::given::{fixes, name_in};
 use sim_values::NoMemory;
 use sim_values::text::Text;
@@ -44,6 +48,17 @@ const OBJECT_OPTIONS: [&[u8]; 4] = [
 
 /// Of how many fixed values the line in the NED file is looked for, at most.
 const MOST_PLACES: usize = 16;
+
+/// What was seen of the entries so far.
+#[derive(Drop)]
+struct Seen {
+    /// Of how many fixed values the line in the NED file may still be looked for.
+    places: usize,
+    /// For each parameter the line of the first entry of the section that is for it, 0 where there is none.
+    parameters: Vec<usize>,
+    /// The same for each name of each statistic.
+    statistics: Vec<usize>,
+}
 
 /// What entries are compared with.
 #[derive(Clone, Copy)]
@@ -113,6 +128,60 @@ fn tell_misnamed(
     told.say("'\n");
 }
 
+/// What is said of an entry that others hide, before what they give and their lines.
+const PARAMETER_HIDDEN: &str =
+    "each parameter that it matches gets its value from an entry before it in the same section, as '";
+
+const STATISTIC_HIDDEN: &str =
+    "each statistic that it matches gets the option from an entry before it in the same section, as '";
+
+/// Says that an entry has no effect, as entries before it in its section are for all that it matches: for that of the path the entry of line `first` is first.
+fn tell_hidden(
+    told: &mut Explanation,
+    sources: &Sources<'_>,
+    line: usize,
+    key: &[u8],
+    why: &str,
+    path: &str,
+    first: usize,
+) {
+    tell_useless(told, sources, line, key, why);
+    told.say_front(path.as_bytes());
+    told.say("' from line ");
+    told.say_number(first);
+    told.say("\n");
+}
+
+/// Says that no statistic has the path or the name of an entry.
+fn tell_no_statistic(told: &mut Explanation, it: Case<'_>, line: usize, key: &[u8]) {
+    let why = if it.paths.exact {
+        "no statistic of the network has that path\n"
+    } else {
+        "no type declares a statistic of that name\n"
+    };
+    tell_useless(told, it.sources, line, key, why);
+}
+
+/// Says that an option of statistics has no effect, where it has none.
+fn tell_statistic(told: &mut Explanation, it: Case<'_>, entry: OptionEntry<'_>, seen: &mut Seen) {
+    let OptionEntry {
+        key,
+        pattern: _,
+        option,
+        line,
+    } = entry;
+    let taken = seen.statistics.as_mut_slice();
+    match it.paths.statistic_for(told.alloc(), entry, taken) {
+        Ok(Recorded::There) => {}
+        Ok(Recorded::Hidden(path, first)) => {
+            tell_hidden(told, it.sources, line, key, STATISTIC_HIDDEN, path, first)
+        }
+        Ok(Recorded::Misnamed) => tell_misnamed(told, it.sources, line, key, option),
+        Ok(Recorded::Nowhere) => tell_no_statistic(told, it, line, key),
+        Err(error) => told.refuse(error),
+    }
+}
+
 /// Says that an entry for objects has no effect, where it has none.
 fn tell_object(
     told: &mut Explanation,
@@ -120,6 +189,7 @@ fn tell_object(
     line: usize,
     key: &[u8],
     object: &ObjectEntry,
+    seen: &mut Seen,
 ) {
     let option = object.option.as_bytes();
     if matches!(object.says, ObjectOption::Other) {
@@ -128,23 +198,13 @@ fn tell_object(
         told.say("\n");
         return;
     }
-    let option = shown(option);
-    match it
-        .paths
-        .statistic_for(told.alloc(), key, &object.pattern, option)
-    {
-        Ok(Recorded::There) => {}
-        Ok(Recorded::Misnamed) => tell_misnamed(told, it.sources, line, key, option),
-        Ok(Recorded::Nowhere) => {
-            let why = if it.paths.exact {
-                "no statistic of the network has that path\n"
-            } else {
-                "no type declares a statistic of that name\n"
-            };
-            tell_useless(told, it.sources, line, key, why);
-        }
-        Err(error) => told.refuse(error),
-    }
+    let entry = OptionEntry {
+        key,
+        pattern: &object.pattern,
+        option: shown(option),
+        line,
+    };
+    tell_statistic(told, it, entry, seen);
 }
 
 /// Says where a type gives a parameter a value, or what it extends: `path:line`. Answers whether it does.
@@ -161,32 +221,45 @@ fn tell_value_of(
     tell_line_of_value(told, &files, of.name.as_bytes(), parameter)
 }
 
-/// Says where the type of a submodule of the network, or its body, gives the parameter of that name a value: `path:line`. Answers whether one does.
-fn tell_value_within(
-    told: &mut Explanation,
-    it: Case<'_>,
+/// A submodule as the files declare it, and the type in which it is, which may extend the one that declares it.
+#[derive(Clone, Copy)]
+struct Site<'a> {
+    around: &'a TypeDeclaration,
+    submodule: &'a Submodule,
+}
+
+/// The type of a submodule, where it leaves it not open.
+fn type_within<'a>(
+    types: &'a [TypeDeclaration],
     submodule: &Submodule,
-    name: &[u8],
-) -> bool {
-    if last_value(name, submodule.body.lines.as_slice()).is_some() {
+) -> Option<&'a TypeDeclaration> {
+    match &submodule.submodule_type {
+        SubmoduleType::Named(name) => type_named(types, name.as_bytes()),
+        SubmoduleType::Like(_) => None,
+    }
+}
+
+/// Says where the type of a submodule, or its body, gives the parameter of that name a value: `path:line`. Answers whether one does.
+fn tell_value_within(told: &mut Explanation, it: Case<'_>, site: Site<'_>, name: &[u8]) -> bool {
+    if last_value(name, site.submodule.body.lines.as_slice()).is_some() {
         let parameter = Parameter {
-            submodule: Some(submodule.name.as_bytes()),
+            submodule: Some(site.submodule.name.as_bytes()),
             name,
         };
-        return tell_value_of(told, it, it.network, parameter);
+        return tell_value_of(told, it, site.around, parameter);
     }
     let parameter = Parameter {
         submodule: None,
         name,
     };
-    match type_named(it.types, type_name(submodule)) {
+    match type_within(it.types, site.submodule) {
         Some(of) => tell_value_of(told, it, of, parameter),
         None => false,
     }
 }
 
-/// The submodule of that name of the network or what it extends.
-fn submodule_within<'a>(along: &[&'a TypeDeclaration], name: &[u8]) -> Option<&'a Submodule> {
+/// The submodule of that name of a type or what it extends.
+fn submodule_along<'a>(along: &[&'a TypeDeclaration], name: &[u8]) -> Option<&'a Submodule> {
     for of in along {
         if let Some(found) = submodule_named(name, of.submodules.as_slice()) {
             return Some(found);
@@ -195,22 +268,67 @@ fn submodule_within<'a>(along: &[&'a TypeDeclaration], name: &[u8]) -> Option<&'
     None
 }
 
-/// Says where a NED file gives the parameter of that path a value, in a network of simple modules alone: `path:line`. Answers whether one does.
+/// The submodule of that name of a type.
+fn site_in<'a>(
+    alloc: Global,
+    types: &'a [TypeDeclaration],
+    around: &'a TypeDeclaration,
+    name: &[u8],
+) -> Result<Option<Site<'a>>, NoMemory> {
+    let along = with_bases(alloc, types, around)?;
+    match submodule_along(along.as_slice(), name) {
+        Some(submodule) => Ok(Some(Site { around, submodule })),
+        None => Ok(None),
+    }
+}
+
+/// The submodule of that name within a module, which is the network where none is given.
+fn site_below<'a>(
+    alloc: Global,
+    it: Case<'a>,
+    above: Option<Site<'a>>,
+    name: &[u8],
+) -> Result<Option<Site<'a>>, NoMemory> {
+    let around = match above {
+        None => Some(it.network),
+        Some(site) => type_within(it.types, site.submodule),
+    };
+    match around {
+        Some(of) => site_in(alloc, it.types, of, name),
+        None => Ok(None),
+    }
+}
+
+/// The declaration of the module of that path, where it is below the network and no module around it leaves its type open.
+fn site_at<'a>(alloc: Global, it: Case<'a>, path: &str) -> Result<Option<Site<'a>>, NoMemory> {
+    let mut found = None;
+    let mut below = false;
+    for own in path.split('.') {
+        if below {
+            found = site_below(alloc, it, found, own_name(own.as_bytes()))?;
+            if found.is_none() {
+                return Ok(None);
+            }
+        }
+        below = true;
+    }
+    Ok(found)
+}
+
+/// Says where a NED file gives the parameter of that path a value: `path:line`. Answers whether one is known that does.
 fn tell_value_at(told: &mut Explanation, it: Case<'_>, path: &[u8]) -> Result<bool, NoMemory> {
     let name = last_name(path);
-    let module = before_last(path).unwrap_or(b"".as_slice());
-    let along = with_bases(told.alloc(), it.types, it.network)?;
-    match submodule_within(along.as_slice(), last_name(module)) {
-        Some(submodule) if before_last(module).is_some() => {
-            Ok(tell_value_within(told, it, submodule, name))
-        }
-        _ => {
-            let parameter = Parameter {
-                submodule: None,
-                name,
-            };
-            Ok(tell_value_of(told, it, it.network, parameter))
-        }
+    let around = before_last(path).unwrap_or(b"".as_slice());
+    if before_last(around).is_none() {
+        let parameter = Parameter {
+            submodule: None,
+            name,
+        };
+        return Ok(tell_value_of(told, it, it.network, parameter));
+    }
+    match site_at(told.alloc(), it, shown(around))? {
+        Some(site) => Ok(tell_value_within(told, it, site, name)),
+        None => Ok(false),
     }
 }
 
@@ -294,23 +412,21 @@ fn tell_parameter(
     line: usize,
     key: &[u8],
     pattern: &Pattern,
-    places: &mut usize,
+    seen: &mut Seen,
 ) {
-    match it.paths.parameter_for(key, pattern) {
+    let taken = seen.parameters.as_mut_slice();
+    match it.paths.parameter_for(key, pattern, line, taken) {
         Standing::Open => {}
-        Standing::Fixed(path) => tell_fixed(told, it, line, key, path, places),
+        Standing::Hidden(path, first) => {
+            tell_hidden(told, it.sources, line, key, PARAMETER_HIDDEN, path, first)
+        }
+        Standing::Fixed(path) => tell_fixed(told, it, line, key, path, &mut seen.places),
         Standing::Nowhere => tell_nowhere(told, it, line, key),
     }
 }
 
 /// Says that an entry has no effect, where it has none.
-fn tell_entry(
-    told: &mut Explanation,
-    it: Case<'_>,
-    line: usize,
-    entry: &Entry,
-    places: &mut usize,
-) {
+fn tell_entry(told: &mut Explanation, it: Case<'_>, line: usize, entry: &Entry, seen: &mut Seen) {
     let key = entry.key.as_bytes();
     match &entry.meaning {
         EntryMeaning::Other if !is_among(key, OPTIONS.as_slice()) => {
@@ -319,13 +435,13 @@ fn tell_entry(
             told.say("\n");
         }
         EntryMeaning::Parameter(entry) => {
-            tell_parameter(told, it, line, key, &entry.pattern, places)
+            tell_parameter(told, it, line, key, &entry.pattern, seen)
         }
         EntryMeaning::Type(_) if !it.paths.open => {
             let why = "no submodule leaves its type open\n";
             tell_useless(told, it.sources, line, key, why);
         }
-        EntryMeaning::Object(object) => tell_object(told, it, line, key, object),
+        EntryMeaning::Object(object) => tell_object(told, it, line, key, object, seen),
         _ => {}
     }
 }
@@ -419,17 +535,35 @@ fn tell_section(
     it: Case<'_>,
     entries: &[Numbered<'_>],
     looks: bool,
-    places: &mut usize,
+    seen: &mut Seen,
 ) {
     let mut lines = IndexMap::new(told.alloc());
     for entry in entries {
         match entry_before(told.alloc(), &mut lines, *entry) {
             Ok(Some(first)) => tell_earlier(told, it.sources, *entry, first),
-            Ok(None) if looks => tell_entry(told, it, entry.line, entry.entry, places),
+            Ok(None) if looks => tell_entry(told, it, entry.line, entry.entry, seen),
             Ok(None) => {}
             Err(error) => told.refuse(error),
         }
     }
+}
+
+/// Says a line for each of the entries of a section that has no effect, after those of others.
+fn tell_next_section(
+    told: &mut Explanation,
+    it: Case<'_>,
+    entries: &[Numbered<'_>],
+    looks: bool,
+    places: &mut usize,
+) -> Result<(), NoMemory> {
+    let mut seen = Seen {
+        places: *places,
+        parameters: vec![in told.alloc(); 0; it.paths.parameter_count]?,
+        statistics: vec![in told.alloc(); 0; it.paths.statistic_count.saturating_mul(NAMES)]?,
+    };
+    tell_section(told, it, entries, looks, &mut seen);
+    *places = seen.places;
+    Ok(())
 }
 
 /// Says a line for each entry of a chain of these sections that has no effect.
@@ -443,7 +577,9 @@ fn tell_sections(
     let mut places = MOST_PLACES;
     for name in chain {
         if let Some(entries) = sections.entries_under(name.as_bytes()) {
-            tell_section(told, it, entries, looks, &mut places);
+            if let Err(error) = tell_next_section(told, it, entries, looks, &mut places) {
+                told.refuse(error);
+            }
         }
     }
 }
@@ -466,6 +602,20 @@ fn selected<'a>(
     type_named(types, last_name(network_entry(lines, chain)?))
 }
 
+/// What keys can be for in the network that the configuration selects, of an ini text of so many lines.
+fn paths_for(
+    alloc: Global,
+    sources: &Sources<'_>,
+    types: &[TypeDeclaration],
+    lines: usize,
+) -> Result<Paths, NoMemory> {
+    match model_of(alloc, sources.texts, sources.ini, sources.config.as_bytes()) {
+        Ok(model) => paths_in(alloc, &model, types, lines),
+        Err(BeginFault::NoMemory(error)) => Err(error),
+        Err(_) => names_in(alloc, types),
+    }
+}
+
 /// Says a line for each entry without effect of a chain, which selects that network.
 fn tell_network(
     told: &mut Explanation,
@@ -475,18 +625,18 @@ fn tell_network(
     types: &[TypeDeclaration],
     network: &TypeDeclaration,
 ) {
-    let alloc = told.alloc();
-    let mut paths = Paths::new(alloc);
-    if let Err(error) = paths.push_all(alloc, types, network) {
-        return told.refuse(error);
+    match paths_for(told.alloc(), sources, types, lines.len()) {
+        Ok(paths) => {
+            let it = Case {
+                sources,
+                types,
+                network,
+                paths: &paths,
+            };
+            tell_chain(told, it, lines, chain);
+        }
+        Err(error) => told.refuse(error),
     }
-    let it = Case {
-        sources,
-        types,
-        network,
-        paths: &paths,
-    };
-    tell_chain(told, it, lines, chain);
 }
 
 /// Says a line for each entry without effect of a chain of these lines.
@@ -518,9 +668,10 @@ fn tell_text(told: &mut Explanation, sources: &Sources<'_>, text: &IniText) {
     }
 }
 
-/// Diagnostics on the entries of the configuration that have no effect at all: unknown options; keys that no
-/// parameter or statistic of the network has, or only parameters with a fixed value; and entries of which an earlier one of the same section takes the effect, as it has the same key, or `**.` and the same last name. Where modules stand in vectors or in one another, or are connected, those
-/// whose last name no type declares, or each only with a fixed value. The files make a model. Of very large models only the last of these are told.
+/// Diagnostics on the entries of the configuration that have no effect at all: unknown options; keys that no parameter or statistic of the network has, or
+/// only parameters with a fixed value; and entries of which earlier ones of the same section take the effect: as one has the same key, or `**.` and the same
+/// last name, or as for each parameter that the entry matches one comes first. Where the network can't be built, or has more than 10,000 modules or
+/// very many parameters and lines, those whose last name no type declares, or each only with a fixed value. The files make a model.
 pub fn warning_lines(alloc: Global, sources: &Sources<'_>) -> Result<String, NoMemory> {
     let mut told = Explanation::new(alloc);
     match lines_of(alloc, sources) {

@@ -1,4 +1,4 @@
-//! What the program says of its own: what has no effect, what is behind a refusal or a fault, and that a text is saved.
+//! What the program says of its own: what has no effect, what is said after a refusal or a fault, and that a text is saved.
 
 ghost use Rattle.std.specs.Prelude.{IfErr};
 ghost use Rattle.program_streams.specs.Stops.{IsUnadvised};
@@ -27,7 +27,7 @@ pub fn warn<R: Eprint + AllocGlobal>(rt: &R, sources: &Sources<'_>) -> Result<()
     advise(rt, lines.as_str())
 }
 
-/// Says what is behind an answer that tells this, a refusal or a fault, where there is more to say.
+/// Says more after an answer that says this, a refusal or a fault, where there is more to say.
 pub fn explain<R: Eprint + AllocGlobal>(
     rt: &R,
     sources: &Sources<'_>,

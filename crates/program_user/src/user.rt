@@ -210,7 +210,7 @@ impl<'a, R: Files + Input + Print + Eprint + AllocGlobal> User<'a, R> {
         Ok(())
     }
 
-    /// Prints an answer of the session, and an explanation behind a refusal or a fault.
+    /// Prints an answer of the session, and an explanation after a refusal or a fault.
     fn tell_answer(&mut self, answer: &[u8], told: Option<&Told>) -> Result<(), Stop>
         ensures failed { IfErr result IsUntold }
         ensures words { self.new.words ≡ self.old.words }

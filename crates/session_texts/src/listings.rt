@@ -30,7 +30,7 @@ help                                     this list
 quit                                     ends the session
 ";
 
-/// What a command lists: the lines, for a person, and the answer.
+/// What a command lists: the lines, and the answer.
 #[derive(Drop)]
 pub struct Listing {
     pub lines: String,

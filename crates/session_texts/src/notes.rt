@@ -18,7 +18,7 @@ use std::alloc::{AllocError, Global};
 use text_explanations::sources::Sources;
 
 /// What is noted of a session: what was asked last, the file that was read for it, and the texts as edits made them. It answers nothing that the
-/// session answers, and what it says is for a person.
+/// session answers, and what it says makes diagnostics.
 #[derive(Drop)]
 pub struct Notes {
     /// The line that was asked last. None where it was too long to be kept.
@@ -257,7 +257,7 @@ impl Notes {
         why_refused_command(alloc, &command, line)
     }
 
-    /// What is behind the fault that ended a run, which is told with that path.
+    /// What led to the fault that ended a run, which is reported with that path.
     fn why_fault(
         &self,
         alloc: Global,
@@ -357,7 +357,7 @@ impl Notes {
         }
     }
 
-    /// What is behind an answer that tells this, or that memory ran out where it tells nothing, and what to change: a diagnostic. Empty where
+    /// What is said after an answer that says this, or that memory ran out where it says nothing, and what to change: a diagnostic. Empty where
     /// there is no more to say. `sources` are the files as they were read, and `classes` those that the program has modules of.
     pub fn hears(
         &mut self,
