@@ -18,16 +18,17 @@ use crate::observer::Observer;
 use checkpoints::positions::Positions;
 use kernel::kernel::Kernel;
 use kernel::request::Request;
+use model_answers::asked::AskedModel;
 use model_answers::evaluated::EvaluatedModel;
-use model_answers::plain::PlainAnswers;
 use module_api::catalogue::Catalogue;
 use module_api::simple_module::SimpleModule;
 use module_tree::Tree;
+use run_answers::{Answers, ModelMarker};
 use run_semantics::outcome::{Fault, Outcome};
 use shown_modules::ShownModules;
 use sim_values::NoMemory;
 use std::alloc::{AllocFailed, Global};
-use std::marker::PhantomData;
+use std::marker::{Brand, PhantomData};
 
 /// Where a run stands between two calls.
 #[derive(Clone, Copy, PartialEq, Eq)]
@@ -103,18 +104,17 @@ impl<C: Catalogue> Runner<C> {
     // ---- from setup to the boxes
 
     /// The module that a run which is set up needs a box for, if there is one.
-    fn next_box(&self, alloc: Global, model: &EvaluatedModel) -> Result<Standing, NoMemory>
+    fn next_box<M: ModelMarker>(&self, alloc: Global) -> Result<Standing, NoMemory>
         requires filled { let waiting = waiting_in SimpleModule-box self.now in
-            IsFilled C.behaviour (answers_of model.now) (world_in SimpleModule-box self.now.kernel) waiting }
+            IsFilled C.behaviour M.answers (world_in SimpleModule-box self.now.kernel) waiting }
         ensures stands { let world = world_in SimpleModule-box self.now.kernel in
             let waiting = waiting_in SimpleModule-box self.now in
             IfOk result (λ standing.
-            Stands C.behaviour (answers_of model.now) (parts_in waiting) world waiting standing) }
+            Stands C.behaviour M.answers (parts_in waiting) world waiting standing) }
         ensures wants { let waiting = waiting_in SimpleModule-box self.now in
             IfOk result (λ standing. (phase : Phase)
-            → IsUndeclined phase → Wants (answers_of model.now) (parts_in waiting) phase standing) }
+            → IsUndeclined phase → Wants M.answers (parts_in waiting) phase standing) }
     {
-        let _model = model;
         match self.kernel.missing(alloc, &self.waiting)? {
             Some(request) => Ok(Standing::Missing(request)),
             None => Ok(Standing::Ready),
@@ -122,91 +122,97 @@ impl<C: Catalogue> Runner<C> {
     }
 
     /// Sets the network up anew, as the model answers. All boxes are dropped.
-    fn set_network_up(
+    fn set_network_up<M: ModelMarker>(
         &mut self,
         alloc: Global,
         model: &EvaluatedModel,
     ) -> Result<Option<Outcome>, NoMemory>
-        requires { HasKinds C.behaviour SimpleModule-box self.old.kernel }
+        requires asked { answers_of model.now ≡ M.answers }
+        requires kinds { HasKinds C.behaviour SimpleModule-box self.old.kernel }
         ensures kinds { HasKinds C.behaviour SimpleModule-box self.new.kernel }
         ensures kept { IsBesideKernel self.old self.new }
         ensures empty { OnOk result (seats_in SimpleModule-box self.new.kernel ≡ []) }
         ensures none { waiting_in SimpleModule-box self.new ≡ [] }
         ensures step { IfOk result (λ over.
-            stage_of over (world_in SimpleModule-box self.new.kernel) ≡ settled (prepared (answers_of model.now))) }
+            stage_of over (world_in SimpleModule-box self.new.kernel) ≡ settled (prepared M.answers)) }
     {
         self.waiting.clear();
-        let answers = PlainAnswers::new(alloc, model)?;
-        self.kernel.setup(alloc, &answers)
+        let mut answers = AskedModel::<M>::new(alloc, model)?;
+        self.kernel.setup(alloc, &mut answers)
     }
 
     /// Sets a run up anew, up to its boxes.
-    fn set_up(&mut self, alloc: Global, model: &EvaluatedModel) -> Result<Standing, NoMemory>
-        requires { HasKinds C.behaviour SimpleModule-box self.old.kernel }
+    fn set_up<M: ModelMarker>(
+        &mut self,
+        alloc: Global,
+        model: &EvaluatedModel,
+    ) -> Result<Standing, NoMemory>
+        requires asked { answers_of model.now ≡ M.answers }
+        requires kinds { HasKinds C.behaviour SimpleModule-box self.old.kernel }
         ensures kinds { HasKinds C.behaviour SimpleModule-box self.new.kernel }
         ensures kept { IsBesideKernel self.old self.new }
         ensures stands { let left = world_in SimpleModule-box self.new.kernel in
             let waiting = waiting_in SimpleModule-box self.new in
             IfOk result (λ standing.
-            Stands C.behaviour (answers_of model.now) [] left waiting standing) }
+            Stands C.behaviour M.answers [] left waiting standing) }
         ensures wants { IfOk result (λ standing.
-            (phase : Phase) → IsUndeclined phase → Wants (answers_of model.now) [] phase standing) }
+            (phase : Phase) → IsUndeclined phase → Wants M.answers [] phase standing) }
     {
-        match self.set_network_up(alloc, model)? {
+        match self.set_network_up::<M>(alloc, model)? {
             Some(outcome) => Ok(Standing::Over(outcome)),
             None => {
-                let standing = self.next_box(alloc, model)?;
+                let standing = self.next_box::<M>(alloc)?;
                 Ok(standing)
             }
         }
     }
 
     /// The end of a run for one of whose modules there is no box.
-    fn declined(&self, alloc: Global, model: &EvaluatedModel) -> Result<Standing, NoMemory>
+    fn declined<M: ModelMarker>(&self, alloc: Global) -> Result<Standing, NoMemory>
         requires declined { let waiting = waiting_in SimpleModule-box self.now in
-            IsDeclined C.behaviour (answers_of model.now) (world_in SimpleModule-box self.now.kernel) waiting }
+            IsDeclined C.behaviour M.answers (world_in SimpleModule-box self.now.kernel) waiting }
         ensures stands { let world = world_in SimpleModule-box self.now.kernel in
             let waiting = waiting_in SimpleModule-box self.now in
             IfOk result (λ standing.
-            Stands C.behaviour (answers_of model.now) [] world waiting standing) }
-        ensures over { IfOk result (λ standing. Wants (answers_of model.now) [] Phase.Declined standing) }
+            Stands C.behaviour M.answers [] world waiting standing) }
+        ensures over { IfOk result (λ standing. Wants M.answers [] Phase.Declined standing) }
     {
-        let _model = model;
         let request = self.kernel.missing(alloc, &self.waiting)?.unwrap();
         Ok(Standing::Over(Outcome::Fault(self.kernel.count(), request.path, Fault::UnknownClass)))
     }
 
     /// Where a run stands that begins with setup: one that waits goes on, any other is set up.
-    fn stand(
+    fn stand<M: ModelMarker>(
         &mut self,
         alloc: Global,
         model: &EvaluatedModel,
         phase: Phase,
     ) -> Result<Standing, NoMemory>
+        requires asked { answers_of model.now ≡ M.answers }
         requires live { let world = world_in SimpleModule-box self.old.kernel in
             let waiting = waiting_in SimpleModule-box self.old in
-            IsLive C.behaviour (answers_of model.now) world waiting phase }
+            IsLive C.behaviour M.answers world waiting phase }
         requires kinds { HasKinds C.behaviour SimpleModule-box self.old.kernel }
         ensures kinds { HasKinds C.behaviour SimpleModule-box self.new.kernel }
         ensures kept { IsBesideKernel self.old self.new }
         ensures stands { let kept = kept_boxes phase (boxes_in SimpleModule-box self.old) in
             let left = world_in SimpleModule-box self.new.kernel in
             let waiting = waiting_in SimpleModule-box self.new in
-            IfOk result (λ standing. Stands C.behaviour (answers_of model.now) kept left waiting standing) }
+            IfOk result (λ standing. Stands C.behaviour M.answers kept left waiting standing) }
         ensures wants { let kept = kept_boxes phase (boxes_in SimpleModule-box self.old) in
-            IfOk result (λ standing. Wants (answers_of model.now) kept phase standing) }
+            IfOk result (λ standing. Wants M.answers kept phase standing) }
     {
         match phase {
             Phase::Idle => {
-                let standing = self.set_up(alloc, model)?;
+                let standing = self.set_up::<M>(alloc, model)?;
                 Ok(standing)
             }
             Phase::Waiting => {
-                let standing = self.next_box(alloc, model)?;
+                let standing = self.next_box::<M>(alloc)?;
                 Ok(standing)
             }
             Phase::Declined => {
-                let standing = self.declined(alloc, model)?;
+                let standing = self.declined::<M>(alloc)?;
                 Ok(standing)
             }
         }
@@ -267,23 +273,17 @@ impl<C: Catalogue> Runner<C> {
     }
 
     /// Goes back to the last position up to the limit, and gives up those after it; where there is none, nothing changes.
-    fn go_back(
-        &mut self,
-        alloc: Global,
-        model: &EvaluatedModel,
-        limit: u64,
-    ) -> Result<Option<u64>, NoMemory>
+    fn go_back<M: ModelMarker>(&mut self, alloc: Global, limit: u64) -> Result<Option<u64>, NoMemory>
         requires kinds { HasKinds C.behaviour SimpleModule-box self.old.kernel }
-        requires good { HasGood C.behaviour (answers_of model.now) SimpleModule-box self.old }
+        requires good { HasGood C.behaviour M.answers SimpleModule-box self.old }
         ensures kinds { HasKinds C.behaviour SimpleModule-box self.new.kernel }
-        ensures good { HasGood C.behaviour (answers_of model.now) SimpleModule-box self.new }
+        ensures good { HasGood C.behaviour M.answers SimpleModule-box self.new }
         ensures back { IfOk result (λ start.
             (start ≡ start_of limit (counts_of self.old.positions.stored))
-            × IsBack C.behaviour (answers_of model.now) SimpleModule-box limit self.old self.new start) }
-        ensures err { OnErr result (HasStored C.behaviour (answers_of model.now) limit (counts_in self.old.positions)
+            × IsBack C.behaviour M.answers SimpleModule-box limit self.old self.new start) }
+        ensures err { OnErr result (HasStored C.behaviour M.answers limit (counts_in self.old.positions)
             self.new.stood (counts_in self.new.positions)) }
     {
-        let _model = model;
         let Some(position) = self.positions.at_most(limit) else {
             return Ok(None);
         };
@@ -338,26 +338,26 @@ impl<C: Catalogue> Runner<C> {
 
     /// Goes on to the limit or to an end, and tells the observer of each event. After each one whose number is a multiple of the interval as it
     /// is then, a position is stored.
-    fn go_on<W: Observer>(
+    fn go_on<A: Answers, W: Observer>(
         &mut self,
         alloc: Global,
-        model: &PlainAnswers<'_>,
+        model: &mut A,
         limit: u64,
         observer: &mut W,
     ) -> Result<Outcome, NoMemory>
-        requires going { IsGoing C.behaviour (answers_of model.now) SimpleModule-box limit self.old }
+        requires going { IsGoing C.behaviour A.answers SimpleModule-box limit self.old }
         requires kinds { HasKinds C.behaviour SimpleModule-box self.old.kernel }
         ensures kinds { HasKinds C.behaviour SimpleModule-box self.new.kernel }
-        ensures good { HasGood C.behaviour (answers_of model.now) SimpleModule-box self.new }
+        ensures good { HasGood C.behaviour A.answers SimpleModule-box self.new }
         ensures waiting { self.new.waiting ≡ self.old.waiting }
         ensures begun { let from = (world_in SimpleModule-box self.old.kernel).count in
-            OnErr result (HasBegun C.behaviour (answers_of model.now) limit from self.new.stood self.old.positions
+            OnErr result (HasBegun C.behaviour A.answers limit from self.new.stood self.old.positions
             self.new.positions) }
-        ensures ran { IfOk result (λ outcome. IsStopped C.behaviour (answers_of model.now) limit
+        ensures ran { IfOk result (λ outcome. IsStopped C.behaviour A.answers limit
             (ran_in SimpleModule-box outcome self.new.kernel)) }
         ensures stored { let from = (world_in SimpleModule-box self.old.kernel).count in
             let left = world_in SimpleModule-box self.new.kernel in
-            IfOk result (λ outcome. HasGoneOn C.behaviour (answers_of model.now) from self.old.positions
+            IfOk result (λ outcome. HasGoneOn C.behaviour A.answers from self.old.positions
             self.new.positions left outcome) }
     {
         let last_time = model.time_limit();
@@ -375,25 +375,25 @@ impl<C: Catalogue> Runner<C> {
 
     /// Goes on to the limit or to an end, and ends the run. A position is stored after its last event too, unless that ended in a fault. The
     /// observer is told where it begins, and of each event.
-    fn run_on<W: Observer>(
+    fn run_on<A: Answers, W: Observer>(
         &mut self,
         alloc: Global,
-        model: &PlainAnswers<'_>,
+        model: &mut A,
         limit: u64,
         observer: &mut W,
     ) -> Result<Outcome, NoMemory>
-        requires going { IsGoing C.behaviour (answers_of model.now) SimpleModule-box limit self.old }
+        requires going { IsGoing C.behaviour A.answers SimpleModule-box limit self.old }
         requires kinds { HasKinds C.behaviour SimpleModule-box self.old.kernel }
         ensures kinds { HasKinds C.behaviour SimpleModule-box self.new.kernel }
-        ensures good { HasGood C.behaviour (answers_of model.now) SimpleModule-box self.new }
+        ensures good { HasGood C.behaviour A.answers SimpleModule-box self.new }
         ensures waiting { self.new.waiting ≡ self.old.waiting }
-        ensures ran { IfOk result (λ outcome. fresh_run C.behaviour (answers_of model.now) limit
+        ensures ran { IfOk result (λ outcome. fresh_run C.behaviour A.answers limit
             ≡ ran_in SimpleModule-box outcome self.new.kernel) }
         ensures left { let from = (world_in SimpleModule-box self.old.kernel).count in
-            let ran = run_to C.behaviour (answers_of model.now) limit in
+            let ran = run_to C.behaviour A.answers limit in
             OnOk result (HasLeft from self.old.positions self.new.positions ran) }
         ensures stopped { let from = (world_in SimpleModule-box self.old.kernel).count in
-            HasBegun C.behaviour (answers_of model.now) limit from self.new.stood self.old.positions
+            HasBegun C.behaviour A.answers limit from self.new.stood self.old.positions
             self.new.positions }
     {
         let from = self.kernel.count();
@@ -407,27 +407,27 @@ impl<C: Catalogue> Runner<C> {
     }
 
     /// A whole run from where each module has its box: its events, and its end.
-    fn complete<W: Observer>(
+    fn complete<A: Answers, W: Observer>(
         &mut self,
         alloc: Global,
-        model: &PlainAnswers<'_>,
+        model: &mut A,
         limit: u64,
         observer: &mut W,
     ) -> Result<Outcome, NoMemory>
         requires ready { let waiting = waiting_in SimpleModule-box self.old in
-            CanStart C.behaviour (answers_of model.now) (world_in SimpleModule-box self.old.kernel) waiting }
+            CanStart C.behaviour A.answers (world_in SimpleModule-box self.old.kernel) waiting }
         requires none { IsBegun self.old.positions }
         requires stood { self.old.stood ≡ Stood.Before }
         ensures kinds { HasKinds C.behaviour SimpleModule-box self.new.kernel }
         ensures none { waiting_in SimpleModule-box self.new ≡ [] }
-        ensures good { HasGood C.behaviour (answers_of model.now) SimpleModule-box self.new }
-        ensures ran { IfOk result (λ outcome. fresh_run C.behaviour (answers_of model.now) limit
+        ensures good { HasGood C.behaviour A.answers SimpleModule-box self.new }
+        ensures ran { IfOk result (λ outcome. fresh_run C.behaviour A.answers limit
             ≡ ran_in SimpleModule-box outcome self.new.kernel) }
         ensures boxes { let left = boxes_in SimpleModule-box self.new in
-            OnOk result (left ≡ boxes_left C.behaviour (answers_of model.now) limit) }
+            OnOk result (left ≡ boxes_left C.behaviour A.answers limit) }
         ensures left { OnOk result (counts_in self.new.positions
-            ≡ positions_after C.behaviour (answers_of model.now) limit (counts_in self.old.positions)) }
-        ensures stopped { HasStored C.behaviour (answers_of model.now) limit (counts_in self.old.positions)
+            ≡ positions_after C.behaviour A.answers limit (counts_in self.old.positions)) }
+        ensures stopped { HasStored C.behaviour A.answers limit (counts_in self.old.positions)
             self.new.stood (counts_in self.new.positions) }
     {
         match self.kernel.start(alloc, model, &mut self.waiting)? {
@@ -440,7 +440,7 @@ impl<C: Catalogue> Runner<C> {
     }
 
     /// Runs from setup, or finds the box that is needed first. There is no position after which it could begin.
-    fn begin<W: Observer>(
+    fn begin<M: ModelMarker, W: Observer>(
         &mut self,
         alloc: Global,
         model: &EvaluatedModel,
@@ -448,29 +448,30 @@ impl<C: Catalogue> Runner<C> {
         limit: u64,
         observer: &mut W,
     ) -> Result<Advance, NoMemory>
+        requires asked { answers_of model.now ≡ M.answers }
         requires live { let world = world_in SimpleModule-box self.old.kernel in
             let waiting = waiting_in SimpleModule-box self.old in
-            IsLive C.behaviour (answers_of model.now) world waiting phase }
+            IsLive C.behaviour M.answers world waiting phase }
         requires kinds { HasKinds C.behaviour SimpleModule-box self.old.kernel }
         requires none { IsBegun self.old.positions }
         requires stood { self.old.stood ≡ Stood.Before }
         ensures kinds { HasKinds C.behaviour SimpleModule-box self.new.kernel }
-        ensures good { HasGood C.behaviour (answers_of model.now) SimpleModule-box self.new }
+        ensures good { HasGood C.behaviour M.answers SimpleModule-box self.new }
         ensures advances { let kept = kept_boxes phase (boxes_in SimpleModule-box self.old) in
             let left = world_in SimpleModule-box self.new.kernel in
             let waiting = waiting_in SimpleModule-box self.new in
             IfOk result (λ advance.
-            Advances C.behaviour (answers_of model.now) limit kept phase (counts_in self.old.positions) left waiting
+            Advances C.behaviour M.answers limit kept phase (counts_in self.old.positions) left waiting
             (counts_in self.new.positions) advance) }
-        ensures stopped { HasStored C.behaviour (answers_of model.now) limit (counts_in self.old.positions)
+        ensures stopped { HasStored C.behaviour M.answers limit (counts_in self.old.positions)
             self.new.stood (counts_in self.new.positions) }
     {
-        match self.stand(alloc, model, phase)? {
+        match self.stand::<M>(alloc, model, phase)? {
             Standing::Over(outcome) => Ok(Advance::Ends(None, outcome)),
             Standing::Missing(request) => Ok(Advance::Waits(request)),
             Standing::Ready => {
-                let answers = PlainAnswers::new(alloc, model)?;
-                let outcome = self.complete(alloc, &answers, limit, observer)?;
+                let mut answers = AskedModel::<M>::new(alloc, model)?;
+                let outcome = self.complete(alloc, &mut answers, limit, observer)?;
                 Ok(Advance::Ends(None, outcome))
             }
         }
@@ -502,16 +503,46 @@ impl<C: Catalogue> Runner<C> {
         ensures stopped { HasStored C.behaviour (answers_of model.now) limit (counts_in self.old.positions)
             self.new.stood (counts_in self.new.positions) }
     {
-        match self.go_back(alloc, model, limit)? {
+        self.carry_on_as::<Brand, W>(alloc, model, phase, limit, observer)
+    }
+
+    /// Runs the model M for at most so many events, from the last position up to there or from setup, or finds the box that is needed first. The
+    /// observer is told of each event that is executed.
+    fn carry_on_as<M: ModelMarker, W: Observer>(
+        &mut self,
+        alloc: Global,
+        model: &EvaluatedModel,
+        phase: Phase,
+        limit: u64,
+        observer: &mut W,
+    ) -> Result<Advance, NoMemory>
+        requires asked { answers_of model.now ≡ M.answers }
+        requires live { let world = world_in SimpleModule-box self.old.kernel in
+            let waiting = waiting_in SimpleModule-box self.old in
+            IsLive C.behaviour M.answers world waiting phase }
+        requires kinds { HasKinds C.behaviour SimpleModule-box self.old.kernel }
+        requires good { HasGood C.behaviour M.answers SimpleModule-box self.old }
+        ensures kinds { HasKinds C.behaviour SimpleModule-box self.new.kernel }
+        ensures good { HasGood C.behaviour M.answers SimpleModule-box self.new }
+        ensures advances { let kept = kept_boxes phase (boxes_in SimpleModule-box self.old) in
+            let left = world_in SimpleModule-box self.new.kernel in
+            let waiting = waiting_in SimpleModule-box self.new in
+            IfOk result (λ advance.
+            Advances C.behaviour M.answers limit kept phase (counts_in self.old.positions) left waiting
+            (counts_in self.new.positions) advance) }
+        ensures stopped { HasStored C.behaviour M.answers limit (counts_in self.old.positions)
+            self.new.stood (counts_in self.new.positions) }
+    {
+        match self.go_back::<M>(alloc, limit)? {
             Some(start) => {
-                let answers = PlainAnswers::new(alloc, model)?;
-                let outcome = self.run_on(alloc, &answers, limit, observer)?;
+                let mut answers = AskedModel::<M>::new(alloc, model)?;
+                let outcome = self.run_on(alloc, &mut answers, limit, observer)?;
                 Ok(Advance::Ends(Some(start), outcome))
             }
             None => {
                 self.positions.clear();
                 self.stood = Stood::Before;
-                self.begin(alloc, model, phase, limit, observer)
+                self.begin::<M, W>(alloc, model, phase, limit, observer)
             }
         }
     }

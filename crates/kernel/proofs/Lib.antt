@@ -1,6 +1,7 @@
 pub mod Apart
 pub mod Behind
 pub mod Calling
+pub mod Levels
 pub mod Lookups
 pub mod Rising
 pub mod Starting

@@ -1,16 +1,15 @@
 -- What comes next in a run, step by step.
 use Rattle.std.proofs.Common.{◌≡◌, ℕ, suc, zero, ◌+◌, ◌<◌, true, false, Bool, List, [], ◌∷◌, Option, Some, None, length, refl, ap, subst, ◌∙◌, sym, arith, append-nil, if◌then◌else◌}
 use Rattle.injection_order.specs.declared.injection.Injection.{Injection}
-use Rattle.models.specs.declared.model.Model.{Model}
-use Rattle.model_answers.specs.Answering.{answers_of}
 use Rattle.run_questions.specs.Answers.{Answers, is_beyond}
 use Rattle.module_api.specs.Behaviour.{Behaviour}
 use Rattle.run_semantics.specs.declared.outcome.Outcome.TheVariants.{Ended, NoMoreEvents, TimeLimit}
 use Rattle.event_set.specs.declared.pending.Pending.{Pending}
+use Rattle.run_semantics.specs.declared.traces.Instance.{Instance}
 use Rattle.run_semantics.specs.World.{World}
 use Rattle.run_semantics.specs.Event.{event}
 use Rattle.run_questions.specs.declared.answer.Asked.{Asked}
-use Rattle.run_semantics.specs.Upcoming.{first_of, upcoming, upcoming_in}
+use Rattle.run_semantics.specs.Upcoming.{Upcoming, Comes, Nothing, first_of, upcoming, upcoming_in}
 use Rattle.run_semantics.proofs.Looking.{beside}
 use Rattle.run_semantics.specs.Run.{Stage, Running, Over, settled, is_after_limit, next_stage, went}
 use Rattle.kernel_actions.specs.declared.looks.Look.{Look}
@@ -18,6 +17,7 @@ use Rattle.kernel_actions.specs.declared.looks.Next.{Next}
 use Rattle.kernel_actions.specs.declared.looks.Next.TheVariants as next
 use Rattle.kernel_actions.specs.Upcoming.{looked, upcoming_of, BeginsWith, HasNone, IsTooLate}
 use Rattle.kernel.specs.Looks.{LooksOn}
+use Rattle.kernel.proofs.Apart.{with_modules}
 
 -- where a test fails, what stands after it
 unless : (c : Bool) (s t : Stage) → c ≡ false → (if c then s else t) ≡ t
@@ -50,9 +50,8 @@ next_too_late b m limit w after of_model going h =
 -- ---- looks
 
 -- as many looks as the model has injections, and one
-pub looks_enough : (model : Model) (is : List Injection) → is ≡ model.injections → suc (length (answers_of model).injections) ≡ length is + 1
-unfolding answers_of
-looks_enough model is e = subst (λ (xs : List Injection). suc (length xs) ≡ length is + 1) e (omega arith)
+pub looks_enough : (m : Answers) (is : List Injection) → is ≡ m.injections → suc (length m.injections) ≡ length is + 1
+looks_enough m is e = subst (λ (xs : List Injection). suc (length xs) ≡ length is + 1) e (omega arith)
 
 -- before the first look
 pub first_look : (m : Answers) (w : World) (look : Look) → look ≡ record { delivered = w.delivered; asked = [] } → upcoming_in (suc (length m.injections)) m w.pending (looked w look) ≡ upcoming m w
@@ -86,3 +85,28 @@ pub begins_counted : (limit : Option ℕ) (n : Next) (w after : World) (look : L
 begins_counted limit n w after look p h =
     let same : h.world ≡ looked w look = sym (ap beside h.comes) ∙ next_beside n (looked w look) in
     (ap (λ (u : World). u.next) h.begins ∙ ap (λ (u : World). u.next) same, ap (λ (u : World). u.count) h.begins ∙ ap (λ (u : World). u.count + 1) same)
+
+-- what comes, with these modules
+abbrev upcoming_with : List Instance → Upcoming → Upcoming
+upcoming_with ms (Comes w p rest) = Comes (with_modules ms w) p rest
+upcoming_with ms (Nothing w) = Nothing (with_modules ms w)
+
+first_with : (ms : List Instance) (w : World) (ps : List Pending) → first_of (with_modules ms w) ps ≡ upcoming_with ms (first_of w ps)
+first_with ms w [] = refl
+first_with ms w (p ∷ rest) = refl
+
+next_with : (ms : List Instance) (n : Next) (w : World) → upcoming_of n (with_modules ms w) ≡ upcoming_with ms (upcoming_of n w)
+next_with ms next.First w = first_with ms w w.pending
+next_with ms (next.Arrival p) w = refl
+next_with ms next.Nothing w = refl
+
+-- AN EVENT BEGINS whatever the boxes of the modules are
+pub begins_boxed : (m : Answers) (limit : Option ℕ) (ms : List Instance) (n : Next) (core after : World) (look : Look) (p : Pending) → upcoming m (with_modules ms core) ≡ upcoming_of n (looked (with_modules ms core) look)
+    → BeginsWith limit (upcoming_of n (looked core look)) p after → BeginsWith limit (upcoming m (with_modules ms core)) p (with_modules ms after)
+begins_boxed m limit ms n core after look p is h = record {
+  world = with_modules ms h.world;
+  rest = h.rest;
+  comes = is ∙ next_with ms n (looked core look) ∙ ap (upcoming_with ms) h.comes;
+  in_time = h.in_time;
+  begins = ap (with_modules ms) h.begins;
+}

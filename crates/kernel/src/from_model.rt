@@ -1,6 +1,5 @@
 //! What a run asks its model, and what is done with the answers.
 
-ghost use Rattle.model_answers.specs.Answering.{answers_of};
 ghost use Rattle.std.specs.Prelude.{◌≡◌, ◌+◌, ◌^◌, ◌<◌, suc, OnOk, IfOk, length};
 ghost use Rattle.run_questions.specs.Answers.{answer_of, parameters_of};
 ghost use Rattle.run_questions.specs.declared.answer.Answer.TheVariants as answers;
@@ -17,9 +16,9 @@ use injection_order::injection::Injection;
 use kernel_actions::core_part::Core;
 use kernel_actions::looks::Look;
 use kernel_actions::reads::{fault_of_read, question_of, was_told};
-use model_answers::plain::PlainAnswers;
 use module_api::call::{Call, Prompt};
 use module_api::reply::Read;
+use run_answers::Answers;
 use run_questions::answer::{Answer, Built, Question};
 use run_questions::record::{MAX_NESTING, index_of};
 use run_semantics::outcome::{Fault, Turn};
@@ -31,14 +30,14 @@ use std::alloc::Global;
 // ---- calls
 
 /// What a module is told.
-pub fn call(
+pub fn call<A: Answers>(
     core: &Core,
     alloc: Global,
-    model: &PlainAnswers<'_>,
+    model: &mut A,
     id: u32,
     prompt: Prompt,
 ) -> Result<Call, NoMemory>
-    ensures { IfOk result (λ call. call ≡ call_of (answers_of model.now) id prompt core.now) }
+    ensures { IfOk result (λ call. call ≡ call_of A.answers id prompt core.now) }
 {
     let shown = shown_of(alloc, model, core.records(), id)?;
     Ok(call_shown(core, id, prompt, shown))
@@ -63,17 +62,17 @@ pub fn call_shown(core: &Core, id: u32, prompt: Prompt, shown: Shown) -> Call
 // ---- replies
 
 /// The fault of a read, if it has one. A parameter that the call had has none, and is not looked up again.
-fn fault_at(
+fn fault_at<A: Answers>(
     core: &Core,
     alloc: Global,
-    model: &PlainAnswers<'_>,
+    model: &mut A,
     call: &Call,
     read: &Read,
 ) -> Result<Option<Fault>, NoMemory>
-    requires { call.now.parameters ≡ parameters_of (answers_of model.now) core.now.records call.now.id }
+    requires { call.now.parameters ≡ parameters_of A.answers core.now.records call.now.id }
     ensures { let asks = question_of call.now.id read.now in
         IfOk result (λ found.
-        found ≡ fault_of_read read.now (answer_of (answers_of model.now) core.now.records asks)) }
+        found ≡ fault_of_read read.now (answer_of A.answers core.now.records asks)) }
 {
     if was_told(call.parameters.as_slice(), read) {
         return Ok(None);
@@ -84,16 +83,16 @@ fn fault_at(
 }
 
 /// The fault of the first read that has one.
-pub fn read_fault(
+pub fn read_fault<A: Answers>(
     core: &Core,
     alloc: Global,
-    model: &PlainAnswers<'_>,
+    model: &mut A,
     call: &Call,
     reads: &[Read],
 ) -> Result<Option<Fault>, NoMemory>
-    requires { call.now.parameters ≡ parameters_of (answers_of model.now) core.now.records call.now.id }
+    requires { call.now.parameters ≡ parameters_of A.answers core.now.records call.now.id }
     ensures { IfOk result (λ found.
-        found ≡ read_fault (answers_of model.now) core.now.records call.now.id reads.now) }
+        found ≡ read_fault A.answers core.now.records call.now.id reads.now) }
 {
     for read in reads {
         if let Some(fault) = fault_at(core, alloc, model, call, read)? {
@@ -105,17 +104,16 @@ pub fn read_fault(
 
 // ---- what comes next
 
-#[tactic(auto, unfolding(model_answers::specs::Answering::answers_of))]
 /// Asks for the injection that goes before the first event to come. The question is of the event after.
-pub fn ask_injection(
+pub fn ask_injection<A: Answers>(
     core: &Core,
     alloc: Global,
-    model: &PlainAnswers<'_>,
+    model: &A,
     look: &mut Look,
 ) -> Result<Option<Injection>, NoMemory>
     requires { core.now.count + 1 < 2 ^ 64 }
     ensures found { let before = looked core.now look.old in
-        IfOk result (λ found. injection_asked (answers_of model.now) before ≡ answers.Injection found) }
+        IfOk result (λ found. injection_asked A.answers before ≡ answers.Injection found) }
     ensures noted { let before = looked core.now look.old in
         OnOk result (looked core.now look.new ≡ with_injection_asked before) }
 {
@@ -125,9 +123,9 @@ pub fn ask_injection(
 // ---- setup
 
 /// Asks which network is run, and creates it.
-fn ask_root(core: &mut Core, alloc: Global, model: &PlainAnswers<'_>) -> Result<Turn, NoMemory>
+fn ask_root<A: Answers>(core: &mut Core, alloc: Global, model: &mut A) -> Result<Turn, NoMemory>
     requires { core.old ≡ empty }
-    ensures { IfOk result (λ turn. flow_of turn core.new ≡ root_asked (answers_of model.now)) }
+    ensures { IfOk result (λ turn. flow_of turn core.new ≡ root_asked A.answers) }
 {
     core.ask(alloc, Question::Root)?;
     let found = model.answer(alloc, &[], &Question::Root)?;
@@ -159,14 +157,14 @@ fn compounds_behind(alloc: Global, last: usize, inside: &[Built]) -> Result<Item
 }
 
 /// Asks what is inside of a module, and creates its submodules. The compound ones of them are still to be set up.
-fn build(
+fn build<A: Answers>(
     core: &mut Core,
     alloc: Global,
-    model: &PlainAnswers<'_>,
+    model: &mut A,
     id: u32,
 ) -> Result<(Turn, Items<u32>), NoMemory>
     ensures { IfOk result (λ left.
-        HasBuilt (answers_of model.now) id core.old left.0 left.1 core.new) }
+        HasBuilt A.answers id core.old left.0 left.1 core.new) }
 {
     let found = model.answer(alloc, core.records(), &Question::Build(id))?;
     core.ask(alloc, Question::Build(id))?;
@@ -182,14 +180,14 @@ fn build(
 }
 
 /// Sets a compound module up, with so many levels from its own on. Modules are nested at most 32 deep, so a call nests no deeper.
-fn set_up(
+fn set_up<A: Answers>(
     core: &mut Core,
     alloc: Global,
-    model: &PlainAnswers<'_>,
+    model: &mut A,
     depth: u32,
     id: u32,
 ) -> Result<Turn, NoMemory>
-    ensures { IfOk result (λ turn. flow_of turn core.new ≡ set_up depth (answers_of model.now) id core.old) }
+    ensures { IfOk result (λ turn. flow_of turn core.new ≡ set_up depth A.answers id core.old) }
 {
     if depth == 0 {
         return Ok(Turn::GoOn);
@@ -210,9 +208,9 @@ fn set_up(
 
 /// Creates the network and all that is inside of it, as the model answers.
 #[tactic(auto, unfolding(run_semantics::specs::Run::most_nested))]
-pub fn prepare(core: &mut Core, alloc: Global, model: &PlainAnswers<'_>) -> Result<Turn, NoMemory>
+pub fn prepare<A: Answers>(core: &mut Core, alloc: Global, model: &mut A) -> Result<Turn, NoMemory>
     requires { core.old ≡ empty }
-    ensures { IfOk result (λ turn. flow_of turn core.new ≡ prepared (answers_of model.now)) }
+    ensures { IfOk result (λ turn. flow_of turn core.new ≡ prepared A.answers) }
 {
     match ask_root(core, alloc, model)? {
         Turn::GoOn => set_up(core, alloc, model, MAX_NESTING, 1),

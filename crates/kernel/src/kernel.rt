@@ -1,6 +1,5 @@
 //! A world in code, one event at a time.
 
-ghost use Rattle.model_answers.specs.Answering.{answers_of};
 ghost use Rattle.std.specs.Prelude.{◌≡◌, ◌+◌, ◌^◌, ◌<◌, ◌≤◌, OnOk, OnErr, IfOk, [], length, max, slice_get, drop, option_map};
 ghost use Rattle.module_api.specs.Meaning.{Answered, IsSameModule};
 ghost use Rattle.module_tree.specs.Boxes.{nothing};
@@ -28,13 +27,13 @@ use kernel_actions::events::{arrival, message_of};
 use kernel_actions::looks::{Look, Next};
 use kernel_actions::position::Position;
 use kernel_sending::sending::{send, send_direct};
-use model_answers::plain::PlainAnswers;
 use module_api::call::{Call, Prompt};
 use module_api::catalogue::Catalogue;
 use module_api::reply::{Action, Reply};
 use module_api::simple_module::SimpleModule;
 use module_tree::Tree;
 use question_log::entry::Entry;
+use run_answers::Answers;
 use run_questions::record::{Record, path_of};
 use run_semantics::occasions::{Occasion, is_allowed};
 use run_semantics::outcome::{Fault, Outcome, Turn};
@@ -157,16 +156,16 @@ impl<C: Catalogue> Kernel<C> {
     }
 
     /// Sets the network up anew, as the model answers. All boxes are dropped.
-    pub fn setup(
+    pub fn setup<A: Answers>(
         &mut self,
         alloc: Global,
-        model: &PlainAnswers<'_>,
+        model: &mut A,
     ) -> Result<Option<Outcome>, NoMemory>
         requires { HasKinds C.behaviour SimpleModule-box self.old }
         ensures empty { seats_in SimpleModule-box self.new ≡ [] }
         ensures kinds { HasKinds C.behaviour SimpleModule-box self.new }
         ensures step { IfOk result (λ over.
-            stage_of over (world_in SimpleModule-box self.new) ≡ settled (prepared (answers_of model.now))) }
+            stage_of over (world_in SimpleModule-box self.new) ≡ settled (prepared A.answers)) }
     {
         self.boxes.clear();
         self.core.clear(alloc);
@@ -227,17 +226,17 @@ impl<C: Catalogue> Kernel<C> {
 
     /// One action of the module of that id.
     #[tactic(auto, using(kernel_actions::proofs::Lasting::growth_same))]
-    fn perform(
+    fn perform<A: Answers>(
         &mut self,
         alloc: Global,
-        model: &PlainAnswers<'_>,
+        model: &mut A,
         id: u32,
         action: &Action,
     ) -> Result<Turn, NoMemory>
         requires { (world_in SimpleModule-box self.old).next + 1 < 2 ^ 128 }
         ensures boxes { self.new.boxes ≡ self.old.boxes }
         ensures step { IfOk result (λ turn. flow_of turn (world_in SimpleModule-box self.new)
-            ≡ perform C.behaviour (answers_of model.now) id action.now (world_in SimpleModule-box self.old)) }
+            ≡ perform C.behaviour A.answers id action.now (world_in SimpleModule-box self.old)) }
         ensures grown { IsGrownFrom self.old.core self.new.core }
     {
         let core = &mut self.core;
@@ -259,10 +258,10 @@ impl<C: Catalogue> Kernel<C> {
 
     /// An action of a reply, where it may have that.
     #[tactic(auto, using(kernel_actions::proofs::Lasting::growth_same))]
-    fn act(
+    fn act<A: Answers>(
         &mut self,
         alloc: Global,
-        model: &PlainAnswers<'_>,
+        model: &mut A,
         occasion: Occasion,
         id: u32,
         action: &Action,
@@ -270,7 +269,7 @@ impl<C: Catalogue> Kernel<C> {
         requires { (world_in SimpleModule-box self.old).next + 1 < 2 ^ 128 }
         ensures boxes { self.new.boxes ≡ self.old.boxes }
         ensures step { IfOk result (λ turn. flow_of turn (world_in SimpleModule-box self.new)
-            ≡ act C.behaviour (answers_of model.now) occasion id action.now (world_in SimpleModule-box self.old)) }
+            ≡ act C.behaviour A.answers occasion id action.now (world_in SimpleModule-box self.old)) }
         ensures grown { IsGrownFrom self.old.core self.new.core }
     {
         if action.has_large_payload() {
@@ -283,10 +282,10 @@ impl<C: Catalogue> Kernel<C> {
     }
 
     /// The actions of a reply, in order.
-    fn act_all(
+    fn act_all<A: Answers>(
         &mut self,
         alloc: Global,
-        model: &PlainAnswers<'_>,
+        model: &mut A,
         occasion: Occasion,
         id: u32,
         actions: &[Action],
@@ -294,7 +293,7 @@ impl<C: Catalogue> Kernel<C> {
         requires { (world_in SimpleModule-box self.old).next + length actions.now < 2 ^ 128 }
         ensures boxes { self.new.boxes ≡ self.old.boxes }
         ensures step { IfOk result (λ turn. flow_of turn (world_in SimpleModule-box self.new)
-            ≡ act_all C.behaviour (answers_of model.now) occasion id actions.now (world_in SimpleModule-box self.old)) }
+            ≡ act_all C.behaviour A.answers occasion id actions.now (world_in SimpleModule-box self.old)) }
         ensures grown { IsGrownFrom self.old.core self.new.core }
     {
         for action in actions {
@@ -308,10 +307,10 @@ impl<C: Catalogue> Kernel<C> {
 
     /// The actions of a reply, where there are at most 1,000.
     #[tactic(auto, using(kernel_actions::proofs::Lasting::growth_same))]
-    fn act_few(
+    fn act_few<A: Answers>(
         &mut self,
         alloc: Global,
-        model: &PlainAnswers<'_>,
+        model: &mut A,
         occasion: Occasion,
         id: u32,
         actions: &[Action],
@@ -319,7 +318,7 @@ impl<C: Catalogue> Kernel<C> {
         requires { (world_in SimpleModule-box self.old).next + 1000 < 2 ^ 128 }
         ensures boxes { self.new.boxes ≡ self.old.boxes }
         ensures step { IfOk result (λ turn. flow_of turn (world_in SimpleModule-box self.new)
-            ≡ acted C.behaviour (answers_of model.now) occasion id actions.now (world_in SimpleModule-box self.old)) }
+            ≡ acted C.behaviour A.answers occasion id actions.now (world_in SimpleModule-box self.old)) }
         ensures grown { IsGrownFrom self.old.core self.new.core }
     {
         if actions.len() > MAX_ACTIONS {
@@ -330,20 +329,20 @@ impl<C: Catalogue> Kernel<C> {
 
     /// Carries out the reply to a call: its reads are asked, and then its actions are performed, unless a read has a fault.
     #[tactic(auto, using(kernel_actions::proofs::Lasting::growth_same))]
-    fn follow(
+    fn follow<A: Answers>(
         &mut self,
         alloc: Global,
-        model: &PlainAnswers<'_>,
+        model: &mut A,
         occasion: Occasion,
         call: &Call,
         reply: &Reply,
     ) -> Result<Turn, NoMemory>
         requires next { (world_in SimpleModule-box self.old).next + 1000 < 2 ^ 128 }
         requires told { call.now.parameters
-            ≡ parameters_of (answers_of model.now) self.old.core.records call.now.id }
+            ≡ parameters_of A.answers self.old.core.records call.now.id }
         ensures boxes { self.new.boxes ≡ self.old.boxes }
         ensures step { IfOk result (λ turn. flow_of turn (world_in SimpleModule-box self.new)
-            ≡ answered C.behaviour (answers_of model.now) occasion call.now.id reply.now
+            ≡ answered C.behaviour A.answers occasion call.now.id reply.now
             (world_in SimpleModule-box self.old)) }
         ensures grown { IsGrownFrom self.old.core self.new.core }
     {
@@ -374,19 +373,19 @@ impl<C: Catalogue> Kernel<C> {
 
     /// Calls the module that the call names, and does what its reply says. A call of what isn't there is passed over.
     #[tactic(auto, using(kernel_actions::proofs::Lasting::growth_same))]
-    fn carry_out(
+    fn carry_out<A: Answers>(
         &mut self,
         alloc: Global,
-        model: &PlainAnswers<'_>,
+        model: &mut A,
         occasion: Occasion,
         call: &Call,
     ) -> Result<Turn, NoMemory>
         requires callable { IsCallable C.behaviour SimpleModule-box 1000 self.old }
         requires told { call.now
-            ≡ call_of (answers_of model.now) call.now.id call.now.prompt (world_in SimpleModule-box self.old) }
+            ≡ call_of A.answers call.now.id call.now.prompt (world_in SimpleModule-box self.old) }
         ensures kept { KeepsBoxes C.behaviour SimpleModule-box self.old self.new }
         ensures step { IfOk result (λ turn. flow_of turn (world_in SimpleModule-box self.new)
-            ≡ call_at C.behaviour (answers_of model.now) occasion call.now.id call.now.prompt
+            ≡ call_at C.behaviour A.answers occasion call.now.id call.now.prompt
             (world_in SimpleModule-box self.old)) }
         ensures grown { IsGrownFrom (world_in SimpleModule-box self.old)
             (world_in SimpleModule-box self.new) }
@@ -400,10 +399,10 @@ impl<C: Catalogue> Kernel<C> {
 
     /// One call of the module of that id.
     #[tactic(auto, using(kernel_actions::proofs::Lasting::growth_same))]
-    fn call_module(
+    fn call_module<A: Answers>(
         &mut self,
         alloc: Global,
-        model: &PlainAnswers<'_>,
+        model: &mut A,
         occasion: Occasion,
         id: u32,
         prompt: Prompt,
@@ -411,7 +410,7 @@ impl<C: Catalogue> Kernel<C> {
         requires callable { IsCallable C.behaviour SimpleModule-box 1000 self.old }
         ensures kept { KeepsBoxes C.behaviour SimpleModule-box self.old self.new }
         ensures step { IfOk result (λ turn. flow_of turn (world_in SimpleModule-box self.new)
-            ≡ call_at C.behaviour (answers_of model.now) occasion id prompt (world_in SimpleModule-box self.old)) }
+            ≡ call_at C.behaviour A.answers occasion id prompt (world_in SimpleModule-box self.old)) }
         ensures grown { IsGrownFrom (world_in SimpleModule-box self.old)
             (world_in SimpleModule-box self.new) }
     {
@@ -421,22 +420,22 @@ impl<C: Catalogue> Kernel<C> {
 
     /// One call of the module of that id. What calls show of it is taken out of the table for the call, and put back after it.
     #[tactic(auto, using(kernel_actions::proofs::Lasting::growth_same))]
-    fn call_shown(
+    fn call_shown<A: Answers>(
         &mut self,
         alloc: Global,
-        model: &PlainAnswers<'_>,
+        model: &mut A,
         shown: &mut ShownModules,
         id: u32,
         prompt: Prompt,
     ) -> Result<Turn, NoMemory>
         requires callable { IsCallable C.behaviour SimpleModule-box 1000 self.old }
-        requires shown { AreShown (answers_of model.now) (world_in SimpleModule-box self.old).records shown.old }
+        requires shown { AreShown A.answers (world_in SimpleModule-box self.old).records shown.old }
         ensures kept { KeepsBoxes C.behaviour SimpleModule-box self.old self.new }
         ensures step { IfOk result (λ turn. flow_of turn (world_in SimpleModule-box self.new)
-            ≡ call_module C.behaviour (answers_of model.now) id prompt (world_in SimpleModule-box self.old)) }
+            ≡ call_module C.behaviour A.answers id prompt (world_in SimpleModule-box self.old)) }
         ensures grown { IsGrownFrom (world_in SimpleModule-box self.old)
             (world_in SimpleModule-box self.new) }
-        ensures shown { AreShown (answers_of model.now) (world_in SimpleModule-box self.new).records shown.new }
+        ensures shown { AreShown A.answers (world_in SimpleModule-box self.new).records shown.new }
     {
         let lent = shown.take(alloc, model, self.core.records(), id)?;
         let lasts = lent.lasts;
@@ -468,10 +467,10 @@ impl<C: Catalogue> Kernel<C> {
     }
 
     /// Initializes the module of that id, where it has that stage.
-    fn initialize(
+    fn initialize<A: Answers>(
         &mut self,
         alloc: Global,
-        model: &PlainAnswers<'_>,
+        model: &mut A,
         stage: u8,
         id: u32,
     ) -> Result<Turn, NoMemory>
@@ -481,7 +480,7 @@ impl<C: Catalogue> Kernel<C> {
             OnOk result ((world_in SimpleModule-box self.new).next ≤ before.next + 1000) }
         ensures step { let before = world_in SimpleModule-box self.old in
             IfOk result (λ turn. flow_of turn (world_in SimpleModule-box self.new)
-            ≡ initialize C.behaviour (answers_of model.now) stage id before) }
+            ≡ initialize C.behaviour A.answers stage id before) }
     {
         if stage >= self.stages_in(id) {
             return Ok(Turn::GoOn);
@@ -492,10 +491,10 @@ impl<C: Catalogue> Kernel<C> {
     }
 
     /// One stage of the initialization of these modules, in this order.
-    fn one_stage(
+    fn one_stage<A: Answers>(
         &mut self,
         alloc: Global,
-        model: &PlainAnswers<'_>,
+        model: &mut A,
         stage: u8,
         ids: &[u32],
     ) -> Result<Turn, NoMemory>
@@ -505,7 +504,7 @@ impl<C: Catalogue> Kernel<C> {
             OnOk result ((world_in SimpleModule-box self.new).next ≤ before.next + 2 ^ 74) }
         ensures step { let before = world_in SimpleModule-box self.old in
             IfOk result (λ turn. flow_of turn (world_in SimpleModule-box self.new)
-            ≡ one_stage C.behaviour (answers_of model.now) stage ids.now before) }
+            ≡ one_stage C.behaviour A.answers stage ids.now before) }
     {
         for id in ids {
             match self.initialize(alloc, model, stage, *id)? {
@@ -530,10 +529,10 @@ impl<C: Catalogue> Kernel<C> {
     }
 
     /// All stages below this number, of these modules.
-    fn stages(
+    fn stages<A: Answers>(
         &mut self,
         alloc: Global,
-        model: &PlainAnswers<'_>,
+        model: &mut A,
         most: u8,
         ids: &[u32],
     ) -> Result<Turn, NoMemory>
@@ -543,7 +542,7 @@ impl<C: Catalogue> Kernel<C> {
         ensures next { OnOk result ((world_in SimpleModule-box self.new).next ≤ 2 ^ 82) }
         ensures step { let before = world_in SimpleModule-box self.old in
             IfOk result (λ turn. flow_of turn (world_in SimpleModule-box self.new)
-            ≡ stages_from C.behaviour (answers_of model.now) ids.now 0 most before) }
+            ≡ stages_from C.behaviour A.answers ids.now 0 most before) }
     {
         for stage in 0..most {
             match self.one_stage(alloc, model, stage, ids)? {
@@ -555,19 +554,19 @@ impl<C: Catalogue> Kernel<C> {
     }
 
     /// Initializes all modules, where each has its box.
-    fn initialize_all(
+    fn initialize_all<A: Answers>(
         &mut self,
         alloc: Global,
-        model: &PlainAnswers<'_>,
+        model: &mut A,
     ) -> Result<Option<Outcome>, NoMemory>
-        requires ready { On (world_in SimpleModule-box self.old) ≡ ready C.behaviour (answers_of model.now) }
+        requires ready { On (world_in SimpleModule-box self.old) ≡ ready C.behaviour A.answers }
         requires next { (world_in SimpleModule-box self.old).next ≡ 0 }
         requires kinds { HasKinds C.behaviour SimpleModule-box self.old }
         ensures kinds { HasKinds C.behaviour SimpleModule-box self.new }
         ensures kept { KeepsBoxes C.behaviour SimpleModule-box self.old self.new }
         ensures next { OnOk result ((world_in SimpleModule-box self.new).next ≤ 2 ^ 82) }
         ensures step { IfOk result (λ over.
-            stage_of over (world_in SimpleModule-box self.new) ≡ start C.behaviour (answers_of model.now)) }
+            stage_of over (world_in SimpleModule-box self.new) ≡ start C.behaviour A.answers) }
     {
         let calls = self.core.calls_of_network(alloc)?;
         let most = self.most_stages(calls.as_slice());
@@ -578,13 +577,13 @@ impl<C: Catalogue> Kernel<C> {
 
     /// Starts the network that was set up, the end of event zero: each simple module has its box, of those that waited, and all modules are
     /// initialized. None waits from then on.
-    pub fn start(
+    pub fn start<A: Answers>(
         &mut self,
         alloc: Global,
-        model: &PlainAnswers<'_>,
+        model: &mut A,
         waiting: &mut Tree<Box<dyn SimpleModule>>,
     ) -> Result<Option<Outcome>, NoMemory>
-        requires prepared { On (world_in SimpleModule-box self.old) ≡ prepared (answers_of model.now) }
+        requires prepared { On (world_in SimpleModule-box self.old) ≡ prepared A.answers }
         requires next { (world_in SimpleModule-box self.old).next ≡ 0 }
         requires none { (world_in SimpleModule-box self.old).modules ≡ [] }
         requires fresh { AreFresh C.behaviour (needs (world_in SimpleModule-box self.old))
@@ -595,7 +594,7 @@ impl<C: Catalogue> Kernel<C> {
         ensures none { seats_held SimpleModule-box waiting.new ≡ [] }
         ensures next { OnOk result ((world_in SimpleModule-box self.new).next ≤ 2 ^ 82) }
         ensures step { IfOk result (λ over.
-            stage_of over (world_in SimpleModule-box self.new) ≡ start C.behaviour (answers_of model.now)) }
+            stage_of over (world_in SimpleModule-box self.new) ≡ start C.behaviour A.answers) }
     {
         swap(&mut self.boxes, waiting);
         self.initialize_all(alloc, model)
@@ -628,16 +627,16 @@ impl<C: Catalogue> Kernel<C> {
     }
 
     /// Looks at one injection more: an event comes of it, or it is discarded, or none goes before the first event to come.
-    fn look_on(
+    fn look_on<A: Answers>(
         &self,
         alloc: Global,
-        model: &PlainAnswers<'_>,
+        model: &A,
         look: &mut Look,
     ) -> Result<Option<Next>, NoMemory>
         requires count { (world_in SimpleModule-box self.now).count + 1 < 2 ^ 64 }
         ensures { let world = world_in SimpleModule-box self.now in
             IfOk result (λ next.
-            LooksOn (answers_of model.now) (looked world look.old) next (looked world look.new)) }
+            LooksOn A.answers (looked world look.old) next (looked world look.new)) }
     {
         let Some(injection) = ask_injection(&self.core, alloc, model, look)? else {
             return Ok(Some(Next::First));
@@ -650,10 +649,10 @@ impl<C: Catalogue> Kernel<C> {
     }
 
     /// What comes next, and what was asked to know it.
-    fn upcoming(&self, alloc: Global, model: &PlainAnswers<'_>) -> Result<(Look, Next), NoMemory>
+    fn upcoming<A: Answers>(&self, alloc: Global, model: &A) -> Result<(Look, Next), NoMemory>
         requires count { (world_in SimpleModule-box self.now).count + 1 < 2 ^ 64 }
         ensures { let world = world_in SimpleModule-box self.now in
-            IfOk result (λ r. upcoming (answers_of model.now) world ≡ upcoming_of r.1 (looked world r.0)) }
+            IfOk result (λ r. upcoming A.answers world ≡ upcoming_of r.1 (looked world r.0)) }
     {
         let mut look = self.core.look(alloc);
         // Each look but the last delivers an injection.
@@ -669,26 +668,26 @@ impl<C: Catalogue> Kernel<C> {
     /// The next event, or how the run ends. The caller has looked up once what stays the same for all events: the model's time
     /// limit, in picoseconds, and what calls show of modules, which is taken from the table, or found and put in there.
     #[tactic(auto, using(kernel_actions::proofs::Lasting::growth_same))]
-    pub fn step(
+    pub fn step<A: Answers>(
         &mut self,
         alloc: Global,
-        model: &PlainAnswers<'_>,
+        model: &mut A,
         limit: Option<u64>,
         shown: &mut ShownModules,
     ) -> Result<Option<Outcome>, NoMemory>
         requires room { HasRoom (world_in SimpleModule-box self.old) }
         requires count { (world_in SimpleModule-box self.old).count + 1 < 2 ^ 64 }
         requires kinds { HasKinds C.behaviour SimpleModule-box self.old }
-        requires limit { limit ≡ (answers_of model.now).time_limit }
-        requires shown { AreShown (answers_of model.now) (world_in SimpleModule-box self.old).records shown.old }
+        requires limit { limit ≡ A.answers.time_limit }
+        requires shown { AreShown A.answers (world_in SimpleModule-box self.old).records shown.old }
         ensures kinds { HasKinds C.behaviour SimpleModule-box self.new }
         ensures kept { KeepsBoxes C.behaviour SimpleModule-box self.old self.new }
         ensures room { OnOk result (HasRoom (world_in SimpleModule-box self.new)) }
         ensures step { IfOk result (λ over. stage_of over (world_in SimpleModule-box self.new)
-            ≡ next_stage C.behaviour (answers_of model.now) (Running (world_in SimpleModule-box self.old))) }
+            ≡ next_stage C.behaviour A.answers (Running (world_in SimpleModule-box self.old))) }
         ensures grown { IsGrownFrom (world_in SimpleModule-box self.old)
             (world_in SimpleModule-box self.new) }
-        ensures shown { AreShown (answers_of model.now) (world_in SimpleModule-box self.new).records shown.new }
+        ensures shown { AreShown A.answers (world_in SimpleModule-box self.new).records shown.new }
     {
         if self.core.is_ended() {
             return Ok(Some(Outcome::Ended));
@@ -721,17 +720,17 @@ impl<C: Catalogue> Kernel<C> {
 
     /// Tells the module of that id that the run is over, where it has a box.
     #[tactic(auto, using(kernel_actions::proofs::Lasting::growth_same))]
-    fn call_last(
+    fn call_last<A: Answers>(
         &mut self,
         alloc: Global,
-        model: &PlainAnswers<'_>,
+        model: &mut A,
         id: u32,
     ) -> Result<Turn, NoMemory>
         requires callable { IsCallable C.behaviour SimpleModule-box 1000 self.old }
         ensures kept { KeepsBoxes C.behaviour SimpleModule-box self.old self.new }
         ensures step { let before = world_in SimpleModule-box self.old in
             IfOk result (λ turn. flow_of turn (world_in SimpleModule-box self.new)
-            ≡ call_last C.behaviour (answers_of model.now) id before) }
+            ≡ call_last C.behaviour A.answers id before) }
         ensures grown { IsGrownFrom (world_in SimpleModule-box self.old)
             (world_in SimpleModule-box self.new) }
     {
@@ -743,10 +742,10 @@ impl<C: Catalogue> Kernel<C> {
 
     /// Finishes the module of that id: a simple one is told first, a compound one just counts as finished.
     #[tactic(auto, using(kernel_actions::proofs::Lasting::growth_same))]
-    fn finish_one(
+    fn finish_one<A: Answers>(
         &mut self,
         alloc: Global,
-        model: &PlainAnswers<'_>,
+        model: &mut A,
         id: u32,
     ) -> Result<Turn, NoMemory>
         requires callable { IsCallable C.behaviour SimpleModule-box 1000 self.old }
@@ -755,7 +754,7 @@ impl<C: Catalogue> Kernel<C> {
             OnOk result ((world_in SimpleModule-box self.new).next ≤ before.next + 1000) }
         ensures step { let before = world_in SimpleModule-box self.old in
             IfOk result (λ turn. flow_of turn (world_in SimpleModule-box self.new)
-            ≡ finish C.behaviour (answers_of model.now) id before) }
+            ≡ finish C.behaviour A.answers id before) }
         ensures grown { IsGrownFrom (world_in SimpleModule-box self.old)
             (world_in SimpleModule-box self.new) }
     {
@@ -769,17 +768,17 @@ impl<C: Catalogue> Kernel<C> {
     }
 
     /// Finishes these modules, in this order.
-    fn finish_all(
+    fn finish_all<A: Answers>(
         &mut self,
         alloc: Global,
-        model: &PlainAnswers<'_>,
+        model: &mut A,
         ids: &[u32],
     ) -> Result<Turn, NoMemory>
         requires callable { IsCallable C.behaviour SimpleModule-box (2 ^ 75) self.old }
         ensures kept { KeepsBoxes C.behaviour SimpleModule-box self.old self.new }
         ensures step { let before = world_in SimpleModule-box self.old in
             IfOk result (λ turn. flow_of turn (world_in SimpleModule-box self.new)
-            ≡ finish_all C.behaviour (answers_of model.now) ids.now before) }
+            ≡ finish_all C.behaviour A.answers ids.now before) }
         ensures grown { IsGrownFrom (world_in SimpleModule-box self.old)
             (world_in SimpleModule-box self.new) }
     {
@@ -794,10 +793,10 @@ impl<C: Catalogue> Kernel<C> {
 
     /// Finishes the modules of a run that ended so, and answers how it ends then.
     #[tactic(auto, using(kernel_actions::proofs::Lasting::growth_same))]
-    pub fn finish(
+    pub fn finish<A: Answers>(
         &mut self,
         alloc: Global,
-        model: &PlainAnswers<'_>,
+        model: &mut A,
         outcome: Outcome,
     ) -> Result<Outcome, NoMemory>
         requires room { HasRoom (world_in SimpleModule-box self.old) }
@@ -806,7 +805,7 @@ impl<C: Catalogue> Kernel<C> {
         ensures kinds { HasKinds C.behaviour SimpleModule-box self.new }
         ensures kept { KeepsBoxes C.behaviour SimpleModule-box self.old self.new }
         ensures step { IfOk result (λ last. ran_in SimpleModule-box last self.new
-            ≡ ending C.behaviour (answers_of model.now) (ran_in SimpleModule-box outcome self.old)) }
+            ≡ ending C.behaviour A.answers (ran_in SimpleModule-box outcome self.old)) }
         ensures grown { IsGrownFrom (world_in SimpleModule-box self.old)
             (world_in SimpleModule-box self.new) }
     {

@@ -1,6 +1,5 @@
 //! Messages that are sent: their hops are asked of the model.
 
-ghost use Rattle.model_answers.specs.Answering.{answers_of};
 ghost use Rattle.std.specs.Prelude.{◌≡◌, ◌+◌, ◌^◌, ◌<◌, ◌≤◌, [], Bool, true, Option, List, IfOk, OnOk};
 ghost use Rattle.run_questions.specs.declared.answer.Answer.{Answer};
 ghost use Rattle.run_questions.specs.declared.answer.Question.TheVariants.{GateSize, HopBack};
@@ -17,9 +16,9 @@ ghost use Rattle.kernel_actions.specs.Positions.{IsGrownFrom};
 
 use kernel_actions::core_part::Core;
 use kernel_actions::sending::{flight_end, send_over};
-use model_answers::plain::PlainAnswers;
 use module_api::message::Outgoing;
 use module_api::reply::{Flight, GatePlace, OwnGate};
+use run_answers::Answers;
 use run_questions::answer::{Answer, Question};
 use run_semantics::outcome::{Fault, Turn};
 use run_semantics::routes::{
@@ -40,15 +39,15 @@ pub enum Way {
 }
 
 /// Asks a question about modules, and notes it. Whatever goes on, goes on with this answer.
-fn ask(
+fn ask<A: Answers>(
     core: &mut Core,
     alloc: Global,
-    model: &PlainAnswers<'_>,
+    model: &mut A,
     question: Question,
 ) -> Result<Answer, NoMemory>
     requires { is_of_modules question ≡ true }
     ensures asked { IfOk result (λ found. (next : Answer → World → Flow)
-        → asking (answers_of model.now) question next core.old ≡ next found core.new) }
+        → asking A.answers question next core.old ≡ next found core.new) }
     ensures records { core.new.records ≡ core.old.records }
     ensures next { core.new.next ≡ core.old.next }
     ensures grown { IsGrownFrom core.old core.new }
@@ -59,14 +58,14 @@ fn ask(
 }
 
 /// Asks for the next hop from a gate. Whatever goes on, goes on with this hop.
-fn next_hop(
+fn next_hop<A: Answers>(
     core: &mut Core,
     alloc: Global,
-    model: &PlainAnswers<'_>,
+    model: &mut A,
     gate: &PlacedGate,
 ) -> Result<Option<NextHop>, NoMemory>
     ensures hop { IfOk result (λ hop. (next : Option NextHop → World → Flow)
-        → next_hop (answers_of model.now) gate.now next core.old ≡ next hop core.new) }
+        → next_hop A.answers gate.now next core.old ≡ next hop core.new) }
     ensures next { core.new.next ≡ core.old.next }
     ensures grown { IsGrownFrom core.old core.new }
 {
@@ -85,15 +84,15 @@ fn most_hops() -> usize
 }
 
 /// Follows the hops from a gate; the module of that id sends.
-fn follow(
+fn follow<A: Answers>(
     core: &mut Core,
     alloc: Global,
-    model: &PlainAnswers<'_>,
+    model: &mut A,
     id: u32,
     gate: PlacedGate,
 ) -> Result<Way, NoMemory>
     ensures chain { IfOk result (λ way. (reached : List PassedHop → PlacedGate → World → Flow)
-        → chain (answers_of model.now) id reached most_hops gate [] core.old ≡ after_chain reached way core.new) }
+        → chain A.answers id reached most_hops gate [] core.old ≡ after_chain reached way core.new) }
     ensures next { core.new.next ≡ core.old.next }
     ensures grown { IsGrownFrom core.old core.new }
 {
@@ -121,10 +120,10 @@ fn follow(
 }
 
 /// Sends a message of the module of that id over the hops from a gate.
-fn send_on(
+fn send_on<A: Answers>(
     core: &mut Core,
     alloc: Global,
-    model: &PlainAnswers<'_>,
+    model: &mut A,
     id: u32,
     gate: PlacedGate,
     message: &Outgoing,
@@ -132,7 +131,7 @@ fn send_on(
 ) -> Result<Turn, NoMemory>
     requires { core.old.next + 1 < 2 ^ 128 }
     ensures flow { IfOk result (λ turn. flow_of turn core.new
-        ≡ chain (answers_of model.now) id (sent_over id message.now departure.now) most_hops gate [] core.old) }
+        ≡ chain A.answers id (sent_over id message.now departure.now) most_hops gate [] core.old) }
     ensures grown { IsGrownFrom core.old core.new }
 {
     match follow(core, alloc, model, id, gate)? {
@@ -144,15 +143,15 @@ fn send_on(
 }
 
 /// Asks whether a message can leave by a gate of the module of that id. Whatever goes on, goes on with this.
-fn can_leave(
+fn can_leave<A: Answers>(
     core: &mut Core,
     alloc: Global,
-    model: &PlainAnswers<'_>,
+    model: &mut A,
     id: u32,
     gate: &OwnGate,
 ) -> Result<bool, NoMemory>
     ensures asked { IfOk result (λ can. (next : Bool → World → Flow)
-        → asking (answers_of model.now) (GateSize id gate.now.name) (λ a v. next (is_out_gate a gate.now.index) v) core.old ≡ next can core.new) }
+        → asking A.answers (GateSize id gate.now.name) (λ a v. next (is_out_gate a gate.now.index) v) core.old ≡ next can core.new) }
     ensures next { core.new.next ≡ core.old.next }
     ensures grown { IsGrownFrom core.old core.new }
 {
@@ -162,10 +161,10 @@ fn can_leave(
 }
 
 /// Sends a message of the module of that id through a gate of its own, which departs then.
-pub fn send(
+pub fn send<A: Answers>(
     core: &mut Core,
     alloc: Global,
-    model: &PlainAnswers<'_>,
+    model: &mut A,
     id: u32,
     gate: &OwnGate,
     message: &Outgoing,
@@ -173,7 +172,7 @@ pub fn send(
 ) -> Result<Turn, NoMemory>
     requires { core.old.next + 1 < 2 ^ 128 }
     ensures flow { IfOk result (λ turn. flow_of turn core.new
-        ≡ sent (answers_of model.now) id gate.now message.now departure.now core.old) }
+        ≡ sent A.answers id gate.now message.now departure.now core.old) }
     ensures grown { IsGrownFrom core.old core.new }
 {
     let can = can_leave(core, alloc, model, id, gate)?;
@@ -188,10 +187,10 @@ pub fn send(
 }
 
 /// A message is at a gate then: it arrives, or goes on inside of a compound module.
-fn enter(
+fn enter<A: Answers>(
     core: &mut Core,
     alloc: Global,
-    model: &PlainAnswers<'_>,
+    model: &mut A,
     id: u32,
     gate: PlacedGate,
     message: &Outgoing,
@@ -199,7 +198,7 @@ fn enter(
 ) -> Result<Turn, NoMemory>
     requires { core.old.next + 1 < 2 ^ 128 }
     ensures flow { IfOk result (λ turn. flow_of turn core.new
-        ≡ entering (answers_of model.now) id message.now gate arrival.now core.old) }
+        ≡ entering A.answers id message.now gate arrival.now core.old) }
     ensures grown { IsGrownFrom core.old core.new }
 {
     let Some(time) = arrival else {
@@ -213,14 +212,14 @@ fn enter(
 }
 
 /// Asks whether something is connected to a gate from outside. Whatever goes on, goes on with this.
-fn is_taken(
+fn is_taken<A: Answers>(
     core: &mut Core,
     alloc: Global,
-    model: &PlainAnswers<'_>,
+    model: &mut A,
     gate: &PlacedGate,
 ) -> Result<bool, NoMemory>
     ensures asked { IfOk result (λ taken. (next : Bool → World → Flow)
-        → asking (answers_of model.now) (HopBack gate.now.id gate.now.name gate.now.index) (λ a v. next (is_connected a) v) core.old ≡ next taken core.new) }
+        → asking A.answers (HopBack gate.now.id gate.now.name gate.now.index) (λ a v. next (is_connected a) v) core.old ≡ next taken core.new) }
     ensures next { core.new.next ≡ core.old.next }
     ensures grown { IsGrownFrom core.old core.new }
 {
@@ -230,10 +229,10 @@ fn is_taken(
 }
 
 /// Sends a message to a gate, if nothing is connected to it from outside.
-fn send_free(
+fn send_free<A: Answers>(
     core: &mut Core,
     alloc: Global,
-    model: &PlainAnswers<'_>,
+    model: &mut A,
     id: u32,
     gate: PlacedGate,
     message: &Outgoing,
@@ -241,8 +240,8 @@ fn send_free(
 ) -> Result<Turn, NoMemory>
     requires { core.old.next + 1 < 2 ^ 128 }
     ensures flow { IfOk result (λ turn. flow_of turn core.new
-        ≡ asking (answers_of model.now) (HopBack gate.id gate.name gate.index)
-        (entered (answers_of model.now) id gate message.now flight.now) core.old) }
+        ≡ asking A.answers (HopBack gate.id gate.name gate.index)
+        (entered A.answers id gate message.now flight.now) core.old) }
     ensures grown { IsGrownFrom core.old core.new }
 {
     let taken = is_taken(core, alloc, model, &gate)?;
@@ -254,15 +253,15 @@ fn send_free(
 }
 
 /// Asks whether a message can come in by a gate of the module of that id. Whatever goes on, goes on with this.
-fn can_enter(
+fn can_enter<A: Answers>(
     core: &mut Core,
     alloc: Global,
-    model: &PlainAnswers<'_>,
+    model: &mut A,
     id: u32,
     place: &GatePlace,
 ) -> Result<bool, NoMemory>
     ensures asked { IfOk result (λ can. (next : Bool → World → Flow)
-        → asking (answers_of model.now) (GateSize id place.now.name) (λ a v. next (is_in_gate a place.now.index) v) core.old ≡ next can core.new) }
+        → asking A.answers (GateSize id place.now.name) (λ a v. next (is_in_gate a place.now.index) v) core.old ≡ next can core.new) }
     ensures next { core.new.next ≡ core.old.next }
     ensures grown { IsGrownFrom core.old core.new }
 {
@@ -272,10 +271,10 @@ fn can_enter(
 }
 
 /// Sends a message of the module of that id directly to a gate.
-pub fn send_direct(
+pub fn send_direct<A: Answers>(
     core: &mut Core,
     alloc: Global,
-    model: &PlainAnswers<'_>,
+    model: &mut A,
     id: u32,
     place: &GatePlace,
     message: &Outgoing,
@@ -283,7 +282,7 @@ pub fn send_direct(
 ) -> Result<Turn, NoMemory>
     requires { core.old.next + 1 < 2 ^ 128 }
     ensures flow { IfOk result (λ turn. flow_of turn core.new
-        ≡ sent_direct (answers_of model.now) id place.now message.now flight.now core.old) }
+        ≡ sent_direct A.answers id place.now message.now flight.now core.old) }
     ensures grown { IsGrownFrom core.old core.new }
 {
     let Some(target) = core.module_at(alloc, place.path.as_bytes())? else {

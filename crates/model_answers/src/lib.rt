@@ -2,6 +2,7 @@
 #![tactic(auto)]
 
 mod answering;
+pub mod asked;
 pub mod evaluated;
 mod gates;
 mod insides;

@@ -2,16 +2,15 @@
 #![tactic(auto)]
 
 ghost use Rattle.std.specs.Prelude.{◌≡◌, ◌++◌, ◌⊎◌, [], List, true, IfOk};
-ghost use Rattle.model_answers.specs.Answering.{answers_of};
-ghost use Rattle.run_questions.specs.Answers.{Answers};
+ghost use Rattle.run_questions.specs.Answers as run;
 ghost use Rattle.run_questions.specs.declared.record.Record.{Record};
 ghost use Rattle.module_tree.specs.Boxes.{with_box, without_box};
 ghost use Rattle.shown_modules.specs.declared.ShownModules.{ShownModules};
 ghost use Rattle.shown_modules.specs.Tables.{entries_in, is_whole, shown_of, AreShown, IsShown};
 
-use model_answers::plain::PlainAnswers;
 use module_api::call::{Gate, Parameter};
 use module_tree::Tree;
+use run_answers::Answers;
 use run_questions::record::{MAX_NESTING, Record, path_of, record_at};
 use sim_values::NoMemory;
 use sim_values::text::Text;
@@ -30,13 +29,13 @@ pub struct Shown {
 }
 
 /// What calls show of the module of that id, found anew.
-pub fn shown_of(
+pub fn shown_of<A: Answers>(
     alloc: Global,
-    model: &PlainAnswers<'_>,
+    model: &mut A,
     records: &[Record],
     id: u32,
 ) -> Result<Shown, NoMemory>
-    ensures { IfOk result (λ shown. shown ≡ shown_of (answers_of model.now) records.now id) }
+    ensures { IfOk result (λ shown. shown ≡ shown_of A.answers records.now id) }
 {
     Ok(Shown {
         path: path_of(alloc, records, id)?,
@@ -48,7 +47,7 @@ pub fn shown_of(
 /// Whether a module was created, and all that are around it: then calls show the same of it when more modules are created.
 #[tactic(auto, using(crate::proofs::Showing::whole_lasts))]
 fn lasts(records: &[Record], id: u32) -> bool
-    ensures { result ≡ true → (m : Answers) → IsShown m records.now id (shown_of m records.now id) }
+    ensures { result ≡ true → (m : run.Answers) → IsShown m records.now id (shown_of m records.now id) }
 {
     is_whole(MAX_NESTING, records, id)
 }
@@ -84,7 +83,7 @@ impl ShownModules {
     /// A table without entries, which takes no memory.
     pub fn new(alloc: Global) -> ShownModules
         ensures none { entries_in result ≡ [] }
-        ensures shown { (m : Answers) (records : List Record) → AreShown m records result }
+        ensures shown { (m : run.Answers) (records : List Record) → AreShown m records result }
     {
         ShownModules {
             entries: Tree::new(alloc),
@@ -92,19 +91,19 @@ impl ShownModules {
     }
 
     /// What calls show of the module of that id. The entry is moved out of the table; where there is none, it is found, and whether it lasts.
-    pub fn take(
+    pub fn take<A: Answers>(
         &mut self,
         alloc: Global,
-        model: &PlainAnswers<'_>,
+        model: &mut A,
         records: &[Record],
         id: u32,
     ) -> Result<Lent, NoMemory>
-        requires { AreShown (answers_of model.now) records.now self.old }
-        ensures found { IfOk result (λ lent. lent.shown ≡ shown_of (answers_of model.now) records.now id) }
+        requires { AreShown A.answers records.now self.old }
+        ensures found { IfOk result (λ lent. lent.shown ≡ shown_of A.answers records.now id) }
         ensures lasts { IfOk result (λ lent. lent.lasts ≡ true
-            → IsShown (answers_of model.now) records.now id (shown_of (answers_of model.now) records.now id)) }
+            → IsShown A.answers records.now id (shown_of A.answers records.now id)) }
         ensures rest { entries_in self.new ≡ without_box id (entries_in self.old) }
-        ensures shown { AreShown (answers_of model.now) records.now self.new }
+        ensures shown { AreShown A.answers records.now self.new }
     {
         match self.entries.take(id) {
             Some(shown) => Ok(Lent { shown, lasts: true }),
@@ -120,7 +119,7 @@ impl ShownModules {
     pub fn put_back(&mut self, lasts: bool, id: u32, shown: Shown)
         ensures entries { let rest = without_box id (entries_in self.old) in
             (entries_in self.new ≡ rest) ⊎ (entries_in self.new ≡ with_box id shown rest) }
-        ensures shown { (m : Answers) (records : List Record) → AreShown m records self.old
+        ensures shown { (m : run.Answers) (records : List Record) → AreShown m records self.old
             → (lasts ≡ true → IsShown m records id shown) → AreShown m records self.new }
     {
         self.entries.take(id);
@@ -133,6 +132,6 @@ impl ShownModules {
 /// A table stays right when more modules are created. The function does nothing: its contract is the law.
 #[tactic(auto, using(crate::proofs::Showing::shown_on))]
 pub fn tables_stay_right()
-    ensures { (m : Answers) (records more : List Record) (table : ShownModules)
+    ensures { (m : run.Answers) (records more : List Record) (table : ShownModules)
         → AreShown m records table → AreShown m (records ++ more) table }
 {}

@@ -1,12 +1,11 @@
-use Rattle.model_answers.specs.Answering.{answers_of}
 use Rattle.std.proofs.Common.{◌≡◌, ◌-◌, drop}
 use Rattle.run_semantics.specs.Perform.{for_each}
 use Rattle.run_semantics.specs.Run.{set_up}
 use Rattle.kernel.proofs.from_model.+set_up.Given as goal
 
 abbrev pub decreases-set_up : goal.decreases-set_up
-decreases-set_up l = l.depth
+decreases-set_up g l = l.depth
 
 -- those that are left lead where all lead
 abbrev pub invariant-loop-inner_id : goal.invariant-loop-inner_id
-invariant-loop-inner_id l = for_each (set_up (l.depth - 1) (answers_of l.model)) (drop l.inner_id-index l.inner_id-items) l.core ≡ set_up l.depth (answers_of l.model) l.id l.fn.core
+invariant-loop-inner_id g l = for_each (set_up (l.depth - 1) g.A.Answers.answers) (drop l.inner_id-index l.inner_id-items) l.core ≡ set_up l.depth g.A.Answers.answers l.id l.fn.core

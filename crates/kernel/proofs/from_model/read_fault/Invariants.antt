@@ -1,7 +1,6 @@
-use Rattle.model_answers.specs.Answering.{answers_of}
 use Rattle.std.proofs.Common.{◌≡◌, drop}
 use Rattle.run_semantics.specs.Perform.{read_fault}
 use Rattle.kernel.proofs.from_model.read_fault.Given as goal
 
 abbrev pub invariant-loop-read : goal.invariant-loop-read
-invariant-loop-read l = read_fault (answers_of l.model) l.core.records l.call.id (drop l.read-index l.reads) ≡ read_fault (answers_of l.model) l.core.records l.call.id l.reads
+invariant-loop-read g l = read_fault g.A.Answers.answers l.core.records l.call.id (drop l.read-index l.reads) ≡ read_fault g.A.Answers.answers l.core.records l.call.id l.reads

@@ -1,19 +1,18 @@
 use Rattle.std.proofs.Common.{◌∙◌, ℕ, List, ap}
-use Rattle.model_answers.specs.Answering.{answers_of}
 use Rattle.run_semantics.specs.Routes.{module_at}
 use Rattle.kernel_actions.proofs.Growing.{growth_on}
 use Rattle.kernel_sending.proofs.Asking.{direct_on, not_entered}
 use Rattle.kernel_sending.proofs.sending.send_direct.Goals as goal
 
 pub returns-in_ok-name-clause-flow : goal.returns-in_ok-name-clause-flow
-returns-in_ok-name-clause-flow c =
-    direct_on (answers_of c.args.model.now) c.args.id c.args.message.now c.args.place.now c.args.flight.now c.args.core.now c.can_enter.new.core c.in-Some.target _ (c.in_ok-target.ensures ∙ ap (λ (path : List ℕ). module_at path c.args.core.now) c.as_bytes.ensures) c.in-Some.is c.in_ok-can.can
+returns-in_ok-name-clause-flow g c =
+    direct_on g.A.Answers.answers c.args.id c.args.message.now c.args.place.now c.args.flight.now c.args.core.now c.can_enter.new.core c.in-Some.target _ (c.in_ok-target.ensures ∙ ap (λ (path : List ℕ). module_at path c.args.core.now) c.as_bytes.ensures) c.in-Some.is c.in_ok-can.can
     c.in_ok-can.ensures.asked c.send_free.result c.send_free.new.core c.in_ok-name.name c.if-can.true c.in_ok-name.ensures c.send_free.ensures.flow
 
 pub returns-in_ok-name-clause-grown : goal.returns-in_ok-name-clause-grown
-returns-in_ok-name-clause-grown c = growth_on c.args.core.now c.can_enter.new.core c.send_free.new.core c.can_enter.ensures.grown c.send_free.ensures.grown
+returns-in_ok-name-clause-grown g c = growth_on c.args.core.now c.can_enter.new.core c.send_free.new.core c.can_enter.ensures.grown c.send_free.ensures.grown
 
 pub returns-else-can-clause-flow : goal.returns-else-can-clause-flow
-returns-else-can-clause-flow c =
-    not_entered (answers_of c.args.model.now) c.args.id c.args.message.now c.args.place.now c.args.flight.now c.args.core.now c.can_enter.new.core c.in-Some.target _ (c.in_ok-target.ensures ∙ ap (λ (path : List ℕ). module_at path c.args.core.now) c.as_bytes.ensures) c.in-Some.is c.in_ok-can.can
+returns-else-can-clause-flow g c =
+    not_entered g.A.Answers.answers c.args.id c.args.message.now c.args.place.now c.args.flight.now c.args.core.now c.can_enter.new.core c.in-Some.target _ (c.in_ok-target.ensures ∙ ap (λ (path : List ℕ). module_at path c.args.core.now) c.as_bytes.ensures) c.in-Some.is c.in_ok-can.can
     c.in_ok-can.ensures.asked c.broken-else-can.result c.if-can.false c.broken-else-can.ensures

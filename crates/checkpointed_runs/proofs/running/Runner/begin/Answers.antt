@@ -1,4 +1,3 @@
-use Rattle.model_answers.specs.Answering.{answers_of}
 use Rattle.std.proofs.Common.{◌≡◌, ◌⊎◌, None, zero, refl, ◌∙◌, arith, subst}
 use Rattle.checkpointed_runs.specs.declared.running.Phase.TheVariants.{Declined}
 use Rattle.checkpointed_runs.specs.Running.{kept_boxes, needed_by}
@@ -13,7 +12,7 @@ use Rattle.checkpointed_runs.proofs.running.Runner.begin.Goals as goal
 pub returns-in-Over-clause-advances : goal.returns-in-Over-clause-advances
 returns-in-Over-clause-advances g c =
     let b = g.C.Catalogue.behaviour in
-    let m = (answers_of c.args.model.now) in
+    let m = g.M.ModelMarker.answers in
     let w = world_in (λ b. (g.dyn-1.0.entry b.vtable).1) c.stand.new.self.kernel in
     let stands = rw c.in-Over.is at c.in_ok-outcome.ensures.stands in
     let over : Over w c.in-Over.outcome ≡ start b m = stands.0 in
@@ -32,15 +31,15 @@ returns-in-Over-clause-advances g c =
 
 pub returns-in-Over-clause-stopped : goal.returns-in-Over-clause-stopped
 returns-in-Over-clause-stopped g c =
-    none_stored g.C.Catalogue.behaviour (answers_of c.args.model.now) c.args.limit c.stand.new.self.stood c.args.self.now.positions c.stand.new.self.positions (c.stand.ensures.kept.1 ∙ c.requires.stood)
+    none_stored g.C.Catalogue.behaviour g.M.ModelMarker.answers c.args.limit c.stand.new.self.stood c.args.self.now.positions c.stand.new.self.positions (c.stand.ensures.kept.1 ∙ c.requires.stood)
     c.requires.none c.stand.ensures.kept.0
 
 pub returns-in-Missing-clause-stopped : goal.returns-in-Missing-clause-stopped
 returns-in-Missing-clause-stopped g c =
-    none_stored g.C.Catalogue.behaviour (answers_of c.args.model.now) c.args.limit c.stand.new.self.stood c.args.self.now.positions c.stand.new.self.positions (c.stand.ensures.kept.1 ∙ c.requires.stood)
+    none_stored g.C.Catalogue.behaviour g.M.ModelMarker.answers c.args.limit c.stand.new.self.stood c.args.self.now.positions c.stand.new.self.positions (c.stand.ensures.kept.1 ∙ c.requires.stood)
     c.requires.none c.stand.ensures.kept.0
 
 pub returns-in_err-outcome-clause-stopped : goal.returns-in_err-outcome-clause-stopped
 returns-in_err-outcome-clause-stopped g c =
-    none_stored g.C.Catalogue.behaviour (answers_of c.args.model.now) c.args.limit c.stand.new.self.stood c.args.self.now.positions c.stand.new.self.positions (c.stand.ensures.kept.1 ∙ c.requires.stood)
+    none_stored g.C.Catalogue.behaviour g.M.ModelMarker.answers c.args.limit c.stand.new.self.stood c.args.self.now.positions c.stand.new.self.positions (c.stand.ensures.kept.1 ∙ c.requires.stood)
     c.requires.none c.stand.ensures.kept.0

@@ -1,4 +1,3 @@
-use Rattle.model_answers.specs.Answering.{answers_of}
 use Rattle.std.proofs.Common.{◌≡◌, ◌≤◌, true, zero, suc, refl, sym, ap, ◌∙◌, subst, arith}
 use Rattle.checkpoints.specs.Stored.{begun, counts_in, with_count, AreBelow, Timeline}
 use Rattle.kernel_actions.specs.declared.position.Position.{Position}
@@ -22,7 +21,7 @@ use Rattle.checkpointed_runs.proofs.running.Runner.complete.Goals as goal
 pub run_on-requires-clause-going : goal.run_on-requires-clause-going
 run_on-requires-clause-going g c =
     let b = g.C.Catalogue.behaviour in
-    let m = (answers_of c.args.model.now) in
+    let m = g.A.Answers.answers in
     let w = world_in (λ b. (g.dyn-1.0.entry b.vtable).1) c.start.new.self in
     let seats = seats_in (λ b. (g.dyn-1.0.entry b.vtable).1) c.start.new.self in
     let new = c.keep_if.new.self in
@@ -45,7 +44,7 @@ run_on-requires-clause-going g c =
 pub returns-in-Some-clause-ran : goal.returns-in-Some-clause-ran
 returns-in-Some-clause-ran g c =
     let b = g.C.Catalogue.behaviour in
-    let m = (answers_of c.args.model.now) in
+    let m = g.A.Answers.answers in
     let w = world_in (λ b. (g.dyn-1.0.entry b.vtable).1) c.start.new.self in
     let over : Over w c.in-Some.outcome ≡ after b m 0 = rw c.in-Some.is at c.in_ok-outcome.ensures.step in
     if_ok_from c.finish.result (λ o. ran_in (λ b. (g.dyn-1.0.entry b.vtable).1) o c.finish.new.self) (fresh_run b m c.args.limit) (ending b m (ran_in (λ b. (g.dyn-1.0.entry b.vtable).1) c.in-Some.outcome c.start.new.self))
@@ -54,14 +53,14 @@ returns-in-Some-clause-ran g c =
 pub returns-in-Some-clause-boxes : goal.returns-in-Some-clause-boxes
 returns-in-Some-clause-boxes g c =
     let b = g.C.Catalogue.behaviour in
-    let m = (answers_of c.args.model.now) in
+    let m = g.A.Answers.answers in
     left_if_ok b m c.args.limit (world_in (λ b. (g.dyn-1.0.entry b.vtable).1) c.finish.new.self) (seats_held (λ b. (g.dyn-1.0.entry b.vtable).1) c.start.new.waiting) c.finish.result (returns-in-Some-clause-ran g c) c.start.ensures.none
     (λ all. started_boxes b m (world_in (λ b. (g.dyn-1.0.entry b.vtable).1) c.args.self.now.kernel) (waiting_in (λ b. (g.dyn-1.0.entry b.vtable).1) c.args.self.now) all c.requires.ready)
 
 pub returns-in_ok-keep_if-in-None-clause-boxes : goal.returns-in_ok-keep_if-in-None-clause-boxes
 returns-in_ok-keep_if-in-None-clause-boxes g c =
     let b = g.C.Catalogue.behaviour in
-    let m = (answers_of c.args.model.now) in
+    let m = g.A.Answers.answers in
     let none = ap (seats_held (λ b. (g.dyn-1.0.entry b.vtable).1)) (c.run_on.ensures.waiting ∙ c.keep_if.ensures.waiting) ∙ c.start.ensures.none in
     left_if_ok b m c.args.limit (world_in (λ b. (g.dyn-1.0.entry b.vtable).1) c.run_on.new.self.kernel) (waiting_in (λ b. (g.dyn-1.0.entry b.vtable).1) c.run_on.new.self) c.run_on.result c.run_on.ensures.ran none
     (λ all. started_boxes b m (world_in (λ b. (g.dyn-1.0.entry b.vtable).1) c.args.self.now.kernel) (waiting_in (λ b. (g.dyn-1.0.entry b.vtable).1) c.args.self.now) all c.requires.ready)
@@ -69,7 +68,7 @@ returns-in_ok-keep_if-in-None-clause-boxes g c =
 pub returns-in-Some-clause-left : goal.returns-in-Some-clause-left
 returns-in-Some-clause-left g c =
     let b = g.C.Catalogue.behaviour in
-    let m = (answers_of c.args.model.now) in
+    let m = g.A.Answers.answers in
     let w = world_in (λ b. (g.dyn-1.0.entry b.vtable).1) c.start.new.self in
     let over : Over w c.in-Some.outcome ≡ after b m 0 = rw c.in-Some.is at c.in_ok-outcome.ensures.step in
     let few = count_over b m w c.in-Some.outcome zero over in
@@ -79,7 +78,7 @@ returns-in-Some-clause-left g c =
 pub returns-in_ok-keep_if-in-None-clause-left : goal.returns-in_ok-keep_if-in-None-clause-left
 returns-in_ok-keep_if-in-None-clause-left g c =
     let b = g.C.Catalogue.behaviour in
-    let m = (answers_of c.args.model.now) in
+    let m = g.A.Answers.answers in
     let w = world_in (λ b. (g.dyn-1.0.entry b.vtable).1) c.start.new.self in
     let before = c.keep_if.new.self.positions in
     let after = c.run_on.new.self.positions in
@@ -94,7 +93,7 @@ returns-in_ok-keep_if-in-None-clause-left g c =
 pub returns-in_ok-keep_if-in-None-clause-stopped : goal.returns-in_ok-keep_if-in-None-clause-stopped
 returns-in_ok-keep_if-in-None-clause-stopped g c =
     let b = g.C.Catalogue.behaviour in
-    let m = (answers_of c.args.model.now) in
+    let m = g.A.Answers.answers in
     let w = world_in (λ b. (g.dyn-1.0.entry b.vtable).1) c.start.new.self in
     let before = c.keep_if.new.self.positions in
     let after = c.run_on.new.self.positions in
@@ -106,16 +105,16 @@ returns-in_ok-keep_if-in-None-clause-stopped g c =
 
 pub returns-in_err-outcome-clause-stopped : goal.returns-in_err-outcome-clause-stopped
 returns-in_err-outcome-clause-stopped g c =
-    none_stored g.C.Catalogue.behaviour (answers_of c.args.model.now) c.args.limit c.args.self.now.stood c.args.self.now.positions c.args.self.now.positions c.requires.stood c.requires.none refl
+    none_stored g.C.Catalogue.behaviour g.A.Answers.answers c.args.limit c.args.self.now.stood c.args.self.now.positions c.args.self.now.positions c.requires.stood c.requires.none refl
 
 pub returns-in-Some-clause-stopped : goal.returns-in-Some-clause-stopped
 returns-in-Some-clause-stopped g c =
-    none_stored g.C.Catalogue.behaviour (answers_of c.args.model.now) c.args.limit c.args.self.now.stood c.args.self.now.positions c.args.self.now.positions c.requires.stood c.requires.none refl
+    none_stored g.C.Catalogue.behaviour g.A.Answers.answers c.args.limit c.args.self.now.stood c.args.self.now.positions c.args.self.now.positions c.requires.stood c.requires.none refl
 
 pub returns-in_err-keep_if-in-None-clause-stopped : goal.returns-in_err-keep_if-in-None-clause-stopped
 returns-in_err-keep_if-in-None-clause-stopped g c =
     let b = g.C.Catalogue.behaviour in
-    let m = (answers_of c.args.model.now) in
+    let m = g.A.Answers.answers in
     let w = world_in (λ b. (g.dyn-1.0.entry b.vtable).1) c.start.new.self in
     let going : Running w ≡ after b m 0 = rw c.in-None.is at c.in_ok-outcome.ensures.step in
     first_untaken b m c.args.limit c.keep_if.new.self.stood c.args.self.now.positions c.keep_if.new.self.positions (c.in_err-keep_if-in-None.ensures.untaken ∙ ap stood.Untaken (count_is b m 0 w going)) (w, going)

@@ -1,4 +1,3 @@
-use Rattle.model_answers.specs.Answering.{answers_of}
 use Rattle.std.proofs.Common.{◌≡◌, Some, sym, ap, ◌∙◌}
 use Rattle.run_semantics.specs.declared.outcome.Fault.TheVariants.{UnknownClass}
 use Rattle.run_semantics.specs.declared.outcome.Outcome.TheVariants.{Fault}
@@ -13,7 +12,7 @@ use Rattle.checkpointed_runs.proofs.running.Runner.declined.Goals as goal
 pub returns-clause-stands : goal.returns-clause-stands
 returns-clause-stands g c =
     let b = g.C.Catalogue.behaviour in
-    let m = answers_of c.args.model.now in
+    let m = g.M.ModelMarker.answers in
     let w = world_in (λ b. (g.dyn-1.0.entry b.vtable).1) c.args.self.now.kernel in
     let xs = waiting_in (λ b. (g.dyn-1.0.entry b.vtable).1) c.args.self.now in
     let d = c.requires.declined in

@@ -1,4 +1,3 @@
-use Rattle.model_answers.specs.Answering.{answers_of}
 use Rattle.std.proofs.Common.{Some, option_map, refl, sym, ap, ◌∙◌, subst}
 use Rattle.kernel_actions.specs.declared.position.Position.{Position}
 use Rattle.kernel.specs.Kernels.{seats_in, world_in}
@@ -16,22 +15,22 @@ returns-in_default-clause-back g c = (sym (start_is c.args.limit c.args.self.now
 
 pub go_back-back-requires : goal.go_back-back-requires
 go_back-back-requires g c =
-    can_take_last g.C.Catalogue.behaviour g.C.Catalogue.lawful (answers_of c.args.model.now) c.args.limit (seats_in (λ b. (g.dyn-1.0.entry b.vtable).1) c.args.self.now.kernel) (world_in (λ b. (g.dyn-1.0.entry b.vtable).1) c.args.self.now.kernel)
+    can_take_last g.C.Catalogue.behaviour g.C.Catalogue.lawful g.M.ModelMarker.answers c.args.limit (seats_in (λ b. (g.dyn-1.0.entry b.vtable).1) c.args.self.now.kernel) (world_in (λ b. (g.dyn-1.0.entry b.vtable).1) c.args.self.now.kernel)
     c.in-Some.position.now c.args.self.now.positions.stored c.requires.kinds c.requires.good (sym c.in-Some.ensures)
 
 pub returns-in_err-back-clause-good : goal.returns-in_err-back-clause-good
 returns-in_err-back-clause-good g c =
     let old = c.args.self.now.kernel in
     let new = c.go_back-back.new.self in
-    subst (λ ps. AreGood g.C.Catalogue.behaviour (answers_of c.args.model.now) (seats_in (λ b. (g.dyn-1.0.entry b.vtable).1) new) (world_in (λ b. (g.dyn-1.0.entry b.vtable).1) new) ps) (sym (ap (λ (t : Timeline Position). t.stored) c.cut_after.ensures ∙ left_stored c.args.self.now.positions _))
-    (good_on g.C.Catalogue.behaviour (answers_of c.args.model.now) (seats_in (λ b. (g.dyn-1.0.entry b.vtable).1) old) (seats_in (λ b. (g.dyn-1.0.entry b.vtable).1) new) (world_in (λ b. (g.dyn-1.0.entry b.vtable).1) old) (world_in (λ b. (g.dyn-1.0.entry b.vtable).1) new)
+    subst (λ ps. AreGood g.C.Catalogue.behaviour g.M.ModelMarker.answers (seats_in (λ b. (g.dyn-1.0.entry b.vtable).1) new) (world_in (λ b. (g.dyn-1.0.entry b.vtable).1) new) ps) (sym (ap (λ (t : Timeline Position). t.stored) c.cut_after.ensures ∙ left_stored c.args.self.now.positions _))
+    (good_on g.C.Catalogue.behaviour g.M.ModelMarker.answers (seats_in (λ b. (g.dyn-1.0.entry b.vtable).1) old) (seats_in (λ b. (g.dyn-1.0.entry b.vtable).1) new) (world_in (λ b. (g.dyn-1.0.entry b.vtable).1) old) (world_in (λ b. (g.dyn-1.0.entry b.vtable).1) new)
     _ c.go_back-back.ensures.kept (grown_beside (world_in (λ b. (g.dyn-1.0.entry b.vtable).1) new) (world_in (λ b. (g.dyn-1.0.entry b.vtable).1) old) c.in_err-back.ensures.err)
-    (good_up_to g.C.Catalogue.behaviour (answers_of c.args.model.now) (seats_in (λ b. (g.dyn-1.0.entry b.vtable).1) old) (world_in (λ b. (g.dyn-1.0.entry b.vtable).1) old) c.count-start.result c.args.self.now.positions.stored c.requires.good))
+    (good_up_to g.C.Catalogue.behaviour g.M.ModelMarker.answers (seats_in (λ b. (g.dyn-1.0.entry b.vtable).1) old) (world_in (λ b. (g.dyn-1.0.entry b.vtable).1) old) c.count-start.result c.args.self.now.positions.stored c.requires.good))
 
 pub returns-in_err-back-clause-err : goal.returns-in_err-back-clause-err
 returns-in_err-back-clause-err g c =
     let b = g.C.Catalogue.behaviour in
-    let m = (answers_of c.args.model.now) in
+    let m = g.M.ModelMarker.answers in
     let old = c.args.self.now in
     let start = start_is c.args.limit old.positions.stored ∙ ap (option_map (λ (p : Position). p.count)) (sym c.in-Some.ensures) ∙ ap Some (sym c.count-start.ensures) in
     let going = can_go_on_last b m c.args.limit (seats_in (λ b. (g.dyn-1.0.entry b.vtable).1) old.kernel) (world_in (λ b. (g.dyn-1.0.entry b.vtable).1) old.kernel) c.in-Some.position.now old.positions.stored c.requires.good (sym c.in-Some.ensures) in
@@ -43,7 +42,7 @@ pub returns-clause-good : goal.returns-clause-good
 returns-clause-good g c =
     let old = c.args.self.now.kernel in
     let new = c.go_back-back.new.self in
-    let back = back_at g.C.Catalogue.behaviour (answers_of c.args.model.now) c.args.limit (seats_in (λ b. (g.dyn-1.0.entry b.vtable).1) old) (seats_in (λ b. (g.dyn-1.0.entry b.vtable).1) new) (world_in (λ b. (g.dyn-1.0.entry b.vtable).1) old)
+    let back = back_at g.C.Catalogue.behaviour g.M.ModelMarker.answers c.args.limit (seats_in (λ b. (g.dyn-1.0.entry b.vtable).1) old) (seats_in (λ b. (g.dyn-1.0.entry b.vtable).1) new) (world_in (λ b. (g.dyn-1.0.entry b.vtable).1) old)
     (world_in (λ b. (g.dyn-1.0.entry b.vtable).1) new) c.in-Some.position.now c.args.self.now.positions.stored c.cut_after.new.self.stored c.requires.good (sym c.in-Some.ensures) c.go_back-back.ensures.kept c.in_ok-back.ensures.ok
     (ap (λ (t : Timeline Position). t.stored) (rw c.count-start.ensures at c.cut_after.ensures) ∙ left_stored c.args.self.now.positions _) in
     back.good
@@ -53,7 +52,7 @@ returns-clause-back g c =
     let old = c.args.self.now.kernel in
     let new = c.go_back-back.new.self in
     let start = start_is c.args.limit c.args.self.now.positions.stored ∙ ap (option_map (λ (p : Position). p.count)) (sym c.in-Some.ensures) ∙ ap Some (sym c.count-start.ensures) in
-    let back = back_at g.C.Catalogue.behaviour (answers_of c.args.model.now) c.args.limit (seats_in (λ b. (g.dyn-1.0.entry b.vtable).1) old) (seats_in (λ b. (g.dyn-1.0.entry b.vtable).1) new) (world_in (λ b. (g.dyn-1.0.entry b.vtable).1) old)
+    let back = back_at g.C.Catalogue.behaviour g.M.ModelMarker.answers c.args.limit (seats_in (λ b. (g.dyn-1.0.entry b.vtable).1) old) (seats_in (λ b. (g.dyn-1.0.entry b.vtable).1) new) (world_in (λ b. (g.dyn-1.0.entry b.vtable).1) old)
     (world_in (λ b. (g.dyn-1.0.entry b.vtable).1) new) c.in-Some.position.now c.args.self.now.positions.stored c.cut_after.new.self.stored c.requires.good (sym c.in-Some.ensures) c.go_back-back.ensures.kept c.in_ok-back.ensures.ok
     (ap (λ (t : Timeline Position). t.stored) (rw c.count-start.ensures at c.cut_after.ensures) ∙ left_stored c.args.self.now.positions _) in
     (sym start, (record { going = back.going; within = back.within; room = back.room; good = back.good; below = back.below; stood = ap stood.After (c.count-start.ensures ∙ sym back.count) }, back.count ∙ sym c.count-start.ensures, c.cut_after.ensures, ap (seats_held (λ b. (g.dyn-1.0.entry b.vtable).1)) c.clear.ensures))

@@ -1,4 +1,3 @@
-use Rattle.model_answers.specs.Answering.{answers_of}
 use Rattle.std.proofs.Common.{◌≡◌, ◌+◌, arith, rules, refl, sym, ap, ◌∙◌, subst, suc}
 use Rattle.checkpoints.specs.Stored.{counts_in, is_multiple, AreBelow, Timeline}
 use Rattle.kernel_actions.specs.declared.position.Position.{Position}
@@ -16,30 +15,30 @@ use Rattle.checkpointed_runs.proofs.Good.{good_on, good_stored}
 use Rattle.checkpointed_runs.proofs.running.Runner.go_on.Goals as goal
 
 pub step-requires-clause-count : goal.step-requires-clause-count
-step-requires-clause-count g c = omega (arith, count_going g.C.Catalogue.behaviour (answers_of c.args.model.now) _ c.loop-k._k c.loop-k.invariant.going)
+step-requires-clause-count g c = omega (arith, count_going g.C.Catalogue.behaviour g.A.Answers.answers _ c.loop-k._k c.loop-k.invariant.going)
 
 pub returns-in_err-outcome-clause-good : goal.returns-in_err-outcome-clause-good
 returns-in_err-outcome-clause-good g c =
-    good_on g.C.Catalogue.behaviour (answers_of c.args.model.now) (seats_in (λ b. (g.dyn-1.0.entry b.vtable).1) c.loop-k.self.kernel) (seats_in (λ b. (g.dyn-1.0.entry b.vtable).1) c.step.new.self)
+    good_on g.C.Catalogue.behaviour g.A.Answers.answers (seats_in (λ b. (g.dyn-1.0.entry b.vtable).1) c.loop-k.self.kernel) (seats_in (λ b. (g.dyn-1.0.entry b.vtable).1) c.step.new.self)
     (world_in (λ b. (g.dyn-1.0.entry b.vtable).1) c.loop-k.self.kernel) (world_in (λ b. (g.dyn-1.0.entry b.vtable).1) c.step.new.self) c.loop-k.self.positions.stored c.step.ensures.kept c.step.ensures.grown c.loop-k.invariant.good
 
 pub returns-in-Some-clause-good : goal.returns-in-Some-clause-good
 returns-in-Some-clause-good g c =
-    good_on g.C.Catalogue.behaviour (answers_of c.args.model.now) (seats_in (λ b. (g.dyn-1.0.entry b.vtable).1) c.loop-k.self.kernel) (seats_in (λ b. (g.dyn-1.0.entry b.vtable).1) c.step.new.self)
+    good_on g.C.Catalogue.behaviour g.A.Answers.answers (seats_in (λ b. (g.dyn-1.0.entry b.vtable).1) c.loop-k.self.kernel) (seats_in (λ b. (g.dyn-1.0.entry b.vtable).1) c.step.new.self)
     (world_in (λ b. (g.dyn-1.0.entry b.vtable).1) c.loop-k.self.kernel) (world_in (λ b. (g.dyn-1.0.entry b.vtable).1) c.step.new.self) c.loop-k.self.positions.stored c.step.ensures.kept c.step.ensures.grown c.loop-k.invariant.good
 
 pub returns-in-Some-clause-ran : goal.returns-in-Some-clause-ran
 returns-in-Some-clause-ran g c =
-    let over = next_after g.C.Catalogue.behaviour (answers_of c.args.model.now) _ _ c.loop-k._k c.loop-k.invariant.going (rw c.in-Some.is at c.in_ok-outcome.ensures.step) in
+    let over = next_after g.C.Catalogue.behaviour g.A.Answers.answers _ _ c.loop-k._k c.loop-k.invariant.going (rw c.in-Some.is at c.in_ok-outcome.ensures.step) in
     record {
       room = c.in_ok-outcome.ensures.room;
-      count = omega (arith, count_over g.C.Catalogue.behaviour (answers_of c.args.model.now) _ c.in-Some.outcome (suc c.loop-k._k) over);
-      ran_is = run_over g.C.Catalogue.behaviour (answers_of c.args.model.now) _ c.in-Some.outcome (suc c.loop-k._k) c.args.limit (omega (arith, c.loop-k-test.true)) over;
+      count = omega (arith, count_over g.C.Catalogue.behaviour g.A.Answers.answers _ c.in-Some.outcome (suc c.loop-k._k) over);
+      ran_is = run_over g.C.Catalogue.behaviour g.A.Answers.answers _ c.in-Some.outcome (suc c.loop-k._k) c.args.limit (omega (arith, c.loop-k-test.true)) over;
     }
 
 pub returns-in-Some-clause-stored : goal.returns-in-Some-clause-stored
 returns-in-Some-clause-stored g c =
-    gone_over g.C.Catalogue.behaviour (answers_of c.args.model.now) (world_in (λ b. (g.dyn-1.0.entry b.vtable).1) c.args.self.now.kernel).count c.loop-k._k c.args.self.now.positions c.loop-k.self.positions
+    gone_over g.C.Catalogue.behaviour g.A.Answers.answers (world_in (λ b. (g.dyn-1.0.entry b.vtable).1) c.args.self.now.kernel).count c.loop-k._k c.args.self.now.positions c.loop-k.self.positions
     (world_in (λ b. (g.dyn-1.0.entry b.vtable).1) c.loop-k.self.kernel) (world_in (λ b. (g.dyn-1.0.entry b.vtable).1) c.step.new.self) c.in-Some.outcome c.loop-k.invariant.from c.loop-k.invariant.going
     (rw c.in-Some.is at c.in_ok-outcome.ensures.step) c.loop-k.invariant.stored
 
@@ -47,23 +46,23 @@ pub keep_if-requires : goal.keep_if-requires
 keep_if-requires g c =
     let k = c.loop-k._k in
     let v = world_in (λ b. (g.dyn-1.0.entry b.vtable).1) c.step.new.self in
-    let going : Running v ≡ after g.C.Catalogue.behaviour (answers_of c.args.model.now) (suc k) =
-    next_after g.C.Catalogue.behaviour (answers_of c.args.model.now) (world_in (λ b. (g.dyn-1.0.entry b.vtable).1) c.loop-k.self.kernel) (Running v) k c.loop-k.invariant.going (rw c.in_default.is at c.in_ok-outcome.ensures.step) in
+    let going : Running v ≡ after g.C.Catalogue.behaviour g.A.Answers.answers (suc k) =
+    next_after g.C.Catalogue.behaviour g.A.Answers.answers (world_in (λ b. (g.dyn-1.0.entry b.vtable).1) c.loop-k.self.kernel) (Running v) k c.loop-k.invariant.going (rw c.in_default.is at c.in_ok-outcome.ensures.step) in
     record {
-      below = λ due. subst (λ n. AreBelow n c.loop-k.self.positions.stored) (sym (count_is g.C.Catalogue.behaviour (answers_of c.args.model.now) (suc k) v going))
+      below = λ due. subst (λ n. AreBelow n c.loop-k.self.positions.stored) (sym (count_is g.C.Catalogue.behaviour g.A.Answers.answers (suc k) v going))
           (below_next (world_in (λ b. (g.dyn-1.0.entry b.vtable).1) c.args.self.now.kernel).count k c.args.self.now.positions c.loop-k.self.positions c.loop-k.invariant.from c.requires.going.below c.loop-k.invariant.stored);
     }
 
 pub returns-in_err-outcome-clause-begun : goal.returns-in_err-outcome-clause-begun
 returns-in_err-outcome-clause-begun g c =
     on_err c.from_residual.result
-    (begun_after g.C.Catalogue.behaviour (answers_of c.args.model.now) c.args.limit (world_in (λ b. (g.dyn-1.0.entry b.vtable).1) c.args.self.now.kernel).count c.loop-k._k c.loop-k.self.stood c.args.self.now.positions c.loop-k.self.positions
+    (begun_after g.C.Catalogue.behaviour g.A.Answers.answers c.args.limit (world_in (λ b. (g.dyn-1.0.entry b.vtable).1) c.args.self.now.kernel).count c.loop-k._k c.loop-k.self.stood c.args.self.now.positions c.loop-k.self.positions
     (world_in (λ b. (g.dyn-1.0.entry b.vtable).1) c.loop-k.self.kernel) c.loop-k.invariant.stood c.loop-k.invariant.from (omega (arith, c.loop-k-test.true)) c.loop-k.invariant.going c.loop-k.invariant.stored)
 
 pub returns-in_err-keep_if-clause-begun : goal.returns-in_err-keep_if-clause-begun
 returns-in_err-keep_if-clause-begun g c =
     let b = g.C.Catalogue.behaviour in
-    let m = (answers_of c.args.model.now) in
+    let m = g.A.Answers.answers in
     let k = c.loop-k._k in
     let v = world_in (λ b. (g.dyn-1.0.entry b.vtable).1) c.step.new.self in
     let going : Running v ≡ after b m (suc k) =
@@ -74,16 +73,16 @@ returns-in_err-keep_if-clause-begun g c =
 
 pub returns-in_err-keep_if-clause-good : goal.returns-in_err-keep_if-clause-good
 returns-in_err-keep_if-clause-good g c =
-    let good : AreGood g.C.Catalogue.behaviour (answers_of c.args.model.now) (seats_in (λ b. (g.dyn-1.0.entry b.vtable).1) c.step.new.self) (world_in (λ b. (g.dyn-1.0.entry b.vtable).1) c.step.new.self) c.loop-k.self.positions.stored =
-    good_on g.C.Catalogue.behaviour (answers_of c.args.model.now) (seats_in (λ b. (g.dyn-1.0.entry b.vtable).1) c.loop-k.self.kernel) (seats_in (λ b. (g.dyn-1.0.entry b.vtable).1) c.step.new.self)
+    let good : AreGood g.C.Catalogue.behaviour g.A.Answers.answers (seats_in (λ b. (g.dyn-1.0.entry b.vtable).1) c.step.new.self) (world_in (λ b. (g.dyn-1.0.entry b.vtable).1) c.step.new.self) c.loop-k.self.positions.stored =
+    good_on g.C.Catalogue.behaviour g.A.Answers.answers (seats_in (λ b. (g.dyn-1.0.entry b.vtable).1) c.loop-k.self.kernel) (seats_in (λ b. (g.dyn-1.0.entry b.vtable).1) c.step.new.self)
     (world_in (λ b. (g.dyn-1.0.entry b.vtable).1) c.loop-k.self.kernel) (world_in (λ b. (g.dyn-1.0.entry b.vtable).1) c.step.new.self) c.loop-k.self.positions.stored c.step.ensures.kept c.step.ensures.grown c.loop-k.invariant.good in
-    subst (λ K. AreGood g.C.Catalogue.behaviour (answers_of c.args.model.now) (seats_in (λ b. (g.dyn-1.0.entry b.vtable).1) K) (world_in (λ b. (g.dyn-1.0.entry b.vtable).1) K) c.keep_if.new.self.positions.stored) (sym c.in_err-keep_if.ensures.kept)
-    (subst (λ (t : Timeline Position). AreGood g.C.Catalogue.behaviour (answers_of c.args.model.now) (seats_in (λ b. (g.dyn-1.0.entry b.vtable).1) c.step.new.self) (world_in (λ b. (g.dyn-1.0.entry b.vtable).1) c.step.new.self) t.stored) (sym c.in_err-keep_if.ensures.err) good)
+    subst (λ K. AreGood g.C.Catalogue.behaviour g.A.Answers.answers (seats_in (λ b. (g.dyn-1.0.entry b.vtable).1) K) (world_in (λ b. (g.dyn-1.0.entry b.vtable).1) K) c.keep_if.new.self.positions.stored) (sym c.in_err-keep_if.ensures.kept)
+    (subst (λ (t : Timeline Position). AreGood g.C.Catalogue.behaviour g.A.Answers.answers (seats_in (λ b. (g.dyn-1.0.entry b.vtable).1) c.step.new.self) (world_in (λ b. (g.dyn-1.0.entry b.vtable).1) c.step.new.self) t.stored) (sym c.in_err-keep_if.ensures.err) good)
 
 pub loop-k-preserved : goal.loop-k-preserved
 loop-k-preserved g c =
     let b = g.C.Catalogue.behaviour in
-    let m = (answers_of c.args.model.now) in
+    let m = g.A.Answers.answers in
     let k = c.loop-k._k in
     let from = (world_in (λ b. (g.dyn-1.0.entry b.vtable).1) c.args.self.now.kernel).count in
     let old = c.loop-k.self.positions in
@@ -116,11 +115,11 @@ loop-k-preserved g c =
 pub returns-clause-ran : goal.returns-clause-ran
 returns-clause-ran g c = record {
   room = c.loop-k.invariant.room;
-  count = omega (arith, count_going g.C.Catalogue.behaviour (answers_of c.args.model.now) _ c.loop-k._k c.loop-k.invariant.going);
+  count = omega (arith, count_going g.C.Catalogue.behaviour g.A.Answers.answers _ c.loop-k._k c.loop-k.invariant.going);
   ran_is = search rules;
 }
 
 pub returns-clause-stored : goal.returns-clause-stored
 returns-clause-stored g c =
-    gone_stopped g.C.Catalogue.behaviour (answers_of c.args.model.now) (world_in (λ b. (g.dyn-1.0.entry b.vtable).1) c.args.self.now.kernel).count c.loop-k._k c.args.self.now.positions c.loop-k.self.positions
+    gone_stopped g.C.Catalogue.behaviour g.A.Answers.answers (world_in (λ b. (g.dyn-1.0.entry b.vtable).1) c.args.self.now.kernel).count c.loop-k._k c.args.self.now.positions c.loop-k.self.positions
     (world_in (λ b. (g.dyn-1.0.entry b.vtable).1) c.loop-k.self.kernel) c.outcome_of.result c.loop-k.invariant.from c.loop-k.invariant.going c.outcome_of.ensures c.loop-k.invariant.stored

@@ -1,4 +1,3 @@
-use Rattle.model_answers.specs.Answering.{answers_of}
 use Rattle.std.proofs.Common.{◌≡◌, ◌≤◌}
 use Rattle.run_semantics.specs.World.{HasRoom}
 use Rattle.run_semantics.specs.Run.{Running, after}
@@ -15,12 +14,12 @@ invariant-loop-k g l =
     let first = world_in (λ b. (g.dyn-1.0.entry b.vtable).1) l.fn.self.kernel in
     let world = world_in (λ b. (g.dyn-1.0.entry b.vtable).1) l.self.kernel in
     record {
-      going : Running world ≡ after g.C.Catalogue.behaviour (answers_of l.model) l._k;
+      going : Running world ≡ after g.C.Catalogue.behaviour g.A.Answers.answers l._k;
       from : first.count ≤ l._k;
       room : HasRoom world;
       kinds : HasKinds g.C.Catalogue.behaviour (λ b. (g.dyn-1.0.entry b.vtable).1) l.self.kernel;
-      good : HasGood g.C.Catalogue.behaviour (answers_of l.model) (λ b. (g.dyn-1.0.entry b.vtable).1) l.self;
-      shown : AreShown (answers_of l.model) world.records l.shown;
+      good : HasGood g.C.Catalogue.behaviour g.A.Answers.answers (λ b. (g.dyn-1.0.entry b.vtable).1) l.self;
+      shown : AreShown g.A.Answers.answers world.records l.shown;
       waiting : l.self.waiting ≡ l.fn.self.waiting;
       stood : l.self.stood ≡ stood.After l._k;
       stored : StoredAt first.count l.fn.self.positions l.self.positions l._k;

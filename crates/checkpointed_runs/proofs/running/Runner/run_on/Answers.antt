@@ -1,4 +1,3 @@
-use Rattle.model_answers.specs.Answering.{answers_of}
 use Rattle.std.proofs.Common.{◌≡◌, Bool, refl, sym, ap, ◌∙◌, subst}
 use Rattle.checkpoints.specs.Stored.{counts_of}
 use Rattle.kernel.specs.Kernels.{seats_in, world_in, ran_in}
@@ -19,14 +18,14 @@ keep_if-requires g c =
     let due : c.is_owed-due.result ≡ is_owed from (is_fault c.in_ok-outcome.outcome) mid.kernel.core.count (counts_of mid.positions.stored) =
     rw (c.count-from.ensures, c.is_fault.ensures, c.ends_at.ensures, c.count-last.ensures) at c.is_owed-due.ensures in
     record {
-      below = λ owed. owed_below g.C.Catalogue.behaviour (answers_of c.args.model.now) from c.args.self.now.positions mid.positions (world_in (λ b. (g.dyn-1.0.entry b.vtable).1) mid.kernel) c.in_ok-outcome.outcome
+      below = λ owed. owed_below g.C.Catalogue.behaviour g.A.Answers.answers from c.args.self.now.positions mid.positions (world_in (λ b. (g.dyn-1.0.entry b.vtable).1) mid.kernel) c.in_ok-outcome.outcome
           c.requires.going.below c.in_ok-outcome.ensures.stored (sym due ∙ owed);
     }
 
 pub returns-clause-good : goal.returns-clause-good
 returns-clause-good g c =
     let b = g.C.Catalogue.behaviour in
-    let m = (answers_of c.args.model.now) in
+    let m = g.A.Answers.answers in
     let from = c.args.self.now.kernel.core.count in
     let mid = c.go_on.new.self in
     let w = world_in (λ b. (g.dyn-1.0.entry b.vtable).1) mid.kernel in
@@ -44,7 +43,7 @@ returns-clause-good g c =
 pub returns-clause-ran : goal.returns-clause-ran
 returns-clause-ran g c =
     let b = g.C.Catalogue.behaviour in
-    let m = (answers_of c.args.model.now) in
+    let m = g.A.Answers.answers in
     if_ok_from c.finish.result (λ o. ran_in (λ b. (g.dyn-1.0.entry b.vtable).1) o c.finish.new.self) (fresh_run b m c.args.limit) (ending b m (ran_in (λ b. (g.dyn-1.0.entry b.vtable).1) c.in_ok-outcome.outcome c.keep_if.new.self.kernel))
     (ap (ending b m) (c.in_ok-outcome.ensures.ran.ran_is ∙ ap (λ K. ran_in (λ b. (g.dyn-1.0.entry b.vtable).1) c.in_ok-outcome.outcome K) (sym c.in_ok-keep_if.ensures.kept))) c.finish.ensures.step
 
@@ -56,7 +55,7 @@ returns-clause-left g c =
     let due : c.is_owed-due.result ≡ is_owed from (is_fault c.in_ok-outcome.outcome) mid.kernel.core.count (counts_of mid.positions.stored) =
     rw (c.count-from.ensures, c.is_fault.ensures, c.ends_at.ensures, c.count-last.ensures) at c.is_owed-due.ensures in
     on_ok c.finish.result
-    (left_gone g.C.Catalogue.behaviour (answers_of c.args.model.now) c.args.limit from c.args.self.now.positions mid.positions c.keep_if.new.self.positions w c.in_ok-outcome.outcome (position_of w) c.requires.going.below
+    (left_gone g.C.Catalogue.behaviour g.A.Answers.answers c.args.limit from c.args.self.now.positions mid.positions c.keep_if.new.self.positions w c.in_ok-outcome.outcome (position_of w) c.requires.going.below
     c.in_ok-outcome.ensures.ran.ran_is c.in_ok-outcome.ensures.stored refl (c.in_ok-keep_if.ensures.ok ∙ ap (λ (t : Bool). taken_if t (position_of w) mid.positions) due))
 
 pub returns-in_err-keep_if-clause-stopped : goal.returns-in_err-keep_if-clause-stopped
@@ -66,7 +65,7 @@ returns-in_err-keep_if-clause-stopped g c =
     let w = world_in (λ b. (g.dyn-1.0.entry b.vtable).1) mid.kernel in
     let due : c.is_owed-due.result ≡ is_owed from (is_fault c.in_ok-outcome.outcome) mid.kernel.core.count (counts_of mid.positions.stored) =
     rw (c.count-from.ensures, c.is_fault.ensures, c.ends_at.ensures, c.count-last.ensures) at c.is_owed-due.ensures in
-    begun_owed g.C.Catalogue.behaviour (answers_of c.args.model.now) c.args.limit from c.keep_if.new.self.stood c.args.self.now.positions mid.positions c.keep_if.new.self.positions w c.in_ok-outcome.outcome
+    begun_owed g.C.Catalogue.behaviour g.A.Answers.answers c.args.limit from c.keep_if.new.self.stood c.args.self.now.positions mid.positions c.keep_if.new.self.positions w c.in_ok-outcome.outcome
     c.in_err-keep_if.ensures.untaken c.in_ok-outcome.ensures.ran.ran_is c.in_ok-outcome.ensures.stored (sym due ∙ c.in_err-keep_if.ensures.due) c.in_err-keep_if.ensures.err
 
 pub returns-clause-stopped : goal.returns-clause-stopped
@@ -76,5 +75,5 @@ returns-clause-stopped g c =
     let w = world_in (λ b. (g.dyn-1.0.entry b.vtable).1) mid.kernel in
     let due : c.is_owed-due.result ≡ is_owed from (is_fault c.in_ok-outcome.outcome) mid.kernel.core.count (counts_of mid.positions.stored) =
     rw (c.count-from.ensures, c.is_fault.ensures, c.ends_at.ensures, c.count-last.ensures) at c.is_owed-due.ensures in
-    left_gone g.C.Catalogue.behaviour (answers_of c.args.model.now) c.args.limit from c.args.self.now.positions mid.positions c.keep_if.new.self.positions w c.in_ok-outcome.outcome (position_of w) c.requires.going.below
+    left_gone g.C.Catalogue.behaviour g.A.Answers.answers c.args.limit from c.args.self.now.positions mid.positions c.keep_if.new.self.positions w c.in_ok-outcome.outcome (position_of w) c.requires.going.below
     c.in_ok-outcome.ensures.ran.ran_is c.in_ok-outcome.ensures.stored refl (c.in_ok-keep_if.ensures.ok ∙ ap (λ (t : Bool). taken_if t (position_of w) mid.positions) due)

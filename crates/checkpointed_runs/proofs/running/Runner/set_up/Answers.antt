@@ -1,4 +1,3 @@
-use Rattle.model_answers.specs.Answering.{answers_of}
 use Rattle.std.proofs.Common.{◌≡◌, [], List, ap, subst}
 use Rattle.run_semantics.specs.Run.{Part}
 use Rattle.kernel.specs.Kernels.{world_in}
@@ -10,13 +9,13 @@ use Rattle.checkpointed_runs.proofs.running.Runner.set_up.Goals as goal
 -- what was set up waits for its boxes
 pub next_box-requires : goal.next_box-requires
 next_box-requires g c = record {
-  filled = filled_first g.C.Catalogue.behaviour (answers_of c.args.model.now) (world_in (λ b. (g.dyn-1.0.entry b.vtable).1) c.set_network_up.new.self.kernel) (waiting_in (λ b. (g.dyn-1.0.entry b.vtable).1) c.set_network_up.new.self) c.set_network_up.ensures.none (rw c.in-None.is at c.in_ok-outcome.ensures.step);
+  filled = filled_first g.C.Catalogue.behaviour g.M.ModelMarker.answers (world_in (λ b. (g.dyn-1.0.entry b.vtable).1) c.set_network_up.new.self.kernel) (waiting_in (λ b. (g.dyn-1.0.entry b.vtable).1) c.set_network_up.new.self) c.set_network_up.ensures.none (rw c.in-None.is at c.in_ok-outcome.ensures.step);
 }
 
 pub returns-in-Some-clause-stands : goal.returns-in-Some-clause-stands
 returns-in-Some-clause-stands g c =
     let b = g.C.Catalogue.behaviour in
-    let m = (answers_of c.args.model.now) in
+    let m = g.M.ModelMarker.answers in
     let w = world_in (λ b. (g.dyn-1.0.entry b.vtable).1) c.set_network_up.new.self.kernel in
     let over = rw c.in-Some.is at c.in_ok-outcome.ensures.step in
     (start_over b m w c.in-Some.outcome over, setup_none m w c.in-Some.outcome over, setup_boxes b m w (waiting_in (λ b. (g.dyn-1.0.entry b.vtable).1) c.set_network_up.new.self) c.in-Some.outcome c.set_network_up.ensures.none over)
@@ -25,10 +24,10 @@ pub returns-in_ok-standing-in-None-clause-stands : goal.returns-in_ok-standing-i
 returns-in_ok-standing-in-None-clause-stands g c =
     let w = world_in (λ b. (g.dyn-1.0.entry b.vtable).1) c.set_network_up.new.self.kernel in
     let xs = waiting_in (λ b. (g.dyn-1.0.entry b.vtable).1) c.set_network_up.new.self in
-    subst (λ (kept : List Part). Stands g.C.Catalogue.behaviour (answers_of c.args.model.now) kept w xs c.in_ok-standing-in-None.standing)
+    subst (λ (kept : List Part). Stands g.C.Catalogue.behaviour g.M.ModelMarker.answers kept w xs c.in_ok-standing-in-None.standing)
     (ap parts_in c.set_network_up.ensures.none) c.in_ok-standing-in-None.ensures.stands
 
 pub returns-in_ok-standing-in-None-clause-wants : goal.returns-in_ok-standing-in-None-clause-wants
 returns-in_ok-standing-in-None-clause-wants g c = λ phase undeclined.
-    subst (λ (kept : List Part). Wants (answers_of c.args.model.now) kept phase c.in_ok-standing-in-None.standing)
+    subst (λ (kept : List Part). Wants g.M.ModelMarker.answers kept phase c.in_ok-standing-in-None.standing)
     (ap parts_in c.set_network_up.ensures.none) (c.in_ok-standing-in-None.ensures.wants phase undeclined)

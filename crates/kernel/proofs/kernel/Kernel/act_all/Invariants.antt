@@ -1,4 +1,3 @@
-use Rattle.model_answers.specs.Answering.{answers_of}
 use Rattle.std.proofs.Common.{◌≡◌, ◌+◌, ◌≤◌, drop}
 use Rattle.run_semantics.specs.Perform.{act_all}
 use Rattle.kernel.specs.Kernels.{world_in}
@@ -10,7 +9,7 @@ invariant-loop-action g l =
     let old = world_in (λ b. (g.dyn-1.0.entry b.vtable).1) l.fn.self in
     let world = world_in (λ b. (g.dyn-1.0.entry b.vtable).1) l.self in
     record {
-      step : act_all g.C.Catalogue.behaviour (answers_of l.model) l.occasion l.id (drop l.action-index l.actions) world ≡ act_all g.C.Catalogue.behaviour (answers_of l.model) l.occasion l.id l.actions old;
+      step : act_all g.C.Catalogue.behaviour g.A.Answers.answers l.occasion l.id (drop l.action-index l.actions) world ≡ act_all g.C.Catalogue.behaviour g.A.Answers.answers l.occasion l.id l.actions old;
       next : world.next ≤ old.next + l.action-index;
       boxes : l.self.boxes ≡ l.fn.self.boxes;
       grown : IsGrownFrom l.fn.self.core l.self.core;

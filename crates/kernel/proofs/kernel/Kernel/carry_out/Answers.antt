@@ -1,4 +1,3 @@
-use Rattle.model_answers.specs.Answering.{answers_of}
 use Rattle.std.proofs.Common.{Ok, map, sym, ap, ◌∙◌, subst}
 use Rattle.module_api.specs.declared.call.Call.{Call}
 use Rattle.run_questions.specs.Answers.{parameters_of}
@@ -15,7 +14,7 @@ use Rattle.kernel.proofs.kernel.Kernel.carry_out.Goals as goal
 pub returns-in_default-clause-step : goal.returns-in_default-clause-step
 returns-in_default-clause-step g c =
     ap (λ core. On (world_of core (seats_in (λ b. (g.dyn-1.0.entry b.vtable).1) c.reply_of.new.self))) c.reply_of.ensures.core
-    ∙ passed_over g.C.Catalogue.behaviour (answers_of c.args.model.now) c.args.occasion c.args.call.now.id c.args.call.now.prompt c.args.self.now.core (seats_in (λ b. (g.dyn-1.0.entry b.vtable).1) c.args.self.now) (seats_in (λ b. (g.dyn-1.0.entry b.vtable).1) c.reply_of.new.self) (rw c.in_default.is at c.reply_of.ensures.served)
+    ∙ passed_over g.C.Catalogue.behaviour g.A.Answers.answers c.args.occasion c.args.call.now.id c.args.call.now.prompt c.args.self.now.core (seats_in (λ b. (g.dyn-1.0.entry b.vtable).1) c.args.self.now) (seats_in (λ b. (g.dyn-1.0.entry b.vtable).1) c.reply_of.new.self) (rw c.in_default.is at c.reply_of.ensures.served)
 
 pub returns-in_err-reply-clause-kept : goal.returns-in_err-reply-clause-kept
 returns-in_err-reply-clause-kept g c =
@@ -24,7 +23,7 @@ returns-in_err-reply-clause-kept g c =
 pub follow-requires-clause-told : goal.follow-requires-clause-told
 follow-requires-clause-told g c =
     ap (λ (k : Call). k.parameters) c.requires.told
-    ∙ ap (λ (w : World). parameters_of (answers_of c.args.model.now) w.records c.args.call.now.id) (sym c.reply_of.ensures.core)
+    ∙ ap (λ (w : World). parameters_of g.A.Answers.answers w.records c.args.call.now.id) (sym c.reply_of.ensures.core)
 
 pub returns-clause-kept : goal.returns-clause-kept
 returns-clause-kept g c =
@@ -33,10 +32,10 @@ returns-clause-kept g c =
 
 pub returns-clause-step : goal.returns-clause-step
 returns-clause-step g c = ok_step c.follow.result c.follow.ensures.step (λ turn step.
-    called_is g.C.Catalogue.behaviour (answers_of c.args.model.now) c.args.occasion c.args.call.now.id c.args.call.now.prompt c.args.self.now.core _ (seats_in (λ b. (g.dyn-1.0.entry b.vtable).1) c.args.self.now) (seats_in (λ b. (g.dyn-1.0.entry b.vtable).1) c.reply_of.new.self)
+    called_is g.C.Catalogue.behaviour g.A.Answers.answers c.args.occasion c.args.call.now.id c.args.call.now.prompt c.args.self.now.core _ (seats_in (λ b. (g.dyn-1.0.entry b.vtable).1) c.args.self.now) (seats_in (λ b. (g.dyn-1.0.entry b.vtable).1) c.reply_of.new.self)
     c.in_ok-reply.reply turn c.requires.callable.kinds
     (subst (λ (k : Call). IsCalled c.args.call.now.id (seats_in (λ b. (g.dyn-1.0.entry b.vtable).1) c.args.self.now) (seats_in (λ b. (g.dyn-1.0.entry b.vtable).1) c.reply_of.new.self) k (Ok c.in_ok-reply.reply)) c.requires.told (rw c.in_ok-reply.was at c.in-Some.ensures.served))
-    (step ∙ ap (λ core. answered g.C.Catalogue.behaviour (answers_of c.args.model.now) c.args.occasion c.args.call.now.id c.in_ok-reply.reply (world_of core (seats_in (λ b. (g.dyn-1.0.entry b.vtable).1) c.reply_of.new.self))) c.reply_of.ensures.core))
+    (step ∙ ap (λ core. answered g.C.Catalogue.behaviour g.A.Answers.answers c.args.occasion c.args.call.now.id c.in_ok-reply.reply (world_of core (seats_in (λ b. (g.dyn-1.0.entry b.vtable).1) c.reply_of.new.self))) c.reply_of.ensures.core))
 
 pub returns-in_default-clause-grown : goal.returns-in_default-clause-grown
 returns-in_default-clause-grown g c =

@@ -1,4 +1,3 @@
-use Rattle.model_answers.specs.Answering.{answers_of}
 use Rattle.std.proofs.Common.{ap, sym, ◌∙◌, arith}
 use Rattle.run_semantics.specs.World.{World}
 use Rattle.run_semantics.specs.Perform.{Flow, On, ◌>>=◌, flow_of}
@@ -13,7 +12,7 @@ use Rattle.kernel.proofs.kernel.Kernel.finish_one.Goals as goal
 
 pub returns-in_ok-mark_finished-in-GoOn-clause-next : goal.returns-in_ok-mark_finished-in-GoOn-clause-next
 returns-in_ok-mark_finished-in-GoOn-clause-next g c =
-    let kept = call_leaves g.C.Catalogue.behaviour (answers_of c.args.model.now) End c.args.id Finish c.in_ok-turn.turn (world_in (λ b. (g.dyn-1.0.entry b.vtable).1) c.args.self.now) (world_in (λ b. (g.dyn-1.0.entry b.vtable).1) c.call_last.new.self) c.in_ok-turn.ensures.step in
+    let kept = call_leaves g.C.Catalogue.behaviour g.A.Answers.answers End c.args.id Finish c.in_ok-turn.turn (world_in (λ b. (g.dyn-1.0.entry b.vtable).1) c.args.self.now) (world_in (λ b. (g.dyn-1.0.entry b.vtable).1) c.call_last.new.self) c.in_ok-turn.ensures.step in
     omega (arith, kept.next, ap (λ (w : World). w.next) c.in_ok-mark_finished-in-GoOn.ensures.marked)
 
 pub returns-in_ok-mark_finished-in-GoOn-clause-step : goal.returns-in_ok-mark_finished-in-GoOn-clause-step
@@ -23,7 +22,7 @@ returns-in_ok-mark_finished-in-GoOn-clause-step g c =
 
 pub returns-in_default-clause-next : goal.returns-in_default-clause-next
 returns-in_default-clause-next g c =
-    (call_leaves g.C.Catalogue.behaviour (answers_of c.args.model.now) End c.args.id Finish c.in_ok-turn.turn (world_in (λ b. (g.dyn-1.0.entry b.vtable).1) c.args.self.now) (world_in (λ b. (g.dyn-1.0.entry b.vtable).1) c.call_last.new.self) c.in_ok-turn.ensures.step).next
+    (call_leaves g.C.Catalogue.behaviour g.A.Answers.answers End c.args.id Finish c.in_ok-turn.turn (world_in (λ b. (g.dyn-1.0.entry b.vtable).1) c.args.self.now) (world_in (λ b. (g.dyn-1.0.entry b.vtable).1) c.call_last.new.self) c.in_ok-turn.ensures.step).next
 
 pub returns-in_default-clause-step : goal.returns-in_default-clause-step
 returns-in_default-clause-step g c =

@@ -1,4 +1,3 @@
-use Rattle.model_answers.specs.Answering.{answers_of}
 use Rattle.std.proofs.Common.{◌+◌, refl, sym, ◌∙◌, arith, drop}
 use Rattle.run_semantics.specs.Perform.{On, flow_of}
 use Rattle.run_semantics.specs.Run.{initialize, one_stage}
@@ -12,12 +11,12 @@ returns-in_default-clause-kept g c = still_kept c.loop-id.invariant.kept c.initi
 
 pub returns-in_default-clause-step : goal.returns-in_default-clause-step
 returns-in_default-clause-step g c =
-    sym (stops c.in_ok-turn.turn (world_in (λ b. (g.dyn-1.0.entry b.vtable).1) c.initialize.new.self) (one_stage g.C.Catalogue.behaviour (answers_of c.args.model.now) c.args.stage (drop (c.loop-id.id-index + 1) c.args.ids.now)) c.in_default.not-GoOn)
-    ∙ each_step (initialize g.C.Catalogue.behaviour (answers_of c.args.model.now) c.args.stage) c.args.ids.now c.loop-id.id-index 0 (world_in (λ b. (g.dyn-1.0.entry b.vtable).1) c.loop-id.self) (flow_of c.in_ok-turn.turn (world_in (λ b. (g.dyn-1.0.entry b.vtable).1) c.initialize.new.self)) _ (omega arith) c.in_ok-turn.ensures.step c.loop-id.invariant.flow
+    sym (stops c.in_ok-turn.turn (world_in (λ b. (g.dyn-1.0.entry b.vtable).1) c.initialize.new.self) (one_stage g.C.Catalogue.behaviour g.A.Answers.answers c.args.stage (drop (c.loop-id.id-index + 1) c.args.ids.now)) c.in_default.not-GoOn)
+    ∙ each_step (initialize g.C.Catalogue.behaviour g.A.Answers.answers c.args.stage) c.args.ids.now c.loop-id.id-index 0 (world_in (λ b. (g.dyn-1.0.entry b.vtable).1) c.loop-id.self) (flow_of c.in_ok-turn.turn (world_in (λ b. (g.dyn-1.0.entry b.vtable).1) c.initialize.new.self)) _ (omega arith) c.in_ok-turn.ensures.step c.loop-id.invariant.flow
 
 pub loop-id-preserved : goal.loop-id-preserved
 loop-id-preserved g c = record {
-  flow = each_step (initialize g.C.Catalogue.behaviour (answers_of c.args.model.now) c.args.stage) c.args.ids.now c.loop-id.id-index 0 (world_in (λ b. (g.dyn-1.0.entry b.vtable).1) c.loop-id.self) (On (world_in (λ b. (g.dyn-1.0.entry b.vtable).1) c.initialize.new.self)) _ (omega arith) (rw c.in-GoOn.is at c.in_ok-turn.ensures.step) c.loop-id.invariant.flow;
+  flow = each_step (initialize g.C.Catalogue.behaviour g.A.Answers.answers c.args.stage) c.args.ids.now c.loop-id.id-index 0 (world_in (λ b. (g.dyn-1.0.entry b.vtable).1) c.loop-id.self) (On (world_in (λ b. (g.dyn-1.0.entry b.vtable).1) c.initialize.new.self)) _ (omega arith) (rw c.in-GoOn.is at c.in_ok-turn.ensures.step) c.loop-id.invariant.flow;
   next = omega (arith, c.in_ok-turn.ensures.next, c.loop-id.invariant.next);
   kept = still_kept c.loop-id.invariant.kept c.initialize.ensures.kept;
 }
@@ -31,4 +30,4 @@ loop-id-init g c = record {
 
 pub returns-clause-step : goal.returns-clause-step
 returns-clause-step g c =
-    sym (each_ends (initialize g.C.Catalogue.behaviour (answers_of c.args.model.now) c.args.stage) c.args.ids.now c.loop-id.id-index (world_in (λ b. (g.dyn-1.0.entry b.vtable).1) c.loop-id.self) (omega arith)) ∙ c.loop-id.invariant.flow
+    sym (each_ends (initialize g.C.Catalogue.behaviour g.A.Answers.answers c.args.stage) c.args.ids.now c.loop-id.id-index (world_in (λ b. (g.dyn-1.0.entry b.vtable).1) c.loop-id.self) (omega arith)) ∙ c.loop-id.invariant.flow

@@ -1,4 +1,3 @@
-use Rattle.model_answers.specs.Answering.{answers_of}
 use Rattle.std.proofs.Common.{◌≡◌, ◌+◌, ◌*◌, ◌≤◌, drop}
 use Rattle.run_semantics.specs.Run.{one_stage}
 use Rattle.kernel.specs.Kernels.{world_in, KeepsBoxes}
@@ -9,7 +8,7 @@ invariant-loop-id g l =
     let old = world_in (λ b. (g.dyn-1.0.entry b.vtable).1) l.fn.self in
     let world = world_in (λ b. (g.dyn-1.0.entry b.vtable).1) l.self in
     record {
-      flow : one_stage g.C.Catalogue.behaviour (answers_of l.model) l.stage (drop l.id-index l.ids) world ≡ one_stage g.C.Catalogue.behaviour (answers_of l.model) l.stage l.ids old;
+      flow : one_stage g.C.Catalogue.behaviour g.A.Answers.answers l.stage (drop l.id-index l.ids) world ≡ one_stage g.C.Catalogue.behaviour g.A.Answers.answers l.stage l.ids old;
       next : world.next ≤ old.next + 1000 * l.id-index;
       kept : KeepsBoxes g.C.Catalogue.behaviour (λ b. (g.dyn-1.0.entry b.vtable).1) l.fn.self l.self;
     }

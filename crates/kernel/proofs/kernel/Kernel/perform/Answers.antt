@@ -1,6 +1,5 @@
 use Rattle.std.proofs.Common.{◌∙◌, ℕ, Option, Some, ap, sym, refl, map}
 use Rattle.sim_time.specs.Time.{time_sum}
-use Rattle.model_answers.specs.Answering.{answers_of}
 use Rattle.module_api.specs.declared.reply.Action.{Action}
 use Rattle.run_semantics.specs.Perform.{perform, sent}
 use Rattle.saved_boxes.specs.Seats.{instance_of}
@@ -15,25 +14,25 @@ pub returns-in-Send-clause-step : goal.returns-in-Send-clause-step
 returns-in-Send-clause-step g c =
     let world = world_in (λ b. (g.dyn-1.0.entry b.vtable).1) c.args.self.now in
     ok_step c.send.result c.send.ensures.flow (λ turn step.
-    sent_is (map instance_of (seats_in (λ b. (g.dyn-1.0.entry b.vtable).1) c.args.self.now)) (answers_of c.args.model.now) c.args.id c.in-Send.gate c.in-Send.message (Some c.clock.result) c.args.self.now.core c.send.new.core turn step
-    ∙ ap (λ (t : ℕ). sent (answers_of c.args.model.now) c.args.id c.in-Send.gate c.in-Send.message (Some t) world) c.clock.ensures
-    ∙ ap (λ (a : Action). perform g.C.Catalogue.behaviour (answers_of c.args.model.now) c.args.id a world) (sym c.in-Send.is))
+    sent_is (map instance_of (seats_in (λ b. (g.dyn-1.0.entry b.vtable).1) c.args.self.now)) g.A.Answers.answers c.args.id c.in-Send.gate c.in-Send.message (Some c.clock.result) c.args.self.now.core c.send.new.core turn step
+    ∙ ap (λ (t : ℕ). sent g.A.Answers.answers c.args.id c.in-Send.gate c.in-Send.message (Some t) world) c.clock.ensures
+    ∙ ap (λ (a : Action). perform g.C.Catalogue.behaviour g.A.Answers.answers c.args.id a world) (sym c.in-Send.is))
 
 pub returns-in-SendDelayed-clause-step : goal.returns-in-SendDelayed-clause-step
 returns-in-SendDelayed-clause-step g c =
     let world = world_in (λ b. (g.dyn-1.0.entry b.vtable).1) c.args.self.now in
     ok_step c.send-in-SendDelayed.result c.send-in-SendDelayed.ensures.flow (λ turn step.
-    sent_is (map instance_of (seats_in (λ b. (g.dyn-1.0.entry b.vtable).1) c.args.self.now)) (answers_of c.args.model.now) c.args.id c.in-SendDelayed.gate c.in-SendDelayed.message c.ok-departure.result c.args.self.now.core c.send-in-SendDelayed.new.core turn step
-    ∙ ap (λ (d : Option ℕ). sent (answers_of c.args.model.now) c.args.id c.in-SendDelayed.gate c.in-SendDelayed.message d world)
+    sent_is (map instance_of (seats_in (λ b. (g.dyn-1.0.entry b.vtable).1) c.args.self.now)) g.A.Answers.answers c.args.id c.in-SendDelayed.gate c.in-SendDelayed.message c.ok-departure.result c.args.self.now.core c.send-in-SendDelayed.new.core turn step
+    ∙ ap (λ (d : Option ℕ). sent g.A.Answers.answers c.args.id c.in-SendDelayed.gate c.in-SendDelayed.message d world)
     (c.ok-departure.ensures.value ∙ c.checked_add.ensures ∙ ap (λ (t : ℕ). time_sum t c.in-SendDelayed.delay) c.clock-in-SendDelayed.ensures)
-    ∙ ap (λ (a : Action). perform g.C.Catalogue.behaviour (answers_of c.args.model.now) c.args.id a world) (sym c.in-SendDelayed.is))
+    ∙ ap (λ (a : Action). perform g.C.Catalogue.behaviour g.A.Answers.answers c.args.id a world) (sym c.in-SendDelayed.is))
 
 pub returns-in-SendDirect-clause-step : goal.returns-in-SendDirect-clause-step
 returns-in-SendDirect-clause-step g c =
     let world = world_in (λ b. (g.dyn-1.0.entry b.vtable).1) c.args.self.now in
     ok_step c.send_direct.result c.send_direct.ensures.flow (λ turn step.
-    direct_is (map instance_of (seats_in (λ b. (g.dyn-1.0.entry b.vtable).1) c.args.self.now)) (answers_of c.args.model.now) c.args.id c.in-SendDirect.place c.in-SendDirect.message c.in-SendDirect.flight c.args.self.now.core c.send_direct.new.core turn step
-    ∙ ap (λ (a : Action). perform g.C.Catalogue.behaviour (answers_of c.args.model.now) c.args.id a world) (sym c.in-SendDirect.is))
+    direct_is (map instance_of (seats_in (λ b. (g.dyn-1.0.entry b.vtable).1) c.args.self.now)) g.A.Answers.answers c.args.id c.in-SendDirect.place c.in-SendDirect.message c.in-SendDirect.flight c.args.self.now.core c.send_direct.new.core turn step
+    ∙ ap (λ (a : Action). perform g.C.Catalogue.behaviour g.A.Answers.answers c.args.id a world) (sym c.in-SendDirect.is))
 
 pub returns-in_default : goal.returns-in_default
 returns-in_default g c =
@@ -42,6 +41,6 @@ returns-in_default g c =
       boxes = refl;
       step = ok_step c.deed.result c.deed.ensures.flow (λ turn step.
           deed_is (map instance_of (seats_in (λ b. (g.dyn-1.0.entry b.vtable).1) c.args.self.now)) c.args.id c.args.action.now c.args.self.now.core c.deed.new.self turn step
-          ∙ sym (other_is_deed g.C.Catalogue.behaviour (answers_of c.args.model.now) c.args.id c.args.action.now world c.in_default.not-Send c.in_default.not-SendDelayed c.in_default.not-SendDirect));
+          ∙ sym (other_is_deed g.C.Catalogue.behaviour g.A.Answers.answers c.args.id c.args.action.now world c.in_default.not-Send c.in_default.not-SendDelayed c.in_default.not-SendDirect));
       grown = deed_left c.deed.result c.args.id c.args.action.now c.args.self.now.core c.deed.new.self c.deed.ensures.flow c.deed.ensures.err;
     }

@@ -1,4 +1,3 @@
-use Rattle.model_answers.specs.Answering.{answers_of}
 use Rattle.std.proofs.Common.{◌+◌, ◌-◌, sym, ◌∙◌, arith}
 use Rattle.run_semantics.specs.Perform.{On, flow_of}
 use Rattle.run_semantics.specs.Run.{stages_from}
@@ -15,12 +14,12 @@ returns-in_default-clause-next g c = omega (arith, c.in_ok-turn.ensures.next, c.
 
 pub returns-in_default-clause-step : goal.returns-in_default-clause-step
 returns-in_default-clause-step g c =
-    sym (stops c.in_ok-turn.turn (world_in (λ b. (g.dyn-1.0.entry b.vtable).1) c.one_stage.new.self) (stages_from g.C.Catalogue.behaviour (answers_of c.args.model.now) c.args.ids.now (c.loop-stage.stage + 1) (c.args.most - (c.loop-stage.stage + 1))) c.in_default.not-GoOn)
-    ∙ stages_on g.C.Catalogue.behaviour (answers_of c.args.model.now) c.args.ids.now c.loop-stage.stage c.args.most (world_in (λ b. (g.dyn-1.0.entry b.vtable).1) c.loop-stage.self) (flow_of c.in_ok-turn.turn (world_in (λ b. (g.dyn-1.0.entry b.vtable).1) c.one_stage.new.self)) _ (omega arith) c.in_ok-turn.ensures.step c.loop-stage.invariant.flow
+    sym (stops c.in_ok-turn.turn (world_in (λ b. (g.dyn-1.0.entry b.vtable).1) c.one_stage.new.self) (stages_from g.C.Catalogue.behaviour g.A.Answers.answers c.args.ids.now (c.loop-stage.stage + 1) (c.args.most - (c.loop-stage.stage + 1))) c.in_default.not-GoOn)
+    ∙ stages_on g.C.Catalogue.behaviour g.A.Answers.answers c.args.ids.now c.loop-stage.stage c.args.most (world_in (λ b. (g.dyn-1.0.entry b.vtable).1) c.loop-stage.self) (flow_of c.in_ok-turn.turn (world_in (λ b. (g.dyn-1.0.entry b.vtable).1) c.one_stage.new.self)) _ (omega arith) c.in_ok-turn.ensures.step c.loop-stage.invariant.flow
 
 pub loop-stage-preserved : goal.loop-stage-preserved
 loop-stage-preserved g c = record {
-  flow = stages_on g.C.Catalogue.behaviour (answers_of c.args.model.now) c.args.ids.now c.loop-stage.stage c.args.most (world_in (λ b. (g.dyn-1.0.entry b.vtable).1) c.loop-stage.self) (On (world_in (λ b. (g.dyn-1.0.entry b.vtable).1) c.one_stage.new.self)) _ (omega arith) (rw c.in-GoOn.is at c.in_ok-turn.ensures.step) c.loop-stage.invariant.flow;
+  flow = stages_on g.C.Catalogue.behaviour g.A.Answers.answers c.args.ids.now c.loop-stage.stage c.args.most (world_in (λ b. (g.dyn-1.0.entry b.vtable).1) c.loop-stage.self) (On (world_in (λ b. (g.dyn-1.0.entry b.vtable).1) c.one_stage.new.self)) _ (omega arith) (rw c.in-GoOn.is at c.in_ok-turn.ensures.step) c.loop-stage.invariant.flow;
   next = omega (arith, c.in_ok-turn.ensures.next, c.loop-stage.invariant.next);
   kept = still_kept c.loop-stage.invariant.kept c.one_stage.ensures.kept;
 }

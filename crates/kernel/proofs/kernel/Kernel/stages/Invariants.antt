@@ -1,4 +1,3 @@
-use Rattle.model_answers.specs.Answering.{answers_of}
 use Rattle.std.proofs.Common.{◌≡◌, ◌-◌, ◌*◌, ◌^◌, ◌≤◌}
 use Rattle.run_semantics.specs.Run.{stages_from}
 use Rattle.kernel.specs.Kernels.{world_in, KeepsBoxes}
@@ -9,7 +8,7 @@ invariant-loop-stage g l =
     let old = world_in (λ b. (g.dyn-1.0.entry b.vtable).1) l.fn.self in
     let world = world_in (λ b. (g.dyn-1.0.entry b.vtable).1) l.self in
     record {
-      flow : stages_from g.C.Catalogue.behaviour (answers_of l.model) l.ids l.stage (l.most - l.stage) world ≡ stages_from g.C.Catalogue.behaviour (answers_of l.model) l.ids 0 l.most old;
+      flow : stages_from g.C.Catalogue.behaviour g.A.Answers.answers l.ids l.stage (l.most - l.stage) world ≡ stages_from g.C.Catalogue.behaviour g.A.Answers.answers l.ids 0 l.most old;
       next : world.next ≤ 2 ^ 74 * l.stage;
       kept : KeepsBoxes g.C.Catalogue.behaviour (λ b. (g.dyn-1.0.entry b.vtable).1) l.fn.self l.self;
     }

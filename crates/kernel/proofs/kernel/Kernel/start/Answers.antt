@@ -1,4 +1,3 @@
-use Rattle.model_answers.specs.Answering.{answers_of}
 use Rattle.std.proofs.Common.{◌≡◌, sym, ap, ◌∙◌, map, subst}
 use Rattle.run_semantics.specs.Perform.{On}
 use Rattle.run_semantics.specs.Run.{needs, ready, standing}
@@ -12,7 +11,7 @@ use Rattle.kernel.proofs.kernel.Kernel.start.Goals as goal
 pub initialize_all-requires-clause-ready : goal.initialize_all-requires-clause-ready
 initialize_all-requires-clause-ready g c =
     let b = g.C.Catalogue.behaviour in
-    let m = answers_of c.args.model.now in
+    let m = g.A.Answers.answers in
     subst (λ t. On (world_of c.args.self.now.core (map (seat_of (λ b. (g.dyn-1.0.entry b.vtable).1)) t.seats)) ≡ ready b m) (sym c.swap.ensures.x_after)
     (fresh_ready b m c.args.self.now.core (seats_in (λ b. (g.dyn-1.0.entry b.vtable).1) c.args.self.now) (seats_held (λ b. (g.dyn-1.0.entry b.vtable).1) c.args.waiting.now) c.requires.none c.requires.prepared c.requires.fresh)
 

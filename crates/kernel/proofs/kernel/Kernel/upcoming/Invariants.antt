@@ -1,4 +1,3 @@
-use Rattle.model_answers.specs.Answering.{answers_of}
 use Rattle.std.proofs.Common.{◌≡◌, ◌+◌, ℕ}
 use Rattle.run_semantics.specs.World.{World}
 use Rattle.run_semantics.specs.Upcoming.{upcoming, upcoming_in}
@@ -10,4 +9,4 @@ use Rattle.kernel.proofs.kernel.Kernel.upcoming.Given as goal
 abbrev pub invariant-loop : goal.invariant-loop
 invariant-loop g l =
     let world : World = world_in (λ b. (g.dyn-1.0.entry b.vtable).1) l.self in
-    (left : ℕ) × (left + l.counter ≡ l.looks) × (upcoming_in left (answers_of l.model) world.pending (looked world l.look) ≡ upcoming (answers_of l.model) world)
+    (left : ℕ) × (left + l.counter ≡ l.looks) × (upcoming_in left g.A.Answers.answers world.pending (looked world l.look) ≡ upcoming g.A.Answers.answers world)
