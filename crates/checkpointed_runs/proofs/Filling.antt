@@ -18,7 +18,8 @@ use Rattle.run_semantics.proofs.Placing.{IsBuilt, needs_all, prepared_built}
 use Rattle.run_semantics.proofs.Setting.{IsLasting, Stays, prepared_stays}
 use Rattle.kernel.specs.declared.request.Request.{Request}
 use Rattle.saved_boxes.specs.Seats.{Seat, AreBelow, instance_of}
-use Rattle.kernel.specs.Seats.{AreFirst, AreFresh, first_without, missing_part, missing_of, request_for}
+use Rattle.kernel.specs.Seats.{AreFirst, AreFresh, missing_part, missing_of, request_for}
+use Rattle.saved_boxes.specs.Staying.{first_without}
 use Rattle.kernel.proofs.Behind.{parts_rise}
 use Rattle.kernel.proofs.Waiting.{fresh_known, fresh_standing, wanted_next}
 use Rattle.checkpoints.specs.Stored.{begun, Timeline}

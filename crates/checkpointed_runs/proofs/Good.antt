@@ -1,5 +1,5 @@
 -- Stored positions stay good: while a run goes on, after an edit, and where a run goes back.
-use Rattle.std.proofs.Common.{◌≡◌, ℕ, suc, ◌≤◌, ◌<◌, nat_le, Bool, true, false, cond, List, [], ◌∷◌, ◌++◌, Some, map, length, take, refl, sym, ap, ◌∙◌, arith, subst, append-nil, nat_lt, if◌then◌else◌}
+use Rattle.std.proofs.Common.{◌≡◌, ℕ, suc, ◌≤◌, ◌<◌, nat_le, Bool, true, false, cond, List, [], ◌∷◌, ◌++◌, None, Some, map, option_map, length, take, refl, sym, ap, ◌∙◌, arith, subst, append-nil, nat_lt, if◌then◌else◌}
 use Rattle.std.proofs.Math.Seq.{take-append_seam}
 use Rattle.std.proofs.lemmas.Bool.Decides.{nat_tests}
 use Rattle.module_api.specs.Behaviour.{Behaviour}
@@ -14,7 +14,11 @@ use Rattle.run_semantics.proofs.States.{states_of_run}
 use Rattle.std.specs.List.{filter}
 use Rattle.checkpoints.specs.Stored.{doubled, most_stored, stays as stays_at, thinned, up_to, last_of, last_from, AreBelow, AreRising, Timeline}
 use Rattle.kernel_actions.specs.declared.position.Position.{Position}
+use Rattle.run_semantics.specs.declared.traces.Instance.{Instance}
+use Rattle.kernel.specs.Seats.{lacking_of, request_for}
 use Rattle.saved_boxes.specs.Saved.{CanTake}
+use Rattle.saved_boxes.specs.Staying.{first_without, staying, IdsRise}
+use Rattle.saved_boxes.proofs.Going.{all_stay, none_lacks}
 use Rattle.kernel_actions.specs.Positions.{cut_to, lengths_of, position_of, world_back, IsGrownFrom, IsSameBesideModules}
 use Rattle.saved_boxes.specs.Seats.{Seat, instance_of, AreKept, AreOfKinds}
 use Rattle.kernel_actions.proofs.Growing.{growth_on, run_grows}
@@ -245,3 +249,14 @@ cut_good b m ss w u p [] h g l a = tt
 cut_good b m ss w u p (q ∷ qs) h g l a =
     let k = l.0 in
     (good_at b m ss ss w u p q h g refl (omega (arith, k)) a.0, cut_good b m ss w u p qs h g l.1 a.1)
+
+-- ---- the boxes of a position
+
+-- all boxes stay, and none is wanted
+pub all_kept : (b : Behaviour) (saved : List Instance) (ss ts : List Seat) → IdsRise 0 (map instance_of ss) → standing (map instance_of ss) ≡ standing saved → AreKept b (staying saved ss) ts → AreKept b ss ts
+all_kept b saved ss ts r e kept = subst (λ xs. AreKept b xs ts) (all_stay 0 ss saved r e) kept
+
+pub none_wanted : (w : World) (saved : List Instance) (ss : List Seat) → IdsRise 0 (map instance_of ss) → standing (map instance_of ss) ≡ standing saved → lacking_of w saved ss ≡ None
+none_wanted w saved ss r e =
+    ap (λ ts. option_map (request_for w) (first_without (standing (map instance_of ts)) (standing saved))) (all_stay 0 ss saved r e)
+    ∙ ap (option_map (request_for w)) (none_lacks (standing (map instance_of ss)) (standing saved) e)

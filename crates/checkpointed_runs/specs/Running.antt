@@ -40,7 +40,7 @@ wanted_by m boxes = wanted_after (prepared m) boxes
 
 -- a run that waits goes on with its boxes; any other begins with none
 abbrev pub kept_boxes : Phase → List Part → List Part
-kept_boxes Waiting boxes = boxes
+kept_boxes (Waiting from at) boxes = boxes
 kept_boxes Idle boxes = []
 kept_boxes Declined boxes = []
 
@@ -71,7 +71,7 @@ boxes_left b m limit = boxes_of b (prepared m) (standing (fresh_run b m limit).w
 -- no box was declined
 abbrev pub IsUndeclined : Phase → Type 0
 IsUndeclined Idle = Unit {0}
-IsUndeclined Waiting = Unit {0}
+IsUndeclined (Waiting from at) = Unit {0}
 IsUndeclined Declined = ⊥
 
 -- ---- where a run stands
@@ -94,7 +94,7 @@ pub record IsDeclined (b : Behaviour) (m : Answers) (w : World) (waiting : List 
 -- where a run stands
 abbrev pub IsLive : Behaviour → Answers → World → List Seat → Phase → Type 0
 IsLive b m w waiting Idle = Unit {0}
-IsLive b m w waiting Waiting = IsFilled b m w waiting
+IsLive b m w waiting (Waiting from at) = IsFilled b m w waiting
 IsLive b m w waiting Declined = IsDeclined b m w waiting
 
 -- each module that needs a box has one that waits

@@ -30,13 +30,20 @@ use sim_values::NoMemory;
 use std::alloc::{AllocFailed, Global};
 use std::marker::{Brand, PhantomData};
 
+/// At which point of a run boxes are wanted.
+#[derive(Clone, Copy, PartialEq, Eq)]
+pub enum Point {
+    /// Its network is set up, and is to be started.
+    Setup,
+}
+
 /// Where a run stands between two calls.
 #[derive(Clone, Copy, PartialEq, Eq)]
 pub enum Phase {
     /// No run waits.
     Idle,
-    /// A run waits for the box of a module.
-    Waiting,
+    /// A run waits for the box of a module, at that point. It began at a position of so many events, or with setup.
+    Waiting(Option<u64>, Point),
     /// There is no box for the module that the run waited for.
     Declined,
 }
@@ -207,7 +214,7 @@ impl<C: Catalogue> Runner<C> {
                 let standing = self.set_up::<M>(alloc, model)?;
                 Ok(standing)
             }
-            Phase::Waiting => {
+            Phase::Waiting(_from, _point) => {
                 let standing = self.next_box::<M>(alloc)?;
                 Ok(standing)
             }
@@ -273,7 +280,11 @@ impl<C: Catalogue> Runner<C> {
     }
 
     /// Goes back to the last position up to the limit, and gives up those after it; where there is none, nothing changes.
-    fn go_back<M: ModelMarker>(&mut self, alloc: Global, limit: u64) -> Result<Option<u64>, NoMemory>
+    fn go_back<M: ModelMarker>(
+        &mut self,
+        alloc: Global,
+        limit: u64,
+    ) -> Result<Option<u64>, NoMemory>
         requires kinds { HasKinds C.behaviour SimpleModule-box self.old.kernel }
         requires good { HasGood C.behaviour M.answers SimpleModule-box self.old }
         ensures kinds { HasKinds C.behaviour SimpleModule-box self.new.kernel }
@@ -288,10 +299,12 @@ impl<C: Catalogue> Runner<C> {
             return Ok(None);
         };
         let start = position.count();
+        let _ids_rise = self.kernel.held();
         self.waiting.clear();
         self.stood = Stood::After(start);
         let back = self.kernel.go_back(alloc, position);
         self.positions.cut_after(start);
+        // No box is missing: no module comes or goes while a run goes on, so its boxes are those of each position that it left.
         back?;
         Ok(Some(start))
     }

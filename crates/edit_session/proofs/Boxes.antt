@@ -15,6 +15,8 @@ use Rattle.saved_boxes.specs.Seats.{Seat, AreBelow, AreOfKinds, instance_of}
 use Rattle.kernel.specs.Seats.{missing_of}
 use Rattle.checkpointed_runs.specs.declared.running.Phase.{Phase}
 use Rattle.checkpointed_runs.specs.declared.running.Phase.TheVariants.{Idle, Waiting, Declined}
+use Rattle.checkpointed_runs.specs.declared.running.Point.{Point}
+use Rattle.checkpointed_runs.specs.declared.running.Point.TheVariants.{Setup}
 use Rattle.checkpointed_runs.specs.Kept.{AreGood}
 use Rattle.checkpointed_runs.specs.Positions.{CanBeStored, is_cut}
 use Rattle.checkpointed_runs.specs.Running.{parts_in, IsFilled, IsWaiting, wanted_by}
@@ -37,14 +39,14 @@ request_of : (o : Option Request) (id : ℕ) → option_map (λ (r : Request). r
 request_of o id e = some_part (λ (r : Request). r.id) o id e
 
 -- what is waited for is what is missing
-pub wanted_missing : (b : Behaviour) (ss xs : List Seat) (w : World) (m : Model) (phase : Phase) (done : Option Completed) (known : Option ℕ) (ps : Timeline Position) → phase ≡ Waiting → IsKept b ss xs w m phase done known ps
+pub wanted_missing : (b : Behaviour) (ss xs : List Seat) (w : World) (m : Model) (phase : Phase) (done : Option Completed) (known : Option ℕ) (ps : Timeline Position) → (from : Option ℕ) (at : Point) → phase ≡ Waiting from at → IsKept b ss xs w m phase done known ps
     → missing_of w (parts_in xs) ≡ waited_for phase m (all_boxes w xs)
-wanted_missing b ss xs w m Waiting last known ps e kept = filled_wants b (answers_of m) w xs kept.live ∙ ap (wanted_by (answers_of m)) (sym (waiting_boxes w xs kept.live.none))
-wanted_missing b ss xs w m Idle last known ps e kept = cc
-wanted_missing b ss xs w m Declined last known ps e kept = cc
+wanted_missing b ss xs w m (Waiting from at) last known ps f a e kept = filled_wants b (answers_of m) w xs kept.live ∙ ap (wanted_by (answers_of m)) (sym (waiting_boxes w xs kept.live.none))
+wanted_missing b ss xs w m Idle last known ps f a e kept = cc
+wanted_missing b ss xs w m Declined last known ps f a e kept = cc
 
 pub kept_declined : (b : Behaviour) (ss xs : List Seat) (w : World) (m : Model) (phase : Phase) (done : Option Completed) (known : Option ℕ) (ps : Timeline Position) (id : ℕ) → IsKept b ss xs w m phase done known ps → option_map (λ (r : Request). r.id) (waited_for phase m (all_boxes w xs)) ≡ Some id → IsUnknown b (waited_for phase m (all_boxes w xs)) → IsKept b ss xs w m Declined done known ps
-kept_declined b ss xs w m Waiting last known ps id kept some unknown =
+kept_declined b ss xs w m (Waiting from at) last known ps id kept some unknown =
     let q = request_of (wanted_by (answers_of m) (all_boxes w xs)) id some in
     record {
       kinds = kept.kinds;
@@ -60,7 +62,7 @@ kept_declined b ss xs w m Declined last known ps id kept some unknown = cc
 
 -- the box that is supplied is of a greater id than all that wait
 pub supply_above : (b : Behaviour) (ss xs : List Seat) (w : World) (m : Model) (phase : Phase) (done : Option Completed) (known : Option ℕ) (ps : Timeline Position) (id : ℕ) → IsKept b ss xs w m phase done known ps → option_map (λ (r : Request). r.id) (waited_for phase m (all_boxes w xs)) ≡ Some id → AreBelow id (map instance_of xs)
-supply_above b ss xs w m Waiting last known ps id kept some =
+supply_above b ss xs w m (Waiting from at) last known ps id kept some =
     let q = request_of (wanted_by (answers_of m) (all_boxes w xs)) id some in
     subst (λ i. AreBelow i (map instance_of xs)) (sym q.2) (filled_above b (answers_of m) w xs q.0 kept.live (waited b (answers_of m) w xs q.0 kept.live q.1))
 supply_above b ss xs w m Idle last known ps id kept some = cc
@@ -71,7 +73,7 @@ abbrev pub with_seat : List Seat → ℕ → Module → List Seat
 with_seat xs id box = xs ++ record { id = id; box = box } ∷ []
 
 pub kept_supplied : (b : Behaviour) (ss xs ys : List Seat) (w : World) (m : Model) (phase : Phase) (done : Option Completed) (known : Option ℕ) (ps : Timeline Position) (id : ℕ) (box : Module) → IsKept b ss xs w m phase done known ps → option_map (λ (r : Request). r.id) (waited_for phase m (all_boxes w xs)) ≡ Some id → IsFor b (waited_for phase m (all_boxes w xs)) box → ys ≡ with_seat xs id box → IsKept b ss ys w m phase done known ps
-kept_supplied b ss xs ys w m Waiting last known ps id box kept some for_it more =
+kept_supplied b ss xs ys w m (Waiting from at) last known ps id box kept some for_it more =
     let q = request_of (wanted_by (answers_of m) (all_boxes w xs)) id some in
     record {
       kinds = kept.kinds;
@@ -107,7 +109,7 @@ begun_counted t i e =
     ∙ ap (λ (ps : List Position). record { first = t.first; interval = t.first; stored = ps }) none
 
 -- a run waits
-pub kept_waiting : (b : Behaviour) (ss xs : List Seat) (w : World) (m : Model) (limit : ℕ) (kept : List Part) (phase : Phase) (old : Timeline ℕ) (ps : Timeline Position) (request : Request) → AreOfKinds b ss → CanBeStored old → IsWaiting b (answers_of m) limit kept phase old w xs (counts_in ps) request → IsKept b ss xs w m Waiting None None ps
+pub kept_waiting : (b : Behaviour) (ss xs : List Seat) (w : World) (m : Model) (limit : ℕ) (kept : List Part) (phase : Phase) (old : Timeline ℕ) (ps : Timeline Position) (request : Request) → AreOfKinds b ss → CanBeStored old → IsWaiting b (answers_of m) limit kept phase old w xs (counts_in ps) request → IsKept b ss xs w m (Waiting None Setup) None None ps
 kept_waiting b ss xs w m limit kept phase old ps request kinds stored h =
     let none : IsBegun ps = begun_counted ps old.first h.positions in
     record {
@@ -122,7 +124,7 @@ kept_waiting b ss xs w m limit kept phase old ps request kinds stored h =
 
 -- a session whose run waits, with these boxes
 abbrev waiting_with : Model → List Part → Timeline ℕ → Editing
-waiting_with m boxes positions = record { model = m; done = None; phase = Waiting; boxes = boxes; known = None; positions = positions }
+waiting_with m boxes positions = record { model = m; done = None; phase = Waiting None Setup; boxes = boxes; known = None; positions = positions }
 
 -- what callers see of it
 pub seen_waiting : (m : Model) (w : World) (xs : List Seat) (kept : List Part) (counts positions : Timeline ℕ) → w.modules ≡ [] → parts_in xs ≡ kept → counts ≡ positions → waiting_with m (all_boxes w xs) counts ≡ waiting_with m kept positions

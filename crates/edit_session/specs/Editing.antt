@@ -17,6 +17,7 @@ use Rattle.kernel.specs.declared.request.Request.{Request}
 use Rattle.saved_boxes.specs.Seats.{Seat, AreOfKinds}
 use Rattle.checkpointed_runs.specs.declared.running.Phase.{Phase}
 use Rattle.checkpointed_runs.specs.declared.running.Phase.TheVariants.{Idle, Waiting, Declined}
+use Rattle.checkpointed_runs.specs.declared.running.Point.TheVariants.{Setup}
 use Rattle.edit_session.specs.declared.session.Change.{Change}
 use Rattle.edit_session.specs.declared.session.Edited.{Edited}
 use Rattle.edit_session.specs.declared.session.Progress.{Progress}
@@ -57,7 +58,7 @@ pub record Editing : Type 0 where
 
 -- what a session waits for
 abbrev pub waited_for : Phase → Model → List Part → Option Request
-waited_for Waiting m boxes = wanted_by (answers_of m) boxes
+waited_for (Waiting from at) m boxes = wanted_by (answers_of m) boxes
 waited_for Idle m boxes = None
 waited_for Declined m boxes = None
 
@@ -87,7 +88,7 @@ IsLeft b m w (Some done) =
 -- while a run waits, none is done, nothing is known of one, and no position is stored
 abbrev pub IsUndone : Phase → Option Completed → Option ℕ → Timeline Position → Type 0
 IsUndone Idle last known ps = Unit {0}
-IsUndone Waiting last known ps = (last ≡ None) × (known ≡ None) × IsBegun ps
+IsUndone (Waiting from at) last known ps = (last ≡ None) × (known ≡ None) × IsBegun ps
 IsUndone Declined last known ps = (last ≡ None) × (known ≡ None) × IsBegun ps
 
 -- all that a session keeps
@@ -130,7 +131,7 @@ pub record WaitsFor (before : Editing) (limit : ℕ) (request : Request) (after 
   pub undeclined : IsUndeclined before.phase
   pub start : start_of limit before.positions.stored ≡ None
   pub wanted : wanted_by (answers_of before.model) (kept_boxes before.phase before.boxes) ≡ Some request
-  pub waits : after ≡ record { model = before.model; done = None; phase = Waiting; boxes = kept_boxes before.phase before.boxes; known = None; positions = cut None before.positions }
+  pub waits : after ≡ record { model = before.model; done = None; phase = Waiting None Setup; boxes = kept_boxes before.phase before.boxes; known = None; positions = cut None before.positions }
 
 -- the last number that was used, where one was given
 abbrev pub last_used : ℕ → Option ℕ → Option ℕ

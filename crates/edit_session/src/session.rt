@@ -23,7 +23,7 @@ ghost use Rattle.model_edits.specs.declared.edit.Edit.{Edit};
 use crate::values::{evaluated, keeps_values};
 use agreement::agreement::agreement;
 use checkpointed_runs::observer::Observer;
-use checkpointed_runs::running::{Advance, Phase, Runner, Stood};
+use checkpointed_runs::running::{Advance, Phase, Point, Runner, Stood};
 use checkpoints::positions::Positions;
 use kernel::kernel::Kernel;
 use kernel::request::Request;
@@ -414,7 +414,7 @@ impl<C: Catalogue> Session<C> {
             .carry_on(self.alloc, &self.model, phase, limit, observer)?
         {
             Advance::Waits(request) => {
-                self.phase = Phase::Waiting;
+                self.phase = Phase::Waiting(None, Point::Setup);
                 Ok(Progress::Want(request))
             }
             Advance::Ends(start, outcome) => {
@@ -503,7 +503,7 @@ impl<C: Catalogue> Session<C> {
             result ≡ option_map (λ (r : Request). r.id) (wanted_of editing) }
     {
         match self.phase {
-            Phase::Waiting => self.runner.kernel.missing_id(&self.runner.waiting),
+            Phase::Waiting(_from, _point) => self.runner.kernel.missing_id(&self.runner.waiting),
             _ => None,
         }
     }

@@ -8,7 +8,7 @@ use Rattle.run_questions.specs.declared.record.Record.{Record}
 use Rattle.run_semantics.specs.Run.{Part, standing, with_class, parts_from}
 use Rattle.saved_boxes.specs.Seats.{instance_of}
 use Rattle.saved_boxes.proofs.Seating.{seat}
-use Rattle.kernel.specs.Seats.{first_without}
+use Rattle.saved_boxes.specs.Staying.{first_without}
 use Rattle.kernel.proofs.Rising.{Rise}
 use Rattle.kernel.proofs.Waiting.{wanted_next}
 

@@ -1,4 +1,5 @@
 pub mod Apart
+pub mod Backwards
 pub mod Behind
 pub mod Calling
 pub mod Levels

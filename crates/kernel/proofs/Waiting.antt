@@ -10,7 +10,8 @@ use Rattle.run_semantics.specs.World.{World}
 use Rattle.run_semantics.specs.Perform.{Flow, On, ◌>>=◌}
 use Rattle.run_semantics.specs.Run.{Part, fresh, first_unknown, needs, place_parts, placed, prepared, ready, standing, unless_unknown}
 use Rattle.saved_boxes.specs.Seats.{Seat, instance_of, AreOfKinds}
-use Rattle.kernel.specs.Seats.{AreFresh, first_without, is_held, world_of}
+use Rattle.kernel.specs.Seats.{AreFresh, world_of}
+use Rattle.saved_boxes.specs.Staying.{first_without, is_held}
 use Rattle.kernel.proofs.Rising.{Rise}
 
 -- ---- what they are

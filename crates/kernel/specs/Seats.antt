@@ -1,6 +1,5 @@
 -- The world that a core and its boxes make.
-use Rattle.std.specs.Prelude.{◌≡◌, ℕ, ◌==◌, Bool, false, bytes_eq, List, [], ◌∷◌, Option, Some, None, option_map, Result, map, length, take, if◌then◌else◌}
-use Rattle.std.specs.List.{list_any}
+use Rattle.std.specs.Prelude.{◌≡◌, ℕ, Bool, false, bytes_eq, List, [], ◌∷◌, Option, Some, None, option_map, Result, map, length, take}
 use Rattle.sim_values.specs.declared.NoMemory.{NoMemory}
 use Rattle.module_api.specs.declared.call.Call.{Call}
 use Rattle.module_api.specs.declared.reply.Reply.{Reply}
@@ -9,8 +8,10 @@ use Rattle.module_api.specs.Meaning.{Module, Answered, IsFresh, IsSameModule}
 use Rattle.run_questions.specs.declared.record.Record.{Record}
 use Rattle.run_questions.specs.Records.{path_of}
 use Rattle.run_semantics.specs.World.{World}
-use Rattle.run_semantics.specs.Run.{Part, needs, parts_of}
+use Rattle.run_semantics.specs.declared.traces.Instance.{Instance}
+use Rattle.run_semantics.specs.Run.{Part, needs, parts_of, standing}
 use Rattle.saved_boxes.specs.Seats.{Seat, instance_of, module_in, with_module}
+use Rattle.saved_boxes.specs.Staying.{first_without, staying}
 use Rattle.kernel.specs.declared.request.Request.{Request}
 
 -- the world of a core and of what its boxes are
@@ -45,21 +46,16 @@ stages_of (Some box) = Some box.naming.stages
 abbrev pub request_for : World → Part → Request
 request_for w p = record { kind = p.kind; path = path_of w.records p.id; id = p.id }
 
--- whether the module of that id has one of these boxes
-abbrev pub is_held : ℕ → List Part → Bool
-is_held id boxes = list_any (λ (p : Part). p.id == id) boxes
-
--- of these modules the first one that has none of these boxes
-abbrev pub first_without : List Part → List Part → Option Part
-first_without boxes [] = None
-first_without boxes (p ∷ ps) = if is_held p.id boxes then first_without boxes ps else Some p
-
 -- THE BOX THAT IS WANTED where there are these: for the first of the modules that need one and have none
 abbrev pub missing_part : World → List Part → Option Part
 missing_part w boxes = first_without boxes (needs w)
 
 abbrev pub missing_of : World → List Part → Option Request
 missing_of w boxes = option_map (request_for w) (missing_part w boxes)
+
+-- THE BOX THAT IS WANTED where a run goes back to a position of these modules: that of the first one of which none stays
+abbrev pub lacking_of : World → List Instance → List Seat → Option Request
+lacking_of w saved seats = option_map (request_for w) (first_without (standing (map instance_of (staying saved seats))) (standing saved))
 
 -- ---- boxes that wait for the start of their modules
 

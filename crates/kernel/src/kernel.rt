@@ -1,6 +1,6 @@
 //! A world in code, one event at a time.
 
-ghost use Rattle.std.specs.Prelude.{◌≡◌, ◌+◌, ◌^◌, ◌<◌, ◌≤◌, OnOk, OnErr, IfOk, [], length, max, slice_get, drop, option_map};
+ghost use Rattle.std.specs.Prelude.{◌≡◌, ◌+◌, ◌^◌, ◌<◌, ◌≤◌, OnOk, OnErr, IfOk, IfSome, None, [], length, max, slice_get, drop, option_map};
 ghost use Rattle.module_api.specs.Meaning.{Answered, IsSameModule};
 ghost use Rattle.module_tree.specs.Boxes.{nothing};
 ghost use Rattle.question_log.specs.Entries.{noted_in};
@@ -14,9 +14,11 @@ ghost use Rattle.kernel_actions.specs.Upcoming.{looked, upcoming_of};
 ghost use Rattle.kernel.specs.Looks.{LooksOn};
 ghost use Rattle.run_semantics.specs.Run.{Running, Part, stage_of, standing, needs, settled, prepared, ready, parts_from, initialize, most_stages, one_stage, stages_from, stages_in, start, next_stage, stopped};
 ghost use Rattle.run_semantics.specs.Ending.{call_last, finish, finish_all, ending};
-ghost use Rattle.kernel.specs.Seats.{stages_of, stands_at, AreFirst, AreFresh, IsServed, IsUnstarted, missing_of, missing_part};
+ghost use Rattle.kernel.specs.Seats.{stages_of, stands_at, AreFirst, AreFresh, IsServed, IsUnstarted, lacking_of, missing_of, missing_part, request_for};
 ghost use Rattle.kernel_actions.specs.Positions.{position_of, cut_to, world_back, IsGrownFrom, IsSameBesideModules};
-ghost use Rattle.saved_boxes.specs.Seats.{module_in};
+ghost use Rattle.saved_boxes.specs.Seats.{module_in, AreKept};
+ghost use Rattle.saved_boxes.specs.Staying.{first_without, staying, IdsRise};
+ghost use Rattle.run_semantics.specs.Laws.{AreStates};
 ghost use Rattle.saved_boxes.specs.Saved.{CanTake, Takes, instances_held, seats_held};
 ghost use Rattle.kernel.specs.Kernels.{seats_in, world_in, ran_in, HasKinds, IsCallable, KeepsBoxes};
 
@@ -40,6 +42,7 @@ use run_semantics::outcome::{Fault, Outcome, Turn};
 use run_semantics::routes::copy_transmissions;
 use run_semantics::traces::{Emission, Instance, Scalar};
 use saved_boxes::boxes_saved::{load_one, save_all};
+use saved_boxes::going_back::{drop_others, first_lacking};
 use shown_modules::{Shown, ShownModules};
 use sim_time::SimTime;
 use sim_values::NoMemory;
@@ -135,10 +138,12 @@ impl<C: Catalogue> Kernel<C> {
         self.core.finished()
     }
 
-    /// How many boxes it holds.
+    /// How many boxes it holds: the ids of their modules rise.
     pub fn held(&self) -> usize
-        ensures { result ≡ length (seats_in SimpleModule-box self.now) }
+        ensures count { result ≡ length (seats_in SimpleModule-box self.now) }
+        ensures rising { IdsRise 0 (world_in SimpleModule-box self.now).modules }
     {
+        let _ids_rise = self.boxes.room();
         self.boxes.len()
     }
 
@@ -832,19 +837,65 @@ impl<C: Catalogue> Kernel<C> {
         self.core.position(alloc, modules)
     }
 
-    /// Goes back to a position. Its modules are those that have boxes, and each box takes its state. After NoMemory the states of
-    /// the boxes are not known, and all else is as it was: it can go back again, to this position or another one.
-    pub fn go_back(&mut self, alloc: Global, position: &Position) -> Result<(), NoMemory>
+    /// Goes back to a position, or asks for the box that it needs first. The boxes of its modules, of the same ids and kinds, stay, and
+    /// all others are dropped; where each of its modules has one then, each box takes its state. After NoMemory the states of the boxes are not
+    /// known, and all else is as it was but for the boxes that were dropped: it can go back again, to this position or another one.
+    pub fn go_back(
+        &mut self,
+        alloc: Global,
+        position: &Position,
+    ) -> Result<Option<Request>, NoMemory>
+        requires kinds { HasKinds C.behaviour SimpleModule-box self.old }
+        requires rising { IdsRise 0 position.now.modules }
+        requires states { AreStates C.behaviour position.now.modules }
+        ensures kept { let before = staying position.now.modules (seats_in SimpleModule-box self.old) in
+            AreKept C.behaviour before (seats_in SimpleModule-box self.new) }
+        ensures wanted { let before = seats_in SimpleModule-box self.old in
+            IfOk result (λ wanted.
+            wanted ≡ lacking_of (world_in SimpleModule-box self.old) position.now.modules before) }
+        ensures ok { IfOk result (λ wanted. wanted ≡ None → world_in SimpleModule-box self.new
+            ≡ world_back position.now (world_in SimpleModule-box self.old)) }
+        ensures waits { IfOk result (λ wanted. IfSome wanted (λ request.
+            IsSameBesideModules (world_in SimpleModule-box self.new) (world_in SimpleModule-box self.old))) }
+        ensures err { OnErr result (IsSameBesideModules (world_in SimpleModule-box self.new)
+            (world_in SimpleModule-box self.old)) }
+    {
+        let _ids_rise = self.boxes.room();
+        drop_others(&mut self.boxes, position.modules.as_slice());
+        match self.lacking(alloc, position)? {
+            Some(request) => Ok(Some(request)),
+            None => {
+                self.load_position(alloc, position)?;
+                Ok(None)
+            }
+        }
+    }
+
+    /// What is asked for where a run goes back to a position: a box for the first of its modules that has none.
+    fn lacking(&self, alloc: Global, position: &Position) -> Result<Option<Request>, NoMemory>
+        ensures { let world = world_in SimpleModule-box self.now in
+            IfOk result (λ wanted.
+            wanted ≡ option_map (request_for world) (first_without (standing world.modules) (standing position.now.modules))) }
+    {
+        match first_lacking(&self.boxes, position.modules.as_slice()) {
+            Some(instance) => Ok(Some(Request {
+                kind: instance.kind.copy(alloc)?,
+                path: path_of(alloc, self.core.records(), instance.id)?,
+                id: instance.id,
+            })),
+            None => Ok(None),
+        }
+    }
+
+    /// Goes back to a position whose modules are those that have boxes: each box takes its state. After NoMemory the states of
+    /// the boxes are not known, and all else is as it was.
+    fn load_position(&mut self, alloc: Global, position: &Position) -> Result<(), NoMemory>
         requires { CanTake C.behaviour position.now.modules (seats_in SimpleModule-box self.old) }
         ensures kept { KeepsBoxes C.behaviour SimpleModule-box self.old self.new }
         ensures ok { OnOk result (world_in SimpleModule-box self.new
             ≡ world_back position.now (world_in SimpleModule-box self.old)) }
         ensures err { OnErr result (IsSameBesideModules (world_in SimpleModule-box self.new)
             (world_in SimpleModule-box self.old)) }
-        ensures again { CanTake C.behaviour position.now.modules
-            (seats_in SimpleModule-box self.new) }
-        ensures same { world_back position.now (world_in SimpleModule-box self.new)
-            ≡ world_back position.now (world_in SimpleModule-box self.old) }
     {
         let coming = position.coming.copy(alloc)?;
         let transmissions = copy_transmissions(alloc, position.transmissions.as_slice())?;

@@ -2,3 +2,4 @@ pub mod Keeping
 pub mod Seating
 pub mod Saving
 pub mod Loading
+pub mod Going

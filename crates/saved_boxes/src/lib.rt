@@ -2,3 +2,4 @@
 #![tactic(auto)]
 
 pub mod boxes_saved;
+pub mod going_back;

@@ -10,7 +10,7 @@ use Rattle.run_semantics.specs.Subtree.{among}
 use Rattle.run_semantics.specs.World.{live_of}
 use Rattle.run_semantics.proofs.Bounds.{IsFew, few_last}
 use Rattle.run_semantics.proofs.Setting.{Stays, prepared_stays}
-use Rattle.kernel.specs.Seats.{is_held}
+use Rattle.saved_boxes.specs.Staying.{is_held}
 use Rattle.stock_desk.specs.Boxes.{boxes_lacking, lacking, lacking_after, most_boxes}
 
 with_few : (id : ℕ) (class : Option (List ℕ)) (parts : List Part) (n : ℕ) → length parts ≤ n → length (with_class id class parts) ≤ suc n

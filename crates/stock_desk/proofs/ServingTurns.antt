@@ -178,7 +178,7 @@ some_limit (Some limit) is = (limit, refl)
 undone : (phase : Phase) (m : Model) (boxes : List Part) (done : Option Completed) (known : Option ℕ) (ps : Timeline Position) → IsSome (waited_for phase m boxes)
     → IsUndone phase done known ps → (done ≡ None) × (known ≡ None) × IsBegun ps
 undone Idle m boxes d k ps is none = absurd cc
-undone Waiting m boxes d k ps is none = none
+undone (Waiting from at) m boxes d k ps is none = none
 undone Declined m boxes d k ps is none = absurd cc
 
 -- a run that waits leaves nothing: neither it nor one before it is done, and no position is stored

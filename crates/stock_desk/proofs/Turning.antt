@@ -5,7 +5,8 @@ use Rattle.model_answers.specs.Answering.{answers_of}
 use Rattle.run_semantics.specs.Perform.{Flow, On, Stopped, Broken}
 use Rattle.run_semantics.specs.Run.{Part, needs, prepared}
 use Rattle.kernel.specs.declared.request.Request.{Request}
-use Rattle.kernel.specs.Seats.{first_without, is_held, missing_part, request_for}
+use Rattle.kernel.specs.Seats.{missing_part, request_for}
+use Rattle.saved_boxes.specs.Staying.{first_without, is_held}
 use Rattle.edit_session.specs.Editing.{Editing, wanted_of, waited_for, with_box, with_wanted, WaitsFor}
 use Rattle.checkpointed_runs.specs.Running.{kept_boxes, wanted_after, IsUndeclined}
 use Rattle.checkpointed_runs.specs.declared.running.Phase.{Phase}
@@ -84,22 +85,22 @@ left e = left_of e.phase e.model e.boxes
 
 left_small : (phase : Phase) (m : Model) (boxes : List Part) → left_of phase m boxes ≤ most_boxes + 2
 left_small Idle m boxes = omega (arith, few_boxes m [])
-left_small Waiting m boxes = omega (arith, few_boxes m boxes)
+left_small (Waiting from at) m boxes = omega (arith, few_boxes m boxes)
 left_small Declined m boxes = omega arith
 
 kept_left : (phase : Phase) (m : Model) (boxes : List Part) → IsUndeclined phase → boxes_lacking m (kept_boxes phase boxes) + 1 ≤ left_of phase m boxes
 kept_left Idle m boxes is = omega arith
-kept_left Waiting m boxes is = omega arith
+kept_left (Waiting from at) m boxes is = omega arith
 kept_left Declined m boxes is = absurd is
 
 some_left : (phase : Phase) (m : Model) (boxes : List Part) → IsUndeclined phase → zero < left_of phase m boxes
 some_left Idle m boxes is = omega arith
-some_left Waiting m boxes is = omega arith
+some_left (Waiting from at) m boxes is = omega arith
 some_left Declined m boxes is = absurd is
 
 one_box_less : (phase : Phase) (m : Model) (boxes : List Part) → IsSome (waited_for phase m boxes) → left_of phase m (with_wanted (waited_for phase m boxes) boxes) < left_of phase m boxes
 one_box_less Idle m boxes is = cc
-one_box_less Waiting m boxes is = let less = box_less (prepared (answers_of m)) boxes is in omega (arith, less)
+one_box_less (Waiting from at) m boxes is = let less = box_less (prepared (answers_of m)) boxes is in omega (arith, less)
 one_box_less Declined m boxes is = cc
 
 -- it waits: no more is left

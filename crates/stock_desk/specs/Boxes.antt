@@ -4,7 +4,7 @@ use Rattle.models.specs.declared.model.Model.{Model}
 use Rattle.model_answers.specs.Answering.{answers_of}
 use Rattle.run_semantics.specs.Perform.{Flow, On, Stopped, Broken}
 use Rattle.run_semantics.specs.Run.{Part, needs, prepared}
-use Rattle.kernel.specs.Seats.{is_held}
+use Rattle.saved_boxes.specs.Staying.{is_held}
 use Rattle.checkpointed_runs.specs.declared.running.Phase.{Phase}
 use Rattle.checkpointed_runs.specs.declared.running.Phase.TheVariants.{Idle, Waiting, Declined}
 
@@ -29,5 +29,5 @@ most_boxes = 65536
 -- How many turns a run takes at most: a turn for each box that it doesn't hold yet, and one more where a box may be declined.
 abbrev pub left_of : Phase → Model → List Part → ℕ
 left_of Idle m boxes = boxes_lacking m [] + 2
-left_of Waiting m boxes = boxes_lacking m boxes + 1
+left_of (Waiting from at) m boxes = boxes_lacking m boxes + 1
 left_of Declined m boxes = 0

@@ -1,4 +1,4 @@
-use Rattle.std.proofs.Common.{Some, sym, ap, ◌∙◌, option_map}
+use Rattle.std.proofs.Common.{sym, ap, ◌∙◌, option_map}
 use Rattle.std.specs.Option.{option_copied}
 use Rattle.saved_boxes.specs.Saved.{instance_at}
 use Rattle.saved_boxes.proofs.Seating.{means_in}

@@ -14,4 +14,4 @@ returns g c =
     let stand : length (parts_in seats) ≡ length seats = length-map (map instance_of seats) part_of ∙ length-map seats instance_of in
     let wait : length (parts_in waiting) ≡ length waiting = length-map (map instance_of waiting) part_of ∙ length-map waiting instance_of in
     let held : length waiting ≡ length c.args.self.now.waiting.seats = length-map c.args.self.now.waiting.seats (seat_of (λ b. (g.dyn-1.0.entry b.vtable).1)) in
-    omega (arith, c.held.ensures, c.len.ensures, length-append (parts_in seats) (parts_in waiting), stand, wait, held)
+    omega (arith, c.held.ensures.count, c.len.ensures, length-append (parts_in seats) (parts_in waiting), stand, wait, held)

@@ -22,4 +22,4 @@ returns-in_ok-standing-in-Waiting-clause-wants g c =
     let w = world_in (λ b. (g.dyn-1.0.entry b.vtable).1) c.args.self.now.kernel in
     let xs = waiting_in (λ b. (g.dyn-1.0.entry b.vtable).1) c.args.self.now in
     let all : boxes_in (λ b. (g.dyn-1.0.entry b.vtable).1) c.args.self.now ≡ parts_in xs = filled_boxes g.C.Catalogue.behaviour g.M.ModelMarker.answers w xs (rw c.in-Waiting.is at c.requires.live) in
-    rw c.in-Waiting.is (subst (λ (kept : List Part). Wants g.M.ModelMarker.answers kept Waiting c.in_ok-standing-in-Waiting.standing) (sym all) (c.in_ok-standing-in-Waiting.ensures.wants Waiting tt))
+    rw c.in-Waiting.is (subst (λ (kept : List Part). Wants g.M.ModelMarker.answers kept (Waiting c.in-Waiting._from c.in-Waiting._point) c.in_ok-standing-in-Waiting.standing) (sym all) (c.in_ok-standing-in-Waiting.ensures.wants (Waiting c.in-Waiting._from c.in-Waiting._point) tt))

@@ -1,7 +1,7 @@
 use Rattle.std.proofs.Common.{◌+◌, List, sym, ap, ◌∙◌, length, drop, slice_get, take, unwrap_or}
 use Rattle.run_semantics.specs.Run.{Part, needs, parts_from, standing}
 use Rattle.kernel.specs.Kernels.{world_in}
-use Rattle.kernel.specs.Seats.{first_without}
+use Rattle.saved_boxes.specs.Staying.{first_without}
 use Rattle.kernel.proofs.Behind.{next_missing}
 use Rattle.kernel.proofs.Waiting.{fresh_standing}
 use Rattle.saved_boxes.specs.Saved.{instances_held, seats_held}
