@@ -2,4 +2,4 @@ pub mod Order
 pub mod Keys
 pub mod Sets
 pub mod Shown
-pub mod Copies
+pub mod Slots

@@ -1,4 +1,4 @@
--- What the two trees of an event set say of the list of events.
+-- What the tree of events and the places of timers say of the list of events.
 use Rattle.std.proofs.Common.{◌≡◌, ◌⊎◌, inl, inr, ⊎_elim, ℕ, ◌+◌, ◌<◌, Bool, true, false, true≢false, cond, List, [], ◌∷◌, Option, Some, None, refl, sym, ap, ◌∙◌, ◌==◌, ◌&&◌, ◌||◌, if◌then◌else◌, arith, subst, is_some, eqb-true, eq-eqb}
 use Rattle.std.specs.declared.cmp.Ordering.{Ordering}
 use Rattle.std.specs.declared.cmp.Ordering.TheVariants.{Less, Equal, Greater}
@@ -12,9 +12,9 @@ use Rattle.event_set.specs.declared.pending.Happening.{Happening}
 use Rattle.event_set.specs.declared.pending.Happening.TheVariants.{Timer, Arrival, Delivery}
 use Rattle.event_set.specs.declared.pending.Pending.{Pending}
 use Rattle.event_set.specs.declared.set.Entry.{Entry}
-use Rattle.event_set.specs.declared.set.Key.{Key}
-use Rattle.event_set.specs.declared.set.TimerKey.{TimerKey}
-use Rattle.event_set.specs.Keys.{key_order, timer_order, pending_of, list_of, timer_in, timer_of, at_key, place_at, AreSound, noted, forgotten}
+use Rattle.event_set.specs.declared.places.Key.{Key}
+use Rattle.event_set.specs.declared.places.TimerKey.{TimerKey}
+use Rattle.event_set.specs.Keys.{key_order, timer_order, pending_of, list_of, timer_in, timer_of, at_key, AreSound, noted, forgotten, IsFree}
 use Rattle.event_set.specs.Order.{comes_before, inserted, Each, AreInOrder}
 use Rattle.event_set.specs.Timers.{is_timer, is_timer_number, has_timer, is_pending, without_timer}
 use Rattle.event_set.proofs.Order.{each_map}
@@ -22,6 +22,9 @@ use Rattle.event_set.proofs.Keys.{key_total, key_at, key_itself, timer_at, timer
 
 abbrev Held : Type 0
 Held = List (Key × Entry)
+
+abbrev Where : Type 0
+Where = TimerKey → Option Key
 
 -- ---- one more event
 
@@ -107,12 +110,12 @@ some_is : {X : Type 0} (a b : X) → Some a ≡ Some b → a ≡ b
 some_is a b h = cc
 
 -- of a timer that stands somewhere: the two tests are the same
-same_by : (es : Held) (ts : List (TimerKey × Key)) (n : ℕ) (t : TimerKey) (k : Key) → AreSound es ts n → place_at ts t ≡ Some k → (x : Key × Entry) → at_key es x.0 ≡ Some x.1
+same_by : (es : Held) (ts : Where) (n : ℕ) (t : TimerKey) (k : Key) → AreSound es ts n → ts t ≡ Some k → (x : Key × Entry) → at_key es x.0 ≡ Some x.1
     → (a b : Bool) → is_timer t.id t.timer (pending_of x) ≡ a → is_at (key_order k) x.0 ≡ b → a ≡ b
 same_by es ts n t k s h x at true true p q = refl
 same_by es ts n t k s h x at false false p q = refl
 same_by es ts n t k s h x at true false p q =
-    let there : place_at ts t ≡ Some x.0 = s.placed x.0 x.1 t at (number_is t.id t.timer x.1.id x.1.what p) in
+    let there : ts t ≡ Some x.0 = s.placed x.0 x.1 t at (number_is t.id t.timer x.1.id x.1.what p) in
     let same : k ≡ x.0 = some_is k x.0 (sym h ∙ there) in
     absurd (true≢false (sym (key_itself k) ∙ ap (λ q. is_at (key_order k) q) same ∙ q))
 same_by es ts n t k s h x at false true p q =
@@ -123,20 +126,20 @@ same_by es ts n t k s h x at false true p q =
 abbrev SameTests : TimerKey → Key → Held → Type 0
 SameTests t k es = Each (λ (x : Key × Entry). is_timer t.id t.timer (pending_of x) ≡ is_at (key_order k) x.0) es
 
-same_tests : (es : Held) (ts : List (TimerKey × Key)) (n : ℕ) (t : TimerKey) (k : Key) → AreSound es ts n → place_at ts t ≡ Some k → SameTests t k es
+same_tests : (es : Held) (ts : Where) (n : ℕ) (t : TimerKey) (k : Key) → AreSound es ts n → ts t ≡ Some k → SameTests t k es
 same_tests es ts n t k s h =
     each_map (λ (x : Key × Entry). at_key es x.0 ≡ Some x.1) (λ (x : Key × Entry). is_timer t.id t.timer (pending_of x) ≡ is_at (key_order k) x.0) es
     (λ x at. same_by es ts n t k s h x at (is_timer t.id t.timer (pending_of x)) (is_at (key_order k) x.0) refl refl) (own_places es s.ordered)
 
-none_by : (es : Held) (ts : List (TimerKey × Key)) (n : ℕ) (t : TimerKey) → AreSound es ts n → place_at ts t ≡ None → (x : Key × Entry) → at_key es x.0 ≡ Some x.1 → (a : Bool) → is_timer t.id t.timer (pending_of x) ≡ a → a ≡ false
+none_by : (es : Held) (ts : Where) (n : ℕ) (t : TimerKey) → AreSound es ts n → ts t ≡ None → (x : Key × Entry) → at_key es x.0 ≡ Some x.1 → (a : Bool) → is_timer t.id t.timer (pending_of x) ≡ a → a ≡ false
 none_by es ts n t s h x at false p = refl
 none_by es ts n t s h x at true p =
-    let there : place_at ts t ≡ Some x.0 = s.placed x.0 x.1 t at (number_is t.id t.timer x.1.id x.1.what p) in cc
+    let there : ts t ≡ Some x.0 = s.placed x.0 x.1 t at (number_is t.id t.timer x.1.id x.1.what p) in cc
 
 abbrev NoTests : TimerKey → Held → Type 0
 NoTests t es = Each (λ (x : Key × Entry). is_timer t.id t.timer (pending_of x) ≡ false) es
 
-no_tests : (es : Held) (ts : List (TimerKey × Key)) (n : ℕ) (t : TimerKey) → AreSound es ts n → place_at ts t ≡ None → NoTests t es
+no_tests : (es : Held) (ts : Where) (n : ℕ) (t : TimerKey) → AreSound es ts n → ts t ≡ None → NoTests t es
 no_tests es ts n t s h =
     each_map (λ (x : Key × Entry). at_key es x.0 ≡ Some x.1) (λ (x : Key × Entry). is_timer t.id t.timer (pending_of x) ≡ false) es
     (λ x at. none_by es ts n t s h x at (is_timer t.id t.timer (pending_of x)) refl) (own_places es s.ordered)
@@ -159,13 +162,13 @@ there_is : (o : Option Entry) (t : TimerKey) → option_and_then timer_of o ≡ 
 there_is None t h = cc
 there_is (Some e) t h = refl
 
-has_by : (o : Option Key) (es : Held) (ts : List (TimerKey × Key)) (n : ℕ) (t : TimerKey) → AreSound es ts n → place_at ts t ≡ o → is_some o ≡ has_timer t.id t.timer (list_of es)
+has_by : (o : Option Key) (es : Held) (ts : Where) (n : ℕ) (t : TimerKey) → AreSound es ts n → ts t ≡ o → is_some o ≡ has_timer t.id t.timer (list_of es)
 has_by None es ts n t s h = sym (any_none t es (no_tests es ts n t s h))
 has_by (Some k) es ts n t s h = sym (any_some t k es (same_tests es ts n t k s h) ∙ there_is (at_key es k) t (s.standing t k h))
 
--- the second tree knows which timers are pending
-pub has : (es : Held) (ts : List (TimerKey × Key)) (n : ℕ) (t : TimerKey) → AreSound es ts n → is_some (place_at ts t) ≡ has_timer t.id t.timer (list_of es)
-has es ts n t s = has_by (place_at ts t) es ts n t s refl
+-- it is known which timers are pending
+pub has : (es : Held) (ts : Where) (n : ℕ) (t : TimerKey) → AreSound es ts n → is_some (ts t) ≡ has_timer t.id t.timer (list_of es)
+has es ts n t s = has_by (ts t) es ts n t s refl
 
 -- ---- one less
 
@@ -178,14 +181,14 @@ same_removed t k [] h = refl
 same_removed t k (x ∷ xs) h = rw h.0 (removed_by (is_at (key_order k) x.0) (pending_of x) x xs (remove_entry (is_at (key_order k)) xs) (without_timer t.id t.timer (list_of xs)) (same_removed t k xs h.1))
 
 -- the entry that leaves is the event that leaves
-pub list_removed : (es : Held) (ts : List (TimerKey × Key)) (n : ℕ) (t : TimerKey) (k : Key) → AreSound es ts n → place_at ts t ≡ Some k → list_of (remove_entry (is_at (key_order k)) es) ≡ without_timer t.id t.timer (list_of es)
+pub list_removed : (es : Held) (ts : Where) (n : ℕ) (t : TimerKey) (k : Key) → AreSound es ts n → ts t ≡ Some k → list_of (remove_entry (is_at (key_order k)) es) ≡ without_timer t.id t.timer (list_of es)
 list_removed es ts n t k s h = same_removed t k es (same_tests es ts n t k s h)
 
 none_removed : (t : TimerKey) (es : Held) → NoTests t es → without_timer t.id t.timer (list_of es) ≡ list_of es
 none_removed t [] h = refl
 none_removed t (x ∷ xs) h = rw h.0 (ap (λ ps. pending_of x ∷ ps) (none_removed t xs h.1))
 
-pub list_kept : (es : Held) (ts : List (TimerKey × Key)) (n : ℕ) (t : TimerKey) → AreSound es ts n → place_at ts t ≡ None → without_timer t.id t.timer (list_of es) ≡ list_of es
+pub list_kept : (es : Held) (ts : Where) (n : ℕ) (t : TimerKey) → AreSound es ts n → ts t ≡ None → without_timer t.id t.timer (list_of es) ≡ list_of es
 list_kept es ts n t s h = none_removed t es (no_tests es ts n t s h)
 
 below_by : (b : Bool) (n : ℕ) (x : Key × Entry) (xs rest : Held) → x.0.number < n → Each (λ (y : Key × Entry). y.0.number < n) xs → Each (λ (y : Key × Entry). y.0.number < n) rest → Each (λ (y : Key × Entry). y.0.number < n) (cond b xs (x ∷ rest))
@@ -196,7 +199,7 @@ below_less : (test : Key → Bool) (n : ℕ) (es : Held) → Each (λ (y : Key �
 below_less test n [] h = tt
 below_less test n (x ∷ xs) h = below_by (test x.0) n x xs (remove_entry test xs) h.0 h.1 (below_less test n xs h.1)
 
--- ---- the trees stay sound
+-- ---- all stays sound
 
 fresh_by : (b : Bool) (k : Key) (x : Key × Entry) (rest : Option Entry) → is_at (key_order k) x.0 ≡ b → x.0.number < k.number → rest ≡ None → cond b (Some x.1) rest ≡ None
 fresh_by true k x rest h below r = absurd (less_differs x.0.number k.number below (ap (λ (q : Key). q.number) (key_at k x.0 h)))
@@ -207,11 +210,6 @@ fresh : (k : Key) (es : Held) → Each (λ (x : Key × Entry). x.0.number < k.nu
 fresh k [] h = refl
 fresh k (x ∷ xs) h = fresh_by (is_at (key_order k) x.0) k x (at_key xs k) refl h.0 (fresh k xs h.1)
 
--- which timer an entry may be: none, or one that stands nowhere
-abbrev pub IsFree : List (TimerKey × Key) → Option TimerKey → Type 0
-IsFree ts None = Unit {0}
-IsFree ts (Some t) = place_at ts t ≡ None
-
 none_some : {X : Type 0} {x : X} → None ≡ Some x → ⊥
 none_some h = cc
 
@@ -221,24 +219,24 @@ new_there true k q e f o h p = inl (key_at k q h, some_is e f p)
 new_there false k q e f o h p = inr (refl, p)
 
 -- another timer stands where it stood
-other_timer : (b : Bool) (u t : TimerKey) (k q : Key) (ts : List (TimerKey × Key)) → is_at (timer_order u) t ≡ b → place_at ts u ≡ None → place_at ts t ≡ Some q → cond b (Some k) (place_at ts t) ≡ Some q
-other_timer true u t k q ts h free there = absurd (none_some (sym free ∙ ap (place_at ts) (timer_at u t h) ∙ there))
+other_timer : (b : Bool) (u t : TimerKey) (k q : Key) (ts : Where) → is_at (timer_order u) t ≡ b → ts u ≡ None → ts t ≡ Some q → cond b (Some k) (ts t) ≡ Some q
+other_timer true u t k q ts h free there = absurd (none_some (sym free ∙ ap ts (timer_at u t h) ∙ there))
 other_timer false u t k q ts h free there = there
 
-noted_other : (timer : Option TimerKey) (t : TimerKey) (k q : Key) (ts : List (TimerKey × Key)) → IsFree ts timer → place_at ts t ≡ Some q → noted timer k (place_at ts) t ≡ Some q
+noted_other : (timer : Option TimerKey) (t : TimerKey) (k q : Key) (ts : Where) → IsFree ts timer → ts t ≡ Some q → noted timer k ts t ≡ Some q
 noted_other None t k q ts free there = there
 noted_other (Some u) t k q ts free there = other_timer (is_at (timer_order u) t) u t k q ts refl free there
 
-noted_new : (timer : Option TimerKey) (t : TimerKey) (k : Key) (ts : List (TimerKey × Key)) → timer ≡ Some t → noted timer k (place_at ts) t ≡ Some k
+noted_new : (timer : Option TimerKey) (t : TimerKey) (k : Key) (ts : Where) → timer ≡ Some t → noted timer k ts t ≡ Some k
 noted_new None t k ts h = absurd (none_some h)
-noted_new (Some u) t k ts h = ap (λ x. cond (is_at (timer_order x) t) (Some k) (place_at ts t)) (some_is u t h) ∙ rw (timer_itself t) refl
+noted_new (Some u) t k ts h = ap (λ x. cond (is_at (timer_order x) t) (Some k) (ts t)) (some_is u t h) ∙ rw (timer_itself t) refl
 
-noted_by : (b : Bool) (u t : TimerKey) (k q : Key) (ts : List (TimerKey × Key)) → is_at (timer_order u) t ≡ b → cond b (Some k) (place_at ts t) ≡ Some q → ((Some u ≡ Some t) × (k ≡ q)) ⊎ (place_at ts t ≡ Some q)
+noted_by : (b : Bool) (u t : TimerKey) (k q : Key) (ts : Where) → is_at (timer_order u) t ≡ b → cond b (Some k) (ts t) ≡ Some q → ((Some u ≡ Some t) × (k ≡ q)) ⊎ (ts t ≡ Some q)
 noted_by true u t k q ts h p = inl (ap Some (timer_at u t h), some_is k q p)
 noted_by false u t k q ts h p = inr p
 
 -- a timer stands at the new place or where it stood
-noted_there : (timer : Option TimerKey) (t : TimerKey) (k q : Key) (ts : List (TimerKey × Key)) → noted timer k (place_at ts) t ≡ Some q → ((timer ≡ Some t) × (k ≡ q)) ⊎ (place_at ts t ≡ Some q)
+noted_there : (timer : Option TimerKey) (t : TimerKey) (k q : Key) (ts : Where) → noted timer k ts t ≡ Some q → ((timer ≡ Some t) × (k ≡ q)) ⊎ (ts t ≡ Some q)
 noted_there None t k q ts p = inr p
 noted_there (Some u) t k q ts p = noted_by (is_at (timer_order u) t) u t k q ts refl p
 
@@ -250,8 +248,8 @@ still_by true k q e t es h none s =
 still_by false k q e t es h none s = s
 
 -- one more entry, whose timer stands nowhere yet
-pub sound_more : (es fs : Held) (ts us : List (TimerKey × Key)) (n : ℕ) (k : Key) (e : Entry) → AreSound es ts n → k.number ≡ n → IsFree ts (timer_of e) → fs ≡ insert_entry key_order es k e → IsStrictlySortedBy key_order (keys_of fs)
-    → ((q : Key) → at_key fs q ≡ cond (is_at (key_order k) q) (Some e) (at_key es q)) → ((t : TimerKey) → place_at us t ≡ noted (timer_of e) k (place_at ts) t) → AreSound fs us (n + 1)
+pub sound_more : (es fs : Held) (ts us : Where) (n : ℕ) (k : Key) (e : Entry) → AreSound es ts n → k.number ≡ n → IsFree ts (timer_of e) → fs ≡ insert_entry key_order es k e → IsStrictlySortedBy key_order (keys_of fs)
+    → ((q : Key) → at_key fs q ≡ cond (is_at (key_order k) q) (Some e) (at_key es q)) → ((t : TimerKey) → us t ≡ noted (timer_of e) k ts t) → AreSound fs us (n + 1)
 sound_more es fs ts us n k e s number free is ordered looks places = record {
   ordered = ordered;
   below = subst (Each (λ (x : Key × Entry). x.0.number < n + 1)) (sym is) (below_more k e (n + 1) es (omega (arith, number)) (each_map (λ (x : Key × Entry). x.0.number < n) (λ (x : Key × Entry). x.0.number < n + 1) es (λ x h. omega (arith, h)) s.below));
@@ -261,12 +259,12 @@ sound_more es fs ts us n k e s number free is ordered looks places = record {
       (new_there (is_at (key_order k) q) k q e f (at_key es q) refl (sym (looks q) ∙ at));
   standing = λ t q at. ap (option_and_then timer_of) (looks q) ∙ ⊎_elim
       (λ (h : (timer_of e ≡ Some t) × (k ≡ q)). ap (λ b. option_and_then timer_of (cond b (Some e) (at_key es q))) (ap (λ x. is_at (key_order k) x) (sym h.1) ∙ key_itself k) ∙ h.0)
-      (λ (h : place_at ts t ≡ Some q). still_by (is_at (key_order k) q) k q e t es refl (fresh k es (subst (λ m. Each (λ (x : Key × Entry). x.0.number < m) es) (sym number) s.below)) (s.standing t q h))
+      (λ (h : ts t ≡ Some q). still_by (is_at (key_order k) q) k q e t es refl (fresh k es (subst (λ m. Each (λ (x : Key × Entry). x.0.number < m) es) (sym number) s.below)) (s.standing t q h))
       (noted_there (timer_of e) t k q ts (sym (places t) ∙ at));
 }
 
--- nothing has changed, where the second tree says what it said
-pub sound_same : (es : Held) (ts us : List (TimerKey × Key)) (n : ℕ) → AreSound es ts n → ((t : TimerKey) → place_at us t ≡ place_at ts t) → AreSound es us n
+-- nothing has changed, where timers stand as they stood
+pub sound_same : (es : Held) (ts us : Where) (n : ℕ) → AreSound es ts n → ((t : TimerKey) → us t ≡ ts t) → AreSound es us n
 sound_same es ts us n s places = record {
   ordered = s.ordered;
   below = s.below;
@@ -278,20 +276,20 @@ gone_there : (b : Bool) (k q : Key) (f : Entry) (o : Option Entry) → is_at (ke
 gone_there true k q f o h p = absurd (none_some p)
 gone_there false k q f o h p = (refl, p)
 
-forgotten_by : (b : Bool) (u t : TimerKey) (k q : Key) (ts : List (TimerKey × Key)) → is_at (timer_order u) t ≡ b → is_at (key_order k) q ≡ false → place_at ts u ≡ Some k → place_at ts t ≡ Some q → cond b None (place_at ts t) ≡ Some q
-forgotten_by true u t k q ts h apart one two = absurd (true≢false (sym (key_itself k) ∙ ap (λ x. is_at (key_order k) x) (some_is k q (sym one ∙ ap (place_at ts) (timer_at u t h) ∙ two)) ∙ apart))
+forgotten_by : (b : Bool) (u t : TimerKey) (k q : Key) (ts : Where) → is_at (timer_order u) t ≡ b → is_at (key_order k) q ≡ false → ts u ≡ Some k → ts t ≡ Some q → cond b None (ts t) ≡ Some q
+forgotten_by true u t k q ts h apart one two = absurd (true≢false (sym (key_itself k) ∙ ap (λ x. is_at (key_order k) x) (some_is k q (sym one ∙ ap ts (timer_at u t h) ∙ two)) ∙ apart))
 forgotten_by false u t k q ts h apart one two = two
 
-forgotten_other : (timer : Option TimerKey) (t : TimerKey) (k q : Key) (ts : List (TimerKey × Key)) → is_at (key_order k) q ≡ false → ((u : TimerKey) → timer ≡ Some u → place_at ts u ≡ Some k) → place_at ts t ≡ Some q → forgotten timer (place_at ts) t ≡ Some q
+forgotten_other : (timer : Option TimerKey) (t : TimerKey) (k q : Key) (ts : Where) → is_at (key_order k) q ≡ false → ((u : TimerKey) → timer ≡ Some u → ts u ≡ Some k) → ts t ≡ Some q → forgotten timer ts t ≡ Some q
 forgotten_other None t k q ts apart one two = two
 forgotten_other (Some u) t k q ts apart one two = forgotten_by (is_at (timer_order u) t) u t k q ts refl apart (one u refl) two
 
-left_by : (b : Bool) (u t : TimerKey) (q : Key) (ts : List (TimerKey × Key)) → is_at (timer_order u) t ≡ b → cond b None (place_at ts t) ≡ Some q → (b ≡ false) × (place_at ts t ≡ Some q)
+left_by : (b : Bool) (u t : TimerKey) (q : Key) (ts : Where) → is_at (timer_order u) t ≡ b → cond b None (ts t) ≡ Some q → (b ≡ false) × (ts t ≡ Some q)
 left_by true u t q ts h p = absurd (none_some p)
 left_by false u t q ts h p = (refl, p)
 
 -- a timer that still stands is another one
-left_there : (timer : Option TimerKey) (t : TimerKey) (q : Key) (ts : List (TimerKey × Key)) → forgotten timer (place_at ts) t ≡ Some q → (timer ≡ Some t → ⊥) × (place_at ts t ≡ Some q)
+left_there : (timer : Option TimerKey) (t : TimerKey) (q : Key) (ts : Where) → forgotten timer ts t ≡ Some q → (timer ≡ Some t → ⊥) × (ts t ≡ Some q)
 left_there None t q ts p = ((λ h. none_some h), p)
 left_there (Some u) t q ts p =
     let both = left_by (is_at (timer_order u) t) u t q ts refl p in
@@ -302,8 +300,8 @@ stays_by true k q e t es h at other s = absurd (other (sym (ap (option_and_then 
 stays_by false k q e t es h at other s = s
 
 -- one entry less, and its timer with it
-pub sound_less : (es fs : Held) (ts us : List (TimerKey × Key)) (n : ℕ) (k : Key) (e : Entry) → AreSound es ts n → at_key es k ≡ Some e → Each (λ (x : Key × Entry). x.0.number < n) fs → IsStrictlySortedBy key_order (keys_of fs)
-    → ((q : Key) → at_key fs q ≡ cond (is_at (key_order k) q) None (at_key es q)) → ((t : TimerKey) → place_at us t ≡ forgotten (timer_of e) (place_at ts) t) → AreSound fs us n
+pub sound_less : (es fs : Held) (ts us : Where) (n : ℕ) (k : Key) (e : Entry) → AreSound es ts n → at_key es k ≡ Some e → Each (λ (x : Key × Entry). x.0.number < n) fs → IsStrictlySortedBy key_order (keys_of fs)
+    → ((q : Key) → at_key fs q ≡ cond (is_at (key_order k) q) None (at_key es q)) → ((t : TimerKey) → us t ≡ forgotten (timer_of e) ts t) → AreSound fs us n
 sound_less es fs ts us n k e s here below ordered looks places = record {
   ordered = ordered;
   below = below;
@@ -315,16 +313,16 @@ sound_less es fs ts us n k e s here below ordered looks places = record {
       ap (option_and_then timer_of) (looks q) ∙ stays_by (is_at (key_order k) q) k q e t es refl here was.0 (s.standing t q was.1);
 }
 
-cancelled_by : (o : Option Entry) (es fs : Held) (ts us : List (TimerKey × Key)) (n : ℕ) (t : TimerKey) (k : Key) → AreSound es ts n → place_at ts t ≡ Some k → fs ≡ remove_entry (is_at (key_order k)) es → IsStrictlySortedBy key_order (keys_of fs)
-    → ((q : Key) → at_key fs q ≡ cond (is_at (key_order k) q) None (at_key es q)) → ((q : TimerKey) → place_at us q ≡ cond (is_at (timer_order t) q) None (place_at ts q)) → at_key es k ≡ o → AreSound fs us n
+cancelled_by : (o : Option Entry) (es fs : Held) (ts us : Where) (n : ℕ) (t : TimerKey) (k : Key) → AreSound es ts n → ts t ≡ Some k → fs ≡ remove_entry (is_at (key_order k)) es → IsStrictlySortedBy key_order (keys_of fs)
+    → ((q : Key) → at_key fs q ≡ cond (is_at (key_order k) q) None (at_key es q)) → ((q : TimerKey) → us q ≡ cond (is_at (timer_order t) q) None (ts q)) → at_key es k ≡ o → AreSound fs us n
 cancelled_by None es fs ts us n t k s there is ordered looks places at = absurd (none_some (sym (ap (option_and_then timer_of) at) ∙ s.standing t k there))
 cancelled_by (Some e) es fs ts us n t k s there is ordered looks places at =
     let timer : timer_of e ≡ Some t = sym (ap (option_and_then timer_of) at) ∙ s.standing t k there in
-    sound_less es fs ts us n k e s at (subst (Each (λ (x : Key × Entry). x.0.number < n)) (sym is) (below_less (is_at (key_order k)) n es s.below)) ordered looks (λ q. places q ∙ ap (λ o. forgotten o (place_at ts) q) (sym timer))
+    sound_less es fs ts us n k e s at (subst (Each (λ (x : Key × Entry). x.0.number < n)) (sym is) (below_less (is_at (key_order k)) n es s.below)) ordered looks (λ q. places q ∙ ap (λ o. forgotten o ts q) (sym timer))
 
 -- without a timer that stood at a place
-pub sound_cancelled : (es fs : Held) (ts us : List (TimerKey × Key)) (n : ℕ) (t : TimerKey) (k : Key) → AreSound es ts n → place_at ts t ≡ Some k → fs ≡ remove_entry (is_at (key_order k)) es → IsStrictlySortedBy key_order (keys_of fs)
-    → ((q : Key) → at_key fs q ≡ cond (is_at (key_order k) q) None (at_key es q)) → ((q : TimerKey) → place_at us q ≡ cond (is_at (timer_order t) q) None (place_at ts q)) → AreSound fs us n
+pub sound_cancelled : (es fs : Held) (ts us : Where) (n : ℕ) (t : TimerKey) (k : Key) → AreSound es ts n → ts t ≡ Some k → fs ≡ remove_entry (is_at (key_order k)) es → IsStrictlySortedBy key_order (keys_of fs)
+    → ((q : Key) → at_key fs q ≡ cond (is_at (key_order k) q) None (at_key es q)) → ((q : TimerKey) → us q ≡ cond (is_at (timer_order t) q) None (ts q)) → AreSound fs us n
 sound_cancelled es fs ts us n t k s there is ordered looks places = cancelled_by (at_key es k) es fs ts us n t k s there is ordered looks places refl
 
 -- ---- an insertion
@@ -334,22 +332,22 @@ none_if None h = refl
 none_if (Some x) h = absurd (true≢false h)
 
 -- what isn't pending stands nowhere
-pub free_if : (es : Held) (ts : List (TimerKey × Key)) (n : ℕ) (id : ℕ) (what : Happening) → AreSound es ts n → is_pending id what (list_of es) ≡ false → IsFree ts (timer_in id what)
-free_if es ts n id (Timer timer kind) s h = none_if (place_at ts (record { id = id; timer = timer })) (has es ts n (record { id = id; timer = timer }) s ∙ h)
+pub free_if : (es : Held) (ts : Where) (n : ℕ) (id : ℕ) (what : Happening) → AreSound es ts n → is_pending id what (list_of es) ≡ false → IsFree ts (timer_in id what)
+free_if es ts n id (Timer timer kind) s h = none_if (ts (record { id = id; timer = timer })) (has es ts n (record { id = id; timer = timer }) s ∙ h)
 free_if es ts n id (Arrival kind bits payload) s h = tt
 free_if es ts n id (Delivery delivery) s h = tt
 
-undone_by : (b : Bool) (u t : TimerKey) (k : Key) (ts mid : List (TimerKey × Key)) → is_at (timer_order u) t ≡ b → place_at ts u ≡ None → place_at mid t ≡ cond b (Some k) (place_at ts t) → cond b None (place_at mid t) ≡ place_at ts t
-undone_by true u t k ts mid h free is = sym free ∙ ap (place_at ts) (timer_at u t h)
+undone_by : (b : Bool) (u t : TimerKey) (k : Key) (ts mid : Where) → is_at (timer_order u) t ≡ b → ts u ≡ None → mid t ≡ cond b (Some k) (ts t) → cond b None (mid t) ≡ ts t
+undone_by true u t k ts mid h free is = sym free ∙ ap ts (timer_at u t h)
 undone_by false u t k ts mid h free is = is
 
-undone : (timer : Option TimerKey) (k : Key) (ts mid : List (TimerKey × Key)) → IsFree ts timer → ((q : TimerKey) → place_at mid q ≡ noted timer k (place_at ts) q) → (t : TimerKey) → forgotten timer (place_at mid) t ≡ place_at ts t
+undone : (timer : Option TimerKey) (k : Key) (ts mid : Where) → IsFree ts timer → ((q : TimerKey) → mid q ≡ noted timer k ts q) → (t : TimerKey) → forgotten timer mid t ≡ ts t
 undone None k ts mid free is t = is t
 undone (Some u) k ts mid free is t = undone_by (is_at (timer_order u) t) u t k ts mid refl free (is t)
 
 -- where the entry found no room, the timer is forgotten again
-pub sound_undone : (es fs : Held) (ts mid us : List (TimerKey × Key)) (n : ℕ) (timer : Option TimerKey) (k : Key) → AreSound es ts n → fs ≡ es → IsFree ts timer → ((q : TimerKey) → place_at mid q ≡ noted timer k (place_at ts) q)
-    → ((q : TimerKey) → place_at us q ≡ forgotten timer (place_at mid) q) → AreSound fs us n
+pub sound_undone : (es fs : Held) (ts mid us : Where) (n : ℕ) (timer : Option TimerKey) (k : Key) → AreSound es ts n → fs ≡ es → IsFree ts timer → ((q : TimerKey) → mid q ≡ noted timer k ts q)
+    → ((q : TimerKey) → us q ≡ forgotten timer mid q) → AreSound fs us n
 sound_undone es fs ts mid us n timer k s is free noted forgotten =
     subst (λ gs. AreSound gs us n) (sym is) (sound_same es ts us n s (λ t. forgotten t ∙ undone timer k ts mid free noted t))
 

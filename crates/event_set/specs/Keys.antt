@@ -1,17 +1,19 @@
--- What the two trees of an event set say.
-use Rattle.std.specs.Prelude.{◌≡◌, ℕ, ◌<◌, cond, List, map, Option, Some, None}
+-- What the tree of events of an event set says, and what is said of its timers.
+use Rattle.std.specs.Prelude.{◌≡◌, ℕ, ◌<◌, ◌==◌, cond, List, map, Option, Some, None, slice_get, unwrap_or}
 use Rattle.std.specs.declared.cmp.Ordering.{Ordering}
 use Rattle.std.specs.Ordering.{nat_cmp, int_cmp, ordering_then}
 use Rattle.std.specs.BTreeMap.{is_at}
 use Rattle.std.specs.List.Sorted.{IsStrictlySortedBy}
 use Rattle.std.specs.Map.{lookup, keys_of}
-use Rattle.std.specs.Option.{option_and_then}
+use Rattle.std.specs.Option.{option_and_then, option_or}
 use Rattle.event_set.specs.declared.pending.Happening.{Happening}
 use Rattle.event_set.specs.declared.pending.Happening.TheVariants.{Timer, Arrival, Delivery}
 use Rattle.event_set.specs.declared.pending.Pending.{Pending}
 use Rattle.event_set.specs.declared.set.Entry.{Entry}
-use Rattle.event_set.specs.declared.set.Key.{Key}
-use Rattle.event_set.specs.declared.set.TimerKey.{TimerKey}
+use Rattle.event_set.specs.declared.places.Key.{Key}
+use Rattle.event_set.specs.declared.places.TimerKey.{TimerKey}
+use Rattle.event_set.specs.declared.timers.First.{First}
+use Rattle.event_set.specs.declared.timers.First.TheVariants.{Free, Held}
 use Rattle.event_set.specs.Order.{Each}
 
 abbrev pub key_order : Key → Key → Ordering
@@ -36,19 +38,47 @@ timer_in id (Delivery delivery) = None
 abbrev pub timer_of : Entry → Option TimerKey
 timer_of e = timer_in e.id e.what
 
--- what stands at a place, and where a timer stands
+-- what stands at a place
 abbrev pub at_key : List (Key × Entry) → Key → Option Entry
 at_key es k = lookup (is_at (key_order k)) es
 
-abbrev pub place_at : List (TimerKey × Key) → TimerKey → Option Key
-place_at ts t = lookup (is_at (timer_order t)) ts
+-- ---- where timers stand
 
--- each timer of the events stands in the second tree at its place, and nothing else does; and numbers are below the next
-pub record AreSound (es : List (Key × Entry)) (ts : List (TimerKey × Key)) (next : ℕ) : Type 0 where
+-- the slots of the modules by their ids, and what the tree has
+pub record Slots : Type 0 where
+  pub firsts : List First
+  pub others : List (TimerKey × Key)
+
+-- where a timer stands by what is in a slot, by its module's slot, and by the tree
+abbrev pub held : First → ℕ → Option Key
+held Free timer = None
+held (Held priority number time insertion) timer = cond (number == timer) (Some (record { time = time; priority = priority; number = insertion })) None
+
+abbrev pub first_at : List First → TimerKey → Option Key
+first_at firsts t = held (unwrap_or (slice_get firsts t.id) Free) t.timer
+
+abbrev pub other_at : List (TimerKey × Key) → TimerKey → Option Key
+other_at ts t = lookup (is_at (timer_order t)) ts
+
+-- no timer stands in both
+abbrev pub AreApart : (TimerKey → Option Key) → (TimerKey → Option Key) → Type 0
+AreApart f g = (t : TimerKey) (k : Key) → f t ≡ Some k → g t ≡ None
+
+-- where it stands, if it is pending
+abbrev pub place_at : Slots → TimerKey → Option Key
+place_at s t = option_or (first_at s.firsts t) (other_at s.others t)
+
+-- each timer of the events stands at its place, and nothing else does; and numbers are below the next
+pub record AreSound (es : List (Key × Entry)) (at : TimerKey → Option Key) (next : ℕ) : Type 0 where
   pub ordered : IsStrictlySortedBy key_order (keys_of es)
   pub below : Each (λ (e : Key × Entry). e.0.number < next) es
-  pub placed : (k : Key) (e : Entry) (t : TimerKey) → at_key es k ≡ Some e → timer_of e ≡ Some t → place_at ts t ≡ Some k
-  pub standing : (t : TimerKey) (k : Key) → place_at ts t ≡ Some k → option_and_then timer_of (at_key es k) ≡ Some t
+  pub placed : (k : Key) (e : Entry) (t : TimerKey) → at_key es k ≡ Some e → timer_of e ≡ Some t → at t ≡ Some k
+  pub standing : (t : TimerKey) (k : Key) → at t ≡ Some k → option_and_then timer_of (at_key es k) ≡ Some t
+
+-- which timer an entry may be: none, or one that stands nowhere
+abbrev pub IsFree : (TimerKey → Option Key) → Option TimerKey → Type 0
+IsFree at None = Unit {0}
+IsFree at (Some t) = at t ≡ None
 
 -- where timers stand with one more, and with one less
 abbrev pub noted : Option TimerKey → Key → (TimerKey → Option Key) → TimerKey → Option Key

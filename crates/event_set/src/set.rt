@@ -4,41 +4,42 @@ ghost use Rattle.std.specs.Prelude.{◌≡◌, ◌+◌, ◌^◌, ◌<◌, [], �
 ghost use Rattle.std.specs.Option.{option_map};
 ghost use Rattle.event_set.specs.Order.{Each, AreInOrder};
 ghost use Rattle.event_set.specs.Timers.{has_timer, is_pending};
-ghost use Rattle.event_set.specs.Keys.{key_order, timer_in, at_key, place_at, noted, forgotten};
-ghost use Rattle.event_set.specs.declared.set.TimerKey.{TimerKey};
-ghost use Rattle.event_set.specs.declared.set.Key.{Key};
+ghost use Rattle.event_set.specs.Keys.{key_order, timer_in, at_key, place_at, noted, forgotten, IsFree};
+ghost use Rattle.event_set.specs.declared.places.TimerKey.{TimerKey};
+ghost use Rattle.event_set.specs.declared.places.Key.{Key};
 ghost use Rattle.std.specs.BTreeMap.{is_at, insert_entry};
 ghost use Rattle.std.specs.List.Sorted.{IsStrictlySortedBy};
 ghost use Rattle.std.specs.Map.{keys_of};
 ghost use Rattle.event_set.specs.Events.{coming_of, is_live, begins_stale, struck};
 
 use crate::pending::{Happening, Pending};
+use crate::places::{Key, TimerKey};
+use crate::timers::Timers;
 use sim_time::SimTime;
 use sim_values::NoMemory;
 use std::alloc::{AllocError, Global};
 use std::collections::BTreeMap;
 use std::marker::Model;
 
-/// The place of an event in the order (OMNeT++ Simulation Manual, "Message Scheduling and Priority").
-#[derive(Clone, Copy, PartialEq, Eq, PartialOrd, Ord, Drop)]
-struct Key {
-    time: SimTime,
-    priority: i16,
-    number: u128,
-}
-
 /// An event but for its place.
 #[derive(Drop)]
 struct Entry {
     id: u32,
     what: Happening,
+    alloc: Global,
 }
 
-/// A timer of a module.
-#[derive(Clone, Copy, PartialEq, Eq, PartialOrd, Ord, Drop)]
-struct TimerKey {
-    id: u32,
-    timer: u32,
+// An equal one, so that a whole tree is copied node by node, with no search.
+impl Clone for Entry {
+    ghost is_clone = { λ entry copy. copy ≡ entry };
+
+    fn clone(&self) -> Result<Entry, AllocError> {
+        Ok(Entry {
+            id: self.id,
+            what: self.what.copy(self.alloc)?,
+            alloc: self.alloc,
+        })
+    }
 }
 
 /// When an event comes, its priority and its module, told before it is taken out.
@@ -54,9 +55,10 @@ pub struct Coming {
 pub struct EventSet {
     events: BTreeMap<Key, Entry>,
     /// Where the timers stand that are pending.
-    timers: BTreeMap<TimerKey, Key>,
+    timers: Timers,
     /// The number of the next insertion.
     next: u128,
+    alloc: Global,
 }
 
 // Written out, so that a crate which drops one need not prove what that does.
@@ -66,19 +68,20 @@ impl Drop for EventSet {
             events: _,
             timers: _,
             next: _,
+            alloc: _,
         } = self;
     }
 }
 
 impl Model for EventSet {
     ghost use Rattle.event_set.specs.Events.{Events};
-    ghost use Rattle.event_set.specs.Keys.{list_of, AreSound};
+    ghost use Rattle.event_set.specs.Keys.{list_of, place_at, AreSound};
 
     ghost Value = { Events };
 
     ghost view = { λ s. record { list = list_of s.events.entries; next = s.next } };
 
-    ghost invariant = { λ s. AreSound s.events.entries s.timers.entries s.next };
+    ghost invariant = { λ s. AreSound s.events.entries (place_at s.timers) s.next };
 }
 
 impl EventSet {
@@ -90,8 +93,9 @@ impl EventSet {
     {
         EventSet {
             events: BTreeMap::new(alloc),
-            timers: BTreeMap::new(alloc),
+            timers: Timers::new(alloc),
             next: 0,
+            alloc,
         }
     }
 
@@ -107,7 +111,7 @@ impl EventSet {
     pub fn has_timer(&self, id: u32, timer: u32) -> bool
         ensures { result ≡ has_timer id timer self.now.list }
     {
-        self.timers.contains_key(&TimerKey { id, timer })
+        self.timers.find(TimerKey { id, timer }).is_some()
     }
 
     /// Puts an event in its place, with the next number, or changes nothing where memory runs out. No
@@ -125,7 +129,11 @@ impl EventSet {
         ensures err { OnErr result (self.new ≡ self.old) }
     {
         let key = key_of(time, priority, self.next);
-        let entry = Entry { id, what };
+        let entry = Entry {
+            id,
+            what,
+            alloc: self.alloc,
+        };
         let timer = timer_in(id, &entry.what);
         note_timer(&mut self.timers, &timer, &key)?;
         if let Err(refused) = put_entry(&mut self.events, key, entry) {
@@ -141,7 +149,7 @@ impl EventSet {
         ensures found { result ≡ has_timer id timer self.old.list }
         ensures rest { self.new ≡ cancelled id timer self.old }
     {
-        let Some(key) = self.timers.remove(&TimerKey { id, timer }) else {
+        let Some(key) = self.timers.remove(TimerKey { id, timer }) else {
             return false;
         };
         self.events.remove(&key);
@@ -169,7 +177,7 @@ impl EventSet {
         let Some((key, entry)) = self.events.pop_first() else {
             return None;
         };
-        let Entry { id, what } = entry;
+        let Entry { id, what, alloc: _ } = entry;
         forget_timer(&mut self.timers, &timer_in(id, &what));
         Some(Pending {
             time: key.time,
@@ -184,12 +192,13 @@ impl EventSet {
     pub fn copy(&self, alloc: Global) -> Result<EventSet, NoMemory>
         ensures { IfOk result (λ copy. copy ≡ self.now) }
     {
-        let events = copy_events(alloc, &self.events)?;
-        let timers = self.timers.clone()?;
+        let events = copy_events(&self.events)?;
+        let timers = self.timers.copy(alloc)?;
         Ok(EventSet {
             events,
             timers,
             next: self.next,
+            alloc,
         })
     }
 
@@ -235,27 +244,10 @@ fn key_of(time: SimTime, priority: i16, number: u128) -> Key
 }
 
 /// Equal entries at equal places.
-fn copy_events(
-    alloc: Global,
-    events: &BTreeMap<Key, Entry>,
-) -> Result<BTreeMap<Key, Entry>, NoMemory>
+fn copy_events(events: &BTreeMap<Key, Entry>) -> Result<BTreeMap<Key, Entry>, AllocError>
     ensures { IfOk result (λ copy. copy.entries ≡ events.now.entries) }
 {
-    let mut copy = BTreeMap::new(alloc);
-    for (key, entry) in events.iter() {
-        put_entry(&mut copy, *key, copy_entry(alloc, entry)?)?;
-    }
-    Ok(copy)
-}
-
-/// An equal entry.
-fn copy_entry(alloc: Global, entry: &Entry) -> Result<Entry, AllocError>
-    ensures { IfOk result (λ copy. copy ≡ entry.now) }
-{
-    Ok(Entry {
-        id: entry.id,
-        what: entry.what.copy(alloc)?,
-    })
+    events.clone()
 }
 
 /// Puts an entry in its place, or changes nothing.
@@ -270,26 +262,23 @@ fn put_entry(events: &mut BTreeMap<Key, Entry>, key: Key, entry: Entry) -> Resul
 }
 
 /// Notes where a timer stands, if it is one.
-fn note_timer(
-    timers: &mut BTreeMap<TimerKey, Key>,
-    timer: &Option<TimerKey>,
-    key: &Key,
-) -> Result<(), AllocError>
-    ensures ok { OnOk result ((t : TimerKey) → place_at timers.new.entries t ≡ noted timer.now key.now (place_at timers.old.entries) t) }
-    ensures err { OnErr result (timers.new.entries ≡ timers.old.entries) }
+fn note_timer(timers: &mut Timers, timer: &Option<TimerKey>, key: &Key) -> Result<(), AllocError>
+    requires { IsFree (place_at timers.old) timer.now }
+    ensures ok { OnOk result ((t : TimerKey) → place_at timers.new t ≡ noted timer.now key.now (place_at timers.old) t) }
+    ensures err { OnErr result ((t : TimerKey) → place_at timers.new t ≡ place_at timers.old t) }
 {
     if let Some(timer) = timer {
-        timers.insert(*timer, *key)?;
+        timers.put(*timer, key)?;
     }
     Ok(())
 }
 
 /// Forgets where a timer stands, if it is one.
-fn forget_timer(timers: &mut BTreeMap<TimerKey, Key>, timer: &Option<TimerKey>)
-    ensures { (t : TimerKey) → place_at timers.new.entries t ≡ forgotten timer.now (place_at timers.old.entries) t }
+fn forget_timer(timers: &mut Timers, timer: &Option<TimerKey>)
+    ensures { (t : TimerKey) → place_at timers.new t ≡ forgotten timer.now (place_at timers.old) t }
 {
     if let Some(timer) = timer {
-        timers.remove(timer);
+        timers.remove(*timer);
     }
 }
 
