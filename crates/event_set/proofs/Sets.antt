@@ -11,10 +11,10 @@ use Rattle.std.specs.Option.{option_and_then}
 use Rattle.event_set.specs.declared.pending.Happening.{Happening}
 use Rattle.event_set.specs.declared.pending.Happening.TheVariants.{Timer, Arrival, Delivery}
 use Rattle.event_set.specs.declared.pending.Pending.{Pending}
-use Rattle.event_set.specs.declared.set.Entry.{Entry}
+use Rattle.event_set.specs.declared.entry.Entry.{Entry}
 use Rattle.event_set.specs.declared.places.Key.{Key}
 use Rattle.event_set.specs.declared.places.TimerKey.{TimerKey}
-use Rattle.event_set.specs.Keys.{key_order, timer_order, pending_of, list_of, timer_in, timer_of, at_key, AreSound, noted, forgotten, IsFree}
+use Rattle.event_set.specs.Keys.{key_order, timer_order, pending_of, list_of, id_of, what_of, timer_in, timer_of, at_key, AreSound, noted, forgotten, IsFree}
 use Rattle.event_set.specs.Order.{comes_before, inserted, Each, AreInOrder}
 use Rattle.event_set.specs.Timers.{is_timer, is_timer_number, has_timer, is_pending, without_timer}
 use Rattle.event_set.proofs.Order.{each_map}
@@ -115,13 +115,13 @@ same_by : (es : Held) (ts : Where) (n : ℕ) (t : TimerKey) (k : Key) → AreSou
 same_by es ts n t k s h x at true true p q = refl
 same_by es ts n t k s h x at false false p q = refl
 same_by es ts n t k s h x at true false p q =
-    let there : ts t ≡ Some x.0 = s.placed x.0 x.1 t at (number_is t.id t.timer x.1.id x.1.what p) in
+    let there : ts t ≡ Some x.0 = s.placed x.0 x.1 t at (number_is t.id t.timer (id_of x.1) (what_of x.1) p) in
     let same : k ≡ x.0 = some_is k x.0 (sym h ∙ there) in
     absurd (true≢false (sym (key_itself k) ∙ ap (λ q. is_at (key_order k) q) same ∙ q))
 same_by es ts n t k s h x at false true p q =
     let same : k ≡ x.0 = key_at k x.0 q in
     let here : timer_of x.1 ≡ Some t = timer_there es x.0 x.1 t at (subst (λ j. option_and_then timer_of (at_key es j) ≡ Some t) same (s.standing t k h)) in
-    absurd (true≢false (sym (is_number t x.1.id x.1.what here) ∙ p))
+    absurd (true≢false (sym (is_number t (id_of x.1) (what_of x.1) here) ∙ p))
 
 abbrev SameTests : TimerKey → Key → Held → Type 0
 SameTests t k es = Each (λ (x : Key × Entry). is_timer t.id t.timer (pending_of x) ≡ is_at (key_order k) x.0) es
@@ -134,7 +134,7 @@ same_tests es ts n t k s h =
 none_by : (es : Held) (ts : Where) (n : ℕ) (t : TimerKey) → AreSound es ts n → ts t ≡ None → (x : Key × Entry) → at_key es x.0 ≡ Some x.1 → (a : Bool) → is_timer t.id t.timer (pending_of x) ≡ a → a ≡ false
 none_by es ts n t s h x at false p = refl
 none_by es ts n t s h x at true p =
-    let there : ts t ≡ Some x.0 = s.placed x.0 x.1 t at (number_is t.id t.timer x.1.id x.1.what p) in cc
+    let there : ts t ≡ Some x.0 = s.placed x.0 x.1 t at (number_is t.id t.timer (id_of x.1) (what_of x.1) p) in cc
 
 abbrev NoTests : TimerKey → Held → Type 0
 NoTests t es = Each (λ (x : Key × Entry). is_timer t.id t.timer (pending_of x) ≡ false) es

@@ -9,7 +9,8 @@ use Rattle.std.specs.Option.{option_and_then, option_or}
 use Rattle.event_set.specs.declared.pending.Happening.{Happening}
 use Rattle.event_set.specs.declared.pending.Happening.TheVariants.{Timer, Arrival, Delivery}
 use Rattle.event_set.specs.declared.pending.Pending.{Pending}
-use Rattle.event_set.specs.declared.set.Entry.{Entry}
+use Rattle.event_set.specs.declared.entry.Entry.{Entry}
+use Rattle.event_set.specs.declared.entry.Entry.TheVariants as entry
 use Rattle.event_set.specs.declared.places.Key.{Key}
 use Rattle.event_set.specs.declared.places.TimerKey.{TimerKey}
 use Rattle.event_set.specs.declared.timers.First.{First}
@@ -22,9 +23,20 @@ key_order a b = ordering_then (nat_cmp a.time b.time) (ordering_then (int_cmp a.
 abbrev pub timer_order : TimerKey → TimerKey → Ordering
 timer_order a b = ordering_then (nat_cmp a.id b.id) (nat_cmp a.timer b.timer)
 
+-- the module of an entry, and what is to happen to it
+abbrev pub id_of : Entry → ℕ
+id_of (entry.Timer kind id timer) = id
+id_of (entry.Arrival kind id bits payload alloc) = id
+id_of (entry.Delivery id delivery alloc) = id
+
+abbrev pub what_of : Entry → Happening
+what_of (entry.Timer kind id timer) = Timer timer kind
+what_of (entry.Arrival kind id bits payload alloc) = Arrival kind bits payload
+what_of (entry.Delivery id delivery alloc) = Delivery delivery
+
 -- an entry as the event that it is
 abbrev pub pending_of : Key × Entry → Pending
-pending_of e = record { time = e.0.time; priority = e.0.priority; number = e.0.number; id = e.1.id; what = e.1.what }
+pending_of e = record { time = e.0.time; priority = e.0.priority; number = e.0.number; id = id_of e.1; what = what_of e.1 }
 
 abbrev pub list_of : List (Key × Entry) → List Pending
 list_of es = map pending_of es
@@ -36,7 +48,7 @@ timer_in id (Arrival kind bits payload) = None
 timer_in id (Delivery delivery) = None
 
 abbrev pub timer_of : Entry → Option TimerKey
-timer_of e = timer_in e.id e.what
+timer_of e = timer_in (id_of e) (what_of e)
 
 -- what stands at a place
 abbrev pub at_key : List (Key × Entry) → Key → Option Entry

@@ -45,21 +45,6 @@ impl Delivery {
     }
 }
 
-impl Happening {
-    /// An equal one.
-    pub fn copy(&self, alloc: Global) -> Result<Happening, AllocError>
-        ensures { IfOk result (λ copy. copy ≡ self.now) }
-    {
-        Ok(match self {
-            Happening::Timer(timer, kind) => Happening::Timer(*timer, *kind),
-            Happening::Arrival(kind, bits, payload) => {
-                Happening::Arrival(*kind, *bits, payload.copy(alloc)?)
-            }
-            Happening::Delivery(delivery) => Happening::Delivery(delivery.copy(alloc)?),
-        })
-    }
-}
-
 /// An event to come.
 #[derive(Drop)]
 pub struct Pending {

@@ -12,6 +12,7 @@ ghost use Rattle.std.specs.List.Sorted.{IsStrictlySortedBy};
 ghost use Rattle.std.specs.Map.{keys_of};
 ghost use Rattle.event_set.specs.Events.{coming_of, is_live, begins_stale, struck};
 
+use crate::entry::Entry;
 use crate::pending::{Happening, Pending};
 use crate::places::{Key, TimerKey};
 use crate::timers::Timers;
@@ -20,27 +21,6 @@ use sim_values::NoMemory;
 use std::alloc::{AllocError, Global};
 use std::collections::BTreeMap;
 use std::marker::Model;
-
-/// An event but for its place.
-#[derive(Drop)]
-struct Entry {
-    id: u32,
-    what: Happening,
-    alloc: Global,
-}
-
-// An equal one, so that a whole tree is copied node by node, with no search.
-impl Clone for Entry {
-    ghost is_clone = { λ entry copy. copy ≡ entry };
-
-    fn clone(&self) -> Result<Entry, AllocError> {
-        Ok(Entry {
-            id: self.id,
-            what: self.what.copy(self.alloc)?,
-            alloc: self.alloc,
-        })
-    }
-}
 
 /// When an event comes, its priority and its module, told before it is taken out.
 #[derive(Clone, Copy, Drop)]
@@ -129,12 +109,8 @@ impl EventSet {
         ensures err { OnErr result (self.new ≡ self.old) }
     {
         let key = key_of(time, priority, self.next);
-        let entry = Entry {
-            id,
-            what,
-            alloc: self.alloc,
-        };
-        let timer = timer_in(id, &entry.what);
+        let timer = timer_in(id, &what);
+        let entry = Entry::new(self.alloc, id, what)?;
         note_timer(&mut self.timers, &timer, &key)?;
         if let Err(refused) = put_entry(&mut self.events, key, entry) {
             forget_timer(&mut self.timers, &timer);
@@ -164,7 +140,7 @@ impl EventSet {
             Some((key, entry)) => Some(Coming {
                 time: key.time,
                 priority: key.priority,
-                id: entry.id,
+                id: entry.id(),
             }),
             None => None,
         }
@@ -177,7 +153,8 @@ impl EventSet {
         let Some((key, entry)) = self.events.pop_first() else {
             return None;
         };
-        let Entry { id, what, alloc: _ } = entry;
+        let id = entry.id();
+        let what = entry.into_what();
         forget_timer(&mut self.timers, &timer_in(id, &what));
         Some(Pending {
             time: key.time,

@@ -1,0 +1,124 @@
+//! Events as the tree has them: all but their place.
+
+ghost use Rattle.std.specs.Prelude.{◌≡◌, IfOk};
+ghost use Rattle.event_set.specs.Keys.{id_of, what_of};
+
+use crate::pending::{Delivery, Happening};
+use sim_values::text::Text;
+use sqlite_items::Boxed;
+use std::alloc::{AllocError, Global};
+
+/// The module of an event, and what is to happen. A payload and a message are boxed, and the fields stand in an order in which they
+/// leave no room between them: so a node of the tree, with fifteen entries and their places, is a block that is small.
+#[derive(Drop)]
+pub(crate) enum Entry {
+    /// A self-message.
+    Timer {
+        kind: i16,
+        id: u32,
+        timer: u32,
+    },
+    /// A message from outside.
+    Arrival {
+        kind: i16,
+        id: u32,
+        bits: u64,
+        payload: Boxed<Text>,
+        alloc: Global,
+    },
+    /// A message of a module.
+    Delivery {
+        id: u32,
+        delivery: Boxed<Delivery>,
+        alloc: Global,
+    },
+}
+
+// An entry has three words.
+const _: () = prove!(size_of::<Entry>() == 24);
+
+// An equal one, so that a whole tree is copied node by node, with no search.
+impl Clone for Entry {
+    ghost is_clone = { λ entry copy. copy ≡ entry };
+
+    fn clone(&self) -> Result<Entry, AllocError> {
+        Ok(match self {
+            Entry::Timer { kind, id, timer } => Entry::Timer {
+                kind: *kind,
+                id: *id,
+                timer: *timer,
+            },
+            Entry::Arrival {
+                kind,
+                id,
+                bits,
+                payload,
+                alloc,
+            } => Entry::Arrival {
+                kind: *kind,
+                id: *id,
+                bits: *bits,
+                payload: Boxed::new(*alloc, payload.get().copy(*alloc)?)?,
+                alloc: *alloc,
+            },
+            Entry::Delivery {
+                id,
+                delivery,
+                alloc,
+            } => Entry::Delivery {
+                id: *id,
+                delivery: Boxed::new(*alloc, delivery.get().copy(*alloc)?)?,
+                alloc: *alloc,
+            },
+        })
+    }
+}
+
+impl Entry {
+    /// What is to happen to the module of that id.
+    pub(crate) fn new(alloc: Global, id: u32, what: Happening) -> Result<Entry, AllocError>
+        ensures id { IfOk result (λ entry. id_of entry ≡ id) }
+        ensures what { IfOk result (λ entry. what_of entry ≡ what) }
+    {
+        Ok(match what {
+            Happening::Timer(timer, kind) => Entry::Timer { kind, id, timer },
+            Happening::Arrival(kind, bits, payload) => Entry::Arrival {
+                kind,
+                id,
+                bits,
+                payload: Boxed::new(alloc, payload)?,
+                alloc,
+            },
+            Happening::Delivery(delivery) => Entry::Delivery {
+                id,
+                delivery: Boxed::new(alloc, delivery)?,
+                alloc,
+            },
+        })
+    }
+
+    /// The id of the module.
+    pub(crate) fn id(&self) -> u32
+        ensures { result ≡ id_of self.now }
+    {
+        match self {
+            Entry::Timer { id, .. } | Entry::Arrival { id, .. } | Entry::Delivery { id, .. } => *id,
+        }
+    }
+
+    /// What is to happen.
+    pub(crate) fn into_what(self) -> Happening
+        ensures { result ≡ what_of self }
+    {
+        match self {
+            Entry::Timer { kind, timer, .. } => Happening::Timer(timer, kind),
+            Entry::Arrival {
+                kind,
+                bits,
+                payload,
+                ..
+            } => Happening::Arrival(kind, bits, payload.into_inner()),
+            Entry::Delivery { delivery, .. } => Happening::Delivery(delivery.into_inner()),
+        }
+    }
+}
