@@ -4,3 +4,4 @@ pub mod TextLemmas
 pub mod Rising
 pub mod SectionLaws
 pub mod HeaderLaws
+pub mod PartDigits

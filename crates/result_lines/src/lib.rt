@@ -3,6 +3,7 @@
 
 pub mod buffer;
 pub mod header;
+mod line_bytes;
 pub mod lines;
 mod next_vector;
 pub mod progress;

@@ -6,8 +6,9 @@ ghost use Rattle.result_lines.specs.Written.{Adds, written_in};
 ghost use Rattle.result_lines.specs.ScalarText.{scalar_line, scalar_lines};
 ghost use Rattle.result_lines.specs.VectorText.{vector_line, vector_lines, data_line, heard_line, heard_lines, data_lines};
 
+use crate::line_bytes::{MAX_LINE, data_line_start};
 use crate::next_vector::{are_by_module, next_place};
-use crate::progress::{Progress, put, put_field, put_number, put_signed, put_time, put_wide};
+use crate::progress::{Progress, put, put_field, put_number, put_wide};
 use crate::writer::Out;
 use recorders::hearing::hears;
 use recorders::scalar_line::ScalarLine;
@@ -70,7 +71,7 @@ pub fn put_vector_lines<O: Out>(out: &mut O, progress: Progress, vectors: &[Vect
     progress
 }
 
-/// Writes the line of a value in the vector of that number.
+/// Writes the line of a value in the vector of that number. It is put together in place, and given to the device at once.
 fn put_data_line<O: Out>(
     out: &mut O,
     progress: Progress,
@@ -81,10 +82,9 @@ fn put_data_line<O: Out>(
     ensures adds { Adds progress (O.taken out.old) result (O.taken out.new) (data_line number emission.now) }
     ensures short { written_in result ≤ written_in progress + 256 }
 {
-    let progress = put_number(out, progress, number, b'\t');
-    let progress = put_number(out, progress, emission.event, b'\t');
-    let progress = put_time(out, progress, emission.time, b'\t');
-    put_signed(out, progress, emission.value, b'\n')
+    let mut line = [0; MAX_LINE];
+    let start = data_line_start(&mut line, number, emission);
+    put(out, progress, &line[start..])
 }
 
 /// Writes the line of a value in the vector of that number, where it hears it.

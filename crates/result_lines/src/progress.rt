@@ -2,13 +2,11 @@
 
 ghost use Rattle.std.specs.Prelude.{◌≡◌, ◌+◌, ◌^◌, ◌≤◌, ◌<◌, length, ◌∷◌, [], ◌++◌};
 ghost use Rattle.std.specs.Fmt.{decimal, signed_decimal};
-ghost use Rattle.sim_time.specs.Text.{text_of_time};
 ghost use Rattle.result_lines.specs.Written.{Adds, written_in};
 ghost use Rattle.result_lines.specs.Fields.{field};
 
 use crate::writer::Out;
 use itoa::Buffer;
-use sim_time::{SimTime, TimeText};
 
 /// How far the writing of a text has come.
 #[derive(Clone, Copy, PartialEq, Eq)]
@@ -66,16 +64,6 @@ pub fn put_number<O: Out>(out: &mut O, progress: Progress, number: u64, end: u8)
     put_field(out, progress, buffer.format(number).as_bytes(), end)
 }
 
-/// Writes a number that may be negative and the byte that ends it.
-pub fn put_signed<O: Out>(out: &mut O, progress: Progress, number: i64, end: u8) -> Progress
-    requires { written_in progress < 2 ^ 126 }
-    ensures adds { Adds progress (O.taken out.old) result (O.taken out.new) (field (signed_decimal number) end) }
-    ensures short { written_in result ≤ written_in progress + 64 }
-{
-    let mut buffer = Buffer::new();
-    put_field(out, progress, buffer.format(number).as_bytes(), end)
-}
-
 /// Writes a number of up to 128 bits that may be negative and the byte that ends it.
 pub fn put_wide<O: Out>(out: &mut O, progress: Progress, number: i128, end: u8) -> Progress
     requires { written_in progress < 2 ^ 126 }
@@ -84,16 +72,4 @@ pub fn put_wide<O: Out>(out: &mut O, progress: Progress, number: i128, end: u8) 
 {
     let mut buffer = Buffer::new();
     put_field(out, progress, buffer.format(number).as_bytes(), end)
-}
-
-/// Writes a time in seconds and the byte that ends it.
-pub fn put_time<O: Out>(out: &mut O, progress: Progress, time: SimTime, end: u8) -> Progress
-    requires { written_in progress < 2 ^ 126 }
-    ensures adds { Adds progress (O.taken out.old) result (O.taken out.new) (field (text_of_time time) end) }
-    ensures short { written_in result ≤ written_in progress + 64 }
-{
-    let _ps = time.ps();
-    let mut text = TimeText::new();
-    time.write_text(&mut text);
-    put_field(out, progress, text.as_bytes(), end)
 }
