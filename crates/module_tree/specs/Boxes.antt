@@ -51,6 +51,11 @@ module _ {X : Type 0} where
   AreRising from below [] = Unit {0}
   AreRising from below (s ∷ ss) = (from ≤ s.id) × (s.id < below) × AreRising (suc s.id) below ss
 
+  -- it holds of each box with the id of its module
+  abbrev pub EachBox : (ℕ → X → Type 0) → List (Seated X) → Type 0
+  EachBox P [] = Unit {0}
+  EachBox P (s ∷ ss) = P s.id s.box × EachBox P ss
+
   -- what a list of slots holds, from this id on
   abbrev pub seats_from : ℕ → List (Option X) → List (Seated X)
   seats_from id [] = []

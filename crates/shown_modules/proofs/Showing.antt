@@ -3,10 +3,10 @@ use Rattle.std.proofs.Common.{◌≡◌, ℕ, zero, suc, ◌==◌, nat_lt, cond,
 use Rattle.run_questions.specs.declared.record.Record.{Record}
 use Rattle.run_questions.specs.Answers.{Answers, with_values}
 use Rattle.run_questions.specs.Records.{Place, lineage_up, path_along, place_of, record_at, with_those_around}
-use Rattle.module_tree.specs.Boxes.{Seated, box_of, with_box, without_box}
+use Rattle.module_tree.proofs.Each.{each_so}
 use Rattle.shown_modules.specs.declared.Shown.{Shown}
 use Rattle.shown_modules.specs.declared.ShownModules.{ShownModules}
-use Rattle.shown_modules.specs.Tables.{shown_of, whole_by, is_whole, IsShown, AreEach, AreShown}
+use Rattle.shown_modules.specs.Tables.{shown_of, whole_by, is_whole, IsShown, AreShown}
 
 -- ---- modules that were created with all that are around them
 
@@ -62,48 +62,9 @@ whole_lasts m rs id h more = ap (shown_at m) (sym (lineage_more rs more 32 id h)
 shown_more : (m : Answers) (rs more : List Record) (id : ℕ) (shown : Shown) → IsShown m rs id shown → IsShown m (rs ++ more) id shown
 shown_more m rs more id shown h others = h (more ++ others) ∙ ap (λ all. shown_of m all id) (sym (append_assoc rs more others))
 
-each_more : (m : Answers) (rs more : List Record) (ss : List (Seated Shown)) → AreEach m rs ss → AreEach m (rs ++ more) ss
-each_more m rs more [] h = tt
-each_more m rs more (s ∷ ss) h = (shown_more m rs more s.id s.box h.0, each_more m rs more ss h.1)
-
 pub shown_on : (m : Answers) (rs more : List Record) (t : ShownModules) → AreShown m rs t → AreShown m (rs ++ more) t
-shown_on m rs more t h = each_more m rs more t.entries.seats h
-
--- the one of an id
-pub one_shown : (m : Answers) (rs : List Record) (id : ℕ) (ss : List (Seated Shown)) (shown : Shown) → AreEach m rs ss → box_of id ss ≡ Some shown → IsShown m rs id shown
-one_shown m rs id [] shown h e = cc
-one_shown m rs id (s ∷ ss) shown h e = by (s.id == id) refl (one_shown m rs id ss shown h.1) e
-  where
-    by : (t : Bool) → (s.id == id) ≡ t → (box_of id ss ≡ Some shown → IsShown m rs id shown) → cond t (Some s.box) (box_of id ss) ≡ Some shown → IsShown m rs id shown
-    by true t later e =
-        let same : s.box ≡ shown = cc in
-        subst (IsShown m rs id) same (subst (λ i. IsShown m rs i s.box) (eqb-true s.id id t) h.0)
-    by false t later e = later e
+shown_on m rs more t h = each_so (IsShown m rs) (IsShown m (rs ++ more)) t.entries.seats (shown_more m rs more) h
 
 -- now
 pub now_shown : (m : Answers) (rs : List Record) (id : ℕ) (shown : Shown) → IsShown m rs id shown → shown ≡ shown_of m rs id
 now_shown m rs id shown h = h [] ∙ ap (λ all. shown_of m all id) (append-nil rs)
-
--- without it
-pub each_without : (m : Answers) (rs : List Record) (id : ℕ) (ss : List (Seated Shown)) → AreEach m rs ss → AreEach m rs (without_box id ss)
-each_without m rs id [] h = tt
-each_without m rs id (s ∷ ss) h = by (s.id == id) (each_without m rs id ss h.1)
-  where
-    by : (t : Bool) → AreEach m rs (without_box id ss) → AreEach m rs (cond t ss (s ∷ without_box id ss))
-    by true later = h.1
-    by false later = (h.0, later)
-
--- with one more
-pub each_with : (m : Answers) (rs : List Record) (id : ℕ) (shown : Shown) (ss : List (Seated Shown)) → IsShown m rs id shown → AreEach m rs ss → AreEach m rs (with_box id shown ss)
-each_with m rs id shown [] k h = (k, tt)
-each_with m rs id shown (s ∷ ss) k h = by (nat_lt id s.id) (each_with m rs id shown ss k h.1)
-  where
-    by : (t : Bool) → AreEach m rs (with_box id shown ss) → AreEach m rs (cond t (record { id = id; box = shown } ∷ s ∷ ss) (s ∷ with_box id shown ss))
-    by true later = (k, h)
-    by false later = (h.0, later)
-
--- with one more, where there was memory for it
-pub each_placed : {A E : Type 0} (m : Answers) (rs : List Record) (id : ℕ) (shown : Shown) (before after : List (Seated Shown)) (placed : Result A E) → OnOk placed (after ≡ with_box id shown before) → OnErr placed (after ≡ before)
-    → IsShown m rs id shown → AreEach m rs before → AreEach m rs after
-each_placed m rs id shown before after (Ok x) ok err k h = subst (AreEach m rs) (sym ok) (each_with m rs id shown before k h)
-each_placed m rs id shown before after (Err e) ok err k h = subst (AreEach m rs) (sym err) h

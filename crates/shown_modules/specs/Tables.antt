@@ -3,7 +3,7 @@ use Rattle.std.specs.Prelude.{◌≡◌, ℕ, zero, suc, ◌==◌, Bool, true, f
 use Rattle.run_questions.specs.declared.record.Record.{Record}
 use Rattle.run_questions.specs.Answers.{Answers, gates_of, parameters_of}
 use Rattle.run_questions.specs.Records.{path_of, record_at}
-use Rattle.module_tree.specs.Boxes.{Seated}
+use Rattle.module_tree.specs.Boxes.{Seated, EachBox}
 use Rattle.shown_modules.specs.declared.Shown.{Shown}
 use Rattle.shown_modules.specs.declared.ShownModules.{ShownModules}
 
@@ -15,18 +15,13 @@ shown_of m records id = record { path = path_of records id; parameters = paramet
 abbrev pub IsShown : Answers → List Record → ℕ → Shown → Type 0
 IsShown m records id shown = (more : List Record) → shown ≡ shown_of m (records ++ more) id
 
--- each of these is that of its module
-abbrev pub AreEach : Answers → List Record → List (Seated Shown) → Type 0
-AreEach m records [] = Unit {0}
-AreEach m records (s ∷ ss) = IsShown m records s.id s.box × AreEach m records ss
-
 -- the entries of a table, by rising ids
 abbrev pub entries_in : ShownModules → List (Seated Shown)
 entries_in t = t.entries.seats
 
 -- A TABLE IS RIGHT: each entry is what calls show of its module, and stays so whatever modules are created besides
 abbrev pub AreShown : Answers → List Record → ShownModules → Type 0
-AreShown m records t = AreEach m records (entries_in t)
+AreShown m records t = EachBox (IsShown m records) (entries_in t)
 
 -- ---- modules that were created with all that are around them
 
