@@ -26,6 +26,7 @@ use event_set::pending::{Happening, Pending};
 use event_set::set::EventSet;
 use injection_order::injection::{Due, Injection, Turn as InjectionTurn, injection_before};
 use module_api::message::Outgoing;
+use module_api::name::Name;
 use module_api::names::is_scalar_name;
 use module_api::reply::{Action, Appointment, Read, Schedule};
 use question_log::cutting::cut_items;
@@ -286,7 +287,7 @@ impl Core {
     }
 
     /// Notes an emission.
-    fn emit(&mut self, alloc: Global, id: u32, signal: &Text, value: i64) -> Result<Turn, NoMemory>
+    fn emit(&mut self, alloc: Global, id: u32, signal: &Name, value: i64) -> Result<Turn, NoMemory>
         ensures flow { IfOk result (λ turn. flow_of turn self.new
             ≡ deed id (Action.Emit signal.now value) self.old) }
         ensures err { OnErr result (self.new ≡ self.old) }
@@ -303,7 +304,7 @@ impl Core {
     }
 
     /// Notes a scalar, where it has a name.
-    fn record(&mut self, alloc: Global, id: u32, name: &Text, value: i64) -> Result<Turn, NoMemory>
+    fn record(&mut self, alloc: Global, id: u32, name: &Name, value: i64) -> Result<Turn, NoMemory>
         ensures flow { IfOk result (λ turn. flow_of turn self.new
             ≡ deed id (Action.RecordScalar name.now value) self.old) }
         ensures err { OnErr result (self.new ≡ self.old) }
@@ -311,7 +312,7 @@ impl Core {
         if !is_scalar_name(name.as_bytes()) {
             return self.broken(alloc, id, Fault::BadName);
         }
-        let name = name.copy(alloc)?;
+        let name = name.text(alloc)?;
         self.scalars.push(Scalar { id, name, value })?;
         Ok(Turn::GoOn)
     }

@@ -17,8 +17,8 @@ pub fn question_of(alloc: Global, id: u32, read: &Read) -> Result<Question, Allo
     ensures modules { IfOk result (λ question. is_of_modules question ≡ true) }
 {
     match read {
-        Read::Parameter(name) => Ok(Question::Param(id, name.copy(alloc)?)),
-        Read::Gate(name) => Ok(Question::GateSize(id, name.copy(alloc)?)),
+        Read::Parameter(name) => Ok(Question::Param(id, name.text(alloc)?)),
+        Read::Gate(name) => Ok(Question::GateSize(id, name.text(alloc)?)),
     }
 }
 

@@ -155,7 +155,7 @@ fn can_leave<A: Answers>(
     ensures next { core.new.next ≡ core.old.next }
     ensures grown { IsGrownFrom core.old core.new }
 {
-    let question = Question::GateSize(id, gate.name.copy(alloc)?);
+    let question = Question::GateSize(id, gate.name.text(alloc)?);
     let found = ask(core, alloc, model, question)?;
     Ok(is_out_gate(&found, gate.index))
 }
@@ -177,7 +177,7 @@ pub fn send<A: Answers>(
 {
     let can = can_leave(core, alloc, model, id, gate)?;
     if can {
-        let name = gate.name.copy(alloc)?;
+        let name = gate.name.text(alloc)?;
         let index = gate.index;
         let from = PlacedGate { id, name, index };
         send_on(core, alloc, model, id, from, message, departure)
@@ -265,7 +265,7 @@ fn can_enter<A: Answers>(
     ensures next { core.new.next ≡ core.old.next }
     ensures grown { IsGrownFrom core.old core.new }
 {
-    let question = Question::GateSize(id, place.name.copy(alloc)?);
+    let question = Question::GateSize(id, place.name.text(alloc)?);
     let found = ask(core, alloc, model, question)?;
     Ok(is_in_gate(&found, place.index))
 }
@@ -290,7 +290,7 @@ pub fn send_direct<A: Answers>(
     };
     let can = can_enter(core, alloc, model, target, place)?;
     if can {
-        let name = place.name.copy(alloc)?;
+        let name = place.name.text(alloc)?;
         let index = place.index;
         let gate = PlacedGate {
             id: target,

@@ -5,3 +5,5 @@ pub mod Meaning
 pub mod Names
 pub mod Prompts
 pub mod Values
+pub mod Reads
+pub mod Spelling

@@ -5,6 +5,7 @@ pub mod call;
 pub mod catalogue;
 pub mod law;
 pub mod message;
+pub mod name;
 pub mod names;
 pub mod reply;
 pub mod simple_module;

@@ -1,26 +1,52 @@
 //! What a module answers to a call.
 
-ghost use Rattle.std.specs.Prelude.{◌≡◌};
+ghost use Rattle.std.specs.Prelude.{◌≡◌, IfOk};
+ghost use Rattle.module_api.specs.Reads.{same_read};
 ghost use Rattle.module_api.specs.Actions.{has_large_payload};
 
 use crate::message::{MAX_PAYLOAD, Outgoing};
+use crate::name::Name;
 use sim_time::SimTime;
 use sim_values::text::Text;
 use sqlite_items::Items;
+use std::alloc::{AllocError, Global};
 
 /// A value of the call that a reply, or the state after it, rests on.
 #[derive(Drop)]
 pub enum Read {
     /// The parameter of that name, or that there is none.
-    Parameter(Text),
+    Parameter(Name),
     /// The direction and size of the gate of that name, or that there is none.
-    Gate(Text),
+    Gate(Name),
+}
+
+impl Read {
+    /// An equal one.
+    pub fn copy(&self, alloc: Global) -> Result<Read, AllocError>
+        ensures { IfOk result (λ copy. copy ≡ self.now) }
+    {
+        match self {
+            Read::Parameter(name) => Ok(Read::Parameter(name.copy(alloc)?)),
+            Read::Gate(name) => Ok(Read::Gate(name.copy(alloc)?)),
+        }
+    }
+
+    /// Whether both are the same.
+    pub fn is(&self, other: &Read) -> bool
+        ensures { result ≡ same_read self.now other.now }
+    {
+        match (self, other) {
+            (Read::Parameter(name), Read::Parameter(other)) => name.is(other.as_bytes()),
+            (Read::Gate(name), Read::Gate(other)) => name.is(other.as_bytes()),
+            _ => false,
+        }
+    }
 }
 
 /// A gate of the module that acts. An inout gate has the halves `NAME$i` and `NAME$o`.
 #[derive(Drop)]
 pub struct OwnGate {
-    pub name: Text,
+    pub name: Name,
     /// Its place in its vector, 0 for a scalar gate.
     pub index: u32,
 }
@@ -29,7 +55,7 @@ pub struct OwnGate {
 #[derive(Drop)]
 pub struct GatePlace {
     pub path: Text,
-    pub name: Text,
+    pub name: Name,
     /// Its place in its vector, 0 for a scalar gate.
     pub index: u32,
 }
@@ -69,9 +95,9 @@ pub struct Appointment {
 #[derive(Drop)]
 pub enum Action {
     /// Emits a value of the signal of that name.
-    Emit(Text, i64),
+    Emit(Name, i64),
     /// Records a scalar of that name, which has to be one (`names::is_scalar_name`).
-    RecordScalar(Text, i64),
+    RecordScalar(Name, i64),
     /// Sends a message through an output gate of its own.
     Send(OwnGate, Outgoing),
     /// The same, where it departs so much later than now, in picoseconds.

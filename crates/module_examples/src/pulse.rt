@@ -43,7 +43,7 @@ impl Pulse {
             return Ok(nothing(alloc));
         }
         let mut actions = Items::new(alloc);
-        emit(&mut actions, alloc, "pulse", 1)?;
+        emit(&mut actions, "pulse", 1)?;
         self.has_pulsed = true;
         Ok(simply(alloc, actions))
     }

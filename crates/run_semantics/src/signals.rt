@@ -3,6 +3,8 @@
 ghost use Rattle.std.specs.Prelude.{◌≡◌, IfOk, IfSome, [], ◌∷◌};
 ghost use Rattle.std.specs.Str.{bytes_eq};
 
+use module_api::name::Name;
+use module_api::names::are_same;
 use sim_values::text::Text;
 use sqlite_items::Items;
 use std::alloc::{AllocError, Global};
@@ -49,7 +51,7 @@ impl SignalName {
     pub fn is(&self, bytes: &[u8]) -> bool
         ensures { result ≡ bytes_eq self.now bytes.now }
     {
-        self.text.is(bytes)
+        are_same(self.text.as_bytes(), bytes)
     }
 }
 
@@ -69,7 +71,7 @@ impl SignalNames {
     }
 
     /// The name of a signal: one that was made, or a new one.
-    pub fn shared(&mut self, alloc: Global, signal: &Text) -> Result<SignalName, AllocError>
+    pub fn shared(&mut self, alloc: Global, signal: &Name) -> Result<SignalName, AllocError>
         ensures { IfOk result (λ name. name ≡ signal.now) }
     {
         match known(self.names.as_slice(), signal.as_bytes()) {
@@ -79,10 +81,10 @@ impl SignalNames {
     }
 
     /// A new name, which is kept to be shared.
-    fn made(&mut self, alloc: Global, signal: &Text) -> Result<SignalName, AllocError>
+    fn made(&mut self, alloc: Global, signal: &Name) -> Result<SignalName, AllocError>
         ensures { IfOk result (λ name. name ≡ signal.now) }
     {
-        let name = SignalName::new(alloc, signal.copy(alloc)?)?;
+        let name = SignalName::new(alloc, signal.text(alloc)?)?;
         let kept = name.share()?;
         if self.names.len() >= MAX_NAMES {
             self.names = Items::new(alloc);

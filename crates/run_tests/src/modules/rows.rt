@@ -2,6 +2,7 @@
 
 use module_api::call::{Call, Parameter, Prompt};
 use module_api::message::{Message, Origin};
+use module_api::name::Name;
 use module_api::reply::{Action, Read, Reply};
 use sim_time::SimTime;
 use sim_values::text::Text;
@@ -62,7 +63,17 @@ pub fn message_from(alloc: Global, origin: Origin) -> Prompt {
 
 /// The characters of a text.
 fn written(text: &Text) -> &str {
-    match std::str::from_utf8(text.as_bytes()) {
+    characters(text.as_bytes())
+}
+
+/// The characters of a name.
+fn spelled(name: &Name) -> &str {
+    characters(name.as_bytes())
+}
+
+/// The characters that these bytes are.
+fn characters(bytes: &[u8]) -> &str {
+    match std::str::from_utf8(bytes) {
         Ok(text) => text,
         Err(_) => "no UTF-8",
     }
@@ -73,7 +84,7 @@ pub fn text_of(alloc: Global, reply: &Reply) -> Result<String, AllocError> {
     let mut text = String::new(alloc);
     for read in reply.reads.as_slice() {
         let (Read::Parameter(name) | Read::Gate(name)) = read;
-        write!(text, " {}", written(name))?;
+        write!(text, " {}", spelled(name))?;
     }
     text.push_str(":")?;
     for action in reply.actions.as_slice() {
@@ -85,18 +96,18 @@ pub fn text_of(alloc: Global, reply: &Reply) -> Result<String, AllocError> {
 /// Adds an action, after a space.
 fn add_action(text: &mut String, action: &Action) -> Result<(), AllocError> {
     match action {
-        Action::Emit(signal, value) => write!(text, " {}={value}", written(signal)),
-        Action::RecordScalar(name, value) => write!(text, " {}:={value}", written(name)),
+        Action::Emit(signal, value) => write!(text, " {}={value}", spelled(signal)),
+        Action::RecordScalar(name, value) => write!(text, " {}:={value}", spelled(name)),
         Action::Send(gate, message) => {
-            let (name, index, bits) = (written(&gate.name), gate.index, message.bits);
+            let (name, index, bits) = (spelled(&gate.name), gate.index, message.bits);
             write!(text, " send {name}[{index}] {bits}")
         }
         Action::SendDelayed(gate, message, delay) => {
-            let (name, index, bits) = (written(&gate.name), gate.index, message.bits);
+            let (name, index, bits) = (spelled(&gate.name), gate.index, message.bits);
             write!(text, " send {name}[{index}] {bits}+{}", delay.ps())
         }
         Action::SendDirect(place, message, _) => {
-            let (path, name, bits) = (written(&place.path), written(&place.name), message.bits);
+            let (path, name, bits) = (written(&place.path), spelled(&place.name), message.bits);
             write!(text, " send {path}.{name}[{}] {bits}", place.index)
         }
         Action::ScheduleAfter(set) => {

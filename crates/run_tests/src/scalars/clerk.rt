@@ -7,6 +7,7 @@ ghost use Rattle.run_tests.specs.Clerk.{actions_of, office, office_module, only}
 
 use module_api::call::Call;
 use module_api::catalogue::Catalogue;
+use module_api::name::Name;
 use module_api::reply::{Action, Reply};
 use module_api::simple_module::SimpleModule;
 use module_parts::replies::{emit, nothing, set_timer};
@@ -24,15 +25,10 @@ pub struct Clerk {
 }
 
 /// Records a scalar of that name.
-fn record(
-    actions: &mut Items<Action>,
-    alloc: Global,
-    name: &str,
-    value: i64,
-) -> Result<(), NoMemory>
+fn record(actions: &mut Items<Action>, name: &'static str, value: i64) -> Result<(), NoMemory>
     ensures { OnOk result (actions.new ≡ actions.old ++ Action.RecordScalar name.now value ∷ []) }
 {
-    actions.push(Action::RecordScalar(Text::from_str(alloc, name)?, value))?;
+    actions.push(Action::RecordScalar(Name::word(name), value))?;
     Ok(())
 }
 
@@ -58,24 +54,24 @@ impl Clerk {
     {
         let mut reply = nothing(alloc);
         if self.is_clerk {
-            record(&mut reply.actions, alloc, "opened", -3)?;
-            emit(&mut reply.actions, alloc, "noted", i64::MAX)?;
-            emit(&mut reply.actions, alloc, "noted", i64::MAX)?;
+            record(&mut reply.actions, "opened", -3)?;
+            emit(&mut reply.actions, "noted", i64::MAX)?;
+            emit(&mut reply.actions, "noted", i64::MAX)?;
             set_timer(&mut reply.actions, SimTime::zero(), 0)?;
         } else {
-            record(&mut reply.actions, alloc, "a b", 1)?;
+            record(&mut reply.actions, "a b", 1)?;
         }
         Ok(reply)
     }
 
     /// The one scalar that a Clerk records, where a Scribe does nothing.
-    fn one(&self, alloc: Global, name: &str, value: i64) -> Result<Reply, NoMemory>
+    fn one(&self, alloc: Global, name: &'static str, value: i64) -> Result<Reply, NoMemory>
         ensures { IfOk result (λ reply. reply
             ≡ record { reads = []; actions = only self.now.is_clerk name.now value }) }
     {
         let mut reply = nothing(alloc);
         if self.is_clerk {
-            record(&mut reply.actions, alloc, name, value)?;
+            record(&mut reply.actions, name, value)?;
         }
         Ok(reply)
     }
