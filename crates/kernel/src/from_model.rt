@@ -15,9 +15,10 @@ ghost use Rattle.kernel.specs.Setups.{HasBuilt};
 use injection_order::injection::Injection;
 use kernel_actions::core_part::Core;
 use kernel_actions::looks::Look;
-use kernel_actions::reads::{fault_of_read, question_of, was_told};
+use kernel_actions::reads::{fault_of_read, was_told};
 use module_api::call::{Call, Prompt};
 use module_api::reply::Read;
+use question_log::reads::question_of;
 use run_answers::Answers;
 use run_questions::answer::{Answer, Built, Question};
 use run_questions::record::{MAX_NESTING, index_of};
@@ -61,12 +62,13 @@ pub fn call_shown(core: &Core, id: u32, prompt: Prompt, shown: Shown) -> Call
 
 // ---- replies
 
-/// The fault of a read, if it has one. A parameter that the call had has none, and is not looked up again.
+/// The fault of the read at that place of a reply, if it has one. A parameter that the call had has none, and is not looked up again.
 fn fault_at<A: Answers>(
     core: &Core,
     alloc: Global,
     model: &mut A,
     call: &Call,
+    place: usize,
     read: &Read,
 ) -> Result<Option<Fault>, NoMemory>
     requires { call.now.parameters ≡ parameters_of A.answers core.now.records call.now.id }
@@ -74,7 +76,7 @@ fn fault_at<A: Answers>(
         IfOk result (λ found.
         found ≡ fault_of_read read.now (answer_of A.answers core.now.records asks)) }
 {
-    if was_told(call.parameters.as_slice(), read) {
+    if was_told(call.parameters.as_slice(), place, read) {
         return Ok(None);
     }
     let question = question_of(alloc, call.id, read)?;
@@ -94,8 +96,8 @@ pub fn read_fault<A: Answers>(
     ensures { IfOk result (λ found.
         found ≡ read_fault A.answers core.now.records call.now.id reads.now) }
 {
-    for read in reads {
-        if let Some(fault) = fault_at(core, alloc, model, call, read)? {
+    for (place, read) in reads.iter().enumerate() {
+        if let Some(fault) = fault_at(core, alloc, model, call, place, read)? {
             return Ok(Some(fault));
         }
     }

@@ -1,5 +1,5 @@
 -- What is in the lists of a world that only grow stays there, whatever an event or the end did before memory ran out.
-use Rattle.std.proofs.Common.{◌≡◌, IfOk, OnErr, Result, Ok, Err, append-nil, append_assoc, ℕ, suc, ◌+◌, ◌≤◌, ◌<◌, Bool, true, false, List, [], ◌∷◌, ◌++◌, Option, Some, None, refl, sym, ap, ◌∙◌, arith, subst, drop, get_or, length, if◌then◌else◌, ℤ, nat_lt}
+use Rattle.std.proofs.Common.{◌≡◌, IfOk, OnErr, Result, Ok, Err, append-nil, append_assoc, ℕ, suc, ◌+◌, ◌≤◌, ◌<◌, Bool, true, false, List, [], ◌∷◌, ◌++◌, Option, Some, None, refl, sym, ap, ◌∙◌, arith, subst, drop, get_or, length, slice_get, option_copied, Bor, if◌then◌else◌, ℤ, nat_lt}
 use Rattle.std.proofs.Math.ListN.{drop_of_length-le}
 use Rattle.std.proofs.Math.Seq.{drop-cons}
 use Rattle.sim_values.specs.declared.NoMemory.{NoMemory}
@@ -148,3 +148,8 @@ noted_ends count index looks w whole past done =
     ap (λ (qs : List Asked). record w { questions = qs }) (sym (append-nil w.questions))
     ∙ ap (λ (ls : List LookedAt). record w { questions = w.questions ++ asked_in (count + 1) ls }) (sym (drop_of_length-le looks past))
     ∙ done
+
+-- where there is none, nothing is noted
+pub noted_none : (w : World) (looks : List LookedAt) (first : Option (Bor LookedAt)) → option_copied first ≡ slice_get looks 0 → first ≡ None → w ≡ record w { questions = w.questions ++ asked_in (w.count + 1) looks }
+noted_none w [] first is none = ap (λ (qs : List Asked). record w { questions = qs }) (sym (append-nil w.questions))
+noted_none w (l ∷ ls) first is none = let absent : Some l ≡ None = sym is ∙ ap option_copied none in absurd cc

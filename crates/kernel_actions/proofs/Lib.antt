@@ -1,4 +1,5 @@
 pub mod Positions
+pub mod Told
 pub mod Growing
 pub mod Lasting
 pub mod Places

@@ -1,4 +1,5 @@
 pub mod Lookups
+pub mod Looks
 pub mod Places
 pub mod Upcoming
 pub mod Positions

@@ -18,9 +18,8 @@ ghost use Rattle.kernel_actions.specs.Positions.{lengths_of, position_of, cut_to
 
 use crate::classes::{copy_class, is_among};
 use crate::events::delivery_at;
-use crate::looks::{Look, LookedAt, Next};
+use crate::looks::{Look, LookList, LookedAt, Next};
 use crate::position::{Lengths, Position};
-use crate::reads::question_of;
 use crate::record_table::RecordTable;
 use event_set::pending::{Happening, Pending};
 use event_set::set::EventSet;
@@ -31,7 +30,7 @@ use module_api::names::is_scalar_name;
 use module_api::reply::{Action, Appointment, Read, Schedule};
 use question_log::cutting::cut_items;
 use question_log::entry::Entry;
-use question_log::log::QuestionLog;
+use question_log::noted_questions::NotedQuestions;
 use run_questions::answer::{Answer, Built, Question, is_beyond};
 use run_questions::record::{Origin, Record, path_of, submodule_path};
 use run_semantics::occasions::{Occasion, is_noted};
@@ -70,7 +69,7 @@ pub struct Core {
     /// Names of signals that emissions share.
     names: SignalNames,
     scalars: Items<Scalar>,
-    questions: QuestionLog,
+    questions: NotedQuestions,
 }
 
 // Written out, so that a crate which drops one need not prove what that does.
@@ -142,7 +141,7 @@ impl Core {
             emissions: Items::new(alloc),
             names: SignalNames::new(alloc),
             scalars: Items::new(alloc),
-            questions: QuestionLog::new(alloc),
+            questions: NotedQuestions::new(alloc),
         }
     }
 
@@ -425,13 +424,27 @@ impl Core {
         self.questions.note(alloc, self.count, question)
     }
 
+    /// Notes the question of what a module reads, at that place of what its reply reads, unless it was asked before.
+    fn ask_read(
+        &mut self,
+        alloc: Global,
+        id: u32,
+        place: usize,
+        read: &Read,
+    ) -> Result<(), NoMemory>
+        ensures noted { OnOk result (self.new ≡ asked (question_of id read.now) self.old) }
+        ensures err { OnErr result (self.new ≡ self.old) }
+    {
+        self.questions.note_read(alloc, self.count, id, place, read)
+    }
+
     /// Notes the questions of all values that a reply used.
     fn ask_all(&mut self, alloc: Global, id: u32, reads: &[Read]) -> Result<(), NoMemory>
         ensures noted { OnOk result (self.new ≡ ask_all id reads.now self.old) }
         ensures grown { IsGrownFrom self.old self.new }
     {
-        for read in reads {
-            self.ask(alloc, question_of(alloc, id, read)?)?;
+        for (place, read) in reads.iter().enumerate() {
+            self.ask_read(alloc, id, place, read)?;
         }
         Ok(())
     }
@@ -486,7 +499,7 @@ impl Core {
     {
         Look {
             delivered: self.delivered,
-            asked: Items::new(alloc),
+            asked: LookList::new(alloc),
         }
     }
 
@@ -506,7 +519,7 @@ impl Core {
     {
         let due = self.first_due();
         let last = look.delivered;
-        look.asked.push(LookedAt { due, last })?;
+        look.asked.push(alloc, LookedAt { due, last })?;
         match injection_before(injections, due, last) {
             Some(injection) => Ok(Some(injection.copy(alloc)?)),
             None => Ok(None),
@@ -523,7 +536,7 @@ impl Core {
         ensures grown { IsGrownFrom self.old self.new }
     {
         let Look { delivered, asked } = look;
-        self.note_looks(alloc, asked.as_slice())?;
+        self.note_all(alloc, &asked)?;
         let event = self.count + 1;
         self.questions
             .note_time(alloc, event, Question::BeyondLimit(time.ps()))?;
@@ -531,6 +544,27 @@ impl Core {
         self.clock = time;
         self.count = event;
         Ok(())
+    }
+
+    /// Notes the questions of all looks, which are of the event after.
+    #[tactic(auto, using(crate::proofs::Lasting::growth_same))]
+    fn note_all(&mut self, alloc: Global, looks: &LookList) -> Result<(), NoMemory>
+        requires { self.old.count + 1 < 2 ^ 64 }
+        ensures noted { OnOk result (self.new
+            ≡ record self.old {
+              questions = self.old.questions
+                  ++ asked_in (self.old.count + 1) looks.now;
+            }) }
+        ensures count { self.new.count ≡ self.old.count }
+        ensures grown { IsGrownFrom self.old self.new }
+    {
+        match looks.first() {
+            Some(first) => {
+                self.note_look(alloc, first)?;
+                self.note_looks(alloc, looks.later())
+            }
+            None => Ok(()),
+        }
     }
 
     /// Notes the questions of these looks, which are of the event after.

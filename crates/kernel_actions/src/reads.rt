@@ -1,33 +1,40 @@
-//! What replies read of the model: the questions that they ask, and the faults of their answers.
+//! What replies read of the model: the faults of the answers.
 
-ghost use Rattle.std.specs.Prelude.{◌≡◌, IfOk, true};
-ghost use Rattle.run_questions.specs.Questions.{is_of_modules};
-ghost use Rattle.run_semantics.specs.Perform.{question_of, fault_of_read};
+ghost use Rattle.std.specs.Prelude.{◌≡◌, true, is_some};
+ghost use Rattle.module_api.specs.Values.{value_of};
+ghost use Rattle.run_semantics.specs.Perform.{fault_of_read};
 ghost use Rattle.kernel_actions.specs.Lookups.{was_told};
 
 use module_api::call::{Parameter, find_value};
+use module_api::names::are_same;
 use module_api::reply::Read;
-use run_questions::answer::{Answer, Question};
+use run_questions::answer::Answer;
 use run_semantics::outcome::{Fault, fault_of};
-use std::alloc::{AllocError, Global};
+use sqlite_items::at;
 
-/// The question that a read asks. It is about modules.
-pub fn question_of(alloc: Global, id: u32, read: &Read) -> Result<Question, AllocError>
-    ensures question { IfOk result (λ question. question ≡ question_of id read.now) }
-    ensures modules { IfOk result (λ question. is_of_modules question ≡ true) }
+/// Whether the parameter at that place has the name. Then there is one of that name.
+fn has_at(parameters: &[Parameter], place: usize, name: &[u8]) -> bool
+    ensures { result ≡ true → is_some (value_of name.now parameters.now) ≡ true }
 {
-    match read {
-        Read::Parameter(name) => Ok(Question::Param(id, name.text(alloc)?)),
-        Read::Gate(name) => Ok(Question::GateSize(id, name.text(alloc)?)),
+    match at(parameters, place) {
+        Some(parameter) => are_same(parameter.name.as_bytes(), name),
+        None => false,
     }
 }
 
-/// Whether what was read is a parameter that the call had.
-pub fn was_told(parameters: &[Parameter], read: &Read) -> bool
+/// Whether there is a parameter of that name. It is looked for at that place first.
+fn has_named(parameters: &[Parameter], place: usize, name: &[u8]) -> bool
+    ensures { result ≡ is_some (value_of name.now parameters.now) }
+{
+    has_at(parameters, place, name) || find_value(parameters, name).is_some()
+}
+
+/// Whether what was read is a parameter that the call had. It is looked for at that place first, as modules mostly read their parameters in their order.
+pub fn was_told(parameters: &[Parameter], place: usize, read: &Read) -> bool
     ensures { result ≡ was_told parameters.now read.now }
 {
     match read {
-        Read::Parameter(name) => find_value(parameters, name.as_bytes()).is_some(),
+        Read::Parameter(name) => has_named(parameters, place, name.as_bytes()),
         Read::Gate(_) => false,
     }
 }

@@ -3,3 +3,4 @@ pub mod Shorter
 pub mod Same
 pub mod Once
 pub mod Keys
+pub mod Known

@@ -4,4 +4,7 @@
 pub mod asked_list;
 pub mod cutting;
 pub mod entry;
+pub mod known_reads;
 pub mod log;
+pub mod noted_questions;
+pub mod reads;

@@ -4,7 +4,7 @@ use Rattle.kernel_actions.specs.declared.position.Position.{Position}
 use Rattle.shown_modules.specs.Tables.{AreShown}
 use Rattle.kernel.specs.Kernels.{seats_in, world_in, HasKinds}
 use Rattle.kernel_actions.specs.Positions.{position_of}
-use Rattle.run_semantics.specs.Run.{Running, after}
+use Rattle.run_semantics.specs.Run.{Running, after, run_to, stopped}
 use Rattle.run_semantics.specs.World.{HasRoom}
 use Rattle.run_semantics.proofs.Ends.{count_going, count_over, run_over, next_after}
 use Rattle.checkpointed_runs.specs.Kept.{taken_if, AreGood}
@@ -112,12 +112,21 @@ loop-k-preserved g c =
           (stored_next from k c.args.self.now.positions old new (position_of v) c.loop-k.invariant.from count (c.in_ok-keep_if.ensures.ok ∙ ap (λ t. taken_if t (position_of v) old) due) c.loop-k.invariant.stored);
     }
 
+pub returns-in_err-keep_if-clause-kinds : goal.returns-in_err-keep_if-clause-kinds
+returns-in_err-keep_if-clause-kinds g c =
+    subst (λ K. HasKinds g.C.Catalogue.behaviour (λ b. (g.dyn-1.0.entry b.vtable).1) K) (sym c.in_err-keep_if.ensures.kept) c.step.ensures.kinds
+
 pub returns-clause-ran : goal.returns-clause-ran
-returns-clause-ran g c = record {
-  room = c.loop-k.invariant.room;
-  count = omega (arith, count_going g.C.Catalogue.behaviour g.A.Answers.answers _ c.loop-k._k c.loop-k.invariant.going);
-  ran_is = search rules;
-}
+returns-clause-ran g c =
+    let b = g.C.Catalogue.behaviour in
+    let m = g.A.Answers.answers in
+    let k = c.loop-k._k in
+    let same : k ≡ c.args.limit = omega (arith, c.loop-k-test.false, c.loop-k.invariant.from, c.requires.going.within) in
+    record {
+      room = c.loop-k.invariant.room;
+      count = omega (arith, count_going b m _ k c.loop-k.invariant.going);
+      ran_is = sym (c.outcome_of.ensures ∙ ap stopped c.loop-k.invariant.going ∙ ap (λ n. run_to b m n) same);
+    }
 
 pub returns-clause-stored : goal.returns-clause-stored
 returns-clause-stored g c =

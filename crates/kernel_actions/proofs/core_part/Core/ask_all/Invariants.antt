@@ -3,8 +3,8 @@ use Rattle.run_semantics.specs.Perform.{ask_all}
 use Rattle.kernel_actions.specs.Positions.{IsGrownFrom}
 use Rattle.kernel_actions.proofs.core_part.Core.ask_all.Given as goal
 
-abbrev pub invariant-loop-read : goal.invariant-loop-read
-invariant-loop-read l = record {
-  noted : ask_all l.id (drop l.read-index l.reads) l.self ≡ ask_all l.id l.reads l.fn.self;
+abbrev pub invariant-loop-place : goal.invariant-loop-place
+invariant-loop-place l = record {
+  noted : ask_all l.id (drop l.place l.reads) l.self ≡ ask_all l.id l.reads l.fn.self;
   grown : IsGrownFrom l.fn.self l.self;
 }
