@@ -16,6 +16,7 @@ pub mod messages;
 mod modules;
 mod options;
 mod paths;
+mod plain;
 mod reading;
 pub mod refusals;
 pub mod runs;

@@ -6,6 +6,7 @@ use crate::options::instead_of_option;
 use crate::paths::{
     MOST_TRIES, NAMES, OptionEntry, Paths, Recorded, Standing, before_option, without_mode,
 };
+use crate::plain::all_have_effect;
 use crate::reading::read_types;
 use crate::sections::{Numbered, Sections, sections_of};
 use indexmap::IndexMap;
@@ -30,7 +31,7 @@ use text_explanations::sources::Sources;
 use text_explanations::values::{Parameter, tell_line_of_value};
 
 /// The options that have an effect, or whose only value has.
-const OPTIONS: [&[u8]; 5] = [
+pub(crate) const OPTIONS: [&[u8]; 5] = [
     b"network",
     b"extends",
     b"sim-time-limit",
@@ -229,7 +230,7 @@ struct Site<'a> {
 }
 
 /// The type of a submodule, where it leaves it not open.
-fn type_within<'a>(
+pub(crate) fn type_within<'a>(
     types: &'a [TypeDeclaration],
     submodule: &Submodule,
 ) -> Option<&'a TypeDeclaration> {
@@ -618,6 +619,22 @@ fn paths_for(
 
 /// Says a line for each entry without effect of a chain, which selects that network.
 fn tell_network(
+    told: &mut Explanation,
+    sources: &Sources<'_>,
+    lines: &[IniLine],
+    chain: &[Text],
+    types: &[TypeDeclaration],
+    network: &TypeDeclaration,
+) {
+    match all_have_effect(told.alloc(), lines, chain, types, network) {
+        Ok(true) => {}
+        Ok(false) => tell_by_paths(told, sources, lines, chain, types, network),
+        Err(error) => told.refuse(error),
+    }
+}
+
+/// Says a line for each entry without effect of a chain, which selects that network, by the paths in the network.
+fn tell_by_paths(
     told: &mut Explanation,
     sources: &Sources<'_>,
     lines: &[IniLine],
