@@ -1,3 +1,4 @@
+pub mod Options
 pub mod Noted
 pub mod Hearers
 pub mod Reading

@@ -1,5 +1,5 @@
 -- Of modules that are not wanted nothing is recorded, and of the others all places are noted.
-use Rattle.std.proofs.Common.{◌≡◌, ℕ, ◌+◌, ◌==◌, Bool, true, false, ◌&&◌, ◌||◌, List, [], ◌∷◌, ◌++◌, Option, Some, None, ℤ, refl, sym, ap, ◌∙◌, length, map, if◌then◌else◌}
+use Rattle.std.proofs.Common.{◌≡◌, ℕ, ◌+◌, ◌==◌, Bool, true, false, ◌&&◌, ◌||◌, List, [], ◌∷◌, ◌++◌, Option, Some, None, ℤ, refl, sym, ap, subst, ◌∙◌, length, map, if◌then◌else◌}
 use Rattle.std.proofs.lemmas.Bool.{false≢true}
 use Rattle.ini_texts.specs.declared.lines.Entry.{Entry}
 use Rattle.model_answers.specs.Keyed.{lines_of}
@@ -16,7 +16,7 @@ use Rattle.recorders.specs.declared.scalar_line.ScalarLine.{ScalarLine}
 use Rattle.recorders.specs.declared.vector_line.VectorLine.{VectorLine}
 use Rattle.recorders.specs.declared.wanted.Output.TheVariants.{Vector, Scalars}
 use Rattle.recorders.specs.Hearing.{is_within}
-use Rattle.recorders.specs.Places.{places_from, heard_places, wanted_places}
+use Rattle.recorders.specs.Places.{places_from, heard_places, wanted_places, AreHeard, PlaceLists}
 use Rattle.recorders.specs.Scalars.{line_of_value, mode_lines, statistic_lines, lines_among}
 use Rattle.recorders.specs.Selection.{records_scalar_named, records_scalar_among, records_scalars, records_vector, result_name, selected_modes}
 use Rattle.recorders.specs.Statistics.{value_in, values_heard}
@@ -32,11 +32,11 @@ with_false : (b : Bool) → (b && false) ≡ false
 with_false true = refl
 with_false false = refl
 
-first_false : (a b : Bool) → (a || b) ≡ false → a ≡ false
+pub first_false : (a b : Bool) → (a || b) ≡ false → a ≡ false
 first_false true b e = e
 first_false false b e = refl
 
-rest_false : (a b : Bool) → (a || b) ≡ false → b ≡ false
+pub rest_false : (a b : Bool) → (a || b) ≡ false → b ≡ false
 rest_false true b e = absurd (false≢true (sym e))
 rest_false false b e = e
 
@@ -111,3 +111,9 @@ none_either false lines e = e
 -- nor where it was finished
 pub no_lines_if_finished : (m : Model) (records : List Record) (es : List Emission) (id : ℕ) (finished : List ℕ) → wants Scalars m records id ≡ false → lines_if_finished m records es id finished ≡ []
 no_lines_if_finished m records es id finished e = none_either (length finished == 0) (lines_of_type m records es id) (no_lines m records es id e)
+
+-- ---- the same modules
+
+-- what is known where these modules are wanted is known where the same ones are
+pub heard_of_same : (one other : List Bool) (records : List Record) (es : List Emission) (lists : PlaceLists) → one ≡ other → AreHeard one records es lists → AreHeard other records es lists
+heard_of_same one other records es lists e h = subst (λ (w : List Bool). AreHeard w records es lists) e h

@@ -1,3 +1,4 @@
+pub mod Options
 pub mod Modes
 pub mod Hearing
 pub mod Places

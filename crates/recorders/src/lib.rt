@@ -5,6 +5,8 @@ pub mod hearing;
 mod member;
 pub mod modes;
 pub mod places;
+pub mod recorded_model;
+pub mod run_results;
 pub mod scalar_line;
 pub mod scalars;
 pub mod selection;

@@ -5,7 +5,7 @@ ghost use Rattle.model_answers.specs.Answering.{type_at};
 ghost use Rattle.model_answers.specs.Keyed.{lines_of};
 ghost use Rattle.ned_types.specs.Flat.{statistics_of};
 
-use model_answers::plain::PlainAnswers;
+use crate::recorded_model::RecordedModel;
 use ned_trees::declarations::Statistic;
 use ned_types::flat::statistics_of;
 use run_questions::record::Record;
@@ -16,9 +16,9 @@ use std::alloc::Global;
 
 /// A module of a run, with all that decides what its statistics have in the result files.
 #[derive(Clone, Copy)]
-pub(crate) struct Member<'r, 'm> {
+pub(crate) struct Member<'r, 'a, 'm> {
     /// What the texts say, and what it answers: the modules' types, and the options.
-    pub model: &'r PlainAnswers<'m>,
+    pub model: &'r RecordedModel<'a, 'm>,
     /// The modules of the run.
     pub records: &'r [Record],
     /// What they emitted.
@@ -29,7 +29,7 @@ pub(crate) struct Member<'r, 'm> {
     pub id: u32,
 }
 
-impl Member<'_, '_> {
+impl Member<'_, '_, '_> {
     /// The statistics of its type, in their order.
     pub(crate) fn statistics(&self, alloc: Global) -> Result<Items<Statistic>, NoMemory>
         ensures { IfOk result (λ statistics. statistics ≡ statistics_of (lines_of (type_at self.now.model.now self.now.records.now self.now.id))) }

@@ -3,20 +3,19 @@
 ghost use Rattle.std.specs.Prelude.{◌≡◌, ◌<◌, ◌^◌, ◌++◌, IfOk, OnOk, length};
 ghost use Rattle.models.specs.Models.{entries_in};
 ghost use Rattle.recorders.specs.ByPlaces.{lines_at_places, lines_of_type, lines_if_finished, scalars_by_places};
-ghost use Rattle.recorders.specs.Places.{of_place, places_at, heard_places, wanted_places};
+ghost use Rattle.recorders.specs.Places.{of_place, places_at, heard_places, wanted_places, AreOfRun};
 ghost use Rattle.recorders.specs.Scalars.{line_of, recorded_line, line_of_value, mode_line, mode_lines, statistic_lines, lines_among, scalars_of};
-ghost use Rattle.recorders.specs.Wanted.{is_wanted, wants};
+ghost use Rattle.recorders.specs.Wanted.{is_wanted, wants, AreWanted};
 ghost use Rattle.recorders.specs.declared.wanted.Output.TheVariants.{Scalars};
 
 use crate::member::Member;
-use crate::places::{RunPlaces, places_at, run_places};
+use crate::places::{RunPlaces, places_at};
+use crate::recorded_model::RecordedModel;
 use crate::scalar_line::ScalarLine;
 use crate::selection::{records_scalar_named, result_name, selected_modes};
 use crate::statistics::{value_in, values_at};
 use crate::vectors::vector_of;
-use crate::wanted::{Output, is_wanted, wanted};
-use model_answers::plain::PlainAnswers;
-use models::model::Model;
+use crate::wanted::is_wanted;
 use ned_trees::declarations::Statistic;
 use ned_trees::modes::Mode;
 use run_questions::record::{Record, path_of};
@@ -31,7 +30,7 @@ use std::alloc::Global;
 fn push_line(
     found: &mut Items<ScalarLine>,
     alloc: Global,
-    model: &Model,
+    model: &RecordedModel<'_, '_>,
     path: &[u8],
     name: &[u8],
     value: i128,
@@ -52,7 +51,7 @@ fn push_line(
 fn push_recorded(
     found: &mut Items<ScalarLine>,
     alloc: Global,
-    member: &Member<'_, '_>,
+    member: &Member<'_, '_, '_>,
     scalar: &Scalar,
 ) -> Result<(), NoMemory>
     ensures { OnOk result (found.new ≡ found.old ++ recorded_line member.now.model.now member.now.records.now member.now.id scalar.now) }
@@ -64,7 +63,7 @@ fn push_recorded(
     push_line(
         found,
         alloc,
-        member.model.model(),
+        member.model,
         path.as_bytes(),
         scalar.name.as_bytes(),
         i128::from(scalar.value),
@@ -75,7 +74,7 @@ fn push_recorded(
 fn push_recorded_at(
     found: &mut Items<ScalarLine>,
     alloc: Global,
-    member: &Member<'_, '_>,
+    member: &Member<'_, '_, '_>,
     recorded: &[Scalar],
     place: usize,
 ) -> Result<(), NoMemory>
@@ -91,7 +90,7 @@ fn push_recorded_at(
 fn push_all_recorded(
     found: &mut Items<ScalarLine>,
     alloc: Global,
-    member: &Member<'_, '_>,
+    member: &Member<'_, '_, '_>,
     recorded: &[Scalar],
     places: &[usize],
 ) -> Result<(), NoMemory>
@@ -107,7 +106,7 @@ fn push_all_recorded(
 fn push_value(
     found: &mut Items<ScalarLine>,
     alloc: Global,
-    model: &Model,
+    model: &RecordedModel<'_, '_>,
     path: &[u8],
     name: &[u8],
     value: Option<i128>,
@@ -124,7 +123,7 @@ fn push_value(
 fn push_mode(
     found: &mut Items<ScalarLine>,
     alloc: Global,
-    model: &Model,
+    model: &RecordedModel<'_, '_>,
     path: &[u8],
     statistic: &[u8],
     values: &[i64],
@@ -141,7 +140,7 @@ fn push_mode(
 fn push_modes(
     found: &mut Items<ScalarLine>,
     alloc: Global,
-    model: &Model,
+    model: &RecordedModel<'_, '_>,
     path: &[u8],
     statistic: &[u8],
     values: &[i64],
@@ -160,7 +159,7 @@ fn push_modes(
 fn push_statistic(
     found: &mut Items<ScalarLine>,
     alloc: Global,
-    member: &Member<'_, '_>,
+    member: &Member<'_, '_, '_>,
     statistic: &Statistic,
 ) -> Result<(), NoMemory>
     requires { member.now.heard.now ≡ heard_places member.now.records.now member.now.id member.now.emissions.now }
@@ -168,12 +167,12 @@ fn push_statistic(
 {
     let vector = vector_of(alloc, member.records, member.id, statistic)?;
     let path = vector.path.as_bytes();
-    let modes = selected_modes(alloc, member.model.model(), path, statistic)?;
+    let modes = selected_modes(alloc, member.model, path, statistic)?;
     let values = values_at(alloc, member.emissions, member.heard, &vector)?;
     push_modes(
         found,
         alloc,
-        member.model.model(),
+        member.model,
         path,
         statistic.name.as_bytes(),
         values.as_slice(),
@@ -185,7 +184,7 @@ fn push_statistic(
 fn push_statistics(
     found: &mut Items<ScalarLine>,
     alloc: Global,
-    member: &Member<'_, '_>,
+    member: &Member<'_, '_, '_>,
     statistics: &[Statistic],
 ) -> Result<(), NoMemory>
     requires { member.now.heard.now ≡ heard_places member.now.records.now member.now.id member.now.emissions.now }
@@ -201,7 +200,7 @@ fn push_statistics(
 fn push_type_lines(
     found: &mut Items<ScalarLine>,
     alloc: Global,
-    member: &Member<'_, '_>,
+    member: &Member<'_, '_, '_>,
 ) -> Result<(), NoMemory>
     requires { member.now.heard.now ≡ heard_places member.now.records.now member.now.id member.now.emissions.now }
     ensures { OnOk result (found.new ≡ found.old ++ lines_of_type member.now.model.now member.now.records.now member.now.emissions.now member.now.id) }
@@ -215,7 +214,7 @@ fn push_type_lines(
 fn push_statistics_at(
     found: &mut Items<ScalarLine>,
     alloc: Global,
-    member: &Member<'_, '_>,
+    member: &Member<'_, '_, '_>,
     places: &RunPlaces,
 ) -> Result<(), NoMemory>
     requires wanted { is_wanted places.now.wanted.items member.now.id ≡ wants Scalars member.now.model.now member.now.records.now member.now.id }
@@ -237,7 +236,7 @@ fn push_statistics_at(
 fn push_scalars_at(
     found: &mut Items<ScalarLine>,
     alloc: Global,
-    member: &Member<'_, '_>,
+    member: &Member<'_, '_, '_>,
     recorded: &[Scalar],
     places: &RunPlaces,
 ) -> Result<(), NoMemory>
@@ -254,19 +253,20 @@ fn push_scalars_at(
 /// with what the modules recorded and these emissions: by rising id of the module, first what it
 /// recorded, then, if it was finished, what the options let be recorded of its type's statistics.
 /// See OMNeT++ Simulation Manual, "Result Recording".
-pub fn scalars(
+pub(crate) fn scalars<'r>(
     alloc: Global,
-    model: &PlainAnswers<'_>,
-    records: &[Record],
-    finished: &[u32],
+    model: &'r RecordedModel<'_, '_>,
+    records: &'r [Record],
+    _finished: &[u32],
     recorded: &[Scalar],
-    emissions: &[Emission],
+    emissions: &'r [Emission],
+    places: &'r RunPlaces,
 ) -> Result<Items<ScalarLine>, NoMemory>
     requires few { length records.now < 2 ^ 32 }
-    ensures { IfOk result (λ found. found ≡ scalars_of model.now records.now finished.now recorded.now emissions.now) }
+    requires wanted { AreWanted Scalars model.now records.now places.now.wanted.items }
+    requires are { AreOfRun records.now _finished.now recorded.now emissions.now places.now }
+    ensures { IfOk result (λ found. found ≡ scalars_of model.now records.now _finished.now recorded.now emissions.now) }
 {
-    let wanted = wanted(Output::Scalars, alloc, model, records)?;
-    let places = run_places(alloc, wanted, records, finished, recorded, emissions)?;
     let mut found = Items::new(alloc);
     for (index, _record) in records.iter().enumerate() {
         let id = index as u32 + 1;
@@ -277,7 +277,7 @@ pub fn scalars(
             heard: places_at(&places.heard, id),
             id,
         };
-        push_scalars_at(&mut found, alloc, &member, recorded, &places)?;
+        push_scalars_at(&mut found, alloc, &member, recorded, places)?;
     }
     Ok(found)
 }

@@ -4,17 +4,15 @@ ghost use Rattle.std.specs.Prelude.{◌≡◌, IfOk, OnOk};
 ghost use Rattle.std.specs.Option.{option_copied};
 ghost use Rattle.models.specs.Models.{entries_in};
 ghost use Rattle.ned_trees.specs.Modes.{mode_name};
-ghost use Rattle.recorders.specs.Selection.{after_item, after_items, begins_signed, chosen_modes, first_modes, is_on, is_signed, modes_of, option_of, recorded_modes, records_scalar_among, records_scalar_named, records_scalars, records_statistic, records_vector, records_vector_named, result_name, selected_modes};
+ghost use Rattle.recorders.specs.Selection.{after_item, after_items, begins_signed, chosen_modes, first_modes, is_on, is_signed, modes_of, recorded_modes, records_scalar_among, records_scalar_named, records_scalars, records_statistic, records_vector, records_vector_named, result_name, selected_modes};
 
 use crate::modes::{
     add_mode, add_modes, declared_modes, default_modes, in_order, is_among, without_mode,
 };
-use ini_texts::entries::object_for;
+use crate::recorded_model::RecordedModel;
 use ini_texts::entry::{ModeItem, ObjectOption};
-use models::model::Model;
 use ned_trees::declarations::{RecordedMode, Statistic};
 use ned_trees::modes::Mode;
-use run_questions::record::path_under;
 use sim_values::NoMemory;
 use sim_values::text::Text;
 use sqlite_items::Items;
@@ -128,21 +126,6 @@ fn recorded_modes(
     in_order(alloc, modes, chosen.as_slice())
 }
 
-/// What an option says of a part of the module of that path.
-fn option_of<'a>(
-    alloc: Global,
-    model: &'a Model,
-    path: &[u8],
-    name: &[u8],
-    option: &[u8],
-) -> Result<Option<&'a ObjectOption>, NoMemory>
-    ensures { IfOk result (λ said. option_copied said ≡ option_of (entries_in model.now) path.now name.now option.now) }
-{
-    let part = path_under(alloc, path, name)?;
-    let whole = path_under(alloc, part.as_bytes(), option)?;
-    Ok(object_for(model.ini.lines(), model.chain.as_slice(), whole.as_bytes()))
-}
-
 /// The name of a mode.
 fn mode_name(mode: Mode) -> &'static [u8]
     ensures { result.now ≡ mode_name mode }
@@ -170,27 +153,27 @@ pub fn result_name(alloc: Global, name: &[u8], mode: Mode) -> Result<Text, Alloc
 /// Whether the option says that anything is recorded of a statistic of that name.
 fn records_statistic(
     alloc: Global,
-    model: &Model,
+    model: &RecordedModel<'_, '_>,
     path: &[u8],
     name: &[u8],
 ) -> Result<bool, NoMemory>
     ensures { IfOk result (λ on. on ≡ records_statistic (entries_in model.now) path.now name.now) }
 {
-    let said = option_of(alloc, model, path, name, b"statistic-recording")?;
+    let said = model.option_of(alloc, path, name, b"statistic-recording")?;
     Ok(is_on(said))
 }
 
 /// The modes in which a statistic of the module of that path is recorded, in their order.
 fn modes_of(
     alloc: Global,
-    model: &Model,
+    model: &RecordedModel<'_, '_>,
     path: &[u8],
     statistic: &Statistic,
 ) -> Result<Items<Mode>, NoMemory>
     ensures { IfOk result (λ found. found ≡ modes_of (entries_in model.now) path.now statistic.now) }
 {
     let name = statistic.name.as_bytes();
-    let said = option_of(alloc, model, path, name, b"result-recording-modes")?;
+    let said = model.option_of(alloc, path, name, b"result-recording-modes")?;
     let found = recorded_modes(alloc, statistic.modes.as_slice(), said)?;
     Ok(found)
 }
@@ -202,7 +185,7 @@ fn modes_of(
 /// See OMNeT++ Simulation Manual, "Selecting Recording Modes".
 pub fn selected_modes(
     alloc: Global,
-    model: &Model,
+    model: &RecordedModel<'_, '_>,
     path: &[u8],
     statistic: &Statistic,
 ) -> Result<Items<Mode>, NoMemory>
@@ -218,33 +201,33 @@ pub fn selected_modes(
 /// Whether the option lets a vector of that name be recorded.
 fn records_vector_named(
     alloc: Global,
-    model: &Model,
+    model: &RecordedModel<'_, '_>,
     path: &[u8],
     name: &[u8],
 ) -> Result<bool, NoMemory>
     ensures { IfOk result (λ on. on ≡ records_vector_named (entries_in model.now) path.now name.now) }
 {
-    let said = option_of(alloc, model, path, name, b"vector-recording")?;
+    let said = model.option_of(alloc, path, name, b"vector-recording")?;
     Ok(is_on(said))
 }
 
 /// Whether the option lets a scalar of that name be recorded.
 pub fn records_scalar_named(
     alloc: Global,
-    model: &Model,
+    model: &RecordedModel<'_, '_>,
     path: &[u8],
     name: &[u8],
 ) -> Result<bool, NoMemory>
     ensures { IfOk result (λ on. on ≡ records_scalar_named (entries_in model.now) path.now name.now) }
 {
-    let said = option_of(alloc, model, path, name, b"scalar-recording")?;
+    let said = model.option_of(alloc, path, name, b"scalar-recording")?;
     Ok(is_on(said))
 }
 
 /// Whether the option lets a statistic of that name be recorded as a scalar in one of these modes.
 fn records_scalar_among(
     alloc: Global,
-    model: &Model,
+    model: &RecordedModel<'_, '_>,
     path: &[u8],
     name: &[u8],
     modes: &[Mode],
@@ -263,7 +246,7 @@ fn records_scalar_among(
 /// Whether a statistic of the module of that path is recorded as a scalar in one of its modes.
 pub fn records_scalars(
     alloc: Global,
-    model: &Model,
+    model: &RecordedModel<'_, '_>,
     path: &[u8],
     statistic: &Statistic,
 ) -> Result<bool, NoMemory>
@@ -284,7 +267,7 @@ pub fn records_scalars(
 /// See OMNeT++ Simulation Manual, "Configuring Result Collection".
 pub fn records_vector(
     alloc: Global,
-    model: &Model,
+    model: &RecordedModel<'_, '_>,
     path: &[u8],
     statistic: &Statistic,
 ) -> Result<bool, NoMemory>

@@ -1,17 +1,17 @@
 //! Which vectors a run records.
 
 ghost use Rattle.std.specs.Prelude.{◌≡◌, ◌<◌, ◌^◌, [], ◌∷◌, ◌++◌, IfOk, OnOk, length, slice_get};
-ghost use Rattle.recorders.specs.Places.{heard_places, is_of, is_any_of, wanted_places};
+ghost use Rattle.recorders.specs.Places.{heard_places, is_of, is_any_of, wanted_places, AreHeard};
 ghost use Rattle.recorders.specs.Vectors.{vector_of, vectors_among, vectors_at, vectors_of};
-ghost use Rattle.recorders.specs.Wanted.{is_wanted, wants};
+ghost use Rattle.recorders.specs.Wanted.{is_wanted, wants, AreWanted};
 ghost use Rattle.recorders.specs.declared.wanted.Output.TheVariants.{Vector};
 
 use crate::member::Member;
-use crate::places::{heard_lists, places_at};
+use crate::places::places_at;
+use crate::recorded_model::RecordedModel;
 use crate::selection::records_vector;
 use crate::vector_line::VectorLine;
-use crate::wanted::{Output, is_wanted, wanted};
-use model_answers::plain::PlainAnswers;
+use crate::wanted::is_wanted;
 use ned_trees::declarations::Statistic;
 use run_questions::record::{Record, path_of};
 use run_semantics::traces::Emission;
@@ -57,19 +57,14 @@ fn is_any_of(vector: &VectorLine, emissions: &[Emission], places: &[usize]) -> b
 fn push_vector(
     found: &mut Items<VectorLine>,
     alloc: Global,
-    member: &Member<'_, '_>,
+    member: &Member<'_, '_, '_>,
     statistic: &Statistic,
 ) -> Result<(), NoMemory>
     requires { member.now.heard.now ≡ heard_places member.now.records.now member.now.id member.now.emissions.now }
     ensures { OnOk result (found.new ≡ found.old ++ vectors_among member.now.model.now member.now.records.now member.now.emissions.now member.now.id (statistic.now ∷ [])) }
 {
     let vector = vector_of(alloc, member.records, member.id, statistic)?;
-    if !records_vector(
-        alloc,
-        member.model.model(),
-        vector.path.as_bytes(),
-        statistic,
-    )? {
+    if !records_vector(alloc, member.model, vector.path.as_bytes(), statistic)? {
         return Ok(());
     }
     if is_any_of(&vector, member.emissions, member.heard) {
@@ -82,7 +77,7 @@ fn push_vector(
 fn push_vectors(
     found: &mut Items<VectorLine>,
     alloc: Global,
-    member: &Member<'_, '_>,
+    member: &Member<'_, '_, '_>,
     statistics: &[Statistic],
 ) -> Result<(), NoMemory>
     requires { member.now.heard.now ≡ heard_places member.now.records.now member.now.id member.now.emissions.now }
@@ -98,7 +93,7 @@ fn push_vectors(
 fn push_vectors_at(
     found: &mut Items<VectorLine>,
     alloc: Global,
-    member: &Member<'_, '_>,
+    member: &Member<'_, '_, '_>,
 ) -> Result<(), NoMemory>
     requires { member.now.heard.now ≡ heard_places member.now.records.now member.now.id member.now.emissions.now }
     ensures { OnOk result (found.new ≡ found.old ++ vectors_at member.now.model.now member.now.records.now member.now.emissions.now member.now.id) }
@@ -111,7 +106,7 @@ fn push_vectors_at(
 fn push_wanted_vectors(
     found: &mut Items<VectorLine>,
     alloc: Global,
-    member: &Member<'_, '_>,
+    member: &Member<'_, '_, '_>,
     wanted: &[bool],
 ) -> Result<(), NoMemory>
     requires wanted { is_wanted wanted.now member.now.id ≡ wants Vector member.now.model.now member.now.records.now member.now.id }
@@ -126,18 +121,21 @@ fn push_wanted_vectors(
 
 /// The vectors that a run records, with the modules of these records and these emissions: all that
 /// the options let be recorded and that hear at least one value, by rising id of the module, then in the order of its type's statistics.
+/// These modules are wanted, and these are the places of what each of them hears.
 /// See OMNeT++ Simulation Manual, "Result Recording".
-pub fn vectors(
+pub(crate) fn vectors<'r>(
     alloc: Global,
-    model: &PlainAnswers<'_>,
-    records: &[Record],
-    emissions: &[Emission],
+    model: &'r RecordedModel<'_, '_>,
+    records: &'r [Record],
+    emissions: &'r [Emission],
+    wanted: &[bool],
+    heard: &'r [Vec<usize>],
 ) -> Result<Items<VectorLine>, NoMemory>
     requires few { length records.now < 2 ^ 32 }
+    requires wanted { AreWanted Vector model.now records.now wanted.now }
+    requires heard { AreHeard wanted.now records.now emissions.now heard.now }
     ensures { IfOk result (λ found. found ≡ vectors_of model.now records.now emissions.now) }
 {
-    let wanted = wanted(Output::Vector, alloc, model, records)?;
-    let places = heard_lists(alloc, wanted.as_slice(), records, emissions)?;
     let mut found = Items::new(alloc);
     for (index, _record) in records.iter().enumerate() {
         let id = index as u32 + 1;
@@ -145,10 +143,10 @@ pub fn vectors(
             model,
             records,
             emissions,
-            heard: places_at(&places, id),
+            heard: places_at(heard, id),
             id,
         };
-        push_wanted_vectors(&mut found, alloc, &member, &wanted)?;
+        push_wanted_vectors(&mut found, alloc, &member, wanted)?;
     }
     Ok(found)
 }

@@ -4,9 +4,8 @@ ghost use Rattle.std.specs.Prelude.{◌≡◌, ◌+◌, ◌^◌, ◌<◌, IfOk, 
 ghost use Rattle.models.specs.Models.{entries_in};
 ghost use Rattle.recorders.specs.Wanted.{is_wanted, has_output, has_output_among, wants, AreWanted};
 
+use crate::recorded_model::RecordedModel;
 use crate::selection::{records_scalars, records_vector};
-use model_answers::plain::PlainAnswers;
-use models::model::Model;
 use ned_trees::declarations::Statistic;
 use ned_types::flat::statistics_of;
 use run_questions::record::{Record, path_of};
@@ -26,7 +25,7 @@ pub enum Output {
 fn has_output(
     output: Output,
     alloc: Global,
-    model: &Model,
+    model: &RecordedModel<'_, '_>,
     path: &[u8],
     statistic: &Statistic,
 ) -> Result<bool, NoMemory>
@@ -42,7 +41,7 @@ fn has_output(
 fn has_output_among(
     output: Output,
     alloc: Global,
-    model: &Model,
+    model: &RecordedModel<'_, '_>,
     path: &[u8],
     statistics: &[Statistic],
 ) -> Result<bool, NoMemory>
@@ -60,7 +59,7 @@ fn has_output_among(
 fn wants(
     output: Output,
     alloc: Global,
-    model: &PlainAnswers<'_>,
+    model: &RecordedModel<'_, '_>,
     records: &[Record],
     id: u32,
 ) -> Result<bool, NoMemory>
@@ -71,20 +70,14 @@ fn wants(
     };
     let path = path_of(alloc, records, id)?;
     let statistics = statistics_of(alloc, declared.lines.as_slice())?;
-    has_output_among(
-        output,
-        alloc,
-        model.model(),
-        path.as_bytes(),
-        statistics.as_slice(),
-    )
+    has_output_among(output, alloc, model, path.as_bytes(), statistics.as_slice())
 }
 
 /// For each id of a module whether the options let the files have it of one of its statistics.
 pub fn wanted(
     output: Output,
     alloc: Global,
-    model: &PlainAnswers<'_>,
+    model: &RecordedModel<'_, '_>,
     records: &[Record],
 ) -> Result<Vec<bool>, NoMemory>
     requires { length records.now < 2 ^ 32 }

@@ -8,10 +8,9 @@ ghost use Rattle.result_files.specs.Files.{files_of};
 
 use model_answers::evaluated::EvaluatedModel;
 use model_answers::plain::PlainAnswers;
+use recorders::run_results::results;
 use recorders::scalar_line::ScalarLine;
-use recorders::scalars::scalars;
 use recorders::vector_line::VectorLine;
-use recorders::vectors::vectors;
 use result_lines::header::header;
 use result_lines::lines::{put_data_lines, put_scalar_lines, put_vector_lines};
 use result_lines::progress::{Progress, put};
@@ -59,10 +58,12 @@ pub fn prepare(
         ≡ files_of model.now records.now finished.now recorded.now emissions.now) }
 {
     let answers = PlainAnswers::new(alloc, model)?;
+    let header = header(alloc, model.model())?;
+    let (scalars, vectors) = results(alloc, &answers, records, finished, recorded, emissions)?;
     Ok(ResultFiles {
-        header: header(alloc, model.model())?,
-        scalars: scalars(alloc, &answers, records, finished, recorded, emissions)?,
-        vectors: vectors(alloc, &answers, records, emissions)?,
+        header,
+        scalars,
+        vectors,
     })
 }
 

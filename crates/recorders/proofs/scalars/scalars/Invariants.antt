@@ -4,5 +4,5 @@ use Rattle.recorders.proofs.scalars.scalars.Given as goal
 
 abbrev pub invariant-loop-index : goal.invariant-loop-index
 invariant-loop-index l =
-    l.found ++ scalars_from l.model l.records l.finished l.recorded l.emissions (l.index + 1) (drop l.index l.records)
-    ≡ scalars_of l.model l.records l.finished l.recorded l.emissions
+    l.found ++ scalars_from l.model l.records l._finished l.recorded l.emissions (l.index + 1) (drop l.index l.records)
+    ≡ scalars_of l.model l.records l._finished l.recorded l.emissions

@@ -1,5 +1,4 @@
-use Rattle.std.proofs.Common.{◌≡◌, ◌∙◌, ap, sym, true, false}
-use Rattle.models.specs.declared.model.Model.{Model}
+use Rattle.std.proofs.Common.{◌≡◌, ◌∙◌, sym, true, false}
 use Rattle.models.specs.Models.{entries_in}
 use Rattle.recorders.proofs.Reading.{vector_added, vector_left_out}
 use Rattle.recorders.specs.Places.{is_any_of}
@@ -9,7 +8,7 @@ use Rattle.recorders.proofs.vectors.push_vector.Goals as goal
 pub returns-in_ok-push : goal.returns-in_ok-push
 returns-in_ok-push c =
     let recorded : records_vector (entries_in c.args.member.now.model.now) c.as_bytes.result.now c.args.statistic.now ≡ true =
-    ap (λ (m : Model). records_vector (entries_in m) c.as_bytes.result.now c.args.statistic.now) (sym c.model.ensures) ∙ sym c.in_ok-records_vector.ensures ∙ c.if-not-branch.false in
+    sym c.in_ok-records_vector.ensures ∙ c.if-not-branch.false in
     let heard : is_any_of c.in_ok-vector.vector c.args.member.now.emissions.now c.args.member.now.heard.now ≡ true = sym c.is_any_of.ensures ∙ c.if-is_any_of.true in
     c.in_ok-push.ensures.ok
     ∙ vector_added c.args.member.now.model.now c.args.member.now.records.now c.args.member.now.emissions.now c.args.member.now.id c.args.statistic.now c.in_ok-vector.vector c.as_bytes.result.now c.args.member.now.heard.now c.args.found.now
@@ -18,7 +17,7 @@ returns-in_ok-push c =
 pub returns-else-is_any_of : goal.returns-else-is_any_of
 returns-else-is_any_of c =
     let recorded : records_vector (entries_in c.args.member.now.model.now) c.as_bytes.result.now c.args.statistic.now ≡ true =
-    ap (λ (m : Model). records_vector (entries_in m) c.as_bytes.result.now c.args.statistic.now) (sym c.model.ensures) ∙ sym c.in_ok-records_vector.ensures ∙ c.if-not-branch.false in
+    sym c.in_ok-records_vector.ensures ∙ c.if-not-branch.false in
     let heard : is_any_of c.in_ok-vector.vector c.args.member.now.emissions.now c.args.member.now.heard.now ≡ false = sym c.is_any_of.ensures ∙ c.if-is_any_of.false in
     vector_left_out c.args.member.now.model.now c.args.member.now.records.now c.args.member.now.emissions.now c.args.member.now.id c.args.statistic.now c.in_ok-vector.vector c.as_bytes.result.now c.args.member.now.heard.now c.args.found.now
     c.in_ok-vector.ensures c.as_bytes.ensures c.requires recorded heard
