@@ -4,6 +4,7 @@ ghost use Rattle.std.specs.Prelude.{◌≡◌, ◌≤◌, ◌&&◌, ◌++◌, �
 ghost use Rattle.model_answers.specs.Answering.{answers_of};
 ghost use Rattle.run_semantics.specs.Run.{prepared, run_to, settled, stage_of};
 ghost use Rattle.kernel_actions.specs.Positions.{position_of};
+ghost use Rattle.shown_modules.specs.Tables.{AreShown};
 ghost use Rattle.kernel.specs.Kernels.{seats_in, world_in, ran_in, HasKinds};
 ghost use Rattle.checkpoints.specs.Stored.{counts_in, counts_of, is_multiple, last_of, AreBelow, AreRising, IsBegun};
 ghost use Rattle.checkpointed_runs.specs.Running.{boxes_left, fresh_run, kept_boxes, parts_in, Advances, CanStart, IsDeclined, IsFilled, IsLive, IsStopped, IsUndeclined, Stands, Wants};
@@ -355,11 +356,14 @@ impl<C: Catalogue> Runner<C> {
         &mut self,
         alloc: Global,
         model: &mut A,
+        shown: &mut ShownModules,
         limit: u64,
         observer: &mut W,
     ) -> Result<Outcome, NoMemory>
         requires going { IsGoing C.behaviour A.answers SimpleModule-box limit self.old }
         requires kinds { HasKinds C.behaviour SimpleModule-box self.old.kernel }
+        requires shown { let before = world_in SimpleModule-box self.old.kernel in
+            AreShown A.answers before.records shown.old }
         ensures kinds { HasKinds C.behaviour SimpleModule-box self.new.kernel }
         ensures good { HasGood C.behaviour A.answers SimpleModule-box self.new }
         ensures waiting { self.new.waiting ≡ self.old.waiting }
@@ -372,11 +376,12 @@ impl<C: Catalogue> Runner<C> {
             let left = world_in SimpleModule-box self.new.kernel in
             IfOk result (λ outcome. HasGoneOn C.behaviour A.answers from self.old.positions
             self.new.positions left outcome) }
+        ensures shown { let left = world_in SimpleModule-box self.new.kernel in
+            OnOk result (AreShown A.answers left.records shown.new) }
     {
         let last_time = model.time_limit();
-        let mut shown = ShownModules::new(alloc);
         for _k in self.kernel.count()..limit {
-            if let Some(outcome) = self.kernel.step(alloc, model, last_time, &mut shown)? {
+            if let Some(outcome) = self.kernel.step(alloc, model, last_time, shown)? {
                 return Ok(outcome);
             }
             self.tell(observer);
@@ -392,11 +397,14 @@ impl<C: Catalogue> Runner<C> {
         &mut self,
         alloc: Global,
         model: &mut A,
+        shown: &mut ShownModules,
         limit: u64,
         observer: &mut W,
     ) -> Result<Outcome, NoMemory>
         requires going { IsGoing C.behaviour A.answers SimpleModule-box limit self.old }
         requires kinds { HasKinds C.behaviour SimpleModule-box self.old.kernel }
+        requires shown { let before = world_in SimpleModule-box self.old.kernel in
+            AreShown A.answers before.records shown.old }
         ensures kinds { HasKinds C.behaviour SimpleModule-box self.new.kernel }
         ensures good { HasGood C.behaviour A.answers SimpleModule-box self.new }
         ensures waiting { self.new.waiting ≡ self.old.waiting }
@@ -411,12 +419,12 @@ impl<C: Catalogue> Runner<C> {
     {
         let from = self.kernel.count();
         observer.begin(from, limit);
-        let outcome = self.go_on(alloc, model, limit, observer)?;
+        let outcome = self.go_on(alloc, model, shown, limit, observer)?;
         let last = self.kernel.count();
         let due = is_owed(from, outcome.is_fault(), last, self.positions.ends_at(last));
         self.keep_if(alloc, due)?;
         self.stood = Stood::Ending;
-        self.kernel.finish(alloc, model, outcome)
+        self.kernel.finish(alloc, model, shown, outcome)
     }
 
     /// A whole run from where each module has its box: its events, and its end.
@@ -424,6 +432,7 @@ impl<C: Catalogue> Runner<C> {
         &mut self,
         alloc: Global,
         model: &mut A,
+        shown: &mut ShownModules,
         limit: u64,
         observer: &mut W,
     ) -> Result<Outcome, NoMemory>
@@ -431,6 +440,8 @@ impl<C: Catalogue> Runner<C> {
             CanStart C.behaviour A.answers (world_in SimpleModule-box self.old.kernel) waiting }
         requires none { IsBegun self.old.positions }
         requires stood { self.old.stood ≡ Stood.Before }
+        requires shown { let before = world_in SimpleModule-box self.old.kernel in
+            AreShown A.answers before.records shown.old }
         ensures kinds { HasKinds C.behaviour SimpleModule-box self.new.kernel }
         ensures none { waiting_in SimpleModule-box self.new ≡ [] }
         ensures good { HasGood C.behaviour A.answers SimpleModule-box self.new }
@@ -443,11 +454,11 @@ impl<C: Catalogue> Runner<C> {
         ensures stopped { HasStored C.behaviour A.answers limit (counts_in self.old.positions)
             self.new.stood (counts_in self.new.positions) }
     {
-        match self.kernel.start(alloc, model, &mut self.waiting)? {
-            Some(outcome) => self.kernel.finish(alloc, model, outcome),
+        match self.kernel.start(alloc, model, shown, &mut self.waiting)? {
+            Some(outcome) => self.kernel.finish(alloc, model, shown, outcome),
             None => {
                 self.keep_if(alloc, true)?;
-                self.run_on(alloc, model, limit, observer)
+                self.run_on(alloc, model, shown, limit, observer)
             }
         }
     }
@@ -484,7 +495,8 @@ impl<C: Catalogue> Runner<C> {
             Standing::Missing(request) => Ok(Advance::Waits(request)),
             Standing::Ready => {
                 let mut answers = AskedModel::<M>::new(alloc, model)?;
-                let outcome = self.complete(alloc, &mut answers, limit, observer)?;
+                let mut shown = ShownModules::new(alloc);
+                let outcome = self.complete(alloc, &mut answers, &mut shown, limit, observer)?;
                 Ok(Advance::Ends(None, outcome))
             }
         }
@@ -549,7 +561,8 @@ impl<C: Catalogue> Runner<C> {
         match self.go_back::<M>(alloc, limit)? {
             Some(start) => {
                 let mut answers = AskedModel::<M>::new(alloc, model)?;
-                let outcome = self.run_on(alloc, &mut answers, limit, observer)?;
+                let mut shown = ShownModules::new(alloc);
+                let outcome = self.run_on(alloc, &mut answers, &mut shown, limit, observer)?;
                 Ok(Advance::Ends(Some(start), outcome))
             }
             None => {

@@ -5,7 +5,6 @@ ghost use Rattle.run_questions.specs.Answers.{answer_of, parameters_of};
 ghost use Rattle.run_questions.specs.declared.answer.Answer.TheVariants as answers;
 ghost use Rattle.run_semantics.specs.World.{empty};
 ghost use Rattle.run_semantics.specs.Perform.{flow_of, question_of, fault_of_read, read_fault};
-ghost use Rattle.run_semantics.specs.Event.{call_of};
 ghost use Rattle.run_semantics.specs.Run.{root_asked, compounds_from, inside_of, set_up, prepared};
 ghost use Rattle.kernel_actions.specs.Upcoming.{looked, with_injection_asked};
 ghost use Rattle.kernel.specs.Calls.{call_with};
@@ -23,26 +22,12 @@ use run_answers::Answers;
 use run_questions::answer::{Answer, Built, Question};
 use run_questions::record::{MAX_NESTING, index_of};
 use run_semantics::outcome::{Fault, Turn};
-use shown_modules::{Shown, shown_of};
+use shown_modules::Shown;
 use sim_values::NoMemory;
 use sqlite_items::Items;
 use std::alloc::Global;
 
 // ---- calls
-
-/// What a module is told.
-pub fn call<A: Answers>(
-    core: &Core,
-    alloc: Global,
-    model: &mut A,
-    id: u32,
-    prompt: Prompt,
-) -> Result<Call, NoMemory>
-    ensures { IfOk result (λ call. call ≡ call_of A.answers id prompt core.now) }
-{
-    let shown = shown_of(alloc, model, core.records(), id)?;
-    Ok(call_shown(core, id, prompt, shown))
-}
 
 /// What a module is told, where this is what calls show of it.
 pub fn call_shown(core: &Core, id: u32, prompt: Prompt, shown: Shown) -> Call

@@ -6,7 +6,7 @@ ghost use Rattle.module_tree.specs.Boxes.{nothing};
 ghost use Rattle.question_log.specs.Entries.{noted_in};
 ghost use Rattle.run_semantics.specs.World.{empty, HasRoom};
 ghost use Rattle.run_semantics.specs.Perform.{flow_of, On, perform, act, act_all, acted, answered};
-ghost use Rattle.run_semantics.specs.Event.{call_at, call_module, call_of, instance_in, with_state};
+ghost use Rattle.run_semantics.specs.Event.{call_at, call_of, instance_in, with_state};
 ghost use Rattle.run_questions.specs.Answers.{parameters_of};
 ghost use Rattle.run_semantics.specs.Upcoming.{target_of, upcoming};
 ghost use Rattle.shown_modules.specs.Tables.{AreShown};
@@ -22,7 +22,7 @@ ghost use Rattle.run_semantics.specs.Laws.{AreStates};
 ghost use Rattle.saved_boxes.specs.Saved.{CanTake, Takes, instances_held, seats_held};
 ghost use Rattle.kernel.specs.Kernels.{seats_in, world_in, ran_in, HasKinds, IsCallable, KeepsBoxes};
 
-use crate::from_model::{ask_injection, call, call_shown, prepare, read_fault};
+use crate::from_model::{ask_injection, call_shown, prepare, read_fault};
 use crate::request::Request;
 use kernel_actions::core_part::Core;
 use kernel_actions::events::{arrival, message_of};
@@ -402,34 +402,14 @@ impl<C: Catalogue> Kernel<C> {
         self.follow(alloc, model, occasion, call, &reply)
     }
 
-    /// One call of the module of that id.
+    /// One call of the module of that id. What calls show of it is taken out of the table for the call, and put back after it.
     #[tactic(auto, using(kernel_actions::proofs::Lasting::growth_same))]
     fn call_module<A: Answers>(
         &mut self,
         alloc: Global,
         model: &mut A,
-        occasion: Occasion,
-        id: u32,
-        prompt: Prompt,
-    ) -> Result<Turn, NoMemory>
-        requires callable { IsCallable C.behaviour SimpleModule-box 1000 self.old }
-        ensures kept { KeepsBoxes C.behaviour SimpleModule-box self.old self.new }
-        ensures step { IfOk result (λ turn. flow_of turn (world_in SimpleModule-box self.new)
-            ≡ call_at C.behaviour A.answers occasion id prompt (world_in SimpleModule-box self.old)) }
-        ensures grown { IsGrownFrom (world_in SimpleModule-box self.old)
-            (world_in SimpleModule-box self.new) }
-    {
-        let call = call(&self.core, alloc, model, id, prompt)?;
-        self.carry_out(alloc, model, occasion, &call)
-    }
-
-    /// One call of the module of that id. What calls show of it is taken out of the table for the call, and put back after it.
-    #[tactic(auto, using(kernel_actions::proofs::Lasting::growth_same))]
-    fn call_shown<A: Answers>(
-        &mut self,
-        alloc: Global,
-        model: &mut A,
         shown: &mut ShownModules,
+        occasion: Occasion,
         id: u32,
         prompt: Prompt,
     ) -> Result<Turn, NoMemory>
@@ -437,7 +417,7 @@ impl<C: Catalogue> Kernel<C> {
         requires shown { AreShown A.answers (world_in SimpleModule-box self.old).records shown.old }
         ensures kept { KeepsBoxes C.behaviour SimpleModule-box self.old self.new }
         ensures step { IfOk result (λ turn. flow_of turn (world_in SimpleModule-box self.new)
-            ≡ call_module C.behaviour A.answers id prompt (world_in SimpleModule-box self.old)) }
+            ≡ call_at C.behaviour A.answers occasion id prompt (world_in SimpleModule-box self.old)) }
         ensures grown { IsGrownFrom (world_in SimpleModule-box self.old)
             (world_in SimpleModule-box self.new) }
         ensures shown { AreShown A.answers (world_in SimpleModule-box self.new).records shown.new }
@@ -445,7 +425,7 @@ impl<C: Catalogue> Kernel<C> {
         let lent = shown.take(alloc, model, self.core.records(), id)?;
         let lasts = lent.lasts;
         let call = call_shown(&self.core, id, prompt, lent.shown);
-        let turn = self.carry_out(alloc, model, Occasion::Event, &call);
+        let turn = self.carry_out(alloc, model, occasion, &call);
         shown.put_back(lasts, id, shown_in(call));
         turn
     }
@@ -476,22 +456,25 @@ impl<C: Catalogue> Kernel<C> {
         &mut self,
         alloc: Global,
         model: &mut A,
+        shown: &mut ShownModules,
         stage: u8,
         id: u32,
     ) -> Result<Turn, NoMemory>
         requires callable { IsCallable C.behaviour SimpleModule-box 1000 self.old }
+        requires shown { AreShown A.answers (world_in SimpleModule-box self.old).records shown.old }
         ensures kept { KeepsBoxes C.behaviour SimpleModule-box self.old self.new }
         ensures next { let before = world_in SimpleModule-box self.old in
             OnOk result ((world_in SimpleModule-box self.new).next ≤ before.next + 1000) }
         ensures step { let before = world_in SimpleModule-box self.old in
             IfOk result (λ turn. flow_of turn (world_in SimpleModule-box self.new)
             ≡ initialize C.behaviour A.answers stage id before) }
+        ensures shown { AreShown A.answers (world_in SimpleModule-box self.new).records shown.new }
     {
         if stage >= self.stages_in(id) {
             return Ok(Turn::GoOn);
         }
         let prompt = Prompt::Initialize(stage);
-        let turn = self.call_module(alloc, model, Occasion::Event, id, prompt)?;
+        let turn = self.call_module(alloc, model, shown, Occasion::Event, id, prompt)?;
         Ok(turn)
     }
 
@@ -500,19 +483,22 @@ impl<C: Catalogue> Kernel<C> {
         &mut self,
         alloc: Global,
         model: &mut A,
+        shown: &mut ShownModules,
         stage: u8,
         ids: &[u32],
     ) -> Result<Turn, NoMemory>
         requires callable { IsCallable C.behaviour SimpleModule-box (2 ^ 75) self.old }
+        requires shown { AreShown A.answers (world_in SimpleModule-box self.old).records shown.old }
         ensures kept { KeepsBoxes C.behaviour SimpleModule-box self.old self.new }
         ensures next { let before = world_in SimpleModule-box self.old in
             OnOk result ((world_in SimpleModule-box self.new).next ≤ before.next + 2 ^ 74) }
         ensures step { let before = world_in SimpleModule-box self.old in
             IfOk result (λ turn. flow_of turn (world_in SimpleModule-box self.new)
             ≡ one_stage C.behaviour A.answers stage ids.now before) }
+        ensures shown { AreShown A.answers (world_in SimpleModule-box self.new).records shown.new }
     {
         for id in ids {
-            match self.initialize(alloc, model, stage, *id)? {
+            match self.initialize(alloc, model, shown, stage, *id)? {
                 Turn::GoOn => {}
                 turn => return Ok(turn),
             }
@@ -538,19 +524,22 @@ impl<C: Catalogue> Kernel<C> {
         &mut self,
         alloc: Global,
         model: &mut A,
+        shown: &mut ShownModules,
         most: u8,
         ids: &[u32],
     ) -> Result<Turn, NoMemory>
         requires next { (world_in SimpleModule-box self.old).next ≡ 0 }
         requires kinds { HasKinds C.behaviour SimpleModule-box self.old }
+        requires shown { AreShown A.answers (world_in SimpleModule-box self.old).records shown.old }
         ensures kept { KeepsBoxes C.behaviour SimpleModule-box self.old self.new }
         ensures next { OnOk result ((world_in SimpleModule-box self.new).next ≤ 2 ^ 82) }
         ensures step { let before = world_in SimpleModule-box self.old in
             IfOk result (λ turn. flow_of turn (world_in SimpleModule-box self.new)
             ≡ stages_from C.behaviour A.answers ids.now 0 most before) }
+        ensures shown { AreShown A.answers (world_in SimpleModule-box self.new).records shown.new }
     {
         for stage in 0..most {
-            match self.one_stage(alloc, model, stage, ids)? {
+            match self.one_stage(alloc, model, shown, stage, ids)? {
                 Turn::GoOn => {}
                 turn => return Ok(turn),
             }
@@ -563,29 +552,34 @@ impl<C: Catalogue> Kernel<C> {
         &mut self,
         alloc: Global,
         model: &mut A,
+        shown: &mut ShownModules,
     ) -> Result<Option<Outcome>, NoMemory>
         requires ready { On (world_in SimpleModule-box self.old) ≡ ready C.behaviour A.answers }
         requires next { (world_in SimpleModule-box self.old).next ≡ 0 }
         requires kinds { HasKinds C.behaviour SimpleModule-box self.old }
+        requires shown { AreShown A.answers (world_in SimpleModule-box self.old).records shown.old }
         ensures kinds { HasKinds C.behaviour SimpleModule-box self.new }
         ensures kept { KeepsBoxes C.behaviour SimpleModule-box self.old self.new }
         ensures next { OnOk result ((world_in SimpleModule-box self.new).next ≤ 2 ^ 82) }
         ensures step { IfOk result (λ over.
             stage_of over (world_in SimpleModule-box self.new) ≡ start C.behaviour A.answers) }
+        ensures shown { let left = world_in SimpleModule-box self.new in
+            OnOk result (AreShown A.answers left.records shown.new) }
     {
         let calls = self.core.calls_of_network(alloc)?;
         let most = self.most_stages(calls.as_slice());
         self.core.mark_started(alloc)?;
-        let turn = self.stages(alloc, model, most, calls.as_slice())?;
+        let turn = self.stages(alloc, model, shown, most, calls.as_slice())?;
         Ok(self.settle(turn))
     }
 
     /// Starts the network that was set up, the end of event zero: each simple module has its box, of those that waited, and all modules are
-    /// initialized. None waits from then on.
+    /// initialized. None waits from then on. What calls show of modules is taken from the table, or found and put in there.
     pub fn start<A: Answers>(
         &mut self,
         alloc: Global,
         model: &mut A,
+        shown: &mut ShownModules,
         waiting: &mut Tree<Box<dyn SimpleModule>>,
     ) -> Result<Option<Outcome>, NoMemory>
         requires prepared { On (world_in SimpleModule-box self.old) ≡ prepared A.answers }
@@ -593,6 +587,7 @@ impl<C: Catalogue> Kernel<C> {
         requires none { (world_in SimpleModule-box self.old).modules ≡ [] }
         requires fresh { AreFresh C.behaviour (needs (world_in SimpleModule-box self.old))
             (seats_held SimpleModule-box waiting.old) }
+        requires shown { AreShown A.answers (world_in SimpleModule-box self.old).records shown.old }
         ensures kinds { HasKinds C.behaviour SimpleModule-box self.new }
         ensures stands { standing (world_in SimpleModule-box self.new).modules
             ≡ needs (world_in SimpleModule-box self.old) }
@@ -600,9 +595,11 @@ impl<C: Catalogue> Kernel<C> {
         ensures next { OnOk result ((world_in SimpleModule-box self.new).next ≤ 2 ^ 82) }
         ensures step { IfOk result (λ over.
             stage_of over (world_in SimpleModule-box self.new) ≡ start C.behaviour A.answers) }
+        ensures shown { let left = world_in SimpleModule-box self.new in
+            OnOk result (AreShown A.answers left.records shown.new) }
     {
         swap(&mut self.boxes, waiting);
-        self.initialize_all(alloc, model)
+        self.initialize_all(alloc, model, shown)
     }
 
     // ---- events
@@ -702,7 +699,7 @@ impl<C: Catalogue> Kernel<C> {
             Ok(event) => {
                 let id = event.id;
                 let prompt = Prompt::Message(message_of(alloc, event));
-                let turn = self.call_shown(alloc, model, shown, id, prompt)?;
+                let turn = self.call_module(alloc, model, shown, Occasion::Event, id, prompt)?;
                 Ok(self.settle(turn))
             }
             Err(outcome) => Ok(Some(outcome)),
@@ -729,20 +726,23 @@ impl<C: Catalogue> Kernel<C> {
         &mut self,
         alloc: Global,
         model: &mut A,
+        shown: &mut ShownModules,
         id: u32,
     ) -> Result<Turn, NoMemory>
         requires callable { IsCallable C.behaviour SimpleModule-box 1000 self.old }
+        requires shown { AreShown A.answers (world_in SimpleModule-box self.old).records shown.old }
         ensures kept { KeepsBoxes C.behaviour SimpleModule-box self.old self.new }
         ensures step { let before = world_in SimpleModule-box self.old in
             IfOk result (λ turn. flow_of turn (world_in SimpleModule-box self.new)
             ≡ call_last C.behaviour A.answers id before) }
         ensures grown { IsGrownFrom (world_in SimpleModule-box self.old)
             (world_in SimpleModule-box self.new) }
+        ensures shown { AreShown A.answers (world_in SimpleModule-box self.new).records shown.new }
     {
         if self.stages_at(id).is_none() {
             return Ok(Turn::GoOn);
         }
-        self.call_module(alloc, model, Occasion::End, id, Prompt::Finish)
+        self.call_module(alloc, model, shown, Occasion::End, id, Prompt::Finish)
     }
 
     /// Finishes the module of that id: a simple one is told first, a compound one just counts as finished.
@@ -751,9 +751,11 @@ impl<C: Catalogue> Kernel<C> {
         &mut self,
         alloc: Global,
         model: &mut A,
+        shown: &mut ShownModules,
         id: u32,
     ) -> Result<Turn, NoMemory>
         requires callable { IsCallable C.behaviour SimpleModule-box 1000 self.old }
+        requires shown { AreShown A.answers (world_in SimpleModule-box self.old).records shown.old }
         ensures kept { KeepsBoxes C.behaviour SimpleModule-box self.old self.new }
         ensures next { let before = world_in SimpleModule-box self.old in
             OnOk result ((world_in SimpleModule-box self.new).next ≤ before.next + 1000) }
@@ -762,8 +764,9 @@ impl<C: Catalogue> Kernel<C> {
             ≡ finish C.behaviour A.answers id before) }
         ensures grown { IsGrownFrom (world_in SimpleModule-box self.old)
             (world_in SimpleModule-box self.new) }
+        ensures shown { AreShown A.answers (world_in SimpleModule-box self.new).records shown.new }
     {
-        match self.call_last(alloc, model, id)? {
+        match self.call_last(alloc, model, shown, id)? {
             Turn::GoOn => {
                 self.core.mark_finished(id)?;
                 Ok(Turn::GoOn)
@@ -777,18 +780,21 @@ impl<C: Catalogue> Kernel<C> {
         &mut self,
         alloc: Global,
         model: &mut A,
+        shown: &mut ShownModules,
         ids: &[u32],
     ) -> Result<Turn, NoMemory>
         requires callable { IsCallable C.behaviour SimpleModule-box (2 ^ 75) self.old }
+        requires shown { AreShown A.answers (world_in SimpleModule-box self.old).records shown.old }
         ensures kept { KeepsBoxes C.behaviour SimpleModule-box self.old self.new }
         ensures step { let before = world_in SimpleModule-box self.old in
             IfOk result (λ turn. flow_of turn (world_in SimpleModule-box self.new)
             ≡ finish_all C.behaviour A.answers ids.now before) }
         ensures grown { IsGrownFrom (world_in SimpleModule-box self.old)
             (world_in SimpleModule-box self.new) }
+        ensures shown { AreShown A.answers (world_in SimpleModule-box self.new).records shown.new }
     {
         for id in ids {
-            match self.finish_one(alloc, model, *id)? {
+            match self.finish_one(alloc, model, shown, *id)? {
                 Turn::GoOn => {}
                 turn => return Ok(turn),
             }
@@ -796,29 +802,33 @@ impl<C: Catalogue> Kernel<C> {
         Ok(Turn::GoOn)
     }
 
-    /// Finishes the modules of a run that ended so, and answers how it ends then.
+    /// Finishes the modules of a run that ended so, and answers how it ends then. What calls show of modules is taken from the table, or found
+    /// and put in there.
     #[tactic(auto, using(kernel_actions::proofs::Lasting::growth_same))]
     pub fn finish<A: Answers>(
         &mut self,
         alloc: Global,
         model: &mut A,
+        shown: &mut ShownModules,
         outcome: Outcome,
     ) -> Result<Outcome, NoMemory>
         requires room { HasRoom (world_in SimpleModule-box self.old) }
         requires count { (world_in SimpleModule-box self.old).count < 2 ^ 64 }
         requires kinds { HasKinds C.behaviour SimpleModule-box self.old }
+        requires shown { AreShown A.answers (world_in SimpleModule-box self.old).records shown.old }
         ensures kinds { HasKinds C.behaviour SimpleModule-box self.new }
         ensures kept { KeepsBoxes C.behaviour SimpleModule-box self.old self.new }
         ensures step { IfOk result (λ last. ran_in SimpleModule-box last self.new
             ≡ ending C.behaviour A.answers (ran_in SimpleModule-box outcome self.old)) }
         ensures grown { IsGrownFrom (world_in SimpleModule-box self.old)
             (world_in SimpleModule-box self.new) }
+        ensures shown { AreShown A.answers (world_in SimpleModule-box self.new).records shown.new }
     {
         if outcome.is_fault() {
             return Ok(outcome);
         }
         let ids = self.core.to_finish(alloc)?;
-        match self.finish_all(alloc, model, ids.as_slice())? {
+        match self.finish_all(alloc, model, shown, ids.as_slice())? {
             Turn::GoOn | Turn::Stop => Ok(outcome),
             Turn::Break(path, fault) => Ok(Outcome::Fault(self.core.count(), path, fault)),
         }

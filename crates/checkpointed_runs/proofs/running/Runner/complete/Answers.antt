@@ -1,6 +1,7 @@
 use Rattle.std.proofs.Common.{◌≡◌, ◌≤◌, true, zero, suc, refl, sym, ap, ◌∙◌, subst, arith}
 use Rattle.checkpoints.specs.Stored.{begun, counts_in, with_count, AreBelow, Timeline}
 use Rattle.kernel_actions.specs.declared.position.Position.{Position}
+use Rattle.shown_modules.specs.Tables.{AreShown}
 use Rattle.kernel.specs.Kernels.{seats_in, world_in, ran_in}
 use Rattle.kernel_actions.specs.Positions.{position_of}
 use Rattle.run_semantics.specs.Ending.{ending}
@@ -40,6 +41,10 @@ run_on-requires-clause-going g c =
           (first_below (suc w.count) c.args.self.now.positions.first new.positions (omega arith) (first_counts w c.args.self.now.positions new.positions c.requires.none stored count));
       stood = c.in_ok-keep_if-in-None.ensures.stood ∙ ap (λ K. stood.After (world_in (λ b. (g.dyn-1.0.entry b.vtable).1) K).count) same;
     }
+
+pub run_on-requires-clause-shown : goal.run_on-requires-clause-shown
+run_on-requires-clause-shown g c =
+    subst (λ K. AreShown g.A.Answers.answers (world_in (λ b. (g.dyn-1.0.entry b.vtable).1) K).records c.start.new.shown) (sym c.in_ok-keep_if-in-None.ensures.kept) c.in_ok-outcome.ensures.shown
 
 pub returns-in-Some-clause-ran : goal.returns-in-Some-clause-ran
 returns-in-Some-clause-ran g c =

@@ -1,5 +1,6 @@
 use Rattle.std.proofs.Common.{◌≡◌, Bool, refl, sym, ap, ◌∙◌, subst}
 use Rattle.checkpoints.specs.Stored.{counts_of}
+use Rattle.shown_modules.specs.Tables.{AreShown}
 use Rattle.kernel.specs.Kernels.{seats_in, world_in, ran_in}
 use Rattle.kernel_actions.specs.Positions.{position_of}
 use Rattle.run_semantics.specs.Ending.{ending}
@@ -21,6 +22,10 @@ keep_if-requires g c =
       below = λ owed. owed_below g.C.Catalogue.behaviour g.A.Answers.answers from c.args.self.now.positions mid.positions (world_in (λ b. (g.dyn-1.0.entry b.vtable).1) mid.kernel) c.in_ok-outcome.outcome
           c.requires.going.below c.in_ok-outcome.ensures.stored (sym due ∙ owed);
     }
+
+pub finish-requires-clause-shown : goal.finish-requires-clause-shown
+finish-requires-clause-shown g c =
+    subst (λ K. AreShown g.A.Answers.answers (world_in (λ b. (g.dyn-1.0.entry b.vtable).1) K).records c.go_on.new.shown) (sym c.in_ok-keep_if.ensures.kept) c.in_ok-outcome.ensures.shown
 
 pub returns-clause-good : goal.returns-clause-good
 returns-clause-good g c =

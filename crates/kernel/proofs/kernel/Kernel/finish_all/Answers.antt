@@ -19,6 +19,7 @@ loop-id-init g c = record {
   next = omega arith;
   grown = growth_same (world_in (λ b. (g.dyn-1.0.entry b.vtable).1) c.args.self.now);
   kept = record { kinds = c.requires.callable.kinds; standing_is = refl };
+  shown = c.requires.shown;
 }
 
 pub loop-id-preserved : goal.loop-id-preserved
@@ -27,6 +28,7 @@ loop-id-preserved g c = record {
   next = omega (arith, c.in_ok-turn.ensures.next, c.loop-id.invariant.next);
   grown = growth_on (world_in (λ b. (g.dyn-1.0.entry b.vtable).1) c.args.self.now) (world_in (λ b. (g.dyn-1.0.entry b.vtable).1) c.loop-id.self) (world_in (λ b. (g.dyn-1.0.entry b.vtable).1) c.finish_one.new.self) c.loop-id.invariant.grown c.finish_one.ensures.grown;
   kept = still_kept c.loop-id.invariant.kept c.finish_one.ensures.kept;
+  shown = c.finish_one.ensures.shown;
 }
 
 pub returns-clause-step : goal.returns-clause-step

@@ -1,5 +1,6 @@
 use Rattle.std.proofs.Common.{◌≡◌, ◌+◌, ◌*◌, ◌≤◌, drop}
 use Rattle.run_semantics.specs.Ending.{finish_all}
+use Rattle.shown_modules.specs.Tables.{AreShown}
 use Rattle.kernel.specs.Kernels.{world_in, KeepsBoxes}
 use Rattle.kernel_actions.specs.Positions.{IsGrownFrom}
 use Rattle.kernel.proofs.kernel.Kernel.finish_all.Given as goal
@@ -13,4 +14,5 @@ invariant-loop-id g l =
       next : world.next ≤ old.next + 1000 * l.id-index;
       grown : IsGrownFrom old world;
       kept : KeepsBoxes g.C.Catalogue.behaviour (λ b. (g.dyn-1.0.entry b.vtable).1) l.fn.self l.self;
+      shown : AreShown g.A.Answers.answers world.records l.shown;
     }

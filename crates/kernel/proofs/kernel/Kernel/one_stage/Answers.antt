@@ -19,6 +19,7 @@ loop-id-preserved g c = record {
   flow = each_step (initialize g.C.Catalogue.behaviour g.A.Answers.answers c.args.stage) c.args.ids.now c.loop-id.id-index 0 (world_in (λ b. (g.dyn-1.0.entry b.vtable).1) c.loop-id.self) (On (world_in (λ b. (g.dyn-1.0.entry b.vtable).1) c.initialize.new.self)) _ (omega arith) (rw c.in-GoOn.is at c.in_ok-turn.ensures.step) c.loop-id.invariant.flow;
   next = omega (arith, c.in_ok-turn.ensures.next, c.loop-id.invariant.next);
   kept = still_kept c.loop-id.invariant.kept c.initialize.ensures.kept;
+  shown = c.initialize.ensures.shown;
 }
 
 pub loop-id-init : goal.loop-id-init
@@ -26,6 +27,7 @@ loop-id-init g c = record {
   flow = refl;
   next = omega arith;
   kept = record { kinds = c.requires.callable.kinds; standing_is = refl };
+  shown = c.requires.shown;
 }
 
 pub returns-clause-step : goal.returns-clause-step

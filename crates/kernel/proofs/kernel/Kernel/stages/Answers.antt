@@ -22,4 +22,5 @@ loop-stage-preserved g c = record {
   flow = stages_on g.C.Catalogue.behaviour g.A.Answers.answers c.args.ids.now c.loop-stage.stage c.args.most (world_in (λ b. (g.dyn-1.0.entry b.vtable).1) c.loop-stage.self) (On (world_in (λ b. (g.dyn-1.0.entry b.vtable).1) c.one_stage.new.self)) _ (omega arith) (rw c.in-GoOn.is at c.in_ok-turn.ensures.step) c.loop-stage.invariant.flow;
   next = omega (arith, c.in_ok-turn.ensures.next, c.loop-stage.invariant.next);
   kept = still_kept c.loop-stage.invariant.kept c.one_stage.ensures.kept;
+  shown = c.one_stage.ensures.shown;
 }

@@ -1,5 +1,6 @@
 use Rattle.std.proofs.Common.{◌≡◌, ◌-◌, ◌*◌, ◌^◌, ◌≤◌}
 use Rattle.run_semantics.specs.Run.{stages_from}
+use Rattle.shown_modules.specs.Tables.{AreShown}
 use Rattle.kernel.specs.Kernels.{world_in, KeepsBoxes}
 use Rattle.kernel.proofs.kernel.Kernel.stages.Given as goal
 
@@ -11,4 +12,5 @@ invariant-loop-stage g l =
       flow : stages_from g.C.Catalogue.behaviour g.A.Answers.answers l.ids l.stage (l.most - l.stage) world ≡ stages_from g.C.Catalogue.behaviour g.A.Answers.answers l.ids 0 l.most old;
       next : world.next ≤ 2 ^ 74 * l.stage;
       kept : KeepsBoxes g.C.Catalogue.behaviour (λ b. (g.dyn-1.0.entry b.vtable).1) l.fn.self l.self;
+      shown : AreShown g.A.Answers.answers world.records l.shown;
     }

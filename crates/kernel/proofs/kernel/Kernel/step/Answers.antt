@@ -16,7 +16,7 @@ returns-in_ok-turn-in-Ok-clause-room g c =
     let begins = begins_counted c.args.limit c.in_ok-look.next c.args.self.now.core c.begin.new.self c.in_ok-look.look c.in-Ok.event (rw c.in-Ok.is at c.in_ok-event.ensures.begins) in
     let kept = call_leaves g.C.Catalogue.behaviour g.A.Answers.answers Event c.in-Ok.event.id (Message c.message_of.result) c.in_ok-turn-in-Ok.turn
     (world_in (λ b. (g.dyn-1.0.entry b.vtable).1) (record c.args.self.now { core = c.begin.new.self }))
-    (world_in (λ b. (g.dyn-1.0.entry b.vtable).1) c.call_shown.new.self) c.in_ok-turn-in-Ok.ensures.step in
+    (world_in (λ b. (g.dyn-1.0.entry b.vtable).1) c.call_module.new.self) c.in_ok-turn-in-Ok.ensures.step in
     omega (arith, kept.next, kept.count, begins.0, begins.1, c.requires.room)
 
 pub returns-in_err-event-clause-shown : goal.returns-in_err-event-clause-shown
