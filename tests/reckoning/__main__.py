@@ -4,7 +4,7 @@
 
     python3 tests/reckoning -s SCENARIO
 
-It prints the answer of the run as the program would, and writes both result files into DIR, or prints them where no DIR is given; of a scenario of crates/scenarios it
+It prints the answer of the run as the program would, and writes both result files into DIR, or prints them where no DIR is given; of a scenario of crates/check_scenarios it
 prints what that leads to. What it does not know it refuses with status 2. tests/compare calls it for networks that are made by chance, and compares the program's answers and files."""
 import argparse
 import pathlib

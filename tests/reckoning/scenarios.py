@@ -1,4 +1,4 @@
-"""Plays a scenario of crates/scenarios, whose README says what its parts are."""
+"""Plays a scenario of crates/check_scenarios, whose README says what its parts are."""
 import re
 
 from ned import NotReckoned

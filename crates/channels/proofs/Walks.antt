@@ -2,7 +2,7 @@
 use Rattle.std.proofs.Common.{◌≡◌, ◌⊎◌, inl, inr, ⊎_elim, eqb-true, ℕ, ◌+◌, ◌-◌, ◌*◌, ◌/◌, ◌<◌, ◌≤◌, ◌==◌, nat_le, nat_lt, Bool, true, false, List, [], ◌∷◌, Option, Some, None, Result, Ok, Err, refl, sym, ap, ◌∙◌, arith, if◌then◌else◌}
 use Rattle.std.proofs.lemmas.Bool.Decides.{nat_tests}
 use Rattle.sim_time.specs.Time.{greatest, time_sum}
-use Rattle.run_questions.specs.declared.answer.Channel.{Channel}
+use Rattle.model_questions.specs.declared.answer.Channel.{Channel}
 use Rattle.channels.specs.declared.travels.ChannelFault.{ChannelFault}
 use Rattle.channels.specs.declared.travels.ChannelFault.TheVariants.{Busy, TwoTransmissionChannels}
 use Rattle.channels.specs.declared.travels.Travel.{Travel}

@@ -1,6 +1,6 @@
 -- Words for what holds of travels.
 use Rattle.std.specs.Prelude.{◌≡◌, ◌⊎◌, ℕ, ◌+◌, List, [], ◌∷◌, true, false, if◌then◌else◌}
-use Rattle.run_questions.specs.declared.answer.Channel.{Channel}
+use Rattle.model_questions.specs.declared.answer.Channel.{Channel}
 use Rattle.channels.specs.Travel.{is_transmission, duration_of}
 
 -- all delays together

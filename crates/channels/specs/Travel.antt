@@ -1,11 +1,11 @@
 -- How a message travels over the channels of its path (OMNeT++ Simulation Manual, "Channels").
 use Rattle.std.specs.Prelude.{ℕ, ◌+◌, ◌-◌, ◌*◌, ◌/◌, ◌==◌, nat_lt, Bool, true, false, List, [], ◌∷◌, Option, Some, None, Result, Ok, Err, if◌then◌else◌}
 use Rattle.sim_time.specs.Time.{time_sum}
-use Rattle.run_questions.specs.declared.answer.Channel.{Channel}
+use Rattle.model_questions.specs.declared.answer.Channel.{Channel}
 use Rattle.channels.specs.declared.travels.ChannelFault.{ChannelFault}
 use Rattle.channels.specs.declared.travels.ChannelFault.TheVariants.{Busy, TwoTransmissionChannels, TimeOverflow}
-use Rattle.run_questions.specs.declared.answer.ChannelKind.{ChannelKind}
-use Rattle.run_questions.specs.declared.answer.ChannelKind.TheVariants.{Ideal, Delay, Datarate}
+use Rattle.model_questions.specs.declared.answer.ChannelKind.{ChannelKind}
+use Rattle.model_questions.specs.declared.answer.ChannelKind.TheVariants.{Ideal, Delay, Datarate}
 use Rattle.channels.specs.declared.travels.Travel.{Travel}
 use Rattle.channels.specs.declared.travels.Travel.TheVariants.{Arrival, Lost}
 use Rattle.channels.specs.declared.travels.Way.{Way}

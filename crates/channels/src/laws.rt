@@ -1,7 +1,7 @@
 //! Laws of travels. The functions do nothing: their contracts are the laws.
 
 ghost use Rattle.std.specs.Prelude.{◌≡◌, ◌⊎◌, ℕ, ◌+◌, ◌*◌, ◌<◌, ◌≤◌, List, Option, Ok, Err};
-ghost use Rattle.run_questions.specs.declared.answer.Channel.{Channel};
+ghost use Rattle.model_questions.specs.declared.answer.Channel.{Channel};
 ghost use Rattle.channels.specs.declared.travels.Travel.{Travel};
 ghost use Rattle.channels.specs.Travel.{travel, duration_of};
 ghost use Rattle.channels.specs.Laws.{delays, durations, AllEnabled, AnyDisabled};

@@ -10,7 +10,7 @@ pub mod laws;
 pub mod travels;
 
 use crate::travels::{ChannelFault, Travel, Way};
-use run_questions::answer::{Channel, ChannelKind};
+use model_questions::answer::{Channel, ChannelKind};
 use sim_time::SimTime;
 
 /// How many ps a second has.

@@ -1,10 +1,10 @@
 -- A session without a run has no boxes.
 use Rattle.std.proofs.Common.{◌≡◌, ℕ, List, [], ◌++◌, None, ap}
 use Rattle.checkpoints.specs.Stored.{begun, Timeline}
-use Rattle.models.specs.declared.model.Model.{Model}
+use Rattle.model_data.specs.declared.model.Model.{Model}
 use Rattle.run_semantics.specs.World.{World, empty}
 use Rattle.run_semantics.specs.Run.{Part, standing}
-use Rattle.checkpointed_runs.specs.declared.running.Phase.TheVariants.{Idle}
+use Rattle.checkpoint_runs.specs.declared.running.Phase.TheVariants.{Idle}
 use Rattle.edit_session.specs.Editing.{Editing, fresh_editing}
 
 -- a session without a run, with these boxes

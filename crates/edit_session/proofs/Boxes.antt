@@ -2,25 +2,25 @@
 use Rattle.std.proofs.Common.{◌≡◌, ℕ, suc, List, [], ◌∷◌, ◌++◌, Option, Some, None, option_map, refl, sym, ap, ◌∙◌, subst, length, map}
 use Rattle.module_api.specs.Behaviour.{Behaviour}
 use Rattle.module_api.specs.Meaning.{Module}
-use Rattle.models.specs.declared.model.Model.{Model}
+use Rattle.model_data.specs.declared.model.Model.{Model}
 use Rattle.model_answers.specs.Answering.{answers_of}
-use Rattle.run_questions.specs.Answers.{Answers}
+use Rattle.model_questions.specs.Answers.{Answers}
 use Rattle.run_semantics.specs.declared.traces.Instance.{Instance}
 use Rattle.run_semantics.specs.World.{World}
 use Rattle.run_semantics.specs.Run.{Part, standing}
 use Rattle.checkpoints.specs.Stored.{begun, counts_in, counts_of, IsBegun, Timeline}
 use Rattle.kernel_actions.specs.declared.position.Position.{Position}
 use Rattle.kernel.specs.declared.request.Request.{Request}
-use Rattle.saved_boxes.specs.Seats.{Seat, AreBelow, AreOfKinds, instance_of}
+use Rattle.kernel_boxes.specs.Seats.{Seat, AreBelow, AreOfKinds, instance_of}
 use Rattle.kernel.specs.Seats.{missing_of}
-use Rattle.checkpointed_runs.specs.declared.running.Phase.{Phase}
-use Rattle.checkpointed_runs.specs.declared.running.Phase.TheVariants.{Idle, Waiting, Declined}
-use Rattle.checkpointed_runs.specs.declared.running.Point.{Point}
-use Rattle.checkpointed_runs.specs.declared.running.Point.TheVariants.{Setup}
-use Rattle.checkpointed_runs.specs.Kept.{AreGood}
-use Rattle.checkpointed_runs.specs.Positions.{CanBeStored, is_cut}
-use Rattle.checkpointed_runs.specs.Running.{parts_in, IsFilled, IsWaiting, wanted_by}
-use Rattle.checkpointed_runs.proofs.Filling.{filled_above, filled_declined, filled_next, filled_wants, some_part, supplied_part}
+use Rattle.checkpoint_runs.specs.declared.running.Phase.{Phase}
+use Rattle.checkpoint_runs.specs.declared.running.Phase.TheVariants.{Idle, Waiting, Declined}
+use Rattle.checkpoint_runs.specs.declared.running.Point.{Point}
+use Rattle.checkpoint_runs.specs.declared.running.Point.TheVariants.{Setup}
+use Rattle.checkpoint_runs.specs.Kept.{AreGood}
+use Rattle.checkpoint_runs.specs.Positions.{CanBeStored, is_cut}
+use Rattle.checkpoint_runs.specs.Running.{parts_in, IsFilled, IsWaiting, wanted_by}
+use Rattle.checkpoint_runs.proofs.Filling.{filled_above, filled_declined, filled_next, filled_wants, some_part, supplied_part}
 use Rattle.edit_session.specs.Editing.{Completed, Editing, IsFor, IsKept, IsLeft, IsUnknown, waited_for, with_wanted}
 
 -- the boxes of a session, of which those wait

@@ -1,7 +1,7 @@
 -- What an edit changes.
 use Rattle.std.proofs.Common.{◌≡◌, ℕ, Option, sym, subst, ◌∙◌}
 use Rattle.module_api.specs.Behaviour.{Behaviour}
-use Rattle.models.specs.declared.model.Model.{Model}
+use Rattle.model_data.specs.declared.model.Model.{Model}
 use Rattle.model_answers.specs.Answering.{answers_of}
 use Rattle.model_edits.specs.declared.edit.Edit.{Edit}
 use Rattle.model_edits.specs.Edited.{number_given, IsEditOf, IsOnlyEditOf}

@@ -3,9 +3,9 @@ use Rattle.std.proofs.Common.{◌≡◌, ℕ, ◌≤◌, nat_le, Bool, true, fal
 use Rattle.sim_values.specs.declared.NoMemory.{NoMemory}
 use Rattle.module_api.specs.Behaviour.{Behaviour}
 use Rattle.module_api.specs.Laws.{IsLawful}
-use Rattle.run_questions.specs.declared.answer.Asked.{Asked}
-use Rattle.run_questions.specs.declared.record.Record.{Record}
-use Rattle.run_questions.specs.Answers.{Answers}
+use Rattle.model_questions.specs.declared.answer.Asked.{Asked}
+use Rattle.model_questions.specs.declared.record.Record.{Record}
+use Rattle.model_questions.specs.Answers.{Answers}
 use Rattle.run_semantics.specs.Agreement.{AgreesUpTo, IsAgreement}
 use Rattle.run_semantics.specs.Run.{IsReached, after, world_at}
 use Rattle.run_semantics.specs.World.{World}
@@ -13,10 +13,10 @@ use Rattle.run_semantics.proofs.Reached.{reached_before}
 use Rattle.run_semantics.proofs.Reuse.{reached_same_up_to}
 use Rattle.checkpoints.specs.Stored.{up_to, Timeline}
 use Rattle.kernel_actions.specs.declared.position.Position.{Position}
-use Rattle.saved_boxes.specs.Seats.{Seat}
-use Rattle.checkpointed_runs.proofs.Counting.{left_stored}
-use Rattle.checkpointed_runs.proofs.Good.{up_to_is}
-use Rattle.checkpointed_runs.specs.Kept.{kept_up_to, AreGood, IsGood}
+use Rattle.kernel_boxes.specs.Seats.{Seat}
+use Rattle.checkpoint_runs.proofs.Counting.{left_stored}
+use Rattle.checkpoint_runs.proofs.Good.{up_to_is}
+use Rattle.checkpoint_runs.specs.Kept.{kept_up_to, AreGood, IsGood}
 use Rattle.edit_session.specs.Reuse.{IsAskedUpTo, IsKnown}
 use Rattle.edit_session.proofs.Valid.{agrees_then}
 

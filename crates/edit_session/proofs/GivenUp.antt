@@ -1,21 +1,21 @@
 -- What a session keeps of a run that is given up.
 use Rattle.std.proofs.Common.{◌≡◌, ℕ, List, Option, Some, None, option_map, refl, sym, ap, ◌∙◌, arith, subst}
 use Rattle.module_api.specs.Behaviour.{Behaviour}
-use Rattle.models.specs.declared.model.Model.{Model}
+use Rattle.model_data.specs.declared.model.Model.{Model}
 use Rattle.model_answers.specs.Answering.{answers_of}
-use Rattle.run_questions.specs.Answers.{Answers}
+use Rattle.model_questions.specs.Answers.{Answers}
 use Rattle.run_semantics.specs.Run.{after, world_at}
 use Rattle.run_semantics.specs.World.{World}
 use Rattle.run_semantics.proofs.Counts.{reached_after}
 use Rattle.checkpoints.specs.Stored.{counts_in, counts_of, last_of, AreRising, Timeline}
 use Rattle.kernel_actions.specs.declared.position.Position.{Position}
 use Rattle.kernel_actions.specs.Positions.{cut_to, lengths_of, IsGrownFrom}
-use Rattle.saved_boxes.specs.Seats.{Seat, AreOfKinds}
-use Rattle.checkpointed_runs.specs.declared.running.Phase.TheVariants.{Idle}
-use Rattle.checkpointed_runs.specs.Kept.{cut_to_last, AreGood, IsGood}
-use Rattle.checkpointed_runs.specs.Positions.{last_count, CanBeStored}
-use Rattle.checkpointed_runs.proofs.Counting.{last_count_is}
-use Rattle.checkpointed_runs.proofs.Good.{cut_good, cut_grown, cut_is, good_last, last_below}
+use Rattle.kernel_boxes.specs.Seats.{Seat, AreOfKinds}
+use Rattle.checkpoint_runs.specs.declared.running.Phase.TheVariants.{Idle}
+use Rattle.checkpoint_runs.specs.Kept.{cut_to_last, AreGood, IsGood}
+use Rattle.checkpoint_runs.specs.Positions.{last_count, CanBeStored}
+use Rattle.checkpoint_runs.proofs.Counting.{last_count_is}
+use Rattle.checkpoint_runs.proofs.Good.{cut_good, cut_grown, cut_is, good_last, last_below}
 use Rattle.edit_session.specs.Editing.{IsKept}
 use Rattle.edit_session.specs.Reuse.{IsAskedUpTo}
 use Rattle.edit_session.proofs.Valid.{agrees_itself}

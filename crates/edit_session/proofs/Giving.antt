@@ -1,6 +1,6 @@
 -- The number that an accepted edit gives.
 use Rattle.std.proofs.Common.{◌≡◌, ℕ, Option, refl, ap, ◌∙◌}
-use Rattle.models.specs.declared.model.Model.{Model}
+use Rattle.model_data.specs.declared.model.Model.{Model}
 use Rattle.model_edits.specs.declared.edit.Edit.{Edit}
 use Rattle.model_edits.specs.declared.edit.Edit.TheVariants as edit
 use Rattle.model_edits.specs.Edited.{number_given, IsEditOf}

@@ -1,7 +1,7 @@
 -- No value rests on messages from outside.
 use Rattle.std.proofs.Common.{◌≡◌, ◌∙◌, true, false, List, ap, refl}
-use Rattle.injection_order.specs.declared.injection.Injection.{Injection}
-use Rattle.models.specs.declared.model.Model.{Model}
+use Rattle.model_injections.specs.declared.injection.Injection.{Injection}
+use Rattle.model_data.specs.declared.model.Model.{Model}
 use Rattle.model_edits.specs.declared.edit.Edit.{Edit}
 use Rattle.model_edits.specs.declared.edit.Edit.TheVariants as edit
 use Rattle.model_edits.specs.Edited.{next_injection, with_injection, without, IsEditOf}

@@ -3,11 +3,11 @@ use Rattle.std.proofs.Common.{◌≡◌, ◌≤◌, ◌<◌, ℕ, List, [], ◌�
 use Rattle.sim_values.specs.declared.NoMemory.{NoMemory}
 use Rattle.module_api.specs.Behaviour.{Behaviour}
 use Rattle.module_api.specs.Laws.{IsLawful}
-use Rattle.run_questions.specs.declared.answer.Asked.{Asked}
-use Rattle.models.specs.declared.model.Model.{Model}
+use Rattle.model_questions.specs.declared.answer.Asked.{Asked}
+use Rattle.model_data.specs.declared.model.Model.{Model}
 use Rattle.model_answers.specs.Answering.{answers_of}
-use Rattle.run_questions.specs.Answers.{Answers}
-use Rattle.run_questions.specs.declared.record.Record.{Record}
+use Rattle.model_questions.specs.Answers.{Answers}
+use Rattle.model_questions.specs.declared.record.Record.{Record}
 use Rattle.run_semantics.specs.declared.outcome.Outcome.{Outcome}
 use Rattle.run_semantics.specs.Agreement.{AgreesUpTo, IsAgreement}
 use Rattle.run_semantics.specs.Ending.{ending}
@@ -19,18 +19,18 @@ use Rattle.run_semantics.proofs.Reached.{stands, reached_before}
 use Rattle.run_semantics.proofs.Reuse.{reached_same_up_to}
 use Rattle.result_files.specs.declared.files.ResultFiles.{ResultFiles}
 use Rattle.kernel_actions.specs.declared.position.Position.{Position}
-use Rattle.saved_boxes.specs.Seats.{Seat, AreOfKinds}
-use Rattle.checkpointed_runs.specs.Kept.{kept_up_to, AreGood}
-use Rattle.checkpointed_runs.specs.declared.running.Phase.{Phase}
-use Rattle.checkpointed_runs.specs.declared.running.Phase.TheVariants.{Idle}
+use Rattle.kernel_boxes.specs.Seats.{Seat, AreOfKinds}
+use Rattle.checkpoint_runs.specs.Kept.{kept_up_to, AreGood}
+use Rattle.checkpoint_runs.specs.declared.running.Phase.{Phase}
+use Rattle.checkpoint_runs.specs.declared.running.Phase.TheVariants.{Idle}
 use Rattle.edit_session.specs.declared.session.Change.{Change}
 use Rattle.checkpoints.specs.Stored.{begun, counts_in, Timeline}
-use Rattle.checkpointed_runs.specs.Positions.{cut, events_behind, start_of, CanBeStored, begins, is_cut}
+use Rattle.checkpoint_runs.specs.Positions.{cut, events_behind, start_of, CanBeStored, begins, is_cut}
 use Rattle.edit_session.specs.Editing.{Completed, Editing, edited_by, files_in, IsFreshRun, IsKept}
 use Rattle.edit_session.specs.declared.session.Report.{Report}
-use Rattle.checkpointed_runs.specs.Running.{fresh_run, kept_boxes, parts_in, whole_run, IsEnded}
-use Rattle.checkpointed_runs.proofs.Whole.{stopped_world}
-use Rattle.checkpointed_runs.proofs.Counting.{kept_counts}
+use Rattle.checkpoint_runs.specs.Running.{fresh_run, kept_boxes, parts_in, whole_run, IsEnded}
+use Rattle.checkpoint_runs.proofs.Whole.{stopped_world}
+use Rattle.checkpoint_runs.proofs.Counting.{kept_counts}
 use Rattle.edit_session.specs.Reuse.{IsValidTo, IsAskedUpTo, IsKnown}
 
 -- ---- a run that is done

@@ -2,7 +2,7 @@
 use Rattle.std.specs.Prelude.{◌≡◌, ◌⊎◌, ◌≤◌, ◌<◌, ◌^◌, ℕ, false, List, [], ◌∷◌, ◌++◌, Option, Some, None}
 use Rattle.module_api.specs.Behaviour.{Behaviour}
 use Rattle.module_api.specs.Meaning.{Module, IsFresh}
-use Rattle.models.specs.declared.model.Model.{Model}
+use Rattle.model_data.specs.declared.model.Model.{Model}
 use Rattle.model_answers.specs.Answering.{answers_of}
 use Rattle.run_semantics.specs.declared.outcome.Outcome.{Outcome}
 use Rattle.run_semantics.specs.World.{World}
@@ -14,19 +14,19 @@ use Rattle.result_files.specs.Files.{files_of}
 use Rattle.kernel_actions.specs.declared.position.Position.{Position}
 use Rattle.checkpoints.specs.Stored.{begun, counts_in, IsBegun, Timeline}
 use Rattle.kernel.specs.declared.request.Request.{Request}
-use Rattle.saved_boxes.specs.Seats.{Seat, AreOfKinds}
-use Rattle.checkpointed_runs.specs.declared.running.Phase.{Phase}
-use Rattle.checkpointed_runs.specs.declared.running.Phase.TheVariants.{Idle, Waiting, Declined}
-use Rattle.checkpointed_runs.specs.declared.running.Point.TheVariants.{Setup}
+use Rattle.kernel_boxes.specs.Seats.{Seat, AreOfKinds}
+use Rattle.checkpoint_runs.specs.declared.running.Phase.{Phase}
+use Rattle.checkpoint_runs.specs.declared.running.Phase.TheVariants.{Idle, Waiting, Declined}
+use Rattle.checkpoint_runs.specs.declared.running.Point.TheVariants.{Setup}
 use Rattle.edit_session.specs.declared.session.Change.{Change}
 use Rattle.edit_session.specs.declared.session.Edited.{Edited}
 use Rattle.edit_session.specs.declared.session.Progress.{Progress}
 use Rattle.edit_session.specs.declared.session.Progress.TheVariants as progress
 use Rattle.edit_session.specs.declared.session.Report.{Report}
-use Rattle.checkpointed_runs.specs.Kept.{AreGood}
-use Rattle.checkpointed_runs.specs.declared.running.Stood.{Stood}
-use Rattle.checkpointed_runs.specs.Positions.{cut, events_behind, last_count, positions_after, start_of, HasStored, CanBeStored}
-use Rattle.checkpointed_runs.specs.Running.{boxes_left, fresh_run, kept_boxes, needed_by, wanted_by, whole_run, IsLive, IsUndeclined}
+use Rattle.checkpoint_runs.specs.Kept.{AreGood}
+use Rattle.checkpoint_runs.specs.declared.running.Stood.{Stood}
+use Rattle.checkpoint_runs.specs.Positions.{cut, events_behind, last_count, positions_after, start_of, HasStored, CanBeStored}
+use Rattle.checkpoint_runs.specs.Running.{boxes_left, fresh_run, kept_boxes, needed_by, wanted_by, whole_run, IsLive, IsUndeclined}
 use Rattle.edit_session.specs.Reuse.{IsKnown, IsValidTo}
 
 -- a run that is done: its limit, its outcome, and what is known of its result files before they are written

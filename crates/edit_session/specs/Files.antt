@@ -1,13 +1,13 @@
 -- What is written of the files of a session.
 use Rattle.std.specs.Prelude.{◌≡◌, ℕ, List, Option, Some, None, Result, Ok, Err}
 use Rattle.module_api.specs.Behaviour.{Behaviour}
-use Rattle.models.specs.declared.model.Model.{Model}
+use Rattle.model_data.specs.declared.model.Model.{Model}
 use Rattle.model_answers.specs.Answering.{answers_of}
 use Rattle.result_files.specs.Files.{scalar_text_of, vector_text_of}
 use Rattle.result_lines.specs.Taken.{Taken}
 use Rattle.result_lines.specs.Written.{IsWritten}
 use Rattle.edit_session.specs.Editing.{Completed}
-use Rattle.checkpointed_runs.specs.Running.{fresh_run}
+use Rattle.checkpoint_runs.specs.Running.{fresh_run}
 use Rattle.edit_session.specs.declared.session.FileFault.{FileFault}
 use Rattle.edit_session.specs.declared.session.FileFault.TheVariants as fault
 

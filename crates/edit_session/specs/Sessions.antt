@@ -3,12 +3,12 @@ use Rattle.std.specs.Prelude.{◌≡◌, option_map}
 use Rattle.module_api.specs.Behaviour.{Behaviour}
 use Rattle.model_answers.specs.Answering.{answers_of}
 use Rattle.model_edits.specs.declared.edit.Edit.{Edit}
-use Rattle.saved_boxes.specs.Seats.{Members}
+use Rattle.kernel_boxes.specs.Seats.{Members}
 use Rattle.kernel.specs.Kernels.{seats_in, world_in}
 use Rattle.edit_session.specs.Editing.{Completed, Editing, IsChangeBy, IsKept}
 use Rattle.checkpoints.specs.Stored.{counts_in}
-use Rattle.checkpointed_runs.specs.Kept.{boxes_in, kept_up_to, waiting_in, AreGood}
-use Rattle.checkpointed_runs.specs.declared.running.Stood.{Stood}
+use Rattle.checkpoint_runs.specs.Kept.{boxes_in, kept_up_to, waiting_in, AreGood}
+use Rattle.checkpoint_runs.specs.declared.running.Stood.{Stood}
 use Rattle.edit_session.specs.Reuse.{IsKnown}
 use Rattle.edit_session.specs.declared.session.Change.{Change}
 use Rattle.edit_session.specs.declared.session.Done.{Done}

@@ -5,8 +5,8 @@ ghost use Rattle.model_settings.specs.Standings.{setting_of};
 ghost use Rattle.edit_session.specs.Lasting.{keeps_values};
 
 use model_answers::evaluated::EvaluatedModel;
+use model_data::model::Model;
 use model_edits::edit::Edit;
-use models::model::Model;
 use sim_values::NoMemory;
 use std::alloc::Global;
 

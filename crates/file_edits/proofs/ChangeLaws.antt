@@ -14,8 +14,8 @@ use Rattle.ned_syntax.specs.Grammar.{file}
 use Rattle.ned_syntax.specs.NedText.{IsNedFile}
 use Rattle.ned_syntax.proofs.GrammarLaws.{file-lawful}
 use Rattle.ned_scopes.specs.Scopes.{types_of}
-use Rattle.type_building.specs.declared.table.TypeFault.{TypeFault}
-use Rattle.type_building.specs.Building.{fault_of}
+use Rattle.ned_inheritance.specs.declared.table.TypeFault.{TypeFault}
+use Rattle.ned_inheritance.specs.Building.{fault_of}
 use Rattle.file_edits.specs.declared.error.FileError.{FileError}
 use Rattle.file_edits.specs.declared.error.FileError.TheVariants as error
 use Rattle.file_edits.specs.Changes.{Change, Inserted, Removed, Replaced, is_large, AreApart, HasNoItem, HasNoPlace, IsChanged, IsInserted, IsRemoved, IsReplaced, Refuses, RefusesInsertion, RefusesRemoval, RefusesReplacement}

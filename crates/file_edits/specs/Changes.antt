@@ -10,9 +10,9 @@ use Rattle.ned_trees.specs.declared.declarations.TypeDeclaration.{TypeDeclaratio
 use Rattle.ned_syntax.specs.Grammar.{file}
 use Rattle.ned_syntax.specs.NedText.{IsNedFile}
 use Rattle.ned_scopes.specs.Scopes.{types_of}
-use Rattle.type_building.specs.declared.table.TypeFault.{TypeFault}
-use Rattle.type_building.specs.Building.{fault_of}
-use Rattle.type_building.specs.Inheritance.{flat_types}
+use Rattle.ned_inheritance.specs.declared.table.TypeFault.{TypeFault}
+use Rattle.ned_inheritance.specs.Building.{fault_of}
+use Rattle.ned_inheritance.specs.Inheritance.{flat_types}
 use Rattle.file_edits.specs.Items.{files_with, items_of}
 use Rattle.file_edits.specs.declared.changes.TypedFiles.{TypedFiles}
 use Rattle.file_edits.specs.declared.error.FileError.{FileError}

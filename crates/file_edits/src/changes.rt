@@ -13,16 +13,16 @@ use crate::items::{files_with, items_of};
 use crate::tables::table_of;
 use ned_connections::parse::parse_connection;
 use ned_files::shared::{SharedFile, copy_files};
+use ned_inheritance::table::BuildError;
+use ned_leaves::error::NedError;
 use ned_scopes::connections::add_items;
 use ned_syntax::parse::parse_ned;
 use ned_trees::connections::ConnectionItem;
 use ned_trees::declarations::NedFile;
 use ned_types::table::TypeTable;
-use ned_values::error::NedError;
 use sim_values::text::MAX_LENGTH;
 use sqlite_items::Items;
 use std::alloc::{AllocError, Global};
-use type_building::table::BuildError;
 
 /// Files, and the table of their types.
 #[derive(Drop)]

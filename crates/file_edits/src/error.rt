@@ -4,9 +4,9 @@ ghost use Rattle.std.specs.Prelude.{◌≡◌};
 ghost use Rattle.sim_values.specs.Memory.{no_memory};
 ghost use Rattle.file_edits.specs.declared.error.FileError.TheVariants as errors;
 
+use ned_inheritance::table::TypeFault;
 use sim_values::NoMemory;
 use std::alloc::AllocError;
-use type_building::table::TypeFault;
 
 /// Why files are not changed. Of several reasons the first in this order is told, and lack of memory in any place.
 #[derive(Clone, Copy)]

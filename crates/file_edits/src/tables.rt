@@ -2,13 +2,13 @@
 
 ghost use Rattle.std.specs.Prelude.{◌≡◌, IfOk, IfErr};
 ghost use Rattle.ned_scopes.specs.Scopes.{types_of};
-ghost use Rattle.type_building.specs.Building.{Builds};
+ghost use Rattle.ned_inheritance.specs.Building.{Builds};
 
 use crate::copies::unshared;
 use ned_files::shared::SharedFile;
+use ned_inheritance::table::{BuildError, build};
 use ned_types::table::TypeTable;
 use std::alloc::Global;
-use type_building::table::{BuildError, build};
 
 /// The table of the files' types, or the first reason why they make none.
 pub fn table_of(alloc: Global, files: &[SharedFile]) -> Result<TypeTable, BuildError>

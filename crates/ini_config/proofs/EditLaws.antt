@@ -3,7 +3,7 @@ use Rattle.std.proofs.Common.{◌≡◌, ℕ, ◌+◌, ◌<◌, Bool, false, ari
 use Rattle.std.specs.Prelude.{is_some, nat_le}
 use Rattle.std.proofs.lemmas.Bool.Decides.{nat_tests}
 use Rattle.std.proofs.lemmas.List.{length-append}
-use Rattle.ini_texts.specs.declared.lines.IniLine.{IniLine}
+use Rattle.ini_trees.specs.declared.lines.IniLine.{IniLine}
 use Rattle.ini_entries.specs.Texts.{Bytes}
 use Rattle.ini_config.specs.Edits.{bytes_of, edit_with, edit_without, texts_of, with_between}
 

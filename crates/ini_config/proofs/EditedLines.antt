@@ -3,11 +3,11 @@ use Rattle.std.proofs.Common.{◌≡◌, ℕ, zero, suc, Bool, true, false, cond
 use Rattle.std.specs.Prelude.{IfOk, map}
 use Rattle.std.proofs.lemmas.Bool.{or_parts}
 use Rattle.ini_config.specs.declared.error.EditError.{EditError}
-use Rattle.ini_texts.specs.declared.lines.IniLine.{IniLine}
+use Rattle.ini_trees.specs.declared.lines.IniLine.{IniLine}
 use Rattle.ini_entries.specs.Texts.{Bytes}
 use Rattle.ini_config.specs.Texts.{add_front, begins_with, lines_of_ini}
 use Rattle.ini_config.specs.Meaning.{AreLines, IsIniText}
-use Rattle.ini_texts.specs.Sections.{section_behind}
+use Rattle.ini_trees.specs.Sections.{section_behind}
 use Rattle.ini_config.specs.Edits.{HasLines, IsEdited, bytes_of, edit_with, edit_without, holds_feed, texts_of, with_between, without_return}
 
 -- ---- texts without LF

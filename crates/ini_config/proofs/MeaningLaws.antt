@@ -4,18 +4,18 @@ use Rattle.std.specs.Prelude.{position, is_ok}
 use Rattle.std.specs.Str.{IsUtf8, is_utf8}
 use Rattle.std.proofs.lemmas.Str.{IsUtf8-from_is_utf8, is_utf8-from_IsUtf8}
 use Rattle.std.proofs.lemmas.List.{append-nil}
-use Rattle.ini_texts.specs.declared.lines.Entry.{Entry}
-use Rattle.ini_texts.specs.declared.entry.EntryMeaning.{EntryMeaning}
-use Rattle.ini_texts.specs.declared.lines.IniLine.{IniLine}
-use Rattle.ini_texts.specs.declared.lines.LineMeaning.{LineMeaning}
-use Rattle.ini_texts.specs.declared.lines.LineMeaning.TheVariants as line
+use Rattle.ini_trees.specs.declared.lines.Entry.{Entry}
+use Rattle.ini_trees.specs.declared.entry.EntryMeaning.{EntryMeaning}
+use Rattle.ini_trees.specs.declared.lines.IniLine.{IniLine}
+use Rattle.ini_trees.specs.declared.lines.LineMeaning.{LineMeaning}
+use Rattle.ini_trees.specs.declared.lines.LineMeaning.TheVariants as line
 use Rattle.ini_config.specs.declared.error.IniError.TheVariants as errors
 use Rattle.ini_entries.specs.declared.reason.Reason.{Reason}
 use Rattle.ini_entries.specs.Texts.{Bytes, before_blanks, is_blank, after_blanks}
 use Rattle.ini_config.specs.Texts.{lines_of_ini, value_text}
 use Rattle.ini_entries.specs.Meaning.{is_key, IsEntryMeaning, Tells}
 use Rattle.ini_config.specs.Meaning.{IsIniText, is_value, begins_entry, IsParted, IsEntry, IsLine, IsSection, IsIniLine, AreLines, FirstBad, FirstBadOf, Settles}
-use Rattle.ini_texts.specs.Sections.{section_behind}
+use Rattle.ini_trees.specs.Sections.{section_behind}
 use Rattle.ini_entries.proofs.EntryLaws.{meaning_same}
 use Rattle.ini_config.proofs.SectionLaws.{section_begins, section_no_entry, section_same}
 

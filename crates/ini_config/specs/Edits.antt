@@ -4,7 +4,7 @@ use Rattle.std.specs.List.{list_any}
 use Rattle.ini_entries.specs.declared.reason.Reason.TheVariants as reason
 use Rattle.ini_config.specs.declared.error.EditError.{EditError}
 use Rattle.ini_config.specs.declared.error.EditError.TheVariants as errors
-use Rattle.ini_texts.specs.declared.lines.IniLine.{IniLine}
+use Rattle.ini_trees.specs.declared.lines.IniLine.{IniLine}
 use Rattle.ini_entries.specs.Texts.{Bytes}
 use Rattle.sim_values.specs.Limits.{max_length}
 use Rattle.ini_config.specs.Meaning.{FirstBad, IsIniText}

@@ -2,15 +2,15 @@
 use Rattle.std.specs.Prelude.{◌≡◌, ℕ, suc, ◌+◌, ◌-◌, ◌<◌, ◌≤◌, Bool, true, false, ◌&&◌, not, List, [], ◌∷◌, ◌++◌, length, take, drop, Option, Some, None, Result, Ok, Err, ◌==◌, ◌⊎◌, position, codes, nat_lt, slice_index}
 use Rattle.std.specs.Str.{bytes_eq, is_utf8}
 use Rattle.sim_values.specs.Limits.{max_length}
-use Rattle.ini_texts.specs.declared.lines.Entry.{Entry}
-use Rattle.ini_texts.specs.declared.lines.IniLine.{IniLine}
-use Rattle.ini_texts.specs.declared.lines.LineMeaning.{LineMeaning}
-use Rattle.ini_texts.specs.declared.lines.LineMeaning.TheVariants as line
+use Rattle.ini_trees.specs.declared.lines.Entry.{Entry}
+use Rattle.ini_trees.specs.declared.lines.IniLine.{IniLine}
+use Rattle.ini_trees.specs.declared.lines.LineMeaning.{LineMeaning}
+use Rattle.ini_trees.specs.declared.lines.LineMeaning.TheVariants as line
 use Rattle.ini_config.specs.declared.error.IniError.{IniError}
 use Rattle.ini_config.specs.declared.error.IniError.TheVariants as errors
 use Rattle.ini_entries.specs.Meaning.{IsEntryMeaning, is_key, Tells}
 use Rattle.ini_entries.specs.Names.{is_config_name}
-use Rattle.ini_texts.specs.Sections.{general, is_extends, section_behind}
+use Rattle.ini_trees.specs.Sections.{general, is_extends, section_behind}
 use Rattle.ini_entries.specs.Texts.{Bytes, is_blank, after_blanks, before_blanks}
 use Rattle.ini_config.specs.Texts.{lines_of_ini, value_text, holds_variable}
 

@@ -4,12 +4,12 @@ ghost use Rattle.std.specs.Prelude.{◌≡◌, ◌+◌, ◌<◌, ◌≤◌, ◌�
 ghost use Rattle.sim_values.specs.Limits.{max_length};
 ghost use Rattle.ini_config.specs.Meaning.{IsIniText};
 ghost use Rattle.ini_config.specs.Edits.{AnswersEdit, HasLines, IsEdited, Refused, RefusesBytes, bytes_of, edit_with, edit_without, holds_feed, insertion, is_line, is_place, removal, replacement, texts_of, with_between};
-ghost use Rattle.ini_texts.specs.declared.lines.IniLine.{IniLine};
+ghost use Rattle.ini_trees.specs.declared.lines.IniLine.{IniLine};
 
 use crate::error::{EditError, IniError};
 use crate::parse::parse_ini;
 use ini_entries::reason::Reason;
-use ini_texts::lines::{IniLine, IniText};
+use ini_trees::lines::{IniLine, IniText};
 use sim_values::text::MAX_LENGTH;
 use std::alloc::{AllocError, Global};
 

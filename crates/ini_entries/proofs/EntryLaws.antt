@@ -13,14 +13,14 @@ use Rattle.ned_expressions.proofs.ExpressionLaws.{expression-lawful}
 use Rattle.ned_trees.specs.declared.expressions.Expression.{Expression}
 use Rattle.ned_expressions.specs.ExpressionText as value_text
 use Rattle.ned_expressions.specs.Grammar as grammar
-use Rattle.ned_values.specs.ExpressionText.{IsExpressionText}
-use Rattle.ini_texts.specs.declared.entry.EntryMeaning.{EntryMeaning}
-use Rattle.ini_texts.specs.declared.entry.EntryMeaning.TheVariants as meaning
-use Rattle.ini_texts.specs.declared.entry.EntryValue.{EntryValue}
-use Rattle.ini_texts.specs.declared.entry.EntryValue.TheVariants as value
-use Rattle.ini_texts.specs.declared.entry.ObjectEntry.{ObjectEntry}
-use Rattle.ini_texts.specs.declared.entry.ObjectOption.{ObjectOption}
-use Rattle.ini_texts.specs.declared.entry.ParameterEntry.{ParameterEntry}
+use Rattle.ned_leaves.specs.ExpressionText.{IsExpressionText}
+use Rattle.ini_trees.specs.declared.entry.EntryMeaning.{EntryMeaning}
+use Rattle.ini_trees.specs.declared.entry.EntryMeaning.TheVariants as meaning
+use Rattle.ini_trees.specs.declared.entry.EntryValue.{EntryValue}
+use Rattle.ini_trees.specs.declared.entry.EntryValue.TheVariants as value
+use Rattle.ini_trees.specs.declared.entry.ObjectEntry.{ObjectEntry}
+use Rattle.ini_trees.specs.declared.entry.ObjectOption.{ObjectOption}
+use Rattle.ini_trees.specs.declared.entry.ParameterEntry.{ParameterEntry}
 use Rattle.ini_entries.specs.Keys.{KeyKind, OptionKey, ObjectKey, TypeKey, ParameterKey, kind_of, last_part_from, has_hyphen_from, is_closed_from}
 use Rattle.ini_entries.specs.Meaning.{Finds, IsEntryMeaning, IsEntryValue, IsPatternAndValue, Tells}
 use Rattle.ini_entries.specs.declared.reason.Unread.{Unread}

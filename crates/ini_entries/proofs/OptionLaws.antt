@@ -3,11 +3,11 @@ use Rattle.std.proofs.Common.{◌≡◌, ℕ, Bool, true, false, cond, ◌||◌,
 use Rattle.std.specs.Prelude.{option_map}
 use Rattle.std.specs.List.{list_all}
 use Rattle.std.specs.Str.{bytes_eq}
-use Rattle.ned_values.proofs.OneExpression.{one_expression}
-use Rattle.ned_values.specs.ExpressionText.{IsExpressionText}
-use Rattle.ini_texts.specs.declared.entry.ModeItem.{ModeItem}
-use Rattle.ini_texts.specs.declared.entry.ObjectOption.{ObjectOption}
-use Rattle.ini_texts.specs.declared.entry.ObjectOption.TheVariants as object
+use Rattle.ned_leaves.proofs.OneExpression.{one_expression}
+use Rattle.ned_leaves.specs.ExpressionText.{IsExpressionText}
+use Rattle.ini_trees.specs.declared.entry.ModeItem.{ModeItem}
+use Rattle.ini_trees.specs.declared.entry.ObjectOption.{ObjectOption}
+use Rattle.ini_trees.specs.declared.entry.ObjectOption.TheVariants as object
 use Rattle.ini_entries.specs.Meaning.{Tells}
 use Rattle.ini_entries.specs.Names.{is_config_name}
 use Rattle.ini_entries.specs.Options.{IsObjectOption, config_names, mode_item, mode_items, recording_words, time_literal, truth_word, word_modes}

@@ -4,7 +4,7 @@ use Rattle.std.specs.Prelude.{ℕ, Bool, true, false, ◌&&◌, [], ◌∷◌, O
 use Rattle.std.specs.Str.{bytes_eq}
 use Rattle.ini_entries.specs.declared.keys.KeyPlace.{KeyPlace}
 use Rattle.ini_entries.specs.declared.keys.KeyPlace.TheVariants.{Open, InSet, InBrackets, InSetInBrackets}
-use Rattle.ini_texts.specs.Words.{Bytes, word_typename}
+use Rattle.ini_trees.specs.Words.{Bytes, word_typename}
 
 -- ---- sets and brackets
 

@@ -5,12 +5,12 @@ use Rattle.std.specs.List.{list_all}
 use Rattle.std.specs.Str.{chars}
 use Rattle.ini_pattern.specs.PatternOf.{pattern_of}
 use Rattle.ned_expressions.specs.ExpressionText.{IsExpressionText}
-use Rattle.ned_values.specs.ExpressionText.{IsExpressionText as IsLiteralText}
-use Rattle.ini_texts.specs.declared.entry.EntryMeaning.{EntryMeaning}
-use Rattle.ini_texts.specs.declared.entry.EntryMeaning.TheVariants as meaning
-use Rattle.ini_texts.specs.declared.entry.EntryValue.{EntryValue}
-use Rattle.ini_texts.specs.declared.entry.EntryValue.TheVariants as value
-use Rattle.ini_texts.specs.declared.entry.ParameterEntry.{ParameterEntry}
+use Rattle.ned_leaves.specs.ExpressionText.{IsExpressionText as IsLiteralText}
+use Rattle.ini_trees.specs.declared.entry.EntryMeaning.{EntryMeaning}
+use Rattle.ini_trees.specs.declared.entry.EntryMeaning.TheVariants as meaning
+use Rattle.ini_trees.specs.declared.entry.EntryValue.{EntryValue}
+use Rattle.ini_trees.specs.declared.entry.EntryValue.TheVariants as value
+use Rattle.ini_trees.specs.declared.entry.ParameterEntry.{ParameterEntry}
 use Rattle.ini_entries.specs.declared.reason.Unread.{Unread}
 use Rattle.ini_entries.specs.declared.reason.Unread.TheVariants as unread
 use Rattle.ini_entries.specs.Constants.{is_constant}

@@ -6,13 +6,13 @@ use Rattle.std.specs.Option.{option_and_then}
 use Rattle.std.specs.Str.{bytes_eq}
 use Rattle.sim_values.specs.declared.value.Dimension.TheVariants.{Time}
 use Rattle.sim_values.specs.declared.value.Value.TheVariants.{Quantity}
-use Rattle.ned_values.specs.declared.ast.Expression.{Expression}
-use Rattle.ned_values.specs.declared.ast.Expression.TheVariants.{Literal}
-use Rattle.ned_values.specs.Grammar.{mode_named}
-use Rattle.ini_texts.specs.declared.entry.ModeItem.{ModeItem}
-use Rattle.ini_texts.specs.declared.entry.ModeItem.TheVariants as item
-use Rattle.ini_texts.specs.declared.entry.ObjectOption.{ObjectOption}
-use Rattle.ini_texts.specs.declared.entry.ObjectOption.TheVariants as object
+use Rattle.ned_leaves.specs.declared.ast.Expression.{Expression}
+use Rattle.ned_leaves.specs.declared.ast.Expression.TheVariants.{Literal}
+use Rattle.ned_leaves.specs.Grammar.{mode_named}
+use Rattle.ini_trees.specs.declared.entry.ModeItem.{ModeItem}
+use Rattle.ini_trees.specs.declared.entry.ModeItem.TheVariants as item
+use Rattle.ini_trees.specs.declared.entry.ObjectOption.{ObjectOption}
+use Rattle.ini_trees.specs.declared.entry.ObjectOption.TheVariants as object
 use Rattle.ini_entries.specs.Names.{is_config_name}
 use Rattle.ini_entries.specs.Texts.{Bytes, is_among, items_of}
 

@@ -2,7 +2,7 @@
 use Rattle.std.specs.Prelude.{ℕ, Bool, ◌||◌, List, [], ◌∷◌, ◌==◌, if◌then◌else◌, map}
 use Rattle.std.specs.List.{list_any, slice_split}
 use Rattle.std.specs.Str.{bytes_eq}
-pub use Rattle.ini_texts.specs.Words.{Bytes}
+pub use Rattle.ini_trees.specs.Words.{Bytes}
 
 -- ---- blanks
 

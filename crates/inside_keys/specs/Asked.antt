@@ -1,6 +1,6 @@
 -- Askings for keys, with what is done next.
 use Rattle.std.specs.Prelude.{ℕ, ℤ, pos, negsuc, true, false, Option, Some, None, Result, Ok, Err, nat_lt, if◌then◌else◌}
-use Rattle.asking.specs.Asking.{Asking, Done, Ask}
+use Rattle.param_following.specs.Asking.{Asking, Done, Ask}
 use Rattle.sim_values.specs.declared.value.Value.{Value}
 use Rattle.sim_values.specs.declared.value.Value.TheVariants as value
 use Rattle.inside_parts.specs.declared.fault.Fault.{Fault}

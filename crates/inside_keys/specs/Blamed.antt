@@ -1,6 +1,6 @@
 -- The path with which the fault of an inside is told.
 use Rattle.std.specs.Prelude.{ℕ, ◌==◌, ◌++◌, ◌||◌, ◌&&◌, not, Bool, true, false, List, ◌∷◌, Option, Some, None, Result, Ok, Err, bytes_eq}
-use Rattle.asking.specs.Asking.{Done, Ask}
+use Rattle.param_following.specs.Asking.{Done, Ask}
 use Rattle.inside_parts.specs.declared.fault.Fault.{Fault}
 use Rattle.inside_keys.specs.declared.found.Found.{Found}
 use Rattle.inside_keys.specs.declared.key.Key.{Key}

@@ -1,6 +1,6 @@
 -- Channels without parameters, types that values choose, and gates that stay free, worked by hand.
 use Rattle.std.specs.Prelude.{◌≡◌, ℕ, false, List, [], ◌∷◌, map, Option, Some, None, Result, Ok, Err, codes}
-use Rattle.asking.specs.Following.{followed}
+use Rattle.param_following.specs.Following.{followed}
 use Rattle.ned_trees.specs.declared.connections.Arrow.TheVariants as arrow
 use Rattle.ned_trees.specs.declared.connections.ConnectionItem.{ConnectionItem}
 use Rattle.ned_trees.specs.declared.connections.ConnectionItem.TheVariants as item

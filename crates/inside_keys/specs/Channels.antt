@@ -14,8 +14,8 @@ use Rattle.ned_types.specs.Channels.{built_in_lines}
 use Rattle.ned_types.specs.Clashes.{channel_name, lines_of_channel}
 use Rattle.ned_types.specs.Flat.{declaration_named}
 use Rattle.ned_types.specs.Types.{is_built_in}
-use Rattle.parameter_values.specs.declared.kind.Kind.{Kind}
-use Rattle.parameter_values.specs.declared.kind.Kind.TheVariants as kind
+use Rattle.param_values.specs.declared.kind.Kind.{Kind}
+use Rattle.param_values.specs.declared.kind.Kind.TheVariants as kind
 use Rattle.inside_parts.specs.declared.gates.TypeGate.{TypeGate}
 use Rattle.inside_parts.specs.declared.gates.TypeGates.{TypeGates}
 use Rattle.inside_parts.specs.declared.parts.Part.{Part}

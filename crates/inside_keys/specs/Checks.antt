@@ -6,8 +6,8 @@ use Rattle.inside_parts.specs.declared.fault.Fault.{Fault}
 use Rattle.inside_parts.specs.declared.fault.Fault.TheVariants.{Mismatch, TooManyModules, GateSize}
 use Rattle.inside_parts.specs.Faults.{of_value}
 use Rattle.param_eval.specs.Operators.{Evaluated}
-use Rattle.parameter_values.specs.declared.kind.Kind.{Kind}
-use Rattle.parameter_values.specs.Kinds.{of_kind}
+use Rattle.param_values.specs.declared.kind.Kind.{Kind}
+use Rattle.param_values.specs.Kinds.{of_kind}
 use Rattle.inside_keys.specs.declared.check.Check.{Check}
 use Rattle.inside_keys.specs.declared.check.Check.TheVariants as check
 

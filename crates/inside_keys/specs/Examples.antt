@@ -1,6 +1,6 @@
 -- Small networks, worked by hand.
 use Rattle.std.specs.Prelude.{◌≡◌, ℕ, true, false, List, [], ◌∷◌, map, Option, Some, None, Result, Ok, Err, codes}
-use Rattle.asking.specs.Following.{followed}
+use Rattle.param_following.specs.Following.{followed}
 use Rattle.ned_trees.specs.declared.connections.Arrow.{Arrow}
 use Rattle.ned_trees.specs.declared.connections.Arrow.TheVariants as arrow
 use Rattle.ned_trees.specs.declared.connections.ConnectionItem.{ConnectionItem}

@@ -21,10 +21,10 @@ use Rattle.ned_trees.specs.declared.declarations.SubmoduleBody.{SubmoduleBody}
 use Rattle.ned_trees.specs.declared.declarations.TypeDeclaration.{TypeDeclaration}
 use Rattle.ned_trees.specs.declared.expressions.Expression.{Expression}
 use Rattle.ned_types.specs.Flat.{declaration_named, last_value, or_else, submodule_named}
-use Rattle.parameter_values.specs.declared.scene.Section as written_section
-use Rattle.parameter_values.specs.declared.scene.Section.TheVariants as written
-use Rattle.parameter_values.specs.Settings.{Written, Given, Fixed, Default}
-use Rattle.parameter_values.specs.Values.{first_given}
+use Rattle.param_values.specs.declared.scene.Section as written_section
+use Rattle.param_values.specs.declared.scene.Section.TheVariants as written
+use Rattle.param_values.specs.Settings.{Written, Given, Fixed, Default}
+use Rattle.param_values.specs.Values.{first_given}
 use Rattle.inside_parts.specs.declared.gates.TypeGate.{TypeGate}
 use Rattle.inside_parts.specs.declared.gates.TypeGates.{TypeGates}
 use Rattle.inside_parts.specs.Names.{position_of}

@@ -1,7 +1,7 @@
 -- The inside of a compound module: what it asks, and what is made of the answers. Each definition says one thing that is done, and then `rest`.
 -- OMNeT++ Simulation Manual, "Submodules", "Connections", "Parametric Connections".
 use Rattle.std.specs.Prelude.{ℕ, zero, suc, ◌+◌, ◌-◌, ◌==◌, ℤ, pos, negsuc, ◌+ℤ◌, ◌-ℤ◌, Bool, true, List, [], ◌∷◌, Option, Some, None, Ok, Err, if◌then◌else◌, is_some, length, map, slice_get}
-use Rattle.asking.specs.Asking.{Done}
+use Rattle.param_following.specs.Asking.{Done}
 use Rattle.ned_trees.specs.declared.connections.Arrow.{Arrow}
 use Rattle.ned_trees.specs.declared.connections.Arrow.TheVariants.{Right, Left, Both}
 use Rattle.ned_trees.specs.declared.connections.Channel.{Channel}

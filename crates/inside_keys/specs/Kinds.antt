@@ -4,8 +4,8 @@ use Rattle.sim_values.specs.declared.value.Dimension.{Dimension}
 use Rattle.ned_trees.specs.declared.declarations.Declaration.{Declaration}
 use Rattle.ned_trees.specs.declared.declarations.ParameterWord.{ParameterWord}
 use Rattle.ned_trees.specs.declared.declarations.ParameterWord.TheVariants as word
-use Rattle.parameter_values.specs.declared.kind.Kind.{Kind}
-use Rattle.parameter_values.specs.declared.kind.Kind.TheVariants as kind
+use Rattle.param_values.specs.declared.kind.Kind.{Kind}
+use Rattle.param_values.specs.declared.kind.Kind.TheVariants as kind
 
 abbrev pub kind_by : ParameterWord → Option Dimension → Kind
 kind_by word.Bool unit = kind.Truth

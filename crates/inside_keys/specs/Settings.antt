@@ -1,6 +1,6 @@
 -- What values rest on.
 use Rattle.std.specs.Prelude.{ℕ, ℤ, Bool, List, Option, Some, None, if◌then◌else◌, map}
-use Rattle.ini_texts.specs.declared.entry.EntryValue.{EntryValue}
+use Rattle.ini_trees.specs.declared.entry.EntryValue.{EntryValue}
 use Rattle.ned_trees.specs.declared.declarations.TypeDeclaration.{TypeDeclaration}
 use Rattle.ned_trees.specs.declared.expressions.Expression.{Expression}
 use Rattle.inside_parts.specs.declared.gates.TypeGates.{TypeGates}

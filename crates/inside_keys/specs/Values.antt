@@ -2,8 +2,8 @@
 use Rattle.std.specs.Prelude.{ℕ, zero, suc, nat_lt, ℤ, pos, Bool, true, false, not, ◌&&◌, List, [], ◌∷◌, ◌++◌, codes, Option, Some, None, Result, Ok, Err, if◌then◌else◌, length, slice_get, slice_index}
 use Rattle.std.specs.List.{list_any}
 use Rattle.std.specs.Option.{option_and_then}
-use Rattle.asking.specs.Asking.{Done, Ask}
-use Rattle.asking.specs.Following.{Rules, value_of}
+use Rattle.param_following.specs.Asking.{Done, Ask}
+use Rattle.param_following.specs.Following.{Rules, value_of}
 use Rattle.ned_trees.specs.declared.declarations.ParametricType.{ParametricType}
 use Rattle.ned_trees.specs.declared.declarations.SectionLine.{SectionLine}
 use Rattle.ned_trees.specs.declared.declarations.SectionLine.TheVariants as line
@@ -12,12 +12,12 @@ use Rattle.ned_trees.specs.declared.declarations.SubmoduleBody.{SubmoduleBody}
 use Rattle.ned_trees.specs.declared.declarations.SubmoduleType.{SubmoduleType}
 use Rattle.ned_trees.specs.declared.declarations.SubmoduleType.TheVariants.{Named, Like}
 use Rattle.ned_trees.specs.declared.declarations.TypeDeclaration.{TypeDeclaration}
-use Rattle.ini_texts.specs.Entries.{last_name}
+use Rattle.ini_trees.specs.Entries.{last_name}
 use Rattle.ned_types.specs.Flat.{or_else, submodule_named}
 use Rattle.ned_types.specs.Types.{is_built_in, is_kind_of_modules, is_refixed}
-use Rattle.parameter_values.specs.declared.scene.Section.TheVariants as written
-use Rattle.parameter_values.specs.Settings.{Written}
-use Rattle.parameter_values.specs.Values.{first_given}
+use Rattle.param_values.specs.declared.scene.Section.TheVariants as written
+use Rattle.param_values.specs.Settings.{Written}
+use Rattle.param_values.specs.Values.{first_given}
 use Rattle.sim_values.specs.declared.value.Value.{Value}
 use Rattle.sim_values.specs.declared.value.Value.TheVariants as value
 use Rattle.param_eval.specs.Values.{valued}

@@ -21,7 +21,7 @@ use ned_trees::declarations::{
     Declaration, GateDirection, ParameterWord, SectionLine, TypeDeclaration,
 };
 use ned_types::flat::declaration_named;
-use parameter_values::kind::Kind;
+use param_values::kind::Kind;
 use sim_values::NoMemory;
 use sim_values::text::{Text, spells};
 use sim_values::value::{Dimension, Value};

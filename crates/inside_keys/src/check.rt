@@ -2,10 +2,10 @@
 
 ghost use Rattle.std.specs.Prelude.{◌≡◌};
 ghost use Rattle.inside_keys.specs.Checks.{amount, checked, not_negative, told};
-ghost use Rattle.parameter_values.specs.Kinds.{of_kind};
+ghost use Rattle.param_values.specs.Kinds.{of_kind};
 
 use inside_parts::fault::{Fault, of_value};
-use parameter_values::kind::{Kind, of_kind};
+use param_values::kind::{Kind, of_kind};
 use sim_values::value::Value;
 
 /// What the value of an expression has to be.

@@ -1,8 +1,8 @@
 -- Keys are compared as the definition says.
 use Rattle.std.proofs.Common.{◌≡◌, Bool, ap, sym}
 use mathlib.Core.Path.{fun_ext}
-use Rattle.answer_engine.specs.Tables.{Entries, known}
-use Rattle.answer_engine.specs.Working.{ruled}
+use Rattle.param_engine.specs.Tables.{Entries, known}
+use Rattle.param_engine.specs.Working.{ruled}
 use Rattle.inside_parts.specs.declared.fault.Fault.TheVariants.{Circle}
 use Rattle.inside_keys.specs.declared.found.Found.{Found}
 use Rattle.inside_keys.specs.declared.key.Key.{Key}

@@ -14,7 +14,7 @@ use Rattle.inside_keys.specs.declared.key.Module.{Module}
 use Rattle.inside_keys.specs.declared.key.What.{What}
 use Rattle.inside_keys.specs.declared.key.What.TheVariants as what
 use Rattle.inside_keys.specs.Keys.{key}
-use Rattle.asking.specs.Asking.{Ask}
+use Rattle.param_following.specs.Asking.{Ask}
 use Rattle.inside_keys.specs.Asked.{Asked, result_then, valued_then}
 use Rattle.inside_keys.specs.declared.place.Meaning.{Meaning}
 use Rattle.param_eval.specs.declared.evaluation.Evaluation.{Evaluation}

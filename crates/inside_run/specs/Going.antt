@@ -1,7 +1,7 @@
 -- Keys that are being evaluated.
 use Rattle.std.specs.Prelude.{◌≡◌, ℕ, pos, Bool, true, false, not, List, [], Option, Some, None, Result, Ok, Err, if◌then◌else◌, slice_get}
 use Rattle.std.proofs.Common.{Bor}
-use Rattle.asking.specs.Asking.{Done, Ask}
+use Rattle.param_following.specs.Asking.{Done, Ask}
 use Rattle.ned_trees.specs.declared.declarations.Submodule.{Submodule}
 use Rattle.ned_trees.specs.declared.declarations.SubmoduleBody.{SubmoduleBody}
 use Rattle.ned_trees.specs.declared.declarations.TypeDeclaration.{TypeDeclaration}

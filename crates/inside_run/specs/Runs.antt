@@ -1,6 +1,6 @@
 -- An inside that is built until a value is needed.
 use Rattle.std.specs.Prelude.{◌≡◌, ℕ, ◌+◌, ◌*◌, ◌<◌, ◌≤◌, max, List, Option, Some, None, Result, Ok, Err}
-use Rattle.asking.specs.Asking.{Done}
+use Rattle.param_following.specs.Asking.{Done}
 use Rattle.inside_keys.specs.declared.found.State.{State}
 use Rattle.inside_keys.specs.declared.place.Meaning.{Meaning}
 use Rattle.inside_keys.specs.Asked.{Asked, ask_then, valued_then}

@@ -5,7 +5,7 @@ use Rattle.ned_trees.specs.declared.declarations.Submodule.{Submodule}
 use Rattle.ned_trees.specs.declared.declarations.SubmoduleBody.{SubmoduleBody}
 use Rattle.ned_trees.specs.declared.declarations.SubmoduleType.{SubmoduleType}
 use Rattle.ned_trees.specs.declared.declarations.SubmoduleType.TheVariants.{Named, Like}
-use Rattle.parameter_values.specs.Settings.{Written}
+use Rattle.param_values.specs.Settings.{Written}
 use Rattle.ned_trees.specs.declared.declarations.TypeDeclaration.{TypeDeclaration}
 use Rattle.ned_types.specs.Flat.{submodule_named}
 use Rattle.param_eval.specs.Evaluating.{left, weight_of}

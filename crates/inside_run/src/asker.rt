@@ -1,7 +1,7 @@
 //! All keys of a model, as an asker.
 
 ghost use Rattle.std.specs.Prelude.{◌≡◌, ◌+◌, ◌≤◌, ℕ, IfOk};
-ghost use Rattle.answer_engine.specs.Turns.{came_to, asks};
+ghost use Rattle.param_engine.specs.Turns.{came_to, asks};
 ghost use Rattle.inside_parts.specs.declared.fault.Fault.TheVariants.{Circle};
 ghost use Rattle.inside_keys.specs.Asked.{Asked as asked_type};
 ghost use Rattle.inside_keys.specs.Settings.{Setting};
@@ -21,14 +21,14 @@ use crate::progress::{Moved, Progress};
 use crate::reading::{held, sized};
 use crate::scene::{Scene, Stands, submodule_in};
 use crate::types::{go_on_chosen, type_in};
-use answer_engine::asker::Asker;
-use answer_engine::turn::Turn;
 use inside_keys::found::{Found, Inside};
 use inside_keys::key::{Key, Module, What};
 use inside_parts::fault::{Fault, Stop};
 use inside_walk::submodules::number;
 use inside_wiring::wiring::Carrier;
 use ned_trees::declarations::TypeDeclaration;
+use param_engine::asker::Asker;
+use param_engine::turn::Turn;
 use sim_values::NoMemory;
 use sim_values::text::Text;
 use sim_values::value::Value;

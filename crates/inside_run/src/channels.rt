@@ -2,8 +2,8 @@
 
 ghost use Rattle.std.specs.Prelude.{◌≡◌, ◌<◌, ◌≤◌, ◌++◌, ◌∷◌, [], IfOk, List, Some, get_or, length, pos, reverse, slice_get, take};
 ghost use Rattle.std.specs.Option.{option_copied};
-ghost use Rattle.parameter_values.specs.Scenes.{given_by, maybe_written};
-ghost use Rattle.parameter_values.specs.Values.{first_given};
+ghost use Rattle.param_values.specs.Scenes.{given_by, maybe_written};
+ghost use Rattle.param_values.specs.Values.{first_given};
 ghost use Rattle.ned_trees.specs.declared.connections.Clause.{Clause as clause_type};
 ghost use Rattle.inside_keys.specs.Asked.{known_then};
 ghost use Rattle.inside_keys.specs.Channels.{lines_of};
@@ -35,7 +35,7 @@ use ned_trees::connections::{
 };
 use ned_trees::declarations::{Declaration, SectionLine, TypeDeclaration};
 use ned_types::flat::{declaration_named, last_value};
-use parameter_values::scene::{Given, Section as WrittenSection, Written};
+use param_values::scene::{Given, Section as WrittenSection, Written};
 use sim_values::NoMemory;
 use sim_values::text::Text;
 use sim_values::value::Value;

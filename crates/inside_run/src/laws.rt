@@ -1,9 +1,9 @@
 //! What holds of the values of keys. The functions do nothing: their contracts are the laws.
 
 ghost use Rattle.std.specs.Prelude.{◌≡◌};
-ghost use Rattle.answer_engine.specs.Edits.{AfterEdit, IsSorted};
-ghost use Rattle.answer_engine.specs.Tables.{Entries, IsKept, known};
-ghost use Rattle.asking.specs.Edits.{IsClosed};
+ghost use Rattle.param_engine.specs.Edits.{AfterEdit, IsSorted};
+ghost use Rattle.param_engine.specs.Tables.{Entries, IsKept, known};
+ghost use Rattle.param_following.specs.Edits.{IsClosed};
 ghost use Rattle.inside_keys.specs.Keys.{same_key};
 ghost use Rattle.inside_keys.specs.Settings.{Setting};
 ghost use Rattle.inside_keys.specs.Values.{rules_of};

@@ -2,7 +2,7 @@
 
 ghost use Rattle.std.specs.Prelude.{◌≡◌, IfOk, not};
 ghost use Rattle.std.specs.Option.{option_copied};
-ghost use Rattle.answer_engine.specs.Tables.{IsKept, Begins};
+ghost use Rattle.param_engine.specs.Tables.{IsKept, Begins};
 ghost use Rattle.inside_keys.specs.Blamed as blame;
 ghost use Rattle.inside_keys.specs.Keys as keys;
 ghost use Rattle.inside_keys.specs.Values.{asking_of, rules_of, value_at};
@@ -11,12 +11,12 @@ ghost use Rattle.inside_keys.specs.declared.key.What.TheVariants as of;
 use crate::asker::Keys;
 use crate::scene::Scene;
 use crate::values::value_of;
-use answer_engine::asker::Asker;
-use answer_engine::table::Table;
-use answer_engine::turn::Turn;
 use inside_keys::found::Found;
 use inside_keys::key::{Key, Module, What};
 use inside_parts::fault::Fault;
+use param_engine::asker::Asker;
+use param_engine::table::Table;
+use param_engine::turn::Turn;
 use sim_values::NoMemory;
 use sim_values::text::Text;
 use std::alloc::Global;

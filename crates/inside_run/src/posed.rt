@@ -3,8 +3,8 @@
 ghost use Rattle.std.specs.Prelude.{◌≡◌, ◌+◌, IfOk, Some};
 ghost use Rattle.std.specs.Option.{option_copied};
 ghost use Rattle.param_eval.specs.Evaluating as evaluating;
-ghost use Rattle.parameter_values.specs.Scenes.{given_by, maybe_written};
-ghost use Rattle.parameter_values.specs.Values.{first_given};
+ghost use Rattle.param_values.specs.Scenes.{given_by, maybe_written};
+ghost use Rattle.param_values.specs.Values.{first_given};
 ghost use Rattle.inside_keys.specs.Asked.{valued_then};
 ghost use Rattle.inside_keys.specs.Checks.{checked};
 ghost use Rattle.inside_keys.specs.Given as given;
@@ -20,7 +20,7 @@ ghost use Rattle.inside_run.specs.declared.progress.Progress.TheVariants as wait
 use crate::progress::{Moved, Posing, Progress};
 use crate::reach::{Reached, reach};
 use crate::scene::{Scene, Stands};
-use ini_texts::entry::EntryValue;
+use ini_trees::entry::EntryValue;
 use inside_keys::channel::kind_of;
 use inside_keys::check::{Check, checked};
 use inside_keys::found::Found;
@@ -34,7 +34,7 @@ use ned_trees::declarations::{
 use ned_trees::expressions::Expression;
 use ned_types::flat::{declaration_named, last_value};
 use param_eval::evaluation::{Evaluation, Turn};
-use parameter_values::scene::{Given, Section as WrittenSection, Written};
+use param_values::scene::{Given, Section as WrittenSection, Written};
 use sim_values::NoMemory;
 use sim_values::text::Text;
 use sim_values::value::Value;

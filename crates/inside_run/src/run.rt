@@ -1,7 +1,7 @@
 //! An inside is built until a value is needed, or until it is there.
 
 ghost use Rattle.std.specs.Prelude.{◌≡◌, ◌<◌, ◌≤◌, ℕ, List, [], IfOk, Ok};
-ghost use Rattle.asking.specs.Asking.{Done};
+ghost use Rattle.param_following.specs.Asking.{Done};
 ghost use Rattle.inside_keys.specs.Asked.{Asked as asked_type};
 ghost use Rattle.inside_keys.specs.Inside as inside;
 ghost use Rattle.inside_run.specs.Runs.{AsksWithin, Comes, IsWithin, begun_load, load, load_of};

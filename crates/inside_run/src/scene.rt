@@ -7,7 +7,7 @@ ghost use Rattle.inside_keys.specs.Settings.{Setting, type_gates, type_names};
 ghost use Rattle.inside_run.specs.Scenes.{names_in, standing_by};
 ghost use Rattle.ned_types.specs.Flat.{submodule_named};
 
-use ini_texts::entry::EntryValue;
+use ini_trees::entry::EntryValue;
 use inside_keys::key::Module;
 use inside_parts::gates::TypeGates;
 use inside_parts::names::Names;

@@ -1,17 +1,17 @@
 //! Values of keys.
 
 ghost use Rattle.std.specs.Prelude.{◌≡◌, ◌+◌, [], Ok, Some, IfOk, IfSome, OnOk, length};
-ghost use Rattle.answer_engine.specs.Tables.{IsKept, Begins, found_in};
-ghost use Rattle.answer_engine.specs.Working.{AreBegunOnce};
+ghost use Rattle.param_engine.specs.Tables.{IsKept, Begins, found_in};
+ghost use Rattle.param_engine.specs.Working.{AreBegunOnce};
 ghost use Rattle.inside_keys.specs.Values.{rules_of, value_at};
 
 use crate::asker::Keys;
 use crate::scene::Scene;
-use answer_engine::engine;
-use answer_engine::table::Table;
 use inside_keys::found::Found;
 use inside_keys::key::Key;
 use inside_parts::fault::Fault;
+use param_engine::engine;
+use param_engine::table::Table;
 use sim_values::NoMemory;
 use std::alloc::Global;
 

@@ -3,7 +3,7 @@ use Rattle.std.proofs.Common.{◌≡◌, ℕ, suc, zero, ◌+◌, ◌-◌, ◌==
 use Rattle.std.proofs.lemmas.Int.{ints, to_z-of_z}
 use mir.Syntax.{w64}
 use mir.Val.{SFits, of_z, to_z}
-use Rattle.asking.specs.Asking.{Done}
+use Rattle.param_following.specs.Asking.{Done}
 use Rattle.inside_keys.specs.declared.found.State.{State}
 use Rattle.inside_keys.specs.Asked.{Asked}
 use Rattle.inside_keys.specs.Inside.{Rest, looped, counted, turns, count, or_zero}

@@ -1,7 +1,7 @@
 -- What is left to be done of an inside, as a stack of tasks of which the first is the next.
 use Rattle.std.specs.Prelude.{◌≡◌, ℕ, ℤ, pos, ◌+ℤ◌, List, [], ◌∷◌, Option, Some, None, Result, Ok, Err, length}
 use Rattle.std.specs.Borrow.{Bor}
-use Rattle.asking.specs.Asking.{Done, Ask}
+use Rattle.param_following.specs.Asking.{Done, Ask}
 use Rattle.inside_keys.specs.declared.found.State.{State}
 use Rattle.inside_keys.specs.declared.key.Module.{Module}
 use Rattle.inside_keys.specs.declared.key.What.{What}

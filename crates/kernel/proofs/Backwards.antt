@@ -7,11 +7,11 @@ use Rattle.run_semantics.specs.Run.{standing}
 use Rattle.run_semantics.specs.World.{World}
 use Rattle.kernel.specs.declared.request.Request.{Request}
 use Rattle.kernel.specs.Seats.{request_for}
-use Rattle.saved_boxes.specs.Seats.{Seat, instance_of, AreOfKinds, AreKept}
-use Rattle.saved_boxes.specs.Saved.{CanTake}
-use Rattle.saved_boxes.specs.Staying.{first_without, staying, IdsRise}
-use Rattle.saved_boxes.proofs.Going.{all_there, kinds_stay}
-use Rattle.saved_boxes.proofs.Saving.{Rise}
+use Rattle.kernel_boxes.specs.Seats.{Seat, instance_of, AreOfKinds, AreKept}
+use Rattle.kernel_boxes.specs.Saved.{CanTake}
+use Rattle.kernel_boxes.specs.Staying.{first_without, staying, IdsRise}
+use Rattle.kernel_boxes.proofs.Going.{all_there, kinds_stay}
+use Rattle.kernel_boxes.proofs.Saving.{Rise}
 
 none_found : {A B : Type 0} (f : A → B) (found : Option A) → option_map f found ≡ None → found ≡ None
 none_found f None e = refl

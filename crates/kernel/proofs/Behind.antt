@@ -4,11 +4,11 @@ use Rattle.std.proofs.lemmas.Bool.Decides.{nat_tests}
 use Rattle.std.proofs.lemmas.List.{length-map}
 use Rattle.module_api.specs.Meaning.{Module}
 use Rattle.module_tree.specs.Boxes.{Seated, AreRising, last_after, last_id}
-use Rattle.run_questions.specs.declared.record.Record.{Record}
+use Rattle.model_questions.specs.declared.record.Record.{Record}
 use Rattle.run_semantics.specs.Run.{Part, standing, with_class, parts_from}
-use Rattle.saved_boxes.specs.Seats.{instance_of}
-use Rattle.saved_boxes.proofs.Seating.{seat}
-use Rattle.saved_boxes.specs.Staying.{first_without}
+use Rattle.kernel_boxes.specs.Seats.{instance_of}
+use Rattle.kernel_boxes.proofs.Seating.{seat}
+use Rattle.kernel_boxes.specs.Staying.{first_without}
 use Rattle.kernel.proofs.Rising.{Rise}
 use Rattle.kernel.proofs.Waiting.{wanted_next}
 

@@ -7,7 +7,7 @@ use Rattle.module_api.specs.declared.reply.Action.{Action}
 use Rattle.module_api.specs.declared.reply.Reply.{Reply}
 use Rattle.module_api.specs.Behaviour.{Behaviour, Replied}
 use Rattle.module_api.specs.Meaning.{Module, IsOfKind}
-use Rattle.run_questions.specs.Answers.{Answers}
+use Rattle.model_questions.specs.Answers.{Answers}
 use Rattle.run_semantics.specs.declared.occasions.Occasion.{Occasion}
 use Rattle.run_semantics.specs.declared.outcome.Turn.{Turn}
 use Rattle.run_semantics.specs.declared.traces.Instance.{Instance}
@@ -16,8 +16,8 @@ use Rattle.run_semantics.specs.Perform.{Flow, On, flow_of, act, answered}
 use Rattle.run_semantics.specs.Event.{call_of, instance_in, with_state, changed, replied, called, calling, call_at}
 use Rattle.run_semantics.specs.Run.{standing}
 use Rattle.run_semantics.proofs.Sound.{in_flow, in_flow-of, Keeps, act_keeps}
-use Rattle.saved_boxes.specs.Seats.{Seat, instance_of, module_in, AreOfKinds, AreKept}
-use Rattle.saved_boxes.proofs.Keeping.{kind_same, kind_in, kinds_with, standing_with, states_with}
+use Rattle.kernel_boxes.specs.Seats.{Seat, instance_of, module_in, AreOfKinds, AreKept}
+use Rattle.kernel_boxes.proofs.Keeping.{kind_same, kind_in, kinds_with, standing_with, states_with}
 use Rattle.kernel_actions.specs.Positions.{IsGrownFrom}
 use Rattle.kernel.specs.Seats.{world_of, IsCalled, IsServed}
 use Rattle.kernel.proofs.Apart.{with_modules}

@@ -1,7 +1,7 @@
 -- One level of a setup more.
 use Rattle.std.proofs.Common.{◌≡◌, ℕ, zero, suc, ◌-◌, ◌<◌, ap, sym, arith}
-use Rattle.run_questions.specs.declared.answer.Question.TheVariants.{Build}
-use Rattle.run_questions.specs.Answers.{Answers}
+use Rattle.model_questions.specs.declared.answer.Question.TheVariants.{Build}
+use Rattle.model_questions.specs.Answers.{Answers}
 use Rattle.run_semantics.specs.World.{World}
 use Rattle.run_semantics.specs.Perform.{asking}
 use Rattle.run_semantics.specs.Run.{built, set_up}

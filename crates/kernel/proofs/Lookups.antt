@@ -4,10 +4,10 @@ use Rattle.sim_values.specs.declared.value.Value.{Value}
 use Rattle.module_api.specs.declared.reply.Read.{Read}
 use Rattle.module_api.specs.declared.reply.Read.TheVariants as read
 use Rattle.module_api.specs.Values.{value_of}
-use Rattle.run_questions.specs.Answers.{Answers, answer_of, parameters_of}
-use Rattle.run_questions.specs.declared.answer.Question.TheVariants as question
-use Rattle.run_questions.specs.declared.record.Record.{Record}
-use Rattle.run_questions.proofs.AnswerLemmas.{told_value}
+use Rattle.model_questions.specs.Answers.{Answers, answer_of, parameters_of}
+use Rattle.model_questions.specs.declared.answer.Question.TheVariants as question
+use Rattle.model_questions.specs.declared.record.Record.{Record}
+use Rattle.model_questions.proofs.AnswerLemmas.{told_value}
 use Rattle.run_semantics.specs.Perform.{fault_of_read, question_of}
 use Rattle.kernel_actions.specs.Lookups.{was_told}
 

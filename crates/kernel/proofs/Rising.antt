@@ -4,9 +4,9 @@ use Rattle.std.proofs.lemmas.Bool.Decides.{nat_tests}
 use Rattle.module_api.specs.Meaning.{Module}
 use Rattle.module_tree.specs.Boxes.{Seated, AreRising}
 use Rattle.run_semantics.specs.Run.{Part, standing}
-use Rattle.saved_boxes.specs.Seats.{Seat, instance_of, module_in}
+use Rattle.kernel_boxes.specs.Seats.{Seat, instance_of, module_in}
 use Rattle.kernel.specs.Parts.{part_in}
-use Rattle.saved_boxes.proofs.Seating.{seat}
+use Rattle.kernel_boxes.proofs.Seating.{seat}
 
 -- the ids rise, from this number on, and all are below that one
 abbrev pub Rise : ℕ → ℕ → List Part → Type 0

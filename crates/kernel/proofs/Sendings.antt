@@ -11,10 +11,10 @@ use Rattle.module_api.specs.declared.reply.Flight.{Flight}
 use Rattle.module_api.specs.declared.reply.GatePlace.{GatePlace}
 use Rattle.module_api.specs.declared.reply.OwnGate.{OwnGate}
 use Rattle.module_api.specs.Behaviour.{Behaviour}
-use Rattle.run_questions.specs.declared.answer.Answer.{Answer}
-use Rattle.run_questions.specs.declared.answer.Question.{Question}
-use Rattle.run_questions.specs.declared.answer.Question.TheVariants.{GateSize, Hop, HopBack}
-use Rattle.run_questions.specs.Answers.{Answers, answer_of}
+use Rattle.model_questions.specs.declared.answer.Answer.{Answer}
+use Rattle.model_questions.specs.declared.answer.Question.{Question}
+use Rattle.model_questions.specs.declared.answer.Question.TheVariants.{GateSize, Hop, HopBack}
+use Rattle.model_questions.specs.Answers.{Answers, answer_of}
 use Rattle.run_semantics.specs.declared.outcome.Turn.{Turn}
 use Rattle.run_semantics.specs.declared.routes.NextHop.{NextHop}
 use Rattle.run_semantics.specs.declared.routes.PassedHop.{PassedHop}

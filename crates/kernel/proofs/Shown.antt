@@ -3,17 +3,17 @@ use Rattle.std.proofs.Common.{◌≡◌, ℕ, List, sym, ap, ◌∙◌, subst}
 use Rattle.module_api.specs.declared.call.Call.{Call}
 use Rattle.module_api.specs.declared.call.Prompt.{Prompt}
 use Rattle.module_api.specs.Behaviour.{Behaviour}
-use Rattle.run_questions.specs.Answers.{Answers}
-use Rattle.run_questions.specs.declared.record.Record.{Record}
+use Rattle.model_questions.specs.Answers.{Answers}
+use Rattle.model_questions.specs.declared.record.Record.{Record}
 use Rattle.run_semantics.specs.declared.occasions.Occasion.{Occasion}
 use Rattle.run_semantics.specs.declared.outcome.Turn.{Turn}
 use Rattle.run_semantics.specs.Event.{call_of, call_at}
 use Rattle.run_semantics.specs.Perform.{flow_of}
 use Rattle.run_semantics.specs.World.{World}
-use Rattle.shown_modules.specs.declared.Shown.{Shown}
-use Rattle.shown_modules.specs.declared.ShownModules.{ShownModules}
-use Rattle.shown_modules.specs.Tables.{shown_of, AreShown, IsShown}
-use Rattle.shown_modules.proofs.Showing.{shown_on}
+use Rattle.kernel_call_views.specs.declared.Shown.{Shown}
+use Rattle.kernel_call_views.specs.declared.ShownModules.{ShownModules}
+use Rattle.kernel_call_views.specs.Tables.{shown_of, AreShown, IsShown}
+use Rattle.kernel_call_views.proofs.Showing.{shown_on}
 use Rattle.kernel.specs.Calls.{call_with}
 use Rattle.kernel_actions.specs.Positions.{IsGrownFrom}
 

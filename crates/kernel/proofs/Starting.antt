@@ -4,7 +4,7 @@ use Rattle.std.proofs.lemmas.Bool.Decides.{nat_tests}
 use Rattle.module_api.specs.Behaviour.{Behaviour}
 use Rattle.module_api.specs.declared.call.Prompt.TheVariants as prompt
 use Rattle.module_api.specs.Meaning.{Module}
-use Rattle.run_questions.specs.Answers.{Answers}
+use Rattle.model_questions.specs.Answers.{Answers}
 use Rattle.run_semantics.specs.declared.outcome.Turn.{Turn}
 use Rattle.run_semantics.specs.declared.outcome.Turn.TheVariants.{GoOn, Stop, Break}
 use Rattle.run_semantics.specs.declared.traces.Instance.{Instance}
@@ -12,7 +12,7 @@ use Rattle.run_semantics.specs.World.{World}
 use Rattle.run_semantics.specs.Perform.{Flow, On, ◌>>=◌, flow_of, for_each}
 use Rattle.run_semantics.specs.Event.{call_module, instance_in}
 use Rattle.run_semantics.specs.Run.{stages_in, most_stages, initialize, one_stage, stages_from}
-use Rattle.saved_boxes.specs.Seats.{Seat, instance_of, module_in, AreOfKinds}
+use Rattle.kernel_boxes.specs.Seats.{Seat, instance_of, module_in, AreOfKinds}
 use Rattle.kernel.specs.Seats.{stages_of}
 
 -- ---- stages

@@ -1,12 +1,12 @@
 -- The module that a message from outside is for.
 use Rattle.std.proofs.Common.{◌≡◌, ℕ, ◌+◌, cond, Bool, List, [], ◌∷◌, Option, Some, None, option_map, bytes_eq, refl, sym, ap, ◌∙◌, map, if◌then◌else◌}
 use Rattle.module_api.specs.Meaning.{Module}
-use Rattle.run_questions.specs.declared.record.Record.{Record}
-use Rattle.run_questions.specs.Records.{path_of}
+use Rattle.model_questions.specs.declared.record.Record.{Record}
+use Rattle.model_questions.specs.Records.{path_of}
 use Rattle.run_semantics.specs.declared.traces.Instance.{Instance}
 use Rattle.run_semantics.specs.Run.{Part, standing}
 use Rattle.run_semantics.specs.Upcoming.{id_at}
-use Rattle.saved_boxes.specs.Seats.{Seat, instance_of, module_in}
+use Rattle.kernel_boxes.specs.Seats.{Seat, instance_of, module_in}
 use Rattle.kernel.specs.Seats.{stands_at}
 use Rattle.kernel.specs.Parts.{part_in}
 use Rattle.kernel.proofs.Rising.{Rise, parts_left, all_left, none_left, left_none, left_some, part_for, part_standing}

@@ -1,14 +1,14 @@
 -- What comes next in a run, step by step.
 use Rattle.std.proofs.Common.{◌≡◌, ℕ, suc, zero, ◌+◌, ◌<◌, true, false, Bool, List, [], ◌∷◌, Option, Some, None, length, refl, ap, subst, ◌∙◌, sym, arith, append-nil, if◌then◌else◌}
-use Rattle.injection_order.specs.declared.injection.Injection.{Injection}
-use Rattle.run_questions.specs.Answers.{Answers, is_beyond}
+use Rattle.model_injections.specs.declared.injection.Injection.{Injection}
+use Rattle.model_questions.specs.Answers.{Answers, is_beyond}
 use Rattle.module_api.specs.Behaviour.{Behaviour}
 use Rattle.run_semantics.specs.declared.outcome.Outcome.TheVariants.{Ended, NoMoreEvents, TimeLimit}
 use Rattle.event_set.specs.declared.pending.Pending.{Pending}
 use Rattle.run_semantics.specs.declared.traces.Instance.{Instance}
 use Rattle.run_semantics.specs.World.{World}
 use Rattle.run_semantics.specs.Event.{event}
-use Rattle.run_questions.specs.declared.answer.Asked.{Asked}
+use Rattle.model_questions.specs.declared.answer.Asked.{Asked}
 use Rattle.run_semantics.specs.Upcoming.{Upcoming, Comes, Nothing, first_of, upcoming, upcoming_in}
 use Rattle.run_semantics.proofs.Looking.{beside}
 use Rattle.run_semantics.specs.Run.{Stage, Running, Over, settled, is_after_limit, next_stage, went}

@@ -4,14 +4,14 @@ use Rattle.std.proofs.lemmas.Bool.Decides.{nat_tests}
 use Rattle.std.specs.List.{list_any}
 use Rattle.module_api.specs.Behaviour.{Behaviour}
 use Rattle.module_api.specs.Meaning.{Module, IsFresh}
-use Rattle.run_questions.specs.Answers.{Answers}
+use Rattle.model_questions.specs.Answers.{Answers}
 use Rattle.run_semantics.specs.declared.traces.Instance.{Instance}
 use Rattle.run_semantics.specs.World.{World}
 use Rattle.run_semantics.specs.Perform.{Flow, On, ◌>>=◌}
 use Rattle.run_semantics.specs.Run.{Part, fresh, first_unknown, needs, place_parts, placed, prepared, ready, standing, unless_unknown}
-use Rattle.saved_boxes.specs.Seats.{Seat, instance_of, AreOfKinds}
+use Rattle.kernel_boxes.specs.Seats.{Seat, instance_of, AreOfKinds}
 use Rattle.kernel.specs.Seats.{AreFresh, world_of}
-use Rattle.saved_boxes.specs.Staying.{first_without, is_held}
+use Rattle.kernel_boxes.specs.Staying.{first_without, is_held}
 use Rattle.kernel.proofs.Rising.{Rise}
 
 -- ---- what they are

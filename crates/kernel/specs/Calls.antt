@@ -2,9 +2,9 @@
 use Rattle.std.specs.Prelude.{ℕ}
 use Rattle.module_api.specs.declared.call.Call.{Call}
 use Rattle.module_api.specs.declared.call.Prompt.{Prompt}
-use Rattle.run_questions.specs.Records.{record_at, index_of}
+use Rattle.model_questions.specs.Records.{record_at, index_of}
 use Rattle.run_semantics.specs.World.{World}
-use Rattle.shown_modules.specs.declared.Shown.{Shown}
+use Rattle.kernel_call_views.specs.declared.Shown.{Shown}
 
 -- what the module of that id is told, where calls show this of it
 abbrev pub call_with : ℕ → Prompt → Shown → World → Call

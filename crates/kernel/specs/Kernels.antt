@@ -4,7 +4,7 @@ use Rattle.module_api.specs.Behaviour.{Behaviour}
 use Rattle.run_semantics.specs.World.{World}
 use Rattle.run_semantics.specs.declared.outcome.Outcome.{Outcome}
 use Rattle.run_semantics.specs.Run.{Ran}
-use Rattle.saved_boxes.specs.Seats.{Seat, AreOfKinds, AreKept, Members, seat_of}
+use Rattle.kernel_boxes.specs.Seats.{Seat, AreOfKinds, AreKept, Members, seat_of}
 use Rattle.kernel.specs.Seats.{world_of}
 use Rattle.kernel.specs.declared.kernel.Kernel.{Kernel}
 

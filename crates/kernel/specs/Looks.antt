@@ -1,8 +1,8 @@
 -- Looks at the injections of a model, to know what comes next.
 use Rattle.std.specs.Prelude.{◌≡◌, ℕ, suc, Option, Some, None}
-use Rattle.run_questions.specs.declared.answer.Answer.{Answer}
-use Rattle.run_questions.specs.declared.answer.Question.TheVariants.{InjectionBefore}
-use Rattle.run_questions.specs.Answers.{Answers, answer_of}
+use Rattle.model_questions.specs.declared.answer.Answer.{Answer}
+use Rattle.model_questions.specs.declared.answer.Question.TheVariants.{InjectionBefore}
+use Rattle.model_questions.specs.Answers.{Answers, answer_of}
 use Rattle.run_semantics.specs.World.{World}
 use Rattle.run_semantics.specs.Upcoming.{first_due, upcoming_in}
 use Rattle.kernel_actions.specs.declared.looks.Next.{Next}

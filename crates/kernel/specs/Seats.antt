@@ -5,13 +5,13 @@ use Rattle.module_api.specs.declared.call.Call.{Call}
 use Rattle.module_api.specs.declared.reply.Reply.{Reply}
 use Rattle.module_api.specs.Behaviour.{Behaviour}
 use Rattle.module_api.specs.Meaning.{Module, Answered, IsFresh, IsSameModule}
-use Rattle.run_questions.specs.declared.record.Record.{Record}
-use Rattle.run_questions.specs.Records.{path_of}
+use Rattle.model_questions.specs.declared.record.Record.{Record}
+use Rattle.model_questions.specs.Records.{path_of}
 use Rattle.run_semantics.specs.World.{World}
 use Rattle.run_semantics.specs.declared.traces.Instance.{Instance}
 use Rattle.run_semantics.specs.Run.{Part, needs, parts_of, standing}
-use Rattle.saved_boxes.specs.Seats.{Seat, instance_of, module_in, with_module}
-use Rattle.saved_boxes.specs.Staying.{first_without, staying}
+use Rattle.kernel_boxes.specs.Seats.{Seat, instance_of, module_in, with_module}
+use Rattle.kernel_boxes.specs.Staying.{first_without, staying}
 use Rattle.kernel.specs.declared.request.Request.{Request}
 
 -- the world of a core and of what its boxes are

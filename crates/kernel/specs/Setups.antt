@@ -1,7 +1,7 @@
 -- One level of a setup.
 use Rattle.std.specs.Prelude.{◌≡◌, ℕ, List}
-use Rattle.run_questions.specs.declared.answer.Question.TheVariants.{Build}
-use Rattle.run_questions.specs.Answers.{Answers}
+use Rattle.model_questions.specs.declared.answer.Question.TheVariants.{Build}
+use Rattle.model_questions.specs.Answers.{Answers}
 use Rattle.run_semantics.specs.declared.outcome.Turn.{Turn}
 use Rattle.run_semantics.specs.World.{World}
 use Rattle.run_semantics.specs.Perform.{Flow, ◌>>=◌, asking, flow_of, for_each}

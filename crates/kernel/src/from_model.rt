@@ -1,8 +1,8 @@
 //! What a run asks its model, and what is done with the answers.
 
 ghost use Rattle.std.specs.Prelude.{◌≡◌, ◌+◌, ◌^◌, ◌<◌, suc, OnOk, IfOk, length};
-ghost use Rattle.run_questions.specs.Answers.{answer_of, parameters_of};
-ghost use Rattle.run_questions.specs.declared.answer.Answer.TheVariants as answers;
+ghost use Rattle.model_questions.specs.Answers.{answer_of, parameters_of};
+ghost use Rattle.model_questions.specs.declared.answer.Answer.TheVariants as answers;
 ghost use Rattle.run_semantics.specs.World.{empty};
 ghost use Rattle.run_semantics.specs.Perform.{flow_of, question_of, fault_of_read, read_fault};
 ghost use Rattle.run_semantics.specs.Run.{root_asked, compounds_from, inside_of, set_up, prepared};
@@ -11,18 +11,18 @@ ghost use Rattle.kernel.specs.Calls.{call_with};
 ghost use Rattle.kernel.specs.Looks.{injection_asked};
 ghost use Rattle.kernel.specs.Setups.{HasBuilt};
 
-use injection_order::injection::Injection;
 use kernel_actions::core_part::Core;
 use kernel_actions::looks::Look;
 use kernel_actions::reads::{fault_of_read, was_told};
+use kernel_call_views::Shown;
+use model_injections::injection::Injection;
+use model_questions::answer::{Answer, Built, Question};
+use model_questions::record::{MAX_NESTING, index_of};
 use module_api::call::{Call, Prompt};
 use module_api::reply::Read;
-use question_log::reads::question_of;
 use run_answers::Answers;
-use run_questions::answer::{Answer, Built, Question};
-use run_questions::record::{MAX_NESTING, index_of};
+use run_question_log::reads::question_of;
 use run_semantics::outcome::{Fault, Turn};
-use shown_modules::Shown;
 use sim_values::NoMemory;
 use sqlite_items::Items;
 use std::alloc::Global;

@@ -1,7 +1,7 @@
 -- A run goes on: the lists of its world only grow.
 use Rattle.std.proofs.Common.{◌≡◌, ℕ, ◌≤◌, List, [], refl, sym, ◌∙◌, subst, append-nil}
 use Rattle.module_api.specs.Behaviour.{Behaviour}
-use Rattle.run_questions.specs.Answers.{Answers}
+use Rattle.model_questions.specs.Answers.{Answers}
 use Rattle.run_semantics.specs.Ending.{ending}
 use Rattle.run_semantics.specs.Laws.{GoesOn}
 use Rattle.run_semantics.specs.Run.{Stage, Running, Over, world_at, after, stopped, run_to}

@@ -19,7 +19,7 @@ use Rattle.run_semantics.proofs.Sound.{in_flow, in_flow-of}
 use Rattle.kernel_actions.specs.declared.looks.LookedAt.{LookedAt}
 use Rattle.kernel_actions.specs.Positions.{IsGrownFrom}
 use Rattle.kernel_actions.specs.Upcoming.{asked_in}
-use Rattle.run_questions.specs.declared.answer.Asked.{Asked}
+use Rattle.model_questions.specs.declared.answer.Asked.{Asked}
 
 -- nothing happened
 pub growth_same : (w : World) → IsGrownFrom w w

@@ -5,11 +5,11 @@ use Rattle.std.proofs.lemmas.List.{length_push}
 use Rattle.std.proofs.lemmas.Slice.Eq.{bytes_eq-Decides}
 use Rattle.std.specs.HashMap.{HashMap, get}
 use Rattle.std.specs.Option.{option_eq}
-use Rattle.run_questions.specs.declared.record.Origin.{Origin}
-use Rattle.run_questions.specs.declared.record.Origin.TheVariants as origin
-use Rattle.run_questions.specs.declared.record.Record.{Record}
-use Rattle.run_questions.proofs.HopLemmas.{named_within}
-use Rattle.run_questions.specs.Records.{is_built, is_named, named_from, same_index}
+use Rattle.model_questions.specs.declared.record.Origin.{Origin}
+use Rattle.model_questions.specs.declared.record.Origin.TheVariants as origin
+use Rattle.model_questions.specs.declared.record.Record.{Record}
+use Rattle.model_questions.proofs.HopLemmas.{named_within}
+use Rattle.model_questions.specs.Records.{is_built, is_named, named_from, same_index}
 use Rattle.kernel_actions.specs.Places.{equal, id_at, place_of, AreIdsOf}
 use Rattle.kernel_actions.specs.declared.record_table.Place.{Place}
 

@@ -1,8 +1,8 @@
 -- Where modules stand, and their ids.
 use Rattle.std.specs.Prelude.{◌≡◌, ℕ, Bool, List, Option}
 use Rattle.std.specs.HashMap.{HashMap, get}
-use Rattle.run_questions.specs.declared.record.Record.{Record}
-use Rattle.run_questions.specs.Records.{built_id}
+use Rattle.model_questions.specs.declared.record.Record.{Record}
+use Rattle.model_questions.specs.Records.{built_id}
 use Rattle.kernel_actions.specs.contracts.record_table.PlacePartialEq as equality
 use Rattle.kernel_actions.specs.declared.record_table.Place.{Place}
 

@@ -1,8 +1,8 @@
 -- What comes next in a run, step by step.
 use Rattle.std.specs.Prelude.{◌≡◌, ℕ, ◌+◌, map, Bool, true, false, List, [], ◌∷◌, ◌++◌, Option, Result, Ok, Err}
-use Rattle.run_questions.specs.declared.answer.Asked.{Asked}
-use Rattle.run_questions.specs.declared.answer.Question.TheVariants.{InjectionBefore}
-use Rattle.run_questions.specs.Answers.{is_beyond}
+use Rattle.model_questions.specs.declared.answer.Asked.{Asked}
+use Rattle.model_questions.specs.declared.answer.Question.TheVariants.{InjectionBefore}
+use Rattle.model_questions.specs.Answers.{is_beyond}
 use Rattle.run_semantics.specs.declared.outcome.Outcome.{Outcome}
 use Rattle.run_semantics.specs.declared.outcome.Outcome.TheVariants.{NoMoreEvents, TimeLimit}
 use Rattle.event_set.specs.declared.pending.Pending.{Pending}

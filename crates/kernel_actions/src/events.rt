@@ -7,7 +7,7 @@ ghost use Rattle.run_semantics.specs.Event.{message_by, message_of};
 ghost use Rattle.run_semantics.specs.Upcoming.{arrival};
 
 use event_set::pending::{Delivery, Happening, Pending};
-use injection_order::injection::Injection;
+use model_injections::injection::Injection;
 use module_api::message::{Message, Origin, Outgoing};
 use run_semantics::routes::PlacedGate;
 use sim_values::text::Text;

@@ -2,7 +2,7 @@
 
 ghost use Rattle.std.specs.Prelude.{◌≡◌, ℕ, ◌≤◌};
 ghost use Rattle.module_api.specs.Behaviour.{Behaviour};
-ghost use Rattle.run_questions.specs.Answers.{Answers};
+ghost use Rattle.model_questions.specs.Answers.{Answers};
 ghost use Rattle.run_semantics.specs.Ending.{ending};
 ghost use Rattle.run_semantics.specs.Run.{after, run_to, world_at};
 ghost use Rattle.run_semantics.specs.World.{World};

@@ -2,10 +2,10 @@
 
 ghost use Rattle.std.specs.Prelude.{◌≡◌, Some, [], ◌∷◌, ◌++◌, OnOk, OnErr, drop, slice_get};
 ghost use Rattle.std.specs.Option.{option_copied};
-ghost use Rattle.injection_order.specs.Injections.{turn_of};
+ghost use Rattle.model_injections.specs.Injections.{turn_of};
 
 use event_set::pending::Pending;
-use injection_order::injection::{Due, Injection, Turn as InjectionTurn};
+use model_injections::injection::{Due, Injection, Turn as InjectionTurn};
 use sim_values::NoMemory;
 use sqlite_items::Items;
 use std::alloc::Global;

@@ -5,10 +5,10 @@ ghost use Rattle.module_api.specs.Values.{value_of};
 ghost use Rattle.run_semantics.specs.Perform.{fault_of_read};
 ghost use Rattle.kernel_actions.specs.Lookups.{was_told};
 
+use model_questions::answer::Answer;
 use module_api::call::{Parameter, find_value};
 use module_api::names::are_same;
 use module_api::reply::Read;
-use run_questions::answer::Answer;
 use run_semantics::outcome::{Fault, fault_of};
 use sqlite_items::at;
 

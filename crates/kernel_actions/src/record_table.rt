@@ -3,13 +3,13 @@
 ghost use Rattle.std.specs.Prelude.{◌≡◌, ◌+◌, ◌^◌, ◌<◌, ◌∷◌, ◌++◌, [], IfOk, OnOk, OnErr, length, take, Some};
 ghost use Rattle.std.specs.Bool.{Decides};
 ghost use Rattle.std.specs.HashMap.{get};
-ghost use Rattle.run_questions.specs.Hops.{neighbour_id};
-ghost use Rattle.run_questions.specs.declared.record.Record.{Record as record_type};
+ghost use Rattle.model_questions.specs.Hops.{neighbour_id};
+ghost use Rattle.model_questions.specs.declared.record.Record.{Record as record_type};
 ghost use Rattle.run_semantics.specs.Routes.{hop_by, next_by};
 ghost use Rattle.kernel_actions.specs.Places.{equal, id_at, place_of};
 
-use run_questions::answer::{Answer, Neighbour, NextGate};
-use run_questions::record::{Origin, Record, record_at};
+use model_questions::answer::{Answer, Neighbour, NextGate};
+use model_questions::record::{Origin, Record, record_at};
 use run_semantics::routes::{NextHop, PlacedGate};
 use sim_values::NoMemory;
 use sim_values::text::Text;
@@ -64,7 +64,7 @@ impl Drop for RecordTable {
 
 impl Model for RecordTable {
     ghost use Rattle.std.specs.Prelude.{List};
-    ghost use Rattle.run_questions.specs.declared.record.Record.{Record};
+    ghost use Rattle.model_questions.specs.declared.record.Record.{Record};
     ghost use Rattle.run_semantics.specs.Routes.{hop_by, next_by};
     ghost use Rattle.kernel_actions.specs.Places.{AreIdsOf};
 

@@ -4,8 +4,8 @@ use Rattle.module_api.specs.declared.message.Outgoing.{Outgoing}
 use Rattle.module_api.specs.declared.reply.Flight.{Flight}
 use Rattle.module_api.specs.declared.reply.GatePlace.{GatePlace}
 use Rattle.module_api.specs.declared.reply.OwnGate.{OwnGate}
-use Rattle.run_questions.specs.declared.answer.Question.TheVariants.{GateSize, HopBack}
-use Rattle.run_questions.specs.Answers.{Answers}
+use Rattle.model_questions.specs.declared.answer.Question.TheVariants.{GateSize, HopBack}
+use Rattle.model_questions.specs.Answers.{Answers}
 use Rattle.run_semantics.specs.declared.outcome.Fault.TheVariants as fault
 use Rattle.run_semantics.specs.declared.outcome.Turn.{Turn}
 use Rattle.run_semantics.specs.declared.routes.PlacedGate.{PlacedGate}

@@ -1,10 +1,10 @@
 //! Messages that are sent: their hops are asked of the model.
 
 ghost use Rattle.std.specs.Prelude.{◌≡◌, ◌+◌, ◌^◌, ◌<◌, ◌≤◌, [], Bool, true, Option, List, IfOk, OnOk};
-ghost use Rattle.run_questions.specs.declared.answer.Answer.{Answer};
-ghost use Rattle.run_questions.specs.declared.answer.Question.TheVariants.{GateSize, HopBack};
-ghost use Rattle.run_questions.specs.Questions.{is_of_modules};
-ghost use Rattle.run_questions.specs.Answers.{answer_of};
+ghost use Rattle.model_questions.specs.declared.answer.Answer.{Answer};
+ghost use Rattle.model_questions.specs.declared.answer.Question.TheVariants.{GateSize, HopBack};
+ghost use Rattle.model_questions.specs.Questions.{is_of_modules};
+ghost use Rattle.model_questions.specs.Answers.{answer_of};
 ghost use Rattle.run_semantics.specs.declared.routes.NextHop.{NextHop};
 ghost use Rattle.run_semantics.specs.declared.routes.PassedHop.{PassedHop};
 ghost use Rattle.run_semantics.specs.declared.routes.PlacedGate.{PlacedGate};
@@ -16,10 +16,10 @@ ghost use Rattle.kernel_actions.specs.Positions.{IsGrownFrom};
 
 use kernel_actions::core_part::Core;
 use kernel_actions::sending::{flight_end, send_over};
+use model_questions::answer::{Answer, Question};
 use module_api::message::Outgoing;
 use module_api::reply::{Flight, GatePlace, OwnGate};
 use run_answers::Answers;
-use run_questions::answer::{Answer, Question};
 use run_semantics::outcome::{Fault, Turn};
 use run_semantics::routes::{
     NextHop, PassedHop, PlacedGate, is_connected, is_in_gate, is_out_gate, is_simple,

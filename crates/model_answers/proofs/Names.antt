@@ -4,7 +4,7 @@ use Rattle.std.specs.Option.{is_some}
 use Rattle.ned_trees.specs.declared.declarations.SectionLine.{SectionLine}
 use Rattle.ned_trees.specs.declared.declarations.SectionLine.TheVariants as line
 use Rattle.ned_types.specs.Flat.{declaration_named}
-use Rattle.run_questions.specs.Answers.{is_declared}
+use Rattle.model_questions.specs.Answers.{is_declared}
 use Rattle.model_answers.specs.Keyed.{names_in}
 
 pub declared_named : (name : List ℕ) (ls : List SectionLine) → is_some (declaration_named name ls) ≡ is_declared name (names_in ls)

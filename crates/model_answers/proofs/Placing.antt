@@ -1,11 +1,11 @@
 -- What comes of an inside, where the module and what is around it are known, and where it is kept.
 use Rattle.std.proofs.Common.{◌≡◌, ◌<◌, ◌^◌, ℕ, Bool, true, false, List, length, Option, Some, None, Result, Ok, Err, ap, sym, refl, ◌∙◌, arith}
 use Rattle.std.proofs.lemmas.Bool.{true≢false}
-use Rattle.asking.specs.Asking.{Done, Ask, outcome, with_value}
-use Rattle.asking.specs.Edits.{answer_of}
-use Rattle.answer_engine.specs.Tables.{Entries, IsKept, known}
-use Rattle.answer_engine.proofs.Going.{kept_value}
-use Rattle.answer_engine.proofs.Order.{closed}
+use Rattle.param_following.specs.Asking.{Done, Ask, outcome, with_value}
+use Rattle.param_following.specs.Edits.{answer_of}
+use Rattle.param_engine.specs.Tables.{Entries, IsKept, known}
+use Rattle.param_engine.proofs.Going.{kept_value}
+use Rattle.param_engine.proofs.Order.{closed}
 use Rattle.inside_parts.specs.declared.fault.Fault.{Fault}
 use Rattle.inside_keys.specs.Asked.{Asked}
 use Rattle.inside_keys.specs.Blamed.{blamed, placed, placed_by}

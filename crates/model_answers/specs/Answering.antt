@@ -1,11 +1,11 @@
 -- The answers of a model.
 use Rattle.std.specs.Prelude.{ℕ, List, Option}
 use Rattle.ned_trees.specs.declared.declarations.TypeDeclaration.{TypeDeclaration}
-use Rattle.models.specs.declared.model.Model.{Model}
-use Rattle.models.specs.Models.{network_of, time_limit_of}
-use Rattle.run_questions.specs.declared.record.Record.{Record}
-use Rattle.run_questions.specs.Answers.{Answers}
-use Rattle.run_questions.specs.Records.{path_along, place_of}
+use Rattle.model_data.specs.declared.model.Model.{Model}
+use Rattle.model_data.specs.Models.{network_of, time_limit_of}
+use Rattle.model_questions.specs.declared.record.Record.{Record}
+use Rattle.model_questions.specs.Answers.{Answers}
+use Rattle.model_questions.specs.Records.{path_along, place_of}
 use Rattle.model_inside.specs.declared.hops.Way.TheVariants.{Onwards, Back}
 use Rattle.model_settings.specs.Standings.{setting_of}
 use Rattle.model_answers.specs.Insides.{gates_answer, hop_answer, inside_answer}

@@ -31,10 +31,10 @@ use Rattle.model_inside.specs.Sized.{direction_of, finished_size}
 use Rattle.model_inside.specs.Told.{told_as}
 use Rattle.model_inside.specs.declared.hops.Seen.TheVariants.{FromOutside, FromInside}
 use Rattle.model_inside.specs.declared.hops.Way.{Way}
-use Rattle.run_questions.specs.declared.answer.Answer.{Answer}
-use Rattle.run_questions.specs.declared.answer.Answer.TheVariants as answer
-use Rattle.run_questions.specs.declared.answer.ModelFault.TheVariants.{Unconnected}
-use Rattle.run_questions.specs.declared.answer.NextGate.{NextGate}
+use Rattle.model_questions.specs.declared.answer.Answer.{Answer}
+use Rattle.model_questions.specs.declared.answer.Answer.TheVariants as answer
+use Rattle.model_questions.specs.declared.answer.ModelFault.TheVariants.{Unconnected}
+use Rattle.model_questions.specs.declared.answer.NextGate.{NextGate}
 use Rattle.model_answers.specs.Keyed.{module_at, type_of, typed, value_of}
 
 -- ---- what is built

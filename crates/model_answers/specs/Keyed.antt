@@ -21,12 +21,12 @@ use Rattle.inside_keys.specs.Keys.{key}
 use Rattle.inside_keys.specs.Settings.{Setting}
 use Rattle.inside_keys.specs.Values.{value_at}
 use Rattle.module_api.specs.declared.call.Parameter.{Parameter}
-use Rattle.run_questions.specs.declared.answer.Answer.{Answer}
-use Rattle.run_questions.specs.declared.answer.Answer.TheVariants as answer
-use Rattle.run_questions.specs.declared.answer.ModelFault.{ModelFault}
-use Rattle.run_questions.specs.declared.record.Record.{Record}
-use Rattle.run_questions.specs.Answers.{is_declared, with_values}
-use Rattle.run_questions.specs.Records.{Place, path_along, record_there}
+use Rattle.model_questions.specs.declared.answer.Answer.{Answer}
+use Rattle.model_questions.specs.declared.answer.Answer.TheVariants as answer
+use Rattle.model_questions.specs.declared.answer.ModelFault.{ModelFault}
+use Rattle.model_questions.specs.declared.record.Record.{Record}
+use Rattle.model_questions.specs.Answers.{is_declared, with_values}
+use Rattle.model_questions.specs.Records.{Place, path_along, record_there}
 use Rattle.model_inside.specs.Told.{told_as}
 
 -- the module of that path: none was created while the model ran

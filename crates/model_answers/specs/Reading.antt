@@ -2,7 +2,7 @@
 use Rattle.std.specs.Prelude.{◌≡◌, ℕ, List, Option, Some, None, Result, Ok, Err, option_map, slice_get}
 use Rattle.std.specs.Borrow.{Bor}
 use Rattle.ned_trees.specs.declared.declarations.TypeDeclaration.{TypeDeclaration}
-use Rattle.answer_engine.specs.Tables.{Entries, IsKept, said, value_at}
+use Rattle.param_engine.specs.Tables.{Entries, IsKept, said, value_at}
 use Rattle.inside_parts.specs.declared.fault.Fault.{Fault}
 use Rattle.inside_keys.specs.declared.found.Found.{Found}
 use Rattle.inside_keys.specs.declared.key.Key.{Key}
@@ -14,8 +14,8 @@ use Rattle.model_answers.specs.Insides.{Seat, maybe_inside, seat_at, seat_typed}
 use Rattle.model_answers.specs.declared.keyed.Typed.{Typed}
 use Rattle.model_answers.specs.declared.seats.Seat as code_seat
 use Rattle.model_answers.specs.declared.seats.Sought.{Sought}
-use Rattle.run_questions.specs.declared.record.Record.{Record}
-use Rattle.run_questions.specs.Records.{path_of, place_of, record_there}
+use Rattle.model_questions.specs.declared.record.Record.{Record}
+use Rattle.model_questions.specs.Records.{path_of, place_of, record_there}
 use Rattle.model_answers.specs.declared.reading.Sources.{Sources}
 use Rattle.model_answers.specs.declared.reading.Spot.{Spot}
 use Rattle.model_answers.specs.declared.reading.Spot.TheVariants.{Kept, Own}

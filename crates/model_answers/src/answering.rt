@@ -6,31 +6,31 @@ ghost use Rattle.model_answers.specs.Answering.{answers_of, type_at};
 ghost use Rattle.model_answers.specs.Insides as insides;
 ghost use Rattle.model_answers.specs.Keyed as keyed;
 ghost use Rattle.model_answers.specs.Reading.{path_at, settings_of, IsRight};
-ghost use Rattle.injection_order.specs.Injections.{injection_before};
-ghost use Rattle.run_questions.specs.Answers.{answer_of, gates_of, parameters_of};
-ghost use Rattle.run_questions.specs.Gates.{gate_named};
-ghost use Rattle.run_questions.specs.Records.{path_of, place_of};
-ghost use Rattle.run_questions.specs.declared.answer.Answer.TheVariants as answer;
+ghost use Rattle.model_injections.specs.Injections.{injection_before};
+ghost use Rattle.model_questions.specs.Answers.{answer_of, gates_of, parameters_of};
+ghost use Rattle.model_questions.specs.Gates.{gate_named};
+ghost use Rattle.model_questions.specs.Records.{path_of, place_of};
+ghost use Rattle.model_questions.specs.declared.answer.Answer.TheVariants as answer;
 
 use crate::gates::{gates_answer, hop_answer};
 use crate::insides::inside_answer;
 use crate::keyed::{param_answer, parameters_by, root_answer, type_of, value_answer};
 use crate::named::gate_named;
 use crate::reading::{Sources, own_table};
-use injection_order::injection::{Due, Turn, injection_before};
+use model_data::model::Model;
+use model_injections::injection::{Due, Turn, injection_before};
 use model_inside::hops::Way;
-use models::model::Model;
+use model_questions::answer::{Answer, Question, is_beyond};
+use model_questions::record::{Record, path_of, record_at};
 use module_api::call::{Gate, Parameter};
 use ned_trees::declarations::TypeDeclaration;
-use run_questions::answer::{Answer, Question, is_beyond};
-use run_questions::record::{Record, path_of, record_at};
 use sim_values::NoMemory;
 use sim_values::text::Text;
 use sqlite_items::Items;
 use std::alloc::Global;
 
 /// The path of the module of that id, where there is one.
-#[tactic(auto, unfolding(run_questions::specs::Records::place_of))]
+#[tactic(auto, unfolding(model_questions::specs::Records::place_of))]
 fn path_at(alloc: Global, records: &[Record], id: u32) -> Result<Option<Text>, NoMemory>
     ensures { IfOk result (λ path. path ≡ path_at records.now id) }
 {

@@ -5,11 +5,11 @@ ghost use Rattle.model_answers.specs.Answering.{answers_of};
 
 use crate::evaluated::EvaluatedModel;
 use crate::plain::PlainAnswers;
-use injection_order::injection::Injection;
+use model_injections::injection::Injection;
+use model_questions::answer::{Answer, Question};
+use model_questions::record::Record;
 use module_api::call::{Gate, Parameter};
 use run_answers::{Answers, ModelMarker};
-use run_questions::answer::{Answer, Question};
-use run_questions::record::Record;
 use sim_values::NoMemory;
 use sqlite_items::Items;
 use std::alloc::Global;

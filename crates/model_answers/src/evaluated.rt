@@ -1,16 +1,16 @@
 //! A model, with the values that its insides rest on.
 
-ghost use Rattle.answer_engine.specs.Tables.{IsKept};
+ghost use Rattle.param_engine.specs.Tables.{IsKept};
 ghost use Rattle.inside_keys.specs.Values.{rules_of};
 ghost use Rattle.model_settings.specs.Standings.{setting_of};
 ghost use Rattle.std.specs.Prelude.{◌≡◌, IfOk};
 
 use crate::kept::kept_values;
-use answer_engine::table::Table;
 use inside_keys::found::Found;
 use inside_keys::key::Key;
+use model_data::model::Model;
 use model_settings::setting::ModelSetting;
-use models::model::Model;
+use param_engine::table::Table;
 use sim_values::NoMemory;
 use std::alloc::Global;
 use std::marker;
@@ -32,11 +32,11 @@ impl Drop for EvaluatedModel {
 
 // Contracts see the model.
 impl marker::Model for EvaluatedModel {
-    ghost use Rattle.answer_engine.specs.Tables.{IsKept};
+    ghost use Rattle.param_engine.specs.Tables.{IsKept};
     ghost use Rattle.inside_keys.specs.Values.{rules_of};
     ghost use Rattle.model_settings.specs.Standings.{setting_of};
-    ghost use Rattle.models.specs.declared.model.Model.{Model};
-    ghost use Rattle.models.specs.contracts.model.Model.{the_row};
+    ghost use Rattle.model_data.specs.declared.model.Model.{Model};
+    ghost use Rattle.model_data.specs.contracts.model.Model.{the_row};
 
     ghost Value = { Model };
 

@@ -1,7 +1,7 @@
 //! What is inside of compound modules.
 
 ghost use Rattle.std.specs.Prelude.{◌≡◌, IfOk, IfSome, Ok};
-ghost use Rattle.answer_engine.specs.Tables.{IsKept};
+ghost use Rattle.param_engine.specs.Tables.{IsKept};
 ghost use Rattle.inside_keys.specs.Settings.{type_gates};
 ghost use Rattle.inside_keys.specs.Unconnected.{unconnected};
 ghost use Rattle.inside_keys.specs.Values.{rules_of};
@@ -12,7 +12,6 @@ ghost use Rattle.model_answers.specs.Reading.{settings_of, IsRight};
 
 use crate::keyed::type_of;
 use crate::reading::{Sources, module_of, own_table};
-use answer_engine::table::Table;
 use inside_keys::found::{Found, Inside};
 use inside_keys::key::{Key, Module, What};
 use inside_keys::unconnected::unconnected;
@@ -22,8 +21,9 @@ use inside_run::placed::placed;
 use inside_run::scene::Scene;
 use model_inside::built::{built_parts, name_of_part};
 use model_inside::told::told_as;
+use model_questions::answer::{Answer, ModelFault};
 use ned_trees::declarations::{Submodule, TypeDeclaration, TypeKind};
-use run_questions::answer::{Answer, ModelFault};
+use param_engine::table::Table;
 use sim_values::NoMemory;
 use sim_values::text::Text;
 use std::alloc::Global;

@@ -1,13 +1,12 @@
 //! Values that are kept between answers: the insides of all compound modules, and what these rest on.
 
-ghost use Rattle.answer_engine.specs.Tables.{IsKept};
+ghost use Rattle.param_engine.specs.Tables.{IsKept};
 ghost use Rattle.inside_keys.specs.Values.{rules_of};
 ghost use Rattle.model_settings.specs.Standings.{setting_of};
 ghost use Rattle.std.specs.Prelude.{IfOk};
 
 use crate::insides::child_path;
 use crate::reading::module_of;
-use answer_engine::table::Table;
 use inside_keys::found::Found;
 use inside_keys::key::{Key, What};
 use inside_parts::parts::Part;
@@ -15,6 +14,7 @@ use inside_run::scene::Scene;
 use inside_run::values::{empty_table, value_of};
 use model_settings::setting::ModelSetting;
 use ned_trees::declarations::{TypeDeclaration, TypeKind};
+use param_engine::table::Table;
 use sim_values::NoMemory;
 use sim_values::text::Text;
 use std::alloc::Global;

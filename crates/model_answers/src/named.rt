@@ -1,11 +1,11 @@
 //! Gates by their names, and halves of gates.
 
 ghost use Rattle.std.specs.Prelude.{◌≡◌, IfOk, None, Some};
-ghost use Rattle.run_questions.specs.Gates as named;
+ghost use Rattle.model_questions.specs.Gates as named;
 
 use model_inside::hops::is_marked;
+use model_questions::answer::Answer;
 use module_api::call::{Direction, Gate, find_gate};
-use run_questions::answer::Answer;
 use sim_values::NoMemory;
 use std::alloc::Global;
 

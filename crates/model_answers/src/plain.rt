@@ -6,21 +6,21 @@ ghost use Rattle.model_answers.specs.Answering.{answers_of, type_at};
 ghost use Rattle.model_answers.specs.Keyed as keyed;
 ghost use Rattle.model_answers.specs.Reading.{IsRight};
 ghost use Rattle.model_settings.specs.Standings.{setting_of};
-ghost use Rattle.run_questions.specs.Answers.{answer_of, gates_of, parameters_of};
+ghost use Rattle.model_questions.specs.Answers.{answer_of, gates_of, parameters_of};
 
 use crate::answering::{answer, gates_of, parameters_of, type_at, type_of_path, value_of_path};
 use crate::evaluated::EvaluatedModel;
 use crate::reading::Sources;
-use answer_engine::table::Table;
-use injection_order::injection::Injection;
 use inside_keys::found::Found;
 use inside_keys::key::Key;
+use model_data::model::Model;
+use model_injections::injection::Injection;
+use model_questions::answer::{Answer, Question};
+use model_questions::record::Record;
 use model_settings::setting::ModelSetting;
-use models::model::Model;
 use module_api::call::{Gate, Parameter};
 use ned_trees::declarations::TypeDeclaration;
-use run_questions::answer::{Answer, Question};
-use run_questions::record::Record;
+use param_engine::table::Table;
 use sim_values::NoMemory;
 use sqlite_items::Items;
 use std::alloc::Global;
@@ -45,11 +45,11 @@ impl<'m> Drop for PlainAnswers<'m> {
 
 // Contracts see the model that answers.
 impl<'m> marker::Model for PlainAnswers<'m> {
-    ghost use Rattle.answer_engine.specs.Tables.{IsKept};
+    ghost use Rattle.param_engine.specs.Tables.{IsKept};
     ghost use Rattle.inside_keys.specs.Values.{rules_of};
     ghost use Rattle.model_settings.specs.Standings.{setting_of};
-    ghost use Rattle.models.specs.declared.model.Model.{Model};
-    ghost use Rattle.models.specs.contracts.model.Model.{the_row};
+    ghost use Rattle.model_data.specs.declared.model.Model.{Model};
+    ghost use Rattle.model_data.specs.contracts.model.Model.{the_row};
 
     ghost Value = { Model };
 

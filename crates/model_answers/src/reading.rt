@@ -2,18 +2,18 @@
 
 ghost use Rattle.std.specs.Prelude.{◌≡◌, IfOk, Some};
 ghost use Rattle.std.specs.Option.{option_copied};
-ghost use Rattle.answer_engine.specs.Tables.{IsKept};
+ghost use Rattle.param_engine.specs.Tables.{IsKept};
 ghost use Rattle.inside_keys.specs.Keys as keys;
 ghost use Rattle.inside_keys.specs.Values.{rules_of, value_at};
 ghost use Rattle.model_answers.specs.Keyed as keyed;
 ghost use Rattle.model_answers.specs.Reading.{maybe_copied, settings_of, spotted, standing_at, IsRight};
 
-use answer_engine::table::Table;
 use inside_keys::found::Found;
 use inside_keys::key::{Key, Module, What};
 use inside_parts::fault::Fault;
 use inside_run::values;
 use model_settings::setting::ModelSetting;
+use param_engine::table::Table;
 use sim_values::NoMemory;
 use sim_values::text::Text;
 use std::alloc::Global;

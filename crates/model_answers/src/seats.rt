@@ -3,7 +3,7 @@
 ghost use Rattle.std.specs.Prelude.{◌≡◌, IfOk, IfSome, Some};
 ghost use Rattle.std.specs.Option.{option_copied};
 ghost use Rattle.std.specs.Result.{result_ok};
-ghost use Rattle.answer_engine.specs.Tables.{IsKept};
+ghost use Rattle.param_engine.specs.Tables.{IsKept};
 ghost use Rattle.inside_keys.specs.Settings.{declarer_of};
 ghost use Rattle.inside_keys.specs.Values.{rules_of};
 ghost use Rattle.inside_run.specs.Scenes.{standing_by};
@@ -14,7 +14,6 @@ ghost use Rattle.model_answers.specs.Reading.{maybe_copied, maybe_seat, settings
 
 use crate::keyed::{Typed, type_of};
 use crate::reading::{Sources, Spot, module_of, said, value_of};
-use answer_engine::table::Table;
 use inside_keys::found::{Found, Inside};
 use inside_keys::key::{Key, Module, What};
 use inside_parts::fault::{Fault, Stop};
@@ -22,6 +21,7 @@ use inside_parts::names::Names;
 use inside_run::scene::{Scene, Stands};
 use inside_wiring::ends::part_named;
 use ned_trees::declarations::TypeDeclaration;
+use param_engine::table::Table;
 use sim_values::NoMemory;
 use std::alloc::Global;
 

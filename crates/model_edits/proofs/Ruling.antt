@@ -9,15 +9,15 @@ use Rattle.file_edits.specs.Changes as ned
 use Rattle.file_edits.proofs.ChangeLaws.{change_ruled_out, one_change}
 use Rattle.ini_config.specs.declared.error.EditError.{EditError}
 use Rattle.ini_config.specs.declared.error.EditError.TheVariants as errors
-use Rattle.ini_texts.specs.declared.lines.IniLine.{IniLine}
+use Rattle.ini_trees.specs.declared.lines.IniLine.{IniLine}
 use Rattle.ini_config.specs.Edits.{AnswersEdit, IsEdited, Refused}
 use Rattle.ini_config.specs.Edits as change
-use Rattle.ini_texts.specs.Sections.{IsChain, is_section}
-use Rattle.ini_texts.proofs.LineLaws.{one_chain_law}
-use Rattle.models.specs.declared.model.Model.{Model}
-use Rattle.models.specs.Models.{network_of}
+use Rattle.ini_trees.specs.Sections.{IsChain, is_section}
+use Rattle.ini_trees.proofs.LineLaws.{one_chain_law}
+use Rattle.model_data.specs.declared.model.Model.{Model}
+use Rattle.model_data.specs.Models.{network_of}
 use Rattle.ned_scopes.specs.Scopes.{types_of}
-use Rattle.type_building.specs.Inheritance.{flat_types}
+use Rattle.ned_inheritance.specs.Inheritance.{flat_types}
 use Rattle.ned_trees.specs.declared.declarations.NedFile.{NedFile}
 use Rattle.ned_trees.specs.declared.declarations.TypeDeclaration.{TypeDeclaration}
 use Rattle.model_edits.specs.declared.edit.Edit.{Edit}

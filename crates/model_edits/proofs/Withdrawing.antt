@@ -2,8 +2,8 @@
 use Rattle.std.proofs.Common.{◌≡◌, ℕ, suc, ◌+◌, Bool, true, false, List, [], ◌∷◌, Option, Some, None, Ok, Err, refl, sym, ap, ◌∙◌, arith}
 use Rattle.std.specs.List.{list_any, position, position_from, remove}
 use Rattle.std.proofs.lemmas.Iterator.Adapters.{position_from-zero}
-use Rattle.injection_order.specs.declared.injection.Injection.{Injection}
-use Rattle.models.specs.declared.model.Model.{Model}
+use Rattle.model_injections.specs.declared.injection.Injection.{Injection}
+use Rattle.model_data.specs.declared.model.Model.{Model}
 use Rattle.model_edits.specs.declared.edit.Edit.TheVariants as edit
 use Rattle.model_edits.specs.declared.edit.Refusal.TheVariants as refusal
 use Rattle.model_edits.specs.Edited.{is_numbered, without}

@@ -3,7 +3,7 @@ use Rattle.std.specs.Prelude.{◌≡◌, ℕ, ℤ, ◌+◌, ◌-◌, ◌^◌, �
 use Rattle.std.specs.List.{list_any}
 use Rattle.sim_values.specs.Memory.{no_memory}
 use Rattle.ini_config.specs.declared.error.EditError.TheVariants as errors
-use Rattle.ini_texts.specs.declared.lines.IniLine.{IniLine}
+use Rattle.ini_trees.specs.declared.lines.IniLine.{IniLine}
 use Rattle.ini_config.specs.Edits.{insertion, replacement, removal, IsEdited, Refused}
 use Rattle.ini_config.specs.Edits as change
 use Rattle.ned_trees.specs.declared.declarations.NedFile.{NedFile}
@@ -11,11 +11,11 @@ use Rattle.ned_trees.specs.declared.declarations.TypeDeclaration.{TypeDeclaratio
 use Rattle.file_edits.specs.declared.error.FileError.TheVariants as file_errors
 use Rattle.file_edits.specs.Changes.{AreTypesOf, IsChanged}
 use Rattle.file_edits.specs.Changes as ned
-use Rattle.ini_texts.specs.Sections.{IsChain, is_section}
-use Rattle.injection_order.specs.declared.injection.Due.{Due}
-use Rattle.injection_order.specs.declared.injection.Injection.{Injection}
-use Rattle.models.specs.declared.model.Model.{Model}
-use Rattle.models.specs.Models.{network_of}
+use Rattle.ini_trees.specs.Sections.{IsChain, is_section}
+use Rattle.model_injections.specs.declared.injection.Due.{Due}
+use Rattle.model_injections.specs.declared.injection.Injection.{Injection}
+use Rattle.model_data.specs.declared.model.Model.{Model}
+use Rattle.model_data.specs.Models.{network_of}
 use Rattle.model_edits.specs.declared.edit.Edit.{Edit}
 use Rattle.model_edits.specs.declared.edit.Edit.TheVariants as edit
 use Rattle.model_edits.specs.declared.edit.Refusal.{Refusal}

@@ -2,12 +2,12 @@
 use Rattle.std.specs.Prelude.{◌≡◌, ℕ, Bool, true, false, List, IsSome, is_some, Result, Ok, Err}
 use Rattle.ini_config.specs.declared.error.EditError.{EditError}
 use Rattle.ini_config.specs.declared.error.EditError.TheVariants as errors
-use Rattle.ini_texts.specs.declared.lines.IniLine.{IniLine}
-use Rattle.ini_texts.specs.Entries.{last_name, network_entry}
-use Rattle.ini_texts.specs.Sections.{IsChain, entries_along, is_section}
+use Rattle.ini_trees.specs.declared.lines.IniLine.{IniLine}
+use Rattle.ini_trees.specs.Entries.{last_name, network_entry}
+use Rattle.ini_trees.specs.Sections.{IsChain, entries_along, is_section}
 use Rattle.std.specs.Option.{option_and_then}
-use Rattle.models.specs.declared.model.Model.{Model}
-use Rattle.models.specs.Models.{as_network, network_of}
+use Rattle.model_data.specs.declared.model.Model.{Model}
+use Rattle.model_data.specs.Models.{as_network, network_of}
 use Rattle.ned_types.specs.Types.{type_named}
 use Rattle.ned_trees.specs.declared.declarations.NedFile.{NedFile}
 use Rattle.model_edits.specs.declared.edit.Edit.{Edit}

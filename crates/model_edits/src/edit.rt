@@ -2,8 +2,8 @@
 
 ghost use Rattle.std.specs.Prelude.{◌≡◌, ◌<◌, List, true, length, position, IfOk, IfErr, IfSome, OnOk, OnErr, is_some};
 ghost use Rattle.std.specs.Option.{option_and_then, option_copied};
-ghost use Rattle.ini_texts.specs.Sections.{IsChain, is_section};
-ghost use Rattle.models.specs.Models.{as_network};
+ghost use Rattle.ini_trees.specs.Sections.{IsChain, is_section};
+ghost use Rattle.model_data.specs.Models.{as_network};
 ghost use Rattle.ned_trees.specs.declared.declarations.NedFile.{NedFile};
 ghost use Rattle.model_edits.specs.Edited.{has_no_room, is_numbered, number_given, parts_of, IsEditOf, IsOnlyEditOf, IsRuledOut, Refuses, RefusesParts};
 ghost use Rattle.model_edits.specs.declared.edit.Edit.TheVariants as edits;
@@ -14,19 +14,19 @@ use file_edits::error::FileError;
 use ini_config::edits::{with_inserted, with_removed, with_replaced};
 use ini_config::error::EditError;
 use ini_entries::reason::Reason;
-use ini_texts::entries::network_entry;
-use ini_texts::error::ChainError;
-use ini_texts::lines::IniText;
-use ini_texts::speaks::last_name;
-use injection_order::injection::{Due, Injection};
-use models::model::Model;
+use ini_trees::entries::network_entry;
+use ini_trees::error::ChainError;
+use ini_trees::lines::IniText;
+use ini_trees::speaks::last_name;
+use model_data::model::Model;
+use model_injections::injection::{Due, Injection};
+use ned_inheritance::table::TypeFault;
 use ned_trees::declarations::{TypeDeclaration, TypeKind};
 use ned_types::table::TypeTable;
 use sim_values::NoMemory;
 use sim_values::text::Text;
 use sqlite_items::Items;
 use std::alloc::Global;
-use type_building::table::TypeFault;
 
 /// The longest payload of an injection, in bytes.
 pub const MAX_PAYLOAD: usize = 4096;

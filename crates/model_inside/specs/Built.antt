@@ -7,7 +7,7 @@ use Rattle.ned_trees.specs.declared.declarations.TypeKind.{TypeKind}
 use Rattle.ned_trees.specs.declared.declarations.TypeKind.TheVariants.{Simple, Module, Network, Channel, ModuleInterface, ChannelInterface}
 use Rattle.ned_types.specs.Flat.{class_of}
 use Rattle.inside_parts.specs.declared.parts.Part.{Part}
-use Rattle.run_questions.specs.declared.answer.Built.{Built}
+use Rattle.model_questions.specs.declared.answer.Built.{Built}
 
 abbrev pub class_by : TypeKind → List ℕ → Option (List ℕ)
 class_by Simple class = Some class

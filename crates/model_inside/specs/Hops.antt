@@ -18,13 +18,13 @@ use Rattle.inside_wiring.specs.declared.wiring.GateId.{GateId}
 use Rattle.inside_wiring.specs.declared.wiring.Link.{Link}
 use Rattle.inside_wiring.specs.Wired.{Wired, link_from, link_to}
 use Rattle.inside_parts.specs.declared.parts.Parts.{Parts}
-use Rattle.run_questions.specs.declared.answer.Channel.{Channel}
-use Rattle.run_questions.specs.declared.answer.ChannelKind.{ChannelKind}
-use Rattle.run_questions.specs.declared.answer.ChannelKind.TheVariants as kind
-use Rattle.run_questions.specs.declared.answer.Neighbour.{Neighbour}
-use Rattle.run_questions.specs.declared.answer.Neighbour.TheVariants as neighbour
-use Rattle.run_questions.specs.declared.answer.NextGate.{NextGate}
-use Rattle.run_questions.specs.Gates.{in_mark, out_mark}
+use Rattle.model_questions.specs.declared.answer.Channel.{Channel}
+use Rattle.model_questions.specs.declared.answer.ChannelKind.{ChannelKind}
+use Rattle.model_questions.specs.declared.answer.ChannelKind.TheVariants as kind
+use Rattle.model_questions.specs.declared.answer.Neighbour.{Neighbour}
+use Rattle.model_questions.specs.declared.answer.Neighbour.TheVariants as neighbour
+use Rattle.model_questions.specs.declared.answer.NextGate.{NextGate}
+use Rattle.model_questions.specs.Gates.{in_mark, out_mark}
 use Rattle.model_inside.specs.Built.{name_of_part}
 use Rattle.model_inside.specs.Sized.{vector_of}
 use Rattle.model_inside.specs.declared.hops.Seen.{Seen}

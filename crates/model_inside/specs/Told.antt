@@ -1,8 +1,8 @@
 -- Faults of values and insides, as a model tells them.
 use Rattle.inside_parts.specs.declared.fault.Fault.{Fault}
 use Rattle.inside_parts.specs.declared.fault.Fault.TheVariants as fault
-use Rattle.run_questions.specs.declared.answer.ModelFault.{ModelFault}
-use Rattle.run_questions.specs.declared.answer.ModelFault.TheVariants as told
+use Rattle.model_questions.specs.declared.answer.ModelFault.{ModelFault}
+use Rattle.model_questions.specs.declared.answer.ModelFault.TheVariants as told
 
 -- the fault of that name
 abbrev pub told_as : Fault → ModelFault

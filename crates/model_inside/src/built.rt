@@ -5,9 +5,9 @@ ghost use Rattle.std.specs.Option.{option_and_then};
 ghost use Rattle.model_inside.specs.Built.{built_part, built_parts, class_to_build, name_of_part, submodules_among};
 
 use inside_parts::parts::Part;
+use model_questions::answer::Built;
 use ned_trees::declarations::{Submodule, TypeDeclaration, TypeKind};
 use ned_types::flat::class_of;
-use run_questions::answer::Built;
 use sim_values::NoMemory;
 use sim_values::text::Text;
 use sqlite_items::Items;

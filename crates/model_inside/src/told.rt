@@ -4,7 +4,7 @@ ghost use Rattle.std.specs.Prelude.{◌≡◌};
 ghost use Rattle.model_inside.specs.Told.{told_as};
 
 use inside_parts::fault::Fault;
-use run_questions::answer::ModelFault;
+use model_questions::answer::ModelFault;
 
 /// The fault of that name.
 pub fn told_as(fault: Fault) -> ModelFault

@@ -8,8 +8,8 @@ use Rattle.std.proofs.lemmas.Str.Parse.{digit_from_value}
 use Rattle.std.specs.Char.{digit_value}
 use Rattle.std.specs.List.{position, position_or_len}
 use Rattle.std.specs.Str.Parse.{AllDigits, digits_value, digits_value_after}
-use Rattle.ini_texts.proofs.ScanLaws.{last_name_is}
-use Rattle.ini_texts.specs.Entries.{last_name}
+use Rattle.ini_trees.proofs.ScanLaws.{last_name_is}
+use Rattle.ini_trees.specs.Entries.{last_name}
 use Rattle.inside_keys.specs.Keys.{child, own_name}
 use Rattle.inside_keys.specs.Settings.{Standing}
 use Rattle.inside_keys.specs.declared.key.Module.{Module}

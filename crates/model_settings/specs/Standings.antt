@@ -2,7 +2,7 @@
 use Rattle.std.specs.Prelude.{◌≡◌, ◌≢◌, ℕ, suc, ◌+◌, ◌-◌, ◌*◌, ◌^◌, ◌<◌, ◌==◌, ◌||◌, pos, Bool, true, nat_lt, List, [], ◌∷◌, Option, Some, None, option_map, length, map, take, drop, if◌then◌else◌}
 use Rattle.std.specs.List.{All, position}
 use Rattle.std.specs.Option.{option_and_then}
-use Rattle.ini_texts.specs.Entries.{last_name, value_for}
+use Rattle.ini_trees.specs.Entries.{last_name, value_for}
 use Rattle.ned_trees.specs.declared.declarations.TypeDeclaration.{TypeDeclaration}
 use Rattle.inside_parts.specs.declared.gates.TypeGates.{TypeGates}
 use Rattle.inside_parts.specs.Gates as gates
@@ -11,8 +11,8 @@ use Rattle.inside_keys.specs.Inside.{submodule_names}
 use Rattle.inside_keys.specs.Keys.{child}
 use Rattle.inside_keys.specs.declared.key.Module.{Module}
 use Rattle.inside_keys.specs.Settings.{Setting, Standing}
-use Rattle.models.specs.declared.model.Model.{Model}
-use Rattle.models.specs.Models.{entries_in, network_of}
+use Rattle.model_data.specs.declared.model.Model.{Model}
+use Rattle.model_data.specs.Models.{entries_in, network_of}
 
 -- what stands before the last dot of a path: the path of the module around; none where it has no dot
 abbrev pub before_last : List ℕ → Option (List ℕ)

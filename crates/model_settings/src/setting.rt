@@ -7,14 +7,14 @@ ghost use Rattle.inside_keys.specs.Inside.{submodule_names};
 ghost use Rattle.model_settings.specs.Standings.{gates_of_types, names_behind, names_of_types, submodules_of_types};
 
 use crate::standings::{around_of, index_in, is_too_deep, name_in};
-use ini_texts::entries::value_for;
-use ini_texts::entry::EntryValue;
-use ini_texts::speaks::last_name;
+use ini_trees::entries::value_for;
+use ini_trees::entry::EntryValue;
+use ini_trees::speaks::last_name;
 use inside_keys::key::Module;
 use inside_parts::gates::{TypeGates, gates_of};
 use inside_parts::names::Names;
 use inside_run::scene::{Scene, Stands};
-use models::model::Model;
+use model_data::model::Model;
 use ned_channels::built_in::BuiltInChannels;
 use ned_trees::declarations::{Submodule, TypeDeclaration};
 use sim_values::NoMemory;
@@ -119,8 +119,8 @@ pub struct ModelSetting<'m> {
 
 // Contracts see the model.
 impl<'m> marker::Model for ModelSetting<'m> {
-    ghost use Rattle.models.specs.declared.model.Model.{Model};
-    ghost use Rattle.models.specs.contracts.model.Model.{the_row};
+    ghost use Rattle.model_data.specs.declared.model.Model.{Model};
+    ghost use Rattle.model_data.specs.contracts.model.Model.{the_row};
     ghost use Rattle.model_settings.specs.Standings.{IsLookedUp};
 
     ghost Value = { Model };

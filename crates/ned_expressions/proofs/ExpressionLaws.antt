@@ -12,8 +12,8 @@ use Rattle.ned_tokens.specs.Growth.{next, never, grown}
 use Rattle.ned_tokens.proofs.Laws.{or_left, Lawful, token-lawful, either-lawful, optional-lawful, sealed-lawful, then, before, after, mapped}
 use Rattle.ned_tokens.proofs.Many.{shorter}
 use Rattle.ned_tokens.proofs.GrowthLaws.{grown-lawful, Left, loop_begins, loop_first_fails, loop_goes_on, loop_fails, loop_ends}
-use Rattle.ned_values.specs.Grammar.{is_mark, plain_literal, word, mark, name}
-use Rattle.ned_values.proofs.GrammarLaws.{word-lawful, mark-lawful, name-lawful, plain_literal-lawful}
+use Rattle.ned_leaves.specs.Grammar.{is_mark, plain_literal, word, mark, name}
+use Rattle.ned_leaves.proofs.GrammarLaws.{word-lawful, mark-lawful, name-lawful, plain_literal-lawful}
 use Rattle.ned_trees.specs.declared.expressions.Expression.{Expression}
 use Rattle.ned_trees.specs.declared.expressions.Choice.{Choice}
 use Rattle.ned_expressions.specs.declared.levels.Place.{Place}

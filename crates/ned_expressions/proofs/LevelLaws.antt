@@ -7,7 +7,7 @@ use Rattle.ned_tokens.specs.declared.token.Token.{Token}
 use Rattle.ned_tokens.specs.declared.token.Token.TheVariants as token
 use Rattle.ned_tokens.specs.Growth.{next}
 use Rattle.ned_tokens.proofs.Laws.{or_left, or_right}
-use Rattle.ned_values.specs.Grammar.{is_mark}
+use Rattle.ned_leaves.specs.Grammar.{is_mark}
 use Rattle.ned_trees.specs.declared.expressions.Expression.{Expression, out-Expression}
 use denote.Hole.Carrier.{out}
 use Rattle.ned_trees.specs.declared.expressions.Expression.TheVariants as expr

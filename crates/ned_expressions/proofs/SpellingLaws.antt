@@ -19,7 +19,7 @@ use Rattle.ned_tokens.specs.declared.token.Token.TheVariants as token
 use Rattle.ned_tokens.specs.Rule.{Rule, ◌⊗◌, ◌▷◌, ◌◁◌, optional, optional_is}
 use Rattle.ned_tokens.specs.Growth.{next, grown_is}
 use Rattle.ned_tokens.specs.Digits.{limit}
-use Rattle.ned_values.specs.Grammar.{is_word, is_mark, same_word, same_mark, name_of, whole_value, quantity_value, literal_of, plain_literal, word, mark, name}
+use Rattle.ned_leaves.specs.Grammar.{is_word, is_mark, same_word, same_mark, name_of, whole_value, quantity_value, literal_of, plain_literal, word, mark, name}
 use Rattle.ned_trees.specs.declared.expressions.Expression.{Expression, the_lemmas}
 use Rattle.ned_trees.specs.declared.expressions.Expression.TheVariants as expr
 use Rattle.ned_trees.specs.declared.expressions.Operator.{Operator}

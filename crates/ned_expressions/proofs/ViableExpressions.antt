@@ -10,9 +10,9 @@ use Rattle.ned_tokens.specs.Rule.{Rule, made, either, optional, sealed}
 use Rattle.ned_tokens.proofs.Laws.{token-lawful, optional-lawful, then}
 use Rattle.ned_tokens.proofs.ViableLaws.{Viable, token-viable, either-viable, optional-viable, then_on, before_on, after_on, mapped_on}
 use Rattle.ned_tokens.proofs.GrowthLaws.{grown-viable, sealed-viable, never-viable}
-use Rattle.ned_values.specs.Grammar.{is_mark, name}
-use Rattle.ned_values.proofs.GrammarLaws.{word-lawful, mark-lawful, name-lawful}
-use Rattle.ned_values.proofs.ViableGrammar.{word_on, mark_on, letter, name_on, plain_literal_on}
+use Rattle.ned_leaves.specs.Grammar.{is_mark, name}
+use Rattle.ned_leaves.proofs.GrammarLaws.{word-lawful, mark-lawful, name-lawful}
+use Rattle.ned_leaves.proofs.ViableGrammar.{word_on, mark_on, letter, name_on, plain_literal_on}
 use Rattle.ned_trees.specs.declared.expressions.Expression.{Expression}
 use Rattle.ned_trees.specs.declared.expressions.Operator.{Operator}
 use Rattle.ned_trees.specs.declared.expressions.Choice.TheVariants as choices

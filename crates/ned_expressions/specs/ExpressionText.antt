@@ -4,8 +4,8 @@ use Rattle.sim_values.specs.Limits.{max_length}
 use Rattle.ned_tokens.specs.Meaning.{Means, MayBlame}
 use Rattle.ned_tokens.specs.Viable.{IsFirstBadLine}
 use Rattle.ned_trees.specs.declared.expressions.Expression.{Expression}
-use Rattle.ned_values.specs.declared.error.NedError.{NedError}
-use Rattle.ned_values.specs.declared.error.NedError.TheVariants as errors
+use Rattle.ned_leaves.specs.declared.error.NedError.{NedError}
+use Rattle.ned_leaves.specs.declared.error.NedError.TheVariants as errors
 use Rattle.ned_expressions.specs.Grammar.{expression}
 
 -- the meaning of a text that is an expression

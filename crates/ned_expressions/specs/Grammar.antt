@@ -9,7 +9,7 @@ use Rattle.ned_tokens.specs.declared.token.Token.{Token}
 use Rattle.ned_tokens.specs.declared.token.Token.TheVariants as token
 use Rattle.ned_tokens.specs.Rule.{Rule, token as one_token, ◌⊗◌, ◌◁◌, ◌▷◌, made, either, optional, sealed}
 use Rattle.ned_tokens.specs.Growth.{grown, never}
-use Rattle.ned_values.specs.Grammar.{Bytes, is_mark, literal_of, plain_literal, word, mark, name}
+use Rattle.ned_leaves.specs.Grammar.{Bytes, is_mark, literal_of, plain_literal, word, mark, name}
 use Rattle.ned_expressions.specs.contracts.atoms.Kind as kind
 use Rattle.ned_trees.specs.declared.expressions.Operator.{Operator}
 use Rattle.ned_trees.specs.declared.expressions.Operator.TheVariants as op

@@ -4,12 +4,12 @@ ghost use Rattle.std.specs.Prelude.{◌≡◌};
 ghost use Rattle.ned_tokens.specs.Rule.{Reads, begins, optional};
 ghost use Rattle.ned_expressions.specs.Grammar as grammar;
 
+use ned_leaves::leaves::{begins_mark, mark, name, word};
+use ned_leaves::literals::plain_literal;
 use ned_tokens::refusal::Refusal;
 use ned_tokens::token::{Keyword, Mark, Token};
 use ned_trees::expressions::{Choice, Expression, Scope};
 use ned_trees::refusals::refused;
-use ned_values::leaves::{begins_mark, mark, name, word};
-use ned_values::literals::plain_literal;
 use sim_values::text::{Text, spells};
 use sqlite_items::Boxed;
 use std::alloc::Global;
@@ -128,7 +128,7 @@ pub(crate) fn member(alloc: Global, tokens: &[Token]) -> Result<(Tail, &[Token])
     Ok((Tail::Member(found), rest))
 }
 
-#[tactic(auto, unfolding(crate::specs::Grammar::member, ned_values::specs::Grammar::mark))]
+#[tactic(auto, unfolding(crate::specs::Grammar::member, ned_leaves::specs::Grammar::mark))]
 pub(crate) fn begins_member(tokens: &[Token]) -> bool
     ensures { result ≡ begins grammar.member.starts tokens.now }
 {

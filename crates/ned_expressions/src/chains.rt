@@ -7,11 +7,11 @@ ghost use Rattle.ned_expressions.specs.Grammar as grammar;
 use crate::atoms::atom;
 use crate::levels::{Place, level_of, next_level, operator_in, right_level};
 use crate::operands::operand;
+use ned_leaves::leaves::mark;
 use ned_tokens::refusal::Refusal;
 use ned_tokens::token::{Mark, Token};
 use ned_trees::expressions::{Expression, Operator};
 use ned_trees::refusals::refused;
-use ned_values::leaves::mark;
 use sqlite_items::Boxed;
 use std::alloc::{AllocError, Global};
 

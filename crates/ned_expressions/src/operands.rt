@@ -9,11 +9,11 @@ use crate::atoms::{
 };
 use crate::chains::boxed_within;
 use crate::levels::Place;
+use ned_leaves::leaves::{begins_mark, mark, name, word};
 use ned_tokens::refusal::Refusal;
 use ned_tokens::token::{Keyword, Mark, Token};
 use ned_trees::expressions::{Choice, Expression, Sign};
 use ned_trees::refusals::refused;
-use ned_values::leaves::{begins_mark, mark, name, word};
 use sim_values::text::Text;
 use sqlite_items::Boxed;
 use std::alloc::{AllocError, Global};
@@ -156,7 +156,7 @@ fn pair(alloc: Global, depth: u32, tokens: &[Token]) -> Result<(ChoiceTail, &[To
 }
 
 /// `choice_tail = pair | tail`.
-#[tactic(auto, unfolding(crate::specs::Grammar::choice_tail, crate::specs::Grammar::pair, ned_values::specs::Grammar::mark))]
+#[tactic(auto, unfolding(crate::specs::Grammar::choice_tail, crate::specs::Grammar::pair, ned_leaves::specs::Grammar::mark))]
 #[cycle(exprs)]
 fn choice_tail(
     alloc: Global,
@@ -270,7 +270,7 @@ fn no_arguments(tokens: &[Token]) -> Result<&[Token], Refusal>
     mark(Mark::RightParen, rest)
 }
 
-#[tactic(auto, unfolding(crate::specs::Grammar::no_arguments, ned_values::specs::Grammar::mark))]
+#[tactic(auto, unfolding(crate::specs::Grammar::no_arguments, ned_leaves::specs::Grammar::mark))]
 fn begins_arguments(tokens: &[Token]) -> bool
     ensures { result ≡ begins grammar.no_arguments.starts tokens.now }
 {
@@ -329,7 +329,7 @@ fn optional_index(
 }
 
 /// `[ brackets ]`.
-#[tactic(auto, unfolding(crate::specs::Grammar::brackets, ned_values::specs::Grammar::mark))]
+#[tactic(auto, unfolding(crate::specs::Grammar::brackets, ned_leaves::specs::Grammar::mark))]
 #[cycle(exprs)]
 fn any_index(
     alloc: Global,

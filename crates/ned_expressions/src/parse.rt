@@ -2,15 +2,15 @@
 
 ghost use Rattle.std.specs.Prelude.{◌≡◌, ◌<◌, length, IfOk, IfErr, Err};
 ghost use Rattle.sim_values.specs.Limits.{max_length};
-ghost use Rattle.ned_values.specs.ExpressionText.{Answers};
+ghost use Rattle.ned_leaves.specs.ExpressionText.{Answers};
 ghost use Rattle.ned_expressions.specs.ExpressionText.{IsExpressionText, ExplainsExpression, NamesFirstOfExpression};
 ghost use Rattle.ned_trees.specs.declared.expressions.Expression.{Expression};
 
 use crate::chains::whole_expression;
+use ned_leaves::error::NedError;
 use ned_tokens::lines::{blamed_line, tokenize};
 use ned_tokens::refusal::Refusal;
 use ned_trees::expressions::Expression;
-use ned_values::error::NedError;
 use sim_values::text::MAX_LENGTH;
 use std::alloc::Global;
 

@@ -1,15 +1,15 @@
 -- Why a session ends early.
 use Rattle.std.proofs.Common.{◌≡◌, ◌⊎◌, ◌&&◌, Bool, true, false, inl, inr, refl, sym, subst, Option, Some, None, Result, Ok, Err, IfOk, IfErr, OnOk, IsErrAnd, IsSomeAnd}
-use Rattle.line_reading.specs.Waits.{Waiting}
-use Rattle.models.specs.declared.model.Model.{Model}
-use Rattle.model_texts.specs.declared.begin.BeginFault.{BeginFault}
-use Rattle.desk_clients.specs.Stops.{at_stop}
-use Rattle.desk_clients.specs.declared.clients.Stop.{Stop as Why}
-use Rattle.desk_clients.specs.declared.clients.Stop.TheVariants as why
-use Rattle.program_stops.specs.declared.stops.Stop.{Stop}
-use Rattle.program_stops.specs.declared.stops.Stop.TheVariants as stop
-use Rattle.program_user.specs.Stops.{IsLost, IsReason}
-use Rattle.program_user.proofs.Reasons.{for_reason, reason_lost}
+use Rattle.input_lines.specs.Waits.{Waiting}
+use Rattle.model_data.specs.declared.model.Model.{Model}
+use Rattle.model_reading.specs.declared.begin.BeginFault.{BeginFault}
+use Rattle.desk_client.specs.Stops.{at_stop}
+use Rattle.desk_client.specs.declared.clients.Stop.{Stop as Why}
+use Rattle.desk_client.specs.declared.clients.Stop.TheVariants as why
+use Rattle.nedrun_exit.specs.declared.stops.Stop.{Stop}
+use Rattle.nedrun_exit.specs.declared.stops.Stop.TheVariants as stop
+use Rattle.nedrun_client.specs.Stops.{IsLost, IsReason}
+use Rattle.nedrun_client.proofs.Reasons.{for_reason, reason_lost}
 use Rattle.nedrun.specs.Stops.{IsStopOf, end_of}
 
 stuck_at : (o : Option Stop) (waiting : Waiting) (Q : Stop → Type 0) (result : Result Unit Stop) → IsSomeAnd o (IsReason waiting)

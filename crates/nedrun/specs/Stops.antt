@@ -1,13 +1,13 @@
 -- Why the program ends early.
 use Rattle.std.specs.Prelude.{◌≡◌, ◌⊎◌, ℕ, Bool, true, false, List, Result, Ok, Err}
-use Rattle.desk.specs.Refusals.{refusal_text}
-use Rattle.line_reading.specs.Waits.{Waiting}
-use Rattle.model_texts.specs.Models.{Refuses}
-use Rattle.model_texts.specs.declared.begin.BeginFault.{BeginFault}
-use Rattle.model_texts.specs.declared.begin.BeginFault.TheVariants as fault
-use Rattle.program_stops.specs.declared.stops.Stop.{Stop}
-use Rattle.program_stops.specs.declared.stops.Stop.TheVariants as stop
-use Rattle.program_user.specs.Stops.{IsReason}
+use Rattle.desk_answers.specs.Refusals.{refusal_text}
+use Rattle.input_lines.specs.Waits.{Waiting}
+use Rattle.model_reading.specs.Models.{Refuses}
+use Rattle.model_reading.specs.declared.begin.BeginFault.{BeginFault}
+use Rattle.model_reading.specs.declared.begin.BeginFault.TheVariants as fault
+use Rattle.nedrun_exit.specs.declared.stops.Stop.{Stop}
+use Rattle.nedrun_exit.specs.declared.stops.Stop.TheVariants as stop
+use Rattle.nedrun_client.specs.Stops.{IsReason}
 
 -- the program ends with the text of that refusal, or memory ran out
 abbrev pub IsNamed : BeginFault → Stop → Type 0

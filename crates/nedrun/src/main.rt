@@ -2,37 +2,37 @@
 #![tactic(auto)]
 
 ghost use Rattle.std.specs.Prelude.{◌≡◌, ◌≢◌, ◌≤◌, ◌⊎◌, ◌&&◌, [], Some, Err, IsErrAnd, IsSomeAnd, IfErr, IfOk, OnOk, string_bytes};
-ghost use Rattle.models.specs.declared.model.Model.{Model};
-ghost use Rattle.model_texts.specs.Models.{IsModelOf, IsRuledOut, Refuses};
-ghost use Rattle.stock_modules.specs.Stock.{stock};
-ghost use Rattle.stock_desk.specs.Served.{fresh_machine};
-ghost use Rattle.stock_desk.specs.Serving.{Ends};
-ghost use Rattle.desk_clients.specs.Stops.{at_stop};
-ghost use Rattle.desk_clients.specs.declared.clients.Stop.TheVariants as why;
+ghost use Rattle.model_data.specs.declared.model.Model.{Model};
+ghost use Rattle.model_reading.specs.Models.{IsModelOf, IsRuledOut, Refuses};
+ghost use Rattle.module_stock.specs.Stock.{stock};
+ghost use Rattle.desk_server.specs.Served.{fresh_machine};
+ghost use Rattle.desk_server.specs.Serving.{Ends};
+ghost use Rattle.desk_client.specs.Stops.{at_stop};
+ghost use Rattle.desk_client.specs.declared.clients.Stop.TheVariants as why;
 ghost use Rattle.nedrun.specs.Stops.{EndsEarly, IsStopOf, end_of};
-ghost use Rattle.program_user.specs.Stops.{IsLost, IsReason};
-ghost use Rattle.program_dialogue.specs.Typing.{AsksInOrder};
-ghost use Rattle.program_dialogue.specs.Faults.{ends_in_fault};
-ghost use Rattle.program_dialogue.specs.declared.dialogue.Ask.TheVariants as ask;
-ghost use Rattle.program_stops.specs.declared.stops.Stop.{Stop as StopValue};
+ghost use Rattle.nedrun_client.specs.Stops.{IsLost, IsReason};
+ghost use Rattle.nedrun_script.specs.Typing.{AsksInOrder};
+ghost use Rattle.nedrun_script.specs.Faults.{ends_in_fault};
+ghost use Rattle.nedrun_script.specs.declared.dialogue.Ask.TheVariants as ask;
+ghost use Rattle.nedrun_exit.specs.declared.stops.Stop.{Stop as StopValue};
 
 mod observed;
 mod refusals;
 
-use desk_clients::clients;
-use model_texts::begin::BeginFault;
+use desk_client::clients;
+use desk_server::serving::serve;
+use explain_types::sources::Sources;
+use model_reading::begin::BeginFault;
+use nedrun_client::user::User;
+use nedrun_exit::stops::Stop;
+use nedrun_files::progress::Progress;
+use nedrun_files::{endings, files, folders};
+use nedrun_options::other_words::instead_of_words;
+use nedrun_options::words::Words;
 use observed::Reporter;
-use program_stops::stops::Stop;
-use program_streams::progress::Progress;
-use program_streams::{endings, files, folders};
-use program_user::user::User;
-use program_words::other_words::instead_of_words;
-use program_words::words::Words;
 use std::io::IsTerminal;
 use std::process::ExitCode;
 use std::rt::{Clock, Env, Files};
-use stock_desk::serving::serve;
-use text_explanations::sources::Sources;
 
 /// Serves the user at a desk of the model that the files make, until the user asks nothing more or can't go on. It is reported how far runs are, or not.
 fn serve_user<'a, R: Files + Input + Print + Eprint + Clock + AllocGlobal>(

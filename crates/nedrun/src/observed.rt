@@ -1,7 +1,7 @@
 //! The progress of runs, as who is told of them while they go on.
 
-use checkpointed_runs::observer::Observer;
-use program_streams::progress::Progress;
+use checkpoint_runs::observer::Observer;
+use nedrun_files::progress::Progress;
 use sim_time::SimTime;
 use std::rt::Clock;
 

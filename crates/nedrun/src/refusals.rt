@@ -2,12 +2,12 @@
 
 ghost use Rattle.nedrun.specs.Stops.{IsNamed, IsStopOf};
 
-use desk::answers::refusal_text;
-use explanations::refusals::refusal_line;
-use model_texts::begin::BeginFault;
-use program_stops::stops::Stop;
+use desk_answers::answers::refusal_text;
+use explain_files::refusals::refusal_line;
+use explain_types::sources::Sources;
+use model_reading::begin::BeginFault;
+use nedrun_exit::stops::Stop;
 use std::alloc::Global;
-use text_explanations::sources::Sources;
 
 /// What ends the program where texts make no model.
 pub fn refused(alloc: Global, fault: BeginFault, sources: &Sources<'_>) -> Stop

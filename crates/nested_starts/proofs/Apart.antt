@@ -3,8 +3,8 @@ use Rattle.std.proofs.Common.{◌≡◌, ◌≢◌, ◌⊎◌, inl, inr, ⊎_eli
 use Rattle.std.proofs.lemmas.Bool.{cases_lt}
 use Rattle.std.specs.List.{filter}
 use Rattle.event_set.proofs.Order.{each_append}
-use Rattle.run_questions.specs.declared.record.Record.{Record}
-use Rattle.run_questions.specs.Records.{record_at}
+use Rattle.model_questions.specs.declared.record.Record.{Record}
+use Rattle.model_questions.specs.Records.{record_at}
 use Rattle.run_semantics.specs.Ending.{to_finish}
 use Rattle.run_semantics.specs.Laws.{Each, IsAmong}
 use Rattle.run_semantics.specs.Subtree.{among, common, each_of, inner_first, inner_first_to, is_under, outer_first, outer_first_to, submodules}

@@ -1,8 +1,8 @@
 -- What holds after setup of the records and of the modules that live, which are all that were created, holds all through a run.
 use Rattle.std.proofs.Common.{◌≡◌, ℕ, zero, suc, List, [], Option, Some, None, sym, subst}
 use Rattle.module_api.specs.Behaviour.{Behaviour}
-use Rattle.run_questions.specs.declared.record.Record.{Record}
-use Rattle.run_questions.specs.Answers.{Answers}
+use Rattle.model_questions.specs.declared.record.Record.{Record}
+use Rattle.model_questions.specs.Answers.{Answers}
 use Rattle.run_semantics.specs.Subtree.{ids_from}
 use Rattle.run_semantics.specs.World.{World, live_of}
 use Rattle.run_semantics.proofs.Bounds.{nobody_after}

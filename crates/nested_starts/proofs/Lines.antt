@@ -1,9 +1,9 @@
 -- Where a model ends the nesting, the line of each module ends at the network.
 use Rattle.std.proofs.Common.{◌≡◌, inl, inr, ℕ, zero, suc, ◌≤◌, List, [], ◌∷◌, Option, Some, None, refl, sym, subst, arith, length}
 use Rattle.module_api.specs.Behaviour.{Behaviour}
-use Rattle.run_questions.specs.declared.record.Record.{Record}
-use Rattle.run_questions.specs.Answers.{Answers}
-use Rattle.run_questions.specs.Records.{Place, lineage_up, place_of, record_at, with_those_around}
+use Rattle.model_questions.specs.declared.record.Record.{Record}
+use Rattle.model_questions.specs.Answers.{Answers}
+use Rattle.model_questions.specs.Records.{Place, lineage_up, place_of, record_at, with_those_around}
 use Rattle.run_semantics.specs.Laws.{Each}
 use Rattle.run_semantics.specs.Run.{world_at, after}
 use Rattle.run_semantics.specs.World.{World, live_of}

@@ -2,9 +2,9 @@
 use Rattle.std.proofs.Common.{◌≢◌, ℕ, suc, ◌+◌, ◌≤◌, ◌<◌, List, [], ◌∷◌, ◌++◌, sym, subst, arith, length, map}
 use Rattle.event_set.proofs.Order.{each_append, each_map}
 use Rattle.module_api.specs.Behaviour.{Behaviour}
-use Rattle.run_questions.specs.declared.answer.Built.{Built}
-use Rattle.run_questions.specs.declared.record.Record.{Record}
-use Rattle.run_questions.specs.Answers.{Answers}
+use Rattle.model_questions.specs.declared.answer.Built.{Built}
+use Rattle.model_questions.specs.declared.record.Record.{Record}
+use Rattle.model_questions.specs.Answers.{Answers}
 use Rattle.run_semantics.specs.Laws.{Each}
 use Rattle.run_semantics.specs.Run.{record_under, with_submodules, world_at, after}
 use Rattle.run_semantics.specs.Subtree.{ids_from}

@@ -1,6 +1,6 @@
 -- An asking each of whose references has an answer comes to something.
 use Rattle.std.proofs.Common.{◌≡◌, refl, Ok, Err, Some}
-use Rattle.asking.specs.Asking.{Done, Ask, with_value, outcome}
+use Rattle.param_following.specs.Asking.{Done, Ask, with_value, outcome}
 use Rattle.sim_values.specs.declared.value.Value.{Value}
 use Rattle.param_eval.specs.Laws.{IsOutcome}
 use Rattle.param_eval.specs.Operators.{Evaluated}

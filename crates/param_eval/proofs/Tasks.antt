@@ -1,8 +1,8 @@
 -- A task that is added at the end is the next.
 use Rattle.std.proofs.Common.{◌≡◌, ℕ, ◌+◌, sym, ◌∙◌, ap, subst, Result, IfOk, List, [], ◌∷◌, ◌++◌, arith, Bor}
 use mathlib.Core.Path.{fun_ext}
-use Rattle.asking.specs.Asking.{Done, ◌>>=◌}
-use Rattle.asking.proofs.Binds.{bind_assoc, bind_done}
+use Rattle.param_following.specs.Asking.{Done, ◌>>=◌}
+use Rattle.param_following.proofs.Binds.{bind_assoc, bind_done}
 use Rattle.sim_values.specs.declared.NoMemory.{NoMemory}
 use Rattle.sim_values.specs.declared.value.Value.{Value}
 use Rattle.ned_trees.specs.declared.expressions.Choice.{Choice}

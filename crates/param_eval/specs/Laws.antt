@@ -1,6 +1,6 @@
 -- Words of the laws.
 use Rattle.std.specs.Prelude.{◌≡◌, ◌≢◌, ◌<◌, ℤ, pos, ◌+ℤ◌, ◌*ℤ◌, ◌≤ℤ◌, ◌<ℤ◌, ◌^◌, unsigned_abs, Some, Ok}
-use Rattle.asking.specs.Asking.{outcome}
+use Rattle.param_following.specs.Asking.{outcome}
 use Rattle.ned_trees.specs.declared.expressions.Expression.{Expression}
 use Rattle.param_eval.specs.Operators.{Evaluated}
 use Rattle.param_eval.specs.References.{Reference}

@@ -1,6 +1,6 @@
 -- The value of an expression: what it asks, and what it makes of the answers (OMNeT++ Simulation Manual, "NED Language", expressions).
 use Rattle.std.specs.Prelude.{ℤ, true, false, Option, Some, None, Ok, Err}
-use Rattle.asking.specs.Asking.{Asking, Done, Ask, ◌>>=◌}
+use Rattle.param_following.specs.Asking.{Asking, Done, Ask, ◌>>=◌}
 use Rattle.sim_values.specs.declared.value.Value.{Value}
 use Rattle.sim_values.specs.declared.value.Value.TheVariants as value
 use Rattle.ned_trees.specs.declared.expressions.Expression.{Expression, fold-Expression}

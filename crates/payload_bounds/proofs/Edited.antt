@@ -1,8 +1,8 @@
 -- What an edit leaves of the injections of a model.
 use Rattle.std.proofs.Common.{◌≡◌, ℕ, suc, ◌≤◌, nat_lt, nat_le, ◌||◌, Bool, true, false, true≢false, List, [], ◌∷◌, ◌++◌, length, refl, sym, ap, subst, arith, if◌then◌else◌}
 use Rattle.std.proofs.lemmas.Bool.Decides.{nat_tests}
-use Rattle.injection_order.specs.declared.injection.Injection.{Injection}
-use Rattle.models.specs.declared.model.Model.{Model}
+use Rattle.model_injections.specs.declared.injection.Injection.{Injection}
+use Rattle.model_data.specs.declared.model.Model.{Model}
 use Rattle.model_edits.specs.Edited.{is_numbered, most_injections, most_payload, next_injection, without, IsEditOf, IsTextEditOf}
 use Rattle.model_edits.specs.declared.edit.Edit.{Edit}
 use Rattle.model_edits.specs.declared.edit.Edit.TheVariants as edit

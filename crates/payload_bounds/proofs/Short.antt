@@ -6,11 +6,11 @@ use Rattle.event_set.specs.Timers.{has_timer}
 use Rattle.event_set.specs.declared.pending.Happening.TheVariants.{Timer}
 use Rattle.event_set.specs.declared.pending.Pending.{Pending}
 use Rattle.event_set.proofs.Order.{each_inserted, each_without}
-use Rattle.injection_order.specs.declared.injection.Due.{Due}
-use Rattle.injection_order.specs.declared.injection.Injection.{Injection}
-use Rattle.injection_order.specs.declared.injection.Turn.{Turn}
-use Rattle.injection_order.specs.Injections.{first_undelivered, goes_first, if_first}
-use Rattle.injection_order.proofs.Left.{IsIn, first_is_left}
+use Rattle.model_injections.specs.declared.injection.Due.{Due}
+use Rattle.model_injections.specs.declared.injection.Injection.{Injection}
+use Rattle.model_injections.specs.declared.injection.Turn.{Turn}
+use Rattle.model_injections.specs.Injections.{first_undelivered, goes_first, if_first}
+use Rattle.model_injections.proofs.Left.{IsIn, first_is_left}
 use Rattle.module_api.specs.Behaviour.{Behaviour}
 use Rattle.module_api.specs.Names.{is_scalar_name}
 use Rattle.module_api.specs.declared.call.Prompt.{Prompt}
@@ -23,9 +23,9 @@ use Rattle.module_api.specs.declared.reply.Read.{Read}
 use Rattle.module_api.specs.declared.reply.Reply.{Reply}
 use Rattle.module_api.specs.declared.reply.Appointment.{Appointment}
 use Rattle.module_api.specs.declared.reply.Schedule.{Schedule}
-use Rattle.run_questions.specs.Answers.{Answers}
-use Rattle.run_questions.specs.declared.answer.Answer.TheVariants as answer
-use Rattle.run_questions.specs.declared.answer.Question.TheVariants.{InjectionBefore}
+use Rattle.model_questions.specs.Answers.{Answers}
+use Rattle.model_questions.specs.declared.answer.Answer.TheVariants as answer
+use Rattle.model_questions.specs.declared.answer.Question.TheVariants.{InjectionBefore}
 use Rattle.run_semantics.specs.declared.occasions.Occasion.{Occasion}
 use Rattle.run_semantics.specs.declared.occasions.Occasion.TheVariants as occasion
 use Rattle.run_semantics.specs.declared.outcome.Fault.{Fault}

@@ -2,7 +2,7 @@
 use Rattle.std.specs.Prelude.{ℕ, ◌≤◌, List, length}
 use Rattle.event_set.specs.Order.{Each}
 use Rattle.event_set.specs.declared.pending.Pending.{Pending}
-use Rattle.injection_order.specs.declared.injection.Injection.{Injection}
+use Rattle.model_injections.specs.declared.injection.Injection.{Injection}
 use Rattle.model_edits.specs.Edited.{most_injections, most_payload}
 use Rattle.run_semantics.specs.Event.{message_of}
 

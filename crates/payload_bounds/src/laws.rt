@@ -2,11 +2,11 @@
 
 ghost use Rattle.std.specs.Prelude.{◌≡◌, ℕ, List, []};
 ghost use Rattle.event_set.specs.declared.pending.Pending.{Pending};
-ghost use Rattle.models.specs.declared.model.Model.{Model};
+ghost use Rattle.model_data.specs.declared.model.Model.{Model};
 ghost use Rattle.model_edits.specs.Edited.{IsEditOf};
 ghost use Rattle.model_edits.specs.declared.edit.Edit.{Edit};
 ghost use Rattle.module_api.specs.Behaviour.{Behaviour};
-ghost use Rattle.run_questions.specs.Answers.{Answers};
+ghost use Rattle.model_questions.specs.Answers.{Answers};
 ghost use Rattle.run_semantics.specs.Event.{message_of};
 ghost use Rattle.run_semantics.specs.Run.{after, world_at};
 ghost use Rattle.run_semantics.specs.Upcoming.{Comes, upcoming};

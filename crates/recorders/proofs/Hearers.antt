@@ -6,8 +6,8 @@ use Rattle.std.proofs.lemmas.Bool.Decides.{nat_tests}
 use Rattle.std.proofs.lemmas.List.Folds.{list_any-append}
 use Rattle.std.proofs.lemmas.Option.{slice_get_past}
 use Rattle.std.specs.declared.alloc.Global.{Global}
-use Rattle.run_questions.specs.declared.record.Record.{Record}
-use Rattle.run_questions.specs.Records.{record_at}
+use Rattle.model_questions.specs.declared.record.Record.{Record}
+use Rattle.model_questions.specs.Records.{record_at}
 use Rattle.run_semantics.specs.declared.traces.Emission.{Emission}
 use Rattle.recorders.specs.Hearing.{is_within, is_within_up, within_parent}
 use Rattle.recorders.specs.Places.{AreHearers, PlaceLists, ids_at, is_number, places_at, places_in, places_heard, wanted_places, noted_if}

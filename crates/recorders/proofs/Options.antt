@@ -4,19 +4,19 @@ use Rattle.std.proofs.lemmas.Bool.{false≢true}
 use Rattle.std.proofs.lemmas.List.Folds.{list_any-append}
 use Rattle.std.specs.List.{cons_option, find, flat_map, list_any}
 use Rattle.std.specs.Option.{option_and_then}
-use Rattle.ini_texts.specs.declared.entry.EntryMeaning.{EntryMeaning}
-use Rattle.ini_texts.specs.declared.entry.ObjectOption.{ObjectOption}
-use Rattle.ini_texts.specs.declared.lines.Entry.{Entry}
-use Rattle.ini_texts.specs.declared.lines.IniLine.{IniLine}
-use Rattle.ini_texts.specs.declared.lines.LineMeaning.{LineMeaning}
-use Rattle.ini_texts.specs.declared.lines.LineMeaning.TheVariants as line
-use Rattle.ini_texts.specs.Entries.{object_for, object_said, speaks_of}
-use Rattle.ini_texts.specs.Sections.{entries_along, entries_from, entries_under, entry_here, is_in, section_behind}
-use Rattle.models.specs.declared.model.Model.{Model}
-use Rattle.models.specs.Models.{entries_in}
+use Rattle.ini_trees.specs.declared.entry.EntryMeaning.{EntryMeaning}
+use Rattle.ini_trees.specs.declared.entry.ObjectOption.{ObjectOption}
+use Rattle.ini_trees.specs.declared.lines.Entry.{Entry}
+use Rattle.ini_trees.specs.declared.lines.IniLine.{IniLine}
+use Rattle.ini_trees.specs.declared.lines.LineMeaning.{LineMeaning}
+use Rattle.ini_trees.specs.declared.lines.LineMeaning.TheVariants as line
+use Rattle.ini_trees.specs.Entries.{object_for, object_said, speaks_of}
+use Rattle.ini_trees.specs.Sections.{entries_along, entries_from, entries_under, entry_here, is_in, section_behind}
+use Rattle.model_data.specs.declared.model.Model.{Model}
+use Rattle.model_data.specs.Models.{entries_in}
 use Rattle.recorders.specs.Options.{has_option_line, is_option_line}
 use Rattle.recorders.specs.Selection.{option_of}
-use Rattle.run_questions.specs.Records.{path_under}
+use Rattle.model_questions.specs.Records.{path_under}
 use Rattle.std.specs.Str.{is_utf8}
 use Rattle.recorders.proofs.Unwanted.{first_false, rest_false}
 

@@ -4,10 +4,10 @@ use Rattle.std.proofs.lemmas.Bool.Decides.{nat_tests}
 use Rattle.std.proofs.lemmas.List.{append-nil}
 use Rattle.std.specs.List.{flat_map, list_any}
 use Rattle.std.specs.Str.{bytes_eq}
-use Rattle.run_questions.specs.declared.record.Record.{Record}
-use Rattle.models.specs.declared.model.Model.{Model}
-use Rattle.models.specs.Models.{entries_in}
-use Rattle.run_questions.specs.Records.{path_of}
+use Rattle.model_questions.specs.declared.record.Record.{Record}
+use Rattle.model_data.specs.declared.model.Model.{Model}
+use Rattle.model_data.specs.Models.{entries_in}
+use Rattle.model_questions.specs.Records.{path_of}
 use Rattle.ned_trees.specs.declared.modes.Mode.{Mode}
 use Rattle.ned_trees.specs.declared.declarations.Statistic.{Statistic}
 use Rattle.recorders.proofs.Noted.{found_at_end}

@@ -1,13 +1,13 @@
 -- Of modules that are not wanted nothing is recorded, and of the others all places are noted.
 use Rattle.std.proofs.Common.{◌≡◌, ℕ, ◌+◌, ◌==◌, Bool, true, false, ◌&&◌, ◌||◌, List, [], ◌∷◌, ◌++◌, Option, Some, None, ℤ, refl, sym, ap, subst, ◌∙◌, length, map, if◌then◌else◌}
 use Rattle.std.proofs.lemmas.Bool.{false≢true}
-use Rattle.ini_texts.specs.declared.lines.Entry.{Entry}
+use Rattle.ini_trees.specs.declared.lines.Entry.{Entry}
 use Rattle.model_answers.specs.Keyed.{lines_of}
-use Rattle.models.specs.declared.model.Model.{Model}
-use Rattle.run_questions.specs.declared.record.Record.{Record}
+use Rattle.model_data.specs.declared.model.Model.{Model}
+use Rattle.model_questions.specs.declared.record.Record.{Record}
 use Rattle.model_answers.specs.Answering.{type_at}
-use Rattle.models.specs.Models.{entries_in}
-use Rattle.run_questions.specs.Records.{path_of}
+use Rattle.model_data.specs.Models.{entries_in}
+use Rattle.model_questions.specs.Records.{path_of}
 use Rattle.ned_trees.specs.declared.declarations.Statistic.{Statistic}
 use Rattle.ned_types.specs.Flat.{statistics_of}
 use Rattle.ned_trees.specs.declared.modes.Mode.{Mode}

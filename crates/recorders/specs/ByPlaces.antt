@@ -1,7 +1,7 @@
 -- Which scalars a run records, read by the places of what concerns a module.
 use Rattle.std.specs.Prelude.{ℕ, ◌==◌, List, [], ◌++◌, length, flat_map, if◌then◌else◌}
-use Rattle.models.specs.declared.model.Model.{Model}
-use Rattle.run_questions.specs.declared.record.Record.{Record}
+use Rattle.model_data.specs.declared.model.Model.{Model}
+use Rattle.model_questions.specs.declared.record.Record.{Record}
 use Rattle.model_answers.specs.Keyed.{lines_of}
 use Rattle.model_answers.specs.Answering.{type_at}
 use Rattle.ned_types.specs.Flat.{statistics_of}

@@ -1,8 +1,8 @@
 -- Which emissions a vector hears.
 use Rattle.std.specs.Prelude.{ℕ, zero, suc, ◌==◌, Bool, true, false, ◌&&◌, List, Option, Some, None, if◌then◌else◌}
 use Rattle.std.specs.Str.{bytes_eq}
-use Rattle.run_questions.specs.declared.record.Record.{Record}
-use Rattle.run_questions.specs.Records.{record_at}
+use Rattle.model_questions.specs.declared.record.Record.{Record}
+use Rattle.model_questions.specs.Records.{record_at}
 use Rattle.recorders.specs.declared.vector_line.VectorLine.{VectorLine}
 use Rattle.run_semantics.specs.declared.traces.Emission.{Emission}
 

@@ -1,11 +1,11 @@
 -- Whether an ini text has any per-object option.
 use Rattle.std.specs.Prelude.{Bool, false, is_some}
 use Rattle.std.specs.List.{list_any}
-use Rattle.ini_texts.specs.declared.lines.IniLine.{IniLine}
-use Rattle.ini_texts.specs.declared.lines.LineMeaning.{LineMeaning}
-use Rattle.ini_texts.specs.declared.lines.LineMeaning.TheVariants as line
-use Rattle.ini_texts.specs.Entries.{object_said}
-use Rattle.models.specs.declared.model.Model.{Model}
+use Rattle.ini_trees.specs.declared.lines.IniLine.{IniLine}
+use Rattle.ini_trees.specs.declared.lines.LineMeaning.{LineMeaning}
+use Rattle.ini_trees.specs.declared.lines.LineMeaning.TheVariants as line
+use Rattle.ini_trees.specs.Entries.{object_said}
+use Rattle.model_data.specs.declared.model.Model.{Model}
 
 -- a line is an entry of a per-object option
 abbrev pub is_option_line : LineMeaning → Bool

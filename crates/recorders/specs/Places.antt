@@ -3,7 +3,7 @@ use Rattle.std.specs.Prelude.{◌≡◌, ℕ, ◌+◌, ◌-◌, ◌<◌, ◌==�
 use Rattle.std.specs.List.{list_any}
 use Rattle.std.specs.Str.{bytes_eq}
 use Rattle.std.specs.declared.alloc.Global.{Global}
-use Rattle.run_questions.specs.declared.record.Record.{Record}
+use Rattle.model_questions.specs.declared.record.Record.{Record}
 use Rattle.recorders.specs.Hearing.{is_within}
 use Rattle.recorders.specs.Wanted.{is_wanted}
 use Rattle.recorders.specs.declared.places.RunPlaces.{RunPlaces}

@@ -2,13 +2,13 @@
 -- OMNeT++ Simulation Manual, "Configuring Result Collection", "Selecting Recording Modes".
 use Rattle.std.specs.Prelude.{ℕ, Bool, true, false, ◌&&◌, List, [], ◌∷◌, ◌++◌, fold, Option, Some, codes, if◌then◌else◌}
 use Rattle.std.specs.List.{list_any}
-use Rattle.ini_texts.specs.declared.lines.Entry.{Entry}
-use Rattle.ini_texts.specs.declared.entry.ModeItem.{ModeItem}
-use Rattle.ini_texts.specs.declared.entry.ModeItem.TheVariants as item
-use Rattle.ini_texts.specs.declared.entry.ObjectOption.{ObjectOption}
-use Rattle.ini_texts.specs.declared.entry.ObjectOption.TheVariants as object
-use Rattle.ini_texts.specs.Entries.{object_for}
-use Rattle.run_questions.specs.Records.{path_under}
+use Rattle.ini_trees.specs.declared.lines.Entry.{Entry}
+use Rattle.ini_trees.specs.declared.entry.ModeItem.{ModeItem}
+use Rattle.ini_trees.specs.declared.entry.ModeItem.TheVariants as item
+use Rattle.ini_trees.specs.declared.entry.ObjectOption.{ObjectOption}
+use Rattle.ini_trees.specs.declared.entry.ObjectOption.TheVariants as object
+use Rattle.ini_trees.specs.Entries.{object_for}
+use Rattle.model_questions.specs.Records.{path_under}
 use Rattle.ned_trees.specs.Modes.{mode_name}
 use Rattle.ned_trees.specs.declared.modes.Mode.{Mode}
 use Rattle.ned_trees.specs.declared.modes.Mode.TheVariants as mode

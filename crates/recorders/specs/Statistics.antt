@@ -3,7 +3,7 @@
 use Rattle.std.specs.Prelude.{◌-◌, ℤ, pos, ◌+ℤ◌, List, map, filter, fold, length, slice_get, Option, Some, None}
 use Rattle.std.specs.Int.{int_min, int_max}
 use Rattle.std.specs.List.{reduce}
-use Rattle.run_questions.specs.declared.record.Record.{Record}
+use Rattle.model_questions.specs.declared.record.Record.{Record}
 use Rattle.ned_trees.specs.declared.modes.Mode.{Mode}
 use Rattle.ned_trees.specs.declared.modes.Mode.TheVariants as mode
 use Rattle.recorders.specs.declared.vector_line.VectorLine.{VectorLine}

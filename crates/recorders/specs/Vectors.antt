@@ -1,12 +1,12 @@
 -- Which vectors a run records.
 use Rattle.std.specs.Prelude.{ℕ, ◌+◌, Bool, ◌&&◌, List, [], ◌∷◌, ◌++◌, map, filter}
 use Rattle.std.specs.List.{list_any}
-use Rattle.models.specs.declared.model.Model.{Model}
-use Rattle.run_questions.specs.declared.record.Record.{Record}
+use Rattle.model_data.specs.declared.model.Model.{Model}
+use Rattle.model_questions.specs.declared.record.Record.{Record}
 use Rattle.model_answers.specs.Keyed.{lines_of}
 use Rattle.model_answers.specs.Answering.{type_at}
-use Rattle.models.specs.Models.{entries_in}
-use Rattle.run_questions.specs.Records.{path_of}
+use Rattle.model_data.specs.Models.{entries_in}
+use Rattle.model_questions.specs.Records.{path_of}
 use Rattle.ned_trees.specs.declared.declarations.Statistic.{Statistic}
 use Rattle.ned_types.specs.Flat.{statistics_of}
 use Rattle.recorders.specs.declared.vector_line.VectorLine.{VectorLine}

@@ -4,7 +4,7 @@ ghost use Rattle.std.specs.Prelude.{◌≡◌};
 ghost use Rattle.recorders.specs.Hearing.{is_within_up, is_within, hears};
 
 use crate::vector_line::VectorLine;
-use run_questions::record::{MAX_NESTING, Record, record_at};
+use model_questions::record::{MAX_NESTING, Record, record_at};
 use run_semantics::traces::Emission;
 
 /// Whether the emitter, or one of the modules around it, is the module of that id; at most so many

@@ -6,9 +6,9 @@ ghost use Rattle.model_answers.specs.Keyed.{lines_of};
 ghost use Rattle.ned_types.specs.Flat.{statistics_of};
 
 use crate::recorded_model::RecordedModel;
+use model_questions::record::Record;
 use ned_trees::declarations::Statistic;
 use ned_types::flat::statistics_of;
-use run_questions::record::Record;
 use run_semantics::traces::Emission;
 use sim_values::NoMemory;
 use sqlite_items::Items;

@@ -7,7 +7,7 @@ ghost use Rattle.run_semantics.specs.declared.traces.Emission.{Emission as emiss
 ghost use Rattle.recorders.specs.Places.{ids_at, is_number, places_at, places_heard, noted, noted_if, recorded_places, finished_places, AreOf, AreHeard, AreHearers, AreRecorded, AreFinished, AreOfRun};
 
 use crate::wanted::is_wanted;
-use run_questions::record::{MAX_NESTING, Record, record_at};
+use model_questions::record::{MAX_NESTING, Record, record_at};
 use run_semantics::traces::{Emission, Scalar};
 use std::alloc::{AllocError, Global};
 

@@ -3,17 +3,17 @@
 ghost use Rattle.std.specs.Prelude.{◌≡◌, IfOk, false};
 ghost use Rattle.std.specs.Option.{option_copied};
 ghost use Rattle.model_answers.specs.Answering.{type_at};
-ghost use Rattle.models.specs.Models.{entries_in};
+ghost use Rattle.model_data.specs.Models.{entries_in};
 ghost use Rattle.recorders.specs.Options.{has_option_line, is_option_line};
 ghost use Rattle.recorders.specs.Selection.{option_of};
 
-use ini_texts::entries::object_for;
-use ini_texts::entry::{EntryMeaning, ObjectOption};
-use ini_texts::lines::{IniLine, LineMeaning};
+use ini_trees::entries::object_for;
+use ini_trees::entry::{EntryMeaning, ObjectOption};
+use ini_trees::lines::{IniLine, LineMeaning};
 use model_answers::plain::PlainAnswers;
-use models::model::Model;
+use model_data::model::Model;
+use model_questions::record::{Record, path_under};
 use ned_trees::declarations::TypeDeclaration;
-use run_questions::record::{Record, path_under};
 use sim_values::NoMemory;
 use std::alloc::Global;
 use std::marker;
@@ -27,8 +27,8 @@ pub struct RecordedModel<'r, 'm> {
 
 impl<'r, 'm> marker::Model for RecordedModel<'r, 'm> {
     ghost use Rattle.std.specs.Prelude.{◌≡◌};
-    ghost use Rattle.models.specs.declared.model.Model.{Model};
-    ghost use Rattle.models.specs.contracts.model.Model.{the_row};
+    ghost use Rattle.model_data.specs.declared.model.Model.{Model};
+    ghost use Rattle.model_data.specs.contracts.model.Model.{the_row};
     ghost use Rattle.recorders.specs.Options.{has_option_line};
 
     ghost Value = { Model };

@@ -15,7 +15,7 @@ use crate::vector_line::VectorLine;
 use crate::vectors::vectors;
 use crate::wanted::{Output, wanted};
 use model_answers::plain::PlainAnswers;
-use run_questions::record::Record;
+use model_questions::record::Record;
 use run_semantics::traces::{Emission, Scalar};
 use sim_values::NoMemory;
 use sqlite_items::Items;

@@ -1,7 +1,7 @@
 //! Which scalars a run records.
 
 ghost use Rattle.std.specs.Prelude.{◌≡◌, ◌<◌, ◌^◌, ◌++◌, IfOk, OnOk, length};
-ghost use Rattle.models.specs.Models.{entries_in};
+ghost use Rattle.model_data.specs.Models.{entries_in};
 ghost use Rattle.recorders.specs.ByPlaces.{lines_at_places, lines_of_type, lines_if_finished, scalars_by_places};
 ghost use Rattle.recorders.specs.Places.{of_place, places_at, heard_places, wanted_places, AreOfRun};
 ghost use Rattle.recorders.specs.Scalars.{line_of, recorded_line, line_of_value, mode_line, mode_lines, statistic_lines, lines_among, scalars_of};
@@ -16,9 +16,9 @@ use crate::selection::{records_scalar_named, result_name, selected_modes};
 use crate::statistics::{value_in, values_at};
 use crate::vectors::vector_of;
 use crate::wanted::is_wanted;
+use model_questions::record::{Record, path_of};
 use ned_trees::declarations::Statistic;
 use ned_trees::modes::Mode;
-use run_questions::record::{Record, path_of};
 use run_semantics::traces::{Emission, Scalar};
 use sim_values::NoMemory;
 use sim_values::text::Text;

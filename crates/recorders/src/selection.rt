@@ -2,7 +2,7 @@
 
 ghost use Rattle.std.specs.Prelude.{◌≡◌, IfOk, OnOk};
 ghost use Rattle.std.specs.Option.{option_copied};
-ghost use Rattle.models.specs.Models.{entries_in};
+ghost use Rattle.model_data.specs.Models.{entries_in};
 ghost use Rattle.ned_trees.specs.Modes.{mode_name};
 ghost use Rattle.recorders.specs.Selection.{after_item, after_items, begins_signed, chosen_modes, first_modes, is_on, is_signed, modes_of, recorded_modes, records_scalar_among, records_scalar_named, records_scalars, records_statistic, records_vector, records_vector_named, result_name, selected_modes};
 
@@ -10,7 +10,7 @@ use crate::modes::{
     add_mode, add_modes, declared_modes, default_modes, in_order, is_among, without_mode,
 };
 use crate::recorded_model::RecordedModel;
-use ini_texts::entry::{ModeItem, ObjectOption};
+use ini_trees::entry::{ModeItem, ObjectOption};
 use ned_trees::declarations::{RecordedMode, Statistic};
 use ned_trees::modes::Mode;
 use sim_values::NoMemory;

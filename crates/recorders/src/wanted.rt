@@ -1,14 +1,14 @@
 //! The modules of whose statistics something is recorded: their places alone are noted.
 
 ghost use Rattle.std.specs.Prelude.{◌≡◌, ◌+◌, ◌^◌, ◌<◌, IfOk, length};
-ghost use Rattle.models.specs.Models.{entries_in};
+ghost use Rattle.model_data.specs.Models.{entries_in};
 ghost use Rattle.recorders.specs.Wanted.{is_wanted, has_output, has_output_among, wants, AreWanted};
 
 use crate::recorded_model::RecordedModel;
 use crate::selection::{records_scalars, records_vector};
+use model_questions::record::{Record, path_of};
 use ned_trees::declarations::Statistic;
 use ned_types::flat::statistics_of;
-use run_questions::record::{Record, path_of};
 use sim_values::NoMemory;
 use std::alloc::Global;
 

@@ -1,7 +1,7 @@
 -- The result files of a run.
 use Rattle.std.specs.Prelude.{ℕ, List}
-use Rattle.models.specs.declared.model.Model.{Model}
-use Rattle.run_questions.specs.declared.record.Record.{Record}
+use Rattle.model_data.specs.declared.model.Model.{Model}
+use Rattle.model_questions.specs.declared.record.Record.{Record}
 use Rattle.recorders.specs.Scalars.{scalars_of}
 use Rattle.recorders.specs.Vectors.{vectors_of}
 use Rattle.result_files.specs.declared.files.ResultFiles.{ResultFiles}

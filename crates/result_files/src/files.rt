@@ -8,6 +8,7 @@ ghost use Rattle.result_files.specs.Files.{files_of};
 
 use model_answers::evaluated::EvaluatedModel;
 use model_answers::plain::PlainAnswers;
+use model_questions::record::Record;
 use recorders::run_results::results;
 use recorders::scalar_line::ScalarLine;
 use recorders::vector_line::VectorLine;
@@ -15,7 +16,6 @@ use result_lines::header::header;
 use result_lines::lines::{put_data_lines, put_scalar_lines, put_vector_lines};
 use result_lines::progress::{Progress, put};
 use result_lines::writer::{Device, Out};
-use run_questions::record::Record;
 use run_semantics::traces::{Emission, Scalar};
 use sim_values::NoMemory;
 use sim_values::text::Text;

@@ -1,10 +1,10 @@
 -- Laws of the lines of entries.
 use Rattle.std.proofs.Common.{◌≡◌, ℕ, ◌+◌, ◌<◌, List, [], ◌∷◌, ◌++◌, length, drop, get_or, refl, sym, ap, ◌∙◌, append_assoc}
 use Rattle.std.proofs.lemmas.List.{drop_more}
-use Rattle.ini_texts.specs.declared.lines.Entry.{Entry}
-use Rattle.ini_texts.specs.declared.lines.IniLine.{IniLine}
-use Rattle.ini_texts.specs.Sections.{entries_along, entries_under}
-use Rattle.ini_texts.specs.Words.{Bytes}
+use Rattle.ini_trees.specs.declared.lines.Entry.{Entry}
+use Rattle.ini_trees.specs.declared.lines.IniLine.{IniLine}
+use Rattle.ini_trees.specs.Sections.{entries_along, entries_under}
+use Rattle.ini_trees.specs.Words.{Bytes}
 use Rattle.result_lines.specs.Header.{config_line, config_lines}
 
 lines_joined : (es fs : List Entry) → config_lines (es ++ fs) ≡ config_lines es ++ config_lines fs

@@ -5,10 +5,10 @@ use Rattle.std.proofs.lemmas.Bool.Decides.{nat_tests}
 use Rattle.std.specs.List.{IsAllAdjacentAnswer}
 use Rattle.std.specs.Ordering.{nat_cmp, is_le, is_some_and}
 use Rattle.std.proofs.lemmas.List.Sorted.{IsNonDecreasingBy-from_all_adjacent}
-use Rattle.run_questions.specs.Records.{record_at}
+use Rattle.model_questions.specs.Records.{record_at}
 use Rattle.recorders.specs.Hearing.{is_within_up, within_parent}
 use Rattle.result_lines.specs.Rising.{AreByModule, IsLeastFrom}
-use Rattle.run_questions.specs.declared.record.Record.{Record}
+use Rattle.model_questions.specs.declared.record.Record.{Record}
 use Rattle.recorders.specs.declared.vector_line.VectorLine.{VectorLine}
 
 le_cmp : (m n : ℕ) → true ≡ is_some_and is_le (Some (nat_cmp m n)) → m ≤ n

@@ -7,14 +7,14 @@ use Rattle.std.proofs.lemmas.List.{get_or-set_same, get_or-set_other, length-set
 use Rattle.std.proofs.lemmas.Option.{slice_get-get_or}
 use Rattle.std.specs.declared.alloc.Global.{Global}
 use Rattle.std.proofs.lemmas.Slice.Eq.{bytes_eq-Decides}
-use Rattle.ini_texts.specs.declared.lines.Entry.{Entry}
-use Rattle.ini_texts.specs.declared.lines.IniLine.{IniLine}
-use Rattle.ini_texts.specs.declared.lines.LineMeaning.{LineMeaning}
-use Rattle.ini_texts.specs.declared.lines.LineMeaning.TheVariants as line
-use Rattle.ini_texts.specs.Numbers.{holds, name_at, names_behind, AreApart}
-use Rattle.ini_texts.specs.Sections.{entries_from, entries_under, entry_here, is_in, is_section_line, section_behind}
-use Rattle.ini_texts.specs.Words.{Bytes}
-use Rattle.ini_texts.proofs.NumberedLaws.{held_at, names_held}
+use Rattle.ini_trees.specs.declared.lines.Entry.{Entry}
+use Rattle.ini_trees.specs.declared.lines.IniLine.{IniLine}
+use Rattle.ini_trees.specs.declared.lines.LineMeaning.{LineMeaning}
+use Rattle.ini_trees.specs.declared.lines.LineMeaning.TheVariants as line
+use Rattle.ini_trees.specs.Numbers.{holds, name_at, names_behind, AreApart}
+use Rattle.ini_trees.specs.Sections.{entries_from, entries_under, entry_here, is_in, is_section_line, section_behind}
+use Rattle.ini_trees.specs.Words.{Bytes}
+use Rattle.ini_trees.proofs.NumberedLaws.{held_at, names_held}
 use Rattle.result_lines.specs.Sections.{entries_at, entries_in, entries_of, one_of, AddsTo, EntryLists}
 
 -- ---- one line more

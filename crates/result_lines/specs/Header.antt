@@ -1,11 +1,11 @@
 -- The header of a result file.
 use Rattle.std.specs.Prelude.{ℕ, List, [], ◌∷◌, ◌++◌, codes, unwrap_or, if◌then◌else◌}
 use Rattle.std.specs.List.{list_all, flat_map}
-use Rattle.ini_texts.specs.declared.lines.Entry.{Entry}
-use Rattle.ini_texts.specs.Entries.{last_name, network_entry}
-use Rattle.ini_texts.specs.Sections.{is_extends}
-use Rattle.models.specs.declared.model.Model.{Model}
-use Rattle.models.specs.Models.{entries_in}
+use Rattle.ini_trees.specs.declared.lines.Entry.{Entry}
+use Rattle.ini_trees.specs.Entries.{last_name, network_entry}
+use Rattle.ini_trees.specs.Sections.{is_extends}
+use Rattle.model_data.specs.declared.model.Model.{Model}
+use Rattle.model_data.specs.Models.{entries_in}
 use Rattle.module_api.specs.Names.{is_plain, is_quoting}
 
 abbrev pub escaped : ℕ → List ℕ

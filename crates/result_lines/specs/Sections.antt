@@ -2,11 +2,11 @@
 use Rattle.std.specs.Prelude.{◌≡◌, ◌≢◌, ℕ, ◌<◌, List, [], ◌∷◌, ◌++◌, Option, Some, None, Vec, length, map, slice_get}
 use Rattle.std.specs.Borrow.{Bor}
 use Rattle.std.specs.declared.alloc.Global.{Global}
-use Rattle.ini_texts.specs.declared.lines.Entry.{Entry}
-use Rattle.ini_texts.specs.declared.lines.IniLine.{IniLine}
-use Rattle.ini_texts.specs.Numbers.{name_at}
-use Rattle.ini_texts.specs.Sections.{entries_under}
-use Rattle.ini_texts.specs.Words.{Bytes}
+use Rattle.ini_trees.specs.declared.lines.Entry.{Entry}
+use Rattle.ini_trees.specs.declared.lines.IniLine.{IniLine}
+use Rattle.ini_trees.specs.Numbers.{name_at}
+use Rattle.ini_trees.specs.Sections.{entries_under}
+use Rattle.ini_trees.specs.Words.{Bytes}
 
 -- the entries that references lead to
 abbrev pub entries_in : List (Bor Entry) → List Entry

@@ -2,7 +2,7 @@
 use Rattle.std.specs.Prelude.{ℕ, ◌+◌, List, [], ◌∷◌, ◌++◌, codes, if◌then◌else◌}
 use Rattle.std.specs.Fmt.{decimal, signed_decimal}
 use Rattle.std.specs.List.{flat_map}
-use Rattle.run_questions.specs.declared.record.Record.{Record}
+use Rattle.model_questions.specs.declared.record.Record.{Record}
 use Rattle.recorders.specs.declared.vector_line.VectorLine.{VectorLine}
 use Rattle.recorders.specs.Hearing.{hears}
 use Rattle.result_lines.specs.Fields.{field}

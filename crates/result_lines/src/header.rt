@@ -2,17 +2,17 @@
 
 ghost use Rattle.std.specs.Prelude.{◌≡◌, ◌++◌, ◌<◌, length, IfOk, OnOk};
 ghost use Rattle.std.specs.List.{flat_map};
-ghost use Rattle.ini_texts.specs.Sections.{entries_along};
+ghost use Rattle.ini_trees.specs.Sections.{entries_along};
 ghost use Rattle.result_lines.specs.Header.{escaped, value_text, item_line, run_lines, attribute_lines, config_line, config_lines, header_text, network_name, header_of};
 ghost use Rattle.result_lines.specs.Sections.{entries_at, entries_in};
 
 use crate::sections::section_entries;
-use ini_texts::entries::network_entry;
-use ini_texts::entry::EntryMeaning;
-use ini_texts::lines::{Entry, IniLine};
-use ini_texts::names::section_names;
-use ini_texts::speaks::last_name;
-use models::model::Model;
+use ini_trees::entries::network_entry;
+use ini_trees::entry::EntryMeaning;
+use ini_trees::lines::{Entry, IniLine};
+use ini_trees::names::section_names;
+use ini_trees::speaks::last_name;
+use model_data::model::Model;
 use module_api::names::{is_all_plain, is_quoting};
 use sim_values::text::Text;
 use std::alloc::{AllocError, Global};

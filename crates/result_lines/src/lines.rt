@@ -10,10 +10,10 @@ use crate::line_bytes::{MAX_LINE, data_line_start};
 use crate::next_vector::{are_by_module, next_place};
 use crate::progress::{Progress, put, put_field, put_number, put_wide};
 use crate::writer::Out;
+use model_questions::record::Record;
 use recorders::hearing::hears;
 use recorders::scalar_line::ScalarLine;
 use recorders::vector_line::VectorLine;
-use run_questions::record::Record;
 use run_semantics::traces::Emission;
 
 /// Writes the line of a scalar.

@@ -5,8 +5,8 @@ ghost use Rattle.std.specs.List.{slice_index_or};
 ghost use Rattle.recorders.specs.Hearing.{is_within_up, is_within};
 ghost use Rattle.result_lines.specs.Rising.{IsLeastFrom, AreByModule};
 
+use model_questions::record::{MAX_NESTING, Record, record_at};
 use recorders::vector_line::VectorLine;
-use run_questions::record::{MAX_NESTING, Record, record_at};
 
 /// The least of an id and another one, of those that aren't below a number.
 fn least_from(from: u32, id: u32, other: Option<u32>) -> Option<u32>

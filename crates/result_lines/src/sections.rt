@@ -2,13 +2,13 @@
 
 ghost use Rattle.std.specs.Prelude.{◌≡◌, ◌++◌, ◌<◌, ℕ, [], length, IfOk, OnOk};
 ghost use Rattle.std.specs.Option.{option_copied};
-ghost use Rattle.ini_texts.specs.Numbers.{name_at, names_behind, AreApart};
-ghost use Rattle.ini_texts.specs.Sections.{entry_here, entries_under, is_in};
+ghost use Rattle.ini_trees.specs.Numbers.{name_at, names_behind, AreApart};
+ghost use Rattle.ini_trees.specs.Sections.{entry_here, entries_under, is_in};
 ghost use Rattle.result_lines.specs.Sections.{entries_at, one_of, AddsTo, HaveEntries};
 
-use ini_texts::lines::{Entry, IniLine, LineMeaning};
-use ini_texts::names::SectionNames;
-use ini_texts::scan::section_behind;
+use ini_trees::lines::{Entry, IniLine, LineMeaning};
+use ini_trees::names::SectionNames;
+use ini_trees::scan::section_behind;
 use std::alloc::{AllocError, Global};
 
 /// So many empty lists.

@@ -1,7 +1,7 @@
 -- A model that answers nothing.
 use Rattle.std.specs.Prelude.{List, [], None}
-use Rattle.run_questions.specs.declared.answer.Answer.TheVariants as answer
-use Rattle.run_questions.specs.Answers.{Answers}
+use Rattle.model_questions.specs.declared.answer.Answer.TheVariants as answer
+use Rattle.model_questions.specs.Answers.{Answers}
 
 -- NO ANSWERS: there is no network, no module and no message from outside
 abbrev pub unanswered : Answers

@@ -2,13 +2,13 @@
 #![tactic(auto)]
 
 ghost use Rattle.std.specs.Prelude.{◌≡◌, IfOk};
-ghost use Rattle.run_questions.specs.Answers as run;
+ghost use Rattle.model_questions.specs.Answers as run;
 ghost use Rattle.run_answers.specs.Unanswered.{unanswered};
 
-use injection_order::injection::Injection;
+use model_injections::injection::Injection;
+use model_questions::answer::{Answer, Question};
+use model_questions::record::Record;
 use module_api::call::{Gate, Parameter};
-use run_questions::answer::{Answer, Question};
-use run_questions::record::Record;
 use sim_values::NoMemory;
 use sqlite_items::Items;
 use std::alloc::Global;

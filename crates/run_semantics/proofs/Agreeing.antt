@@ -1,9 +1,9 @@
 -- Two models agree on the first events of a run by its own questions exactly where they do by those of a longer run.
 use Rattle.std.proofs.Common.{◌≡◌, ⊎_elim, ℕ, zero, suc, ◌≤◌, ◌<◌, List, [], ◌∷◌, ◌++◌, sym, ap, ◌∙◌, arith, subst, append-nil, append_assoc, eq-or-lt_of_le}
 use Rattle.module_api.specs.Behaviour.{Behaviour}
-use Rattle.run_questions.specs.declared.answer.Asked.{Asked}
-use Rattle.run_questions.specs.Answers.{Answers, answer_of}
-use Rattle.run_questions.specs.declared.record.Record.{Record}
+use Rattle.model_questions.specs.declared.answer.Asked.{Asked}
+use Rattle.model_questions.specs.Answers.{Answers, answer_of}
+use Rattle.model_questions.specs.declared.record.Record.{Record}
 use Rattle.run_semantics.specs.Agreement.{AgreesUpTo}
 use Rattle.run_semantics.specs.Laws.{Each}
 use Rattle.run_semantics.specs.Run.{after, world_at}

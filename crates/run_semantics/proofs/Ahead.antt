@@ -1,13 +1,13 @@
 -- The order of injections: none that is not delivered is due before the clock, and none before what comes next.
 use Rattle.std.proofs.Common.{◌≡◌, ◌⊎◌, inl, inr, ℕ, zero, suc, ◌≤◌, ◌==◌, nat_lt, int_lt, Bool, true, false, true≢false, List, [], ◌∷◌, Option, Some, None, length, refl, sym, ◌∙◌, arith, subst, if◌then◌else◌, ltb-true, eqb-true}
 use Rattle.std.proofs.lemmas.Bool.Decides.{nat_tests}
-use Rattle.run_questions.specs.declared.answer.Answer.TheVariants as answer
-use Rattle.run_questions.specs.declared.answer.Question.TheVariants.{InjectionBefore}
-use Rattle.injection_order.specs.declared.injection.Due.{Due}
-use Rattle.injection_order.specs.declared.injection.Injection.{Injection}
-use Rattle.injection_order.specs.declared.injection.Turn.{Turn}
-use Rattle.run_questions.specs.Answers.{Answers}
-use Rattle.injection_order.specs.Injections.{due_before, goes_before, turn_of, is_undelivered, sooner, first_undelivered, goes_first, if_first}
+use Rattle.model_questions.specs.declared.answer.Answer.TheVariants as answer
+use Rattle.model_questions.specs.declared.answer.Question.TheVariants.{InjectionBefore}
+use Rattle.model_injections.specs.declared.injection.Due.{Due}
+use Rattle.model_injections.specs.declared.injection.Injection.{Injection}
+use Rattle.model_injections.specs.declared.injection.Turn.{Turn}
+use Rattle.model_questions.specs.Answers.{Answers}
+use Rattle.model_injections.specs.Injections.{due_before, goes_before, turn_of, is_undelivered, sooner, first_undelivered, goes_first, if_first}
 use Rattle.event_set.specs.declared.pending.Pending.{Pending}
 use Rattle.run_semantics.specs.Laws.{Each, AreInOrder}
 use Rattle.run_semantics.specs.World.{World, asked_next}

@@ -7,7 +7,7 @@ use Rattle.module_api.specs.declared.reply.Reply.{Reply}
 use Rattle.module_api.specs.declared.call.Prompt.TheVariants as prompt
 use Rattle.module_api.specs.Behaviour.{Behaviour}
 use Rattle.module_api.specs.Names.{is_scalar_name}
-use Rattle.run_questions.specs.Answers.{Answers}
+use Rattle.model_questions.specs.Answers.{Answers}
 use Rattle.run_semantics.specs.declared.occasions.Occasion.TheVariants as occasion
 use Rattle.run_semantics.specs.declared.outcome.Fault.{Fault}
 use Rattle.run_semantics.specs.declared.outcome.Fault.TheVariants as fault

@@ -1,8 +1,8 @@
 -- Runs grow, and call only modules that were started.
 use Rattle.std.proofs.Common.{◌≡◌, inl, inr, ⊎_elim, ℕ, zero, suc, ◌+◌, ◌≤◌, ◌<◌, ◌==◌, cond, Bool, true, false, ◌&&◌, List, [], ◌∷◌, ◌++◌, Option, Some, None, IsSome, refl, sym, ap, ◌∙◌, append-nil, arith, subst, true≢false, eq-eqb, eq-or-lt_of_le}
 use Rattle.module_api.specs.Behaviour.{Behaviour}
-use Rattle.run_questions.specs.Answers.{Answers}
-use Rattle.run_questions.specs.declared.record.Record.{Record}
+use Rattle.model_questions.specs.Answers.{Answers}
+use Rattle.model_questions.specs.declared.record.Record.{Record}
 use Rattle.run_semantics.specs.declared.outcome.Outcome.{Outcome}
 use Rattle.run_semantics.specs.declared.traces.Instance.{Instance}
 use Rattle.run_semantics.specs.Subtree.{among, ids_from}

@@ -14,14 +14,14 @@ use Rattle.module_api.specs.declared.reply.Read.TheVariants as read
 use Rattle.module_api.specs.declared.reply.Reply.{Reply}
 use Rattle.module_api.specs.declared.reply.Appointment.{Appointment}
 use Rattle.module_api.specs.declared.reply.Schedule.{Schedule}
-use Rattle.run_questions.specs.declared.answer.Answer.{Answer}
-use Rattle.run_questions.specs.declared.answer.Answer.TheVariants as answer
-use Rattle.run_questions.specs.declared.answer.Asked.{Asked}
-use Rattle.run_questions.specs.declared.answer.Built.{Built}
-use Rattle.run_questions.specs.declared.answer.Question.{Question}
-use Rattle.run_questions.specs.declared.answer.Question.TheVariants.{Root, Build}
-use Rattle.run_questions.specs.Answers.{Answers, answer_of}
-use Rattle.run_questions.specs.declared.record.Record.{Record}
+use Rattle.model_questions.specs.declared.answer.Answer.{Answer}
+use Rattle.model_questions.specs.declared.answer.Answer.TheVariants as answer
+use Rattle.model_questions.specs.declared.answer.Asked.{Asked}
+use Rattle.model_questions.specs.declared.answer.Built.{Built}
+use Rattle.model_questions.specs.declared.answer.Question.{Question}
+use Rattle.model_questions.specs.declared.answer.Question.TheVariants.{Root, Build}
+use Rattle.model_questions.specs.Answers.{Answers, answer_of}
+use Rattle.model_questions.specs.declared.record.Record.{Record}
 use Rattle.run_semantics.specs.declared.occasions.Occasion.{Occasion}
 use Rattle.run_semantics.specs.declared.occasions.Occasion.TheVariants as occasion
 use Rattle.run_semantics.specs.declared.outcome.Fault.{Fault}
@@ -35,8 +35,8 @@ use Rattle.run_semantics.specs.Subtree.{outer_first}
 use Rattle.run_semantics.proofs.Setting.{IsLasting, stays_in, set_up_stays}
 use Rattle.run_semantics.proofs.Flows.{in_flow}
 use Rattle.run_semantics.proofs.Sending.{LastsSending, sends, sends_delayed, sends_direct}
-use Rattle.run_questions.proofs.AnswerLemmas.{AreNested, about}
-use Rattle.run_questions.proofs.HopLemmas.{neighbour_within}
+use Rattle.model_questions.proofs.AnswerLemmas.{AreNested, about}
+use Rattle.model_questions.proofs.HopLemmas.{neighbour_within}
 
 -- ---- worlds whose ids are those of records
 

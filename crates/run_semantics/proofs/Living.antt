@@ -1,8 +1,8 @@
 -- Which modules live.
 use Rattle.std.proofs.Common.{◌≡◌, inl, inr, ℕ, suc, ◌+◌, ◌==◌, Bool, true, false, ◌||◌, ◌&&◌, List, [], ◌∷◌, ◌++◌, refl, sym, ap, ◌∙◌, arith, eq-eqb, length, map}
 use Rattle.std.specs.List.{filter}
-use Rattle.run_questions.specs.declared.answer.Built.{Built}
-use Rattle.run_questions.specs.declared.record.Record.{Record}
+use Rattle.model_questions.specs.declared.answer.Built.{Built}
+use Rattle.model_questions.specs.declared.record.Record.{Record}
 use Rattle.run_semantics.specs.Laws.{Each, IsAmong}
 use Rattle.run_semantics.specs.Run.{record_under, with_submodules}
 use Rattle.run_semantics.specs.Subtree.{among, ids_from, without}

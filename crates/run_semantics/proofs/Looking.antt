@@ -1,15 +1,15 @@
 -- In the world beside what comes next all that is new is what was asked to know it, and which injection was delivered last.
 use Rattle.std.proofs.Common.{◌≡◌, ℕ, zero, suc, ◌+◌, List, [], ◌∷◌, ◌++◌, Option, Some, None, length, refl, sym, ap, arith, subst, append_assoc, append-nil}
-use Rattle.run_questions.specs.declared.answer.Answer.{Answer}
-use Rattle.run_questions.specs.declared.answer.Answer.TheVariants as answer
-use Rattle.run_questions.specs.declared.answer.Asked.{Asked}
-use Rattle.run_questions.specs.declared.answer.Question.{Question}
-use Rattle.run_questions.specs.declared.answer.Question.TheVariants.{BeyondLimit, InjectionBefore}
-use Rattle.injection_order.specs.declared.injection.Injection.{Injection}
-use Rattle.injection_order.specs.declared.injection.Turn.{Turn}
-use Rattle.run_questions.specs.Answers.{Answers, answer_of}
-use Rattle.injection_order.specs.Injections.{turn_of}
-use Rattle.run_questions.proofs.AnswerLemmas.{about}
+use Rattle.model_questions.specs.declared.answer.Answer.{Answer}
+use Rattle.model_questions.specs.declared.answer.Answer.TheVariants as answer
+use Rattle.model_questions.specs.declared.answer.Asked.{Asked}
+use Rattle.model_questions.specs.declared.answer.Question.{Question}
+use Rattle.model_questions.specs.declared.answer.Question.TheVariants.{BeyondLimit, InjectionBefore}
+use Rattle.model_injections.specs.declared.injection.Injection.{Injection}
+use Rattle.model_injections.specs.declared.injection.Turn.{Turn}
+use Rattle.model_questions.specs.Answers.{Answers, answer_of}
+use Rattle.model_injections.specs.Injections.{turn_of}
+use Rattle.model_questions.proofs.AnswerLemmas.{about}
 use Rattle.event_set.specs.declared.pending.Pending.{Pending}
 use Rattle.run_semantics.specs.Agreement.{tried}
 use Rattle.run_semantics.specs.Laws.{GoesOn}

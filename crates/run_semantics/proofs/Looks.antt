@@ -1,13 +1,13 @@
 -- Where nothing comes next no event is left, and no injection.
 use Rattle.std.proofs.Common.{◌≡◌, ℕ, zero, suc, ◌+◌, ◌<◌, Bool, true, false, List, [], ◌∷◌, Option, Some, None, length, refl, subst, arith, if◌then◌else◌}
-use Rattle.run_questions.specs.declared.answer.Answer.TheVariants as answer
-use Rattle.run_questions.specs.declared.answer.Question.TheVariants.{InjectionBefore}
-use Rattle.run_questions.specs.Answers.{Answers}
-use Rattle.injection_order.specs.declared.injection.Due.{Due}
-use Rattle.injection_order.specs.declared.injection.Injection.{Injection}
-use Rattle.injection_order.specs.declared.injection.Turn.{Turn}
-use Rattle.injection_order.specs.Injections.{turn_of, first_undelivered, goes_first, if_first}
-use Rattle.injection_order.proofs.Left.{left_in, left_within, fewer}
+use Rattle.model_questions.specs.declared.answer.Answer.TheVariants as answer
+use Rattle.model_questions.specs.declared.answer.Question.TheVariants.{InjectionBefore}
+use Rattle.model_questions.specs.Answers.{Answers}
+use Rattle.model_injections.specs.declared.injection.Due.{Due}
+use Rattle.model_injections.specs.declared.injection.Injection.{Injection}
+use Rattle.model_injections.specs.declared.injection.Turn.{Turn}
+use Rattle.model_injections.specs.Injections.{turn_of, first_undelivered, goes_first, if_first}
+use Rattle.model_injections.proofs.Left.{left_in, left_within, fewer}
 use Rattle.event_set.specs.declared.pending.Pending.{Pending}
 use Rattle.run_semantics.specs.Laws.{HasEnded}
 use Rattle.run_semantics.specs.World.{World, asked_next}

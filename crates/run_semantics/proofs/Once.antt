@@ -1,11 +1,11 @@
 -- What a question that is noted once says of the plain list of questions.
 use Rattle.std.proofs.Common.{◌≡◌, ◌↔◌, ℕ, ◌≤◌, Bool, true, false, ◌||◌, List, [], ◌∷◌, ◌++◌, refl, sym, subst, arith, if◌then◌else◌}
-use Rattle.run_questions.specs.declared.answer.Asked.{Asked}
-use Rattle.run_questions.specs.declared.answer.Question.{Question}
-use Rattle.run_questions.specs.Answers.{Answers, answer_of}
-use Rattle.run_questions.specs.Questions.{same_question}
-use Rattle.run_questions.specs.declared.record.Record.{Record}
-use Rattle.run_questions.proofs.QuestionLemmas.{same_is}
+use Rattle.model_questions.specs.declared.answer.Asked.{Asked}
+use Rattle.model_questions.specs.declared.answer.Question.{Question}
+use Rattle.model_questions.specs.Answers.{Answers, answer_of}
+use Rattle.model_questions.specs.Questions.{same_question}
+use Rattle.model_questions.specs.declared.record.Record.{Record}
+use Rattle.model_questions.proofs.QuestionLemmas.{same_is}
 use Rattle.event_set.proofs.Order.{each_map, each_append}
 use Rattle.run_semantics.specs.Agreement.{AgreesUpTo}
 use Rattle.run_semantics.specs.Laws.{Each, AreFrom, noted_all}

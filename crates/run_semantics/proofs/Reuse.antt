@@ -8,18 +8,18 @@ use Rattle.module_api.specs.declared.call.Prompt.{Prompt}
 use Rattle.module_api.specs.declared.call.Prompt.TheVariants as prompt
 use Rattle.module_api.specs.declared.reply.Read.{Read}
 use Rattle.module_api.specs.declared.reply.Read.TheVariants as read
-use Rattle.run_questions.specs.declared.answer.Answer.{Answer}
-use Rattle.run_questions.specs.declared.answer.Answer.TheVariants as answer
-use Rattle.run_questions.specs.declared.answer.Asked.{Asked}
-use Rattle.run_questions.specs.declared.answer.Built.{Built}
-use Rattle.run_questions.specs.declared.answer.Question.{Question}
-use Rattle.run_questions.specs.declared.answer.Question.TheVariants.{Root, Build, GateSize, Hop, HopBack, BeyondLimit, InjectionBefore}
-use Rattle.injection_order.specs.declared.injection.Injection.{Injection}
-use Rattle.run_questions.specs.Answers.{Answers, answer_of, gates_of, parameters_of}
-use Rattle.run_questions.specs.declared.record.Record.{Record}
-use Rattle.run_questions.specs.Questions.{same_question}
-use Rattle.run_questions.proofs.AnswerLemmas.{AreNested, about, answer_more, same_gate, same_value}
-use Rattle.run_questions.proofs.QuestionLemmas.{same_is}
+use Rattle.model_questions.specs.declared.answer.Answer.{Answer}
+use Rattle.model_questions.specs.declared.answer.Answer.TheVariants as answer
+use Rattle.model_questions.specs.declared.answer.Asked.{Asked}
+use Rattle.model_questions.specs.declared.answer.Built.{Built}
+use Rattle.model_questions.specs.declared.answer.Question.{Question}
+use Rattle.model_questions.specs.declared.answer.Question.TheVariants.{Root, Build, GateSize, Hop, HopBack, BeyondLimit, InjectionBefore}
+use Rattle.model_injections.specs.declared.injection.Injection.{Injection}
+use Rattle.model_questions.specs.Answers.{Answers, answer_of, gates_of, parameters_of}
+use Rattle.model_questions.specs.declared.record.Record.{Record}
+use Rattle.model_questions.specs.Questions.{same_question}
+use Rattle.model_questions.proofs.AnswerLemmas.{AreNested, about, answer_more, same_gate, same_value}
+use Rattle.model_questions.proofs.QuestionLemmas.{same_is}
 use Rattle.channels.specs.declared.travels.ChannelFault.{ChannelFault}
 use Rattle.channels.specs.declared.travels.Travel.{Travel}
 use Rattle.channels.specs.declared.travels.Travel.TheVariants.{Arrival, Lost}
@@ -32,7 +32,7 @@ use Rattle.module_api.specs.declared.reply.Flight.{Flight}
 use Rattle.module_api.specs.declared.reply.GatePlace.{GatePlace}
 use Rattle.module_api.specs.declared.reply.OwnGate.{OwnGate}
 use Rattle.module_api.specs.Actions.{has_large_payload}
-use Rattle.run_questions.proofs.HopLemmas.{neighbour_within}
+use Rattle.model_questions.proofs.HopLemmas.{neighbour_within}
 use Rattle.run_semantics.specs.declared.routes.NextHop.{NextHop}
 use Rattle.run_semantics.specs.declared.routes.PassedHop.{PassedHop}
 use Rattle.run_semantics.specs.declared.routes.PlacedGate.{PlacedGate}

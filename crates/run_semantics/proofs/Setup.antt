@@ -1,7 +1,7 @@
 -- Submodules are created one after the other.
 use Rattle.std.proofs.Common.{◌≡◌, ℕ, List, [], ◌∷◌, ◌++◌, map, ap, append_assoc}
-use Rattle.run_questions.specs.declared.answer.Built.{Built}
-use Rattle.run_questions.specs.declared.record.Record.{Record}
+use Rattle.model_questions.specs.declared.answer.Built.{Built}
+use Rattle.model_questions.specs.declared.record.Record.{Record}
 use Rattle.run_semantics.specs.World.{World}
 use Rattle.run_semantics.specs.Run.{with_submodules, record_under}
 

@@ -14,7 +14,7 @@ use Rattle.module_api.specs.declared.reply.Reply.{Reply}
 use Rattle.module_api.specs.declared.reply.Appointment.{Appointment}
 use Rattle.module_api.specs.declared.reply.Schedule.{Schedule}
 use Rattle.module_api.specs.Names.{is_scalar_name}
-use Rattle.run_questions.specs.Answers.{Answers}
+use Rattle.model_questions.specs.Answers.{Answers}
 use Rattle.event_set.specs.declared.pending.Pending.{Pending}
 use Rattle.event_set.specs.Timers.{has_timer}
 use Rattle.event_set.proofs.Order.{each_append}

@@ -7,9 +7,9 @@ use Rattle.module_api.specs.declared.message.Message.{Message}
 use Rattle.module_api.specs.declared.message.Origin.TheVariants as origin
 use Rattle.module_api.specs.declared.reply.Reply.{Reply}
 use Rattle.module_api.specs.Behaviour.{Behaviour, Replied}
-use Rattle.run_questions.specs.declared.answer.Question.TheVariants.{BeyondLimit}
-use Rattle.run_questions.specs.Answers.{Answers, gates_of, parameters_of}
-use Rattle.run_questions.specs.Records.{path_of, record_at, index_of}
+use Rattle.model_questions.specs.declared.answer.Question.TheVariants.{BeyondLimit}
+use Rattle.model_questions.specs.Answers.{Answers, gates_of, parameters_of}
+use Rattle.model_questions.specs.Records.{path_of, record_at, index_of}
 use Rattle.event_set.specs.declared.pending.Happening.{Happening}
 use Rattle.event_set.specs.declared.pending.Happening.TheVariants.{Arrival, Delivery, Timer}
 use Rattle.event_set.specs.declared.pending.Pending.{Pending}

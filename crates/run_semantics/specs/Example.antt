@@ -1,13 +1,13 @@
 -- A network with compound modules, worked by hand.
 use Rattle.std.specs.Prelude.{◌≡◌, ℕ, bytes_eq, codes, List, [], ◌∷◌, Option, Some, None, if◌then◌else◌}
-use Rattle.run_questions.specs.declared.answer.Answer.{Answer}
-use Rattle.run_questions.specs.declared.answer.Answer.TheVariants as answer
-use Rattle.run_questions.specs.declared.answer.Built.{Built}
-use Rattle.run_questions.specs.declared.answer.Question.TheVariants.{Root, Build}
-use Rattle.run_questions.specs.declared.record.Origin.TheVariants as origin
-use Rattle.run_questions.specs.declared.record.Record.{Record}
-use Rattle.run_questions.specs.Answers.{Answers}
-use Rattle.run_questions.specs.Records.{path_along}
+use Rattle.model_questions.specs.declared.answer.Answer.{Answer}
+use Rattle.model_questions.specs.declared.answer.Answer.TheVariants as answer
+use Rattle.model_questions.specs.declared.answer.Built.{Built}
+use Rattle.model_questions.specs.declared.answer.Question.TheVariants.{Root, Build}
+use Rattle.model_questions.specs.declared.record.Origin.TheVariants as origin
+use Rattle.model_questions.specs.declared.record.Record.{Record}
+use Rattle.model_questions.specs.Answers.{Answers}
+use Rattle.model_questions.specs.Records.{path_along}
 use Rattle.run_semantics.specs.Ending.{to_finish}
 use Rattle.run_semantics.specs.Perform.{On}
 use Rattle.run_semantics.specs.Run.{prepared}

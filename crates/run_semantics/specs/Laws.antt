@@ -3,9 +3,9 @@ pub use Rattle.event_set.specs.Order.{Each, AreInOrder, HaveOwnNumbers}
 use Rattle.std.specs.Prelude.{◌≡◌, ◌⊎◌, ℕ, zero, suc, ◌≤◌, ◌&&◌, List, [], ◌∷◌, ◌++◌, None, IsSome, IsTrue, length, map}
 use Rattle.std.specs.List.{filter}
 use Rattle.module_api.specs.Behaviour.{Behaviour}
-use Rattle.injection_order.specs.Injections.{first_undelivered}
-use Rattle.run_questions.specs.Answers.{Answers}
-use Rattle.run_questions.specs.declared.answer.Asked.{Asked}
+use Rattle.model_injections.specs.Injections.{first_undelivered}
+use Rattle.model_questions.specs.Answers.{Answers}
+use Rattle.model_questions.specs.declared.answer.Asked.{Asked}
 use Rattle.event_set.specs.declared.pending.Pending.{Pending}
 use Rattle.run_semantics.specs.declared.traces.Emission.{Emission}
 use Rattle.run_semantics.specs.declared.traces.Instance.{Instance}

@@ -21,15 +21,15 @@ use Rattle.module_api.specs.declared.reply.Appointment.{Appointment}
 use Rattle.module_api.specs.declared.reply.Schedule.{Schedule}
 use Rattle.module_api.specs.Behaviour.{Behaviour}
 use Rattle.module_api.specs.Names.{is_scalar_name}
-use Rattle.run_questions.specs.declared.answer.Answer.{Answer}
-use Rattle.run_questions.specs.declared.answer.Answer.TheVariants as answer
-use Rattle.run_questions.specs.declared.answer.ModelFault.{ModelFault}
-use Rattle.run_questions.specs.declared.answer.ModelFault.TheVariants as model_fault_kind
-use Rattle.run_questions.specs.declared.answer.Question.{Question}
-use Rattle.run_questions.specs.declared.answer.Question.TheVariants.{Param, GateSize, Hop, HopBack}
-use Rattle.run_questions.specs.Answers.{Answers, answer_of}
-use Rattle.run_questions.specs.declared.record.Record.{Record}
-use Rattle.run_questions.specs.Records.{path_of}
+use Rattle.model_questions.specs.declared.answer.Answer.{Answer}
+use Rattle.model_questions.specs.declared.answer.Answer.TheVariants as answer
+use Rattle.model_questions.specs.declared.answer.ModelFault.{ModelFault}
+use Rattle.model_questions.specs.declared.answer.ModelFault.TheVariants as model_fault_kind
+use Rattle.model_questions.specs.declared.answer.Question.{Question}
+use Rattle.model_questions.specs.declared.answer.Question.TheVariants.{Param, GateSize, Hop, HopBack}
+use Rattle.model_questions.specs.Answers.{Answers, answer_of}
+use Rattle.model_questions.specs.declared.record.Record.{Record}
+use Rattle.model_questions.specs.Records.{path_of}
 use Rattle.run_semantics.specs.declared.outcome.Fault.{Fault}
 use Rattle.run_semantics.specs.declared.outcome.Fault.TheVariants as fault
 use Rattle.run_semantics.specs.declared.occasions.Occasion.{Occasion}

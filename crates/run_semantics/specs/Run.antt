@@ -3,14 +3,14 @@ use Rattle.std.specs.Prelude.{◌≡◌, ℕ, suc, zero, ◌-◌, nat_lt, max, m
 use Rattle.std.specs.List.{filter}
 use Rattle.module_api.specs.declared.call.Prompt.TheVariants as prompt
 use Rattle.module_api.specs.Behaviour.{Behaviour}
-use Rattle.run_questions.specs.declared.answer.Answer.{Answer}
-use Rattle.run_questions.specs.declared.answer.Answer.TheVariants as answer
-use Rattle.run_questions.specs.declared.answer.Built.{Built}
-use Rattle.run_questions.specs.declared.answer.Question.TheVariants.{Root, Build, BeyondLimit}
-use Rattle.run_questions.specs.Answers.{Answers, answer_of}
-use Rattle.run_questions.specs.declared.record.Origin.TheVariants as origin
-use Rattle.run_questions.specs.declared.record.Record.{Record}
-use Rattle.run_questions.specs.Records.{path_of, path_under, own_name}
+use Rattle.model_questions.specs.declared.answer.Answer.{Answer}
+use Rattle.model_questions.specs.declared.answer.Answer.TheVariants as answer
+use Rattle.model_questions.specs.declared.answer.Built.{Built}
+use Rattle.model_questions.specs.declared.answer.Question.TheVariants.{Root, Build, BeyondLimit}
+use Rattle.model_questions.specs.Answers.{Answers, answer_of}
+use Rattle.model_questions.specs.declared.record.Origin.TheVariants as origin
+use Rattle.model_questions.specs.declared.record.Record.{Record}
+use Rattle.model_questions.specs.Records.{path_of, path_under, own_name}
 use Rattle.run_semantics.specs.declared.outcome.Fault.TheVariants as fault
 use Rattle.run_semantics.specs.declared.outcome.Outcome.{Outcome}
 use Rattle.run_semantics.specs.declared.outcome.Outcome.TheVariants.{Ended, EventLimit, NoMoreEvents, TimeLimit, Fault}

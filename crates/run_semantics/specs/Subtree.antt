@@ -1,8 +1,8 @@
 -- Ids of modules, and a module and all below it.
 use Rattle.std.specs.Prelude.{ℕ, zero, suc, ◌==◌, Bool, false, not, List, [], ◌∷◌, ◌++◌, Option, Some, None}
 use Rattle.std.specs.List.{filter, list_any}
-use Rattle.run_questions.specs.declared.record.Record.{Record}
-use Rattle.run_questions.specs.Records.{record_at}
+use Rattle.model_questions.specs.declared.record.Record.{Record}
+use Rattle.model_questions.specs.Records.{record_at}
 
 -- as many ids as there are modules, from this one on
 abbrev pub ids_from : {X : Type 0} → ℕ → List X → List ℕ

@@ -1,14 +1,14 @@
 -- What comes next in a run: an event, or an injection that goes before it.
 use Rattle.std.specs.Prelude.{ℕ, zero, suc, List, [], ◌∷◌, Option, Some, None, bytes_eq, length, if◌then◌else◌}
-use Rattle.run_questions.specs.declared.answer.Answer.{Answer}
-use Rattle.run_questions.specs.declared.answer.Answer.TheVariants as answer
-use Rattle.run_questions.specs.declared.answer.Question.TheVariants.{InjectionBefore}
-use Rattle.injection_order.specs.declared.injection.Due.{Due}
-use Rattle.injection_order.specs.declared.injection.Injection.{Injection}
-use Rattle.run_questions.specs.Answers.{Answers, answer_of}
-use Rattle.run_questions.specs.declared.record.Record.{Record}
-use Rattle.injection_order.specs.Injections.{turn_of}
-use Rattle.run_questions.specs.Records.{path_of}
+use Rattle.model_questions.specs.declared.answer.Answer.{Answer}
+use Rattle.model_questions.specs.declared.answer.Answer.TheVariants as answer
+use Rattle.model_questions.specs.declared.answer.Question.TheVariants.{InjectionBefore}
+use Rattle.model_injections.specs.declared.injection.Due.{Due}
+use Rattle.model_injections.specs.declared.injection.Injection.{Injection}
+use Rattle.model_questions.specs.Answers.{Answers, answer_of}
+use Rattle.model_questions.specs.declared.record.Record.{Record}
+use Rattle.model_injections.specs.Injections.{turn_of}
+use Rattle.model_questions.specs.Records.{path_of}
 use Rattle.event_set.specs.declared.pending.Happening.TheVariants.{Arrival}
 use Rattle.event_set.specs.declared.pending.Pending.{Pending}
 use Rattle.run_semantics.specs.declared.traces.Instance.{Instance}

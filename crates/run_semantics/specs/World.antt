@@ -1,11 +1,11 @@
 -- What a run is at a moment.
 use Rattle.std.specs.Prelude.{ℕ, ◌+◌, ◌-◌, ◌*◌, ◌^◌, ◌≤◌, Bool, false, List, [], ◌∷◌, ◌++◌, length, Option, None, if◌then◌else◌}
 use Rattle.std.specs.List.{list_any}
-use Rattle.run_questions.specs.declared.answer.Asked.{Asked}
-use Rattle.run_questions.specs.declared.answer.Question.{Question}
-use Rattle.injection_order.specs.declared.injection.Turn.{Turn}
-use Rattle.run_questions.specs.declared.record.Record.{Record}
-use Rattle.run_questions.specs.Questions.{same_question}
+use Rattle.model_questions.specs.declared.answer.Asked.{Asked}
+use Rattle.model_questions.specs.declared.answer.Question.{Question}
+use Rattle.model_injections.specs.declared.injection.Turn.{Turn}
+use Rattle.model_questions.specs.declared.record.Record.{Record}
+use Rattle.model_questions.specs.Questions.{same_question}
 use Rattle.event_set.specs.declared.pending.Pending.{Pending}
 use Rattle.run_semantics.specs.declared.routes.Transmission.{Transmission}
 use Rattle.run_semantics.specs.declared.traces.Emission.{Emission}

@@ -3,10 +3,10 @@
 ghost use Rattle.std.specs.Prelude.{◌≡◌, ◌↔◌, ℕ, suc, ◌+◌, ◌≤◌, ◌<◌, List, IsSome, []};
 ghost use Rattle.module_api.specs.Behaviour.{Behaviour};
 ghost use Rattle.module_api.specs.Laws.{IsLawful};
-ghost use Rattle.run_questions.specs.Answers.{Answers, answer_of};
+ghost use Rattle.model_questions.specs.Answers.{Answers, answer_of};
 ghost use Rattle.run_semantics.specs.declared.outcome.Outcome.{Outcome};
-ghost use Rattle.run_questions.specs.declared.answer.Asked.{Asked};
-ghost use Rattle.run_questions.specs.declared.record.Record.{Record};
+ghost use Rattle.model_questions.specs.declared.answer.Asked.{Asked};
+ghost use Rattle.model_questions.specs.declared.record.Record.{Record};
 ghost use Rattle.run_semantics.specs.Agreement.{Agrees, AgreesUpTo, questions_of};
 ghost use Rattle.run_semantics.specs.Ending.{ending};
 ghost use Rattle.run_semantics.specs.Event.{instance_in};

@@ -5,7 +5,7 @@ ghost use Rattle.run_semantics.specs.Perform.{channel_fault, model_fault};
 ghost use Rattle.run_semantics.specs.Run.{is_fault};
 
 use channels::travels::ChannelFault;
-use run_questions::answer::ModelFault;
+use model_questions::answer::ModelFault;
 use sim_values::text::Text;
 use std::alloc::{AllocError, Global};
 

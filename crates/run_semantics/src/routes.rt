@@ -4,9 +4,9 @@ ghost use Rattle.std.specs.Prelude.{◌≡◌, ◌<◌, IfOk, IfSome, length};
 ghost use Rattle.run_semantics.specs.Routes.{is_output, is_out_gate, is_input, is_in_gate, is_connected, is_simple, is_gate, place_of, busy_at, busy_of, channels_of, transmission_gate};
 
 use channels::is_transmission;
+use model_questions::answer::{Answer, Channel};
+use model_questions::record::{Record, record_at};
 use module_api::call::Direction;
-use run_questions::answer::{Answer, Channel};
-use run_questions::record::{Record, record_at};
 use sim_time::SimTime;
 use sim_values::text::Text;
 use sqlite_items::Items;

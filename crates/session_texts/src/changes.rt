@@ -2,7 +2,7 @@
 
 use ini_config::edits::{with_inserted, with_removed, with_replaced};
 use ini_config::error::EditError;
-use ini_texts::lines::IniText;
+use ini_trees::lines::IniText;
 use model_edits::edit::Edit;
 use ned_trees::texts::NedTexts;
 use sim_values::NoMemory;

@@ -3,10 +3,10 @@
 use crate::own::Own;
 use crate::refused::tell_no_line;
 use crate::texts::SessionTexts;
-use ini_texts::lines::LineMeaning;
+use explain_types::explanation::Explanation;
+use ini_trees::lines::LineMeaning;
 use sim_values::NoMemory;
 use std::alloc::Global;
-use text_explanations::explanation::Explanation;
 
 /// The commands, a line for each.
 const COMMANDS: &str = "run N                                    a run of at most N events

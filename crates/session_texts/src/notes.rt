@@ -6,16 +6,16 @@ use crate::own::{Own, own_of};
 use crate::refused::{why_refused_command, why_refused_edit};
 use crate::texts::SessionTexts;
 use crate::undoing::{Messages, Undo, undo_of, undo_of_ned};
-use command_lines::commands::{Command, command_of};
-use desk_clients::told::Told;
-use explanations::messages::discarded_line;
-use explanations::runs::fault_line;
+use desk_client::told::Told;
+use desk_commands::commands::{Command, command_of};
+use explain_files::messages::discarded_line;
+use explain_files::runs::fault_line;
+use explain_types::sources::Sources;
 use model_edits::edit::{Edit, Refusal};
 use run_semantics::outcome::{Fault, Outcome};
 use sim_values::NoMemory;
 use sim_values::text::Text;
 use std::alloc::{AllocError, Global};
-use text_explanations::sources::Sources;
 
 /// What is noted of a session: what was asked last, the file that was read for it, and the texts as edits made them. It answers nothing that the
 /// session answers, and what it says makes diagnostics.

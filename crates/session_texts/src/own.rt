@@ -1,9 +1,9 @@
 //! The program's own commands: a session knows none of them, and they change nothing of it.
 
-use command_lines::numbers::number_of;
+use desk_commands::numbers::number_of;
+use explain_types::names::shown;
 use sim_values::text::{Text, spells};
 use std::alloc::{AllocError, Global};
-use text_explanations::names::shown;
 
 /// A command of the program's own.
 #[derive(Drop)]

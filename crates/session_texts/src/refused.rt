@@ -3,18 +3,18 @@
 use crate::changes::{bytes_of, changed_ini, changed_line, with_path, with_text};
 use crate::texts::SessionTexts;
 use crate::usages::tell_no_command;
-use command_lines::commands::{Command, MAX_LINE};
-use explanations::refusals::{bad_connection, bad_line, why_refused};
+use desk_commands::commands::{Command, MAX_LINE};
+use explain_files::refusals::{bad_connection, bad_line, why_refused};
+use explain_types::explanation::Explanation;
+use explain_types::names::shown;
+use explain_types::sources::Sources;
 use ini_config::error::EditError;
-use ini_texts::lines::IniText;
+use ini_trees::lines::IniText;
 use model_edits::edit::{Edit, MAX_INJECTIONS, MAX_PAYLOAD, Refusal};
+use ned_inheritance::table::TypeFault;
 use sim_values::NoMemory;
 use sim_values::text::MAX_LENGTH;
 use std::alloc::Global;
-use text_explanations::explanation::Explanation;
-use text_explanations::names::shown;
-use text_explanations::sources::Sources;
-use type_building::table::TypeFault;
 
 /// Why there is no model of the texts with that ini text in place of their own.
 fn why_not_with(alloc: Global, texts: &SessionTexts, ini: &IniText) -> Result<String, NoMemory> {

@@ -1,17 +1,17 @@
 //! The texts of a session.
 
 use crate::changes::{changed_ini, copied, paths_copied, with_path, with_text};
+use explain_types::names::shown;
+use explain_types::sources::Sources;
 use ini_config::error::{EditError, IniError};
 use ini_config::parse::parse_ini;
-use ini_texts::lines::IniText;
+use ini_trees::lines::IniText;
 use model_edits::edit::Edit;
 use ned_trees::texts::NedTexts;
 use sim_values::NoMemory;
 use sim_values::text::spells;
 use sqlite_items::Items;
 use std::alloc::Global;
-use text_explanations::names::shown;
-use text_explanations::sources::Sources;
 
 /// The texts of a session: the files as they were read, with the edits that were made since.
 #[derive(Drop)]

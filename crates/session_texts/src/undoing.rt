@@ -1,12 +1,12 @@
 //! What takes the last edit back.
 
 use crate::texts::SessionTexts;
-use command_lines::commands::MAX_LINE;
+use desk_commands::commands::MAX_LINE;
+use explain_types::names::shown;
 use model_edits::edit::Edit;
 use sim_values::NoMemory;
 use sim_values::text::Text;
 use std::alloc::Global;
-use text_explanations::names::shown;
 
 /// What takes back the last edit that was made.
 #[derive(Drop)]

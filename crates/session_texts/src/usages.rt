@@ -1,7 +1,7 @@
 //! How commands are written.
 
-use text_explanations::explanation::Explanation;
-use text_explanations::names::shown;
+use explain_types::explanation::Explanation;
+use explain_types::names::shown;
 
 /// The first words of commands, with how they are written.
 const USAGES: [(&str, &str); 15] = [

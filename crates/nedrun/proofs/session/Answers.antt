@@ -1,10 +1,10 @@
 use Rattle.std.proofs.Common.{◌≡◌, ◌⊎◌, []}
-use Rattle.model_texts.specs.Models.{IsModelOf, Refuses}
-use Rattle.stock_modules.specs.Stock.{stock}
-use Rattle.stock_desk.specs.Served.{fresh_machine}
-use Rattle.stock_desk.specs.Serving.{Ends}
+use Rattle.model_reading.specs.Models.{IsModelOf, Refuses}
+use Rattle.module_stock.specs.Stock.{stock}
+use Rattle.desk_server.specs.Served.{fresh_machine}
+use Rattle.desk_server.specs.Serving.{Ends}
 use Rattle.std.specs.String.{string_bytes}
-use Rattle.program_dialogue.specs.declared.dialogue.Ask.TheVariants as ask
+use Rattle.nedrun_script.specs.declared.dialogue.Ask.TheVariants as ask
 use Rattle.nedrun.proofs.Sessions.{session_ends, session_served}
 use Rattle.nedrun.proofs.session.Goals as goal
 

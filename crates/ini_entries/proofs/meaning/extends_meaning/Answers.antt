@@ -1,7 +1,7 @@
 use Rattle.std.proofs.Common.{refl, sym, ◌∙◌}
 use Rattle.ini_entries.specs.Options.{word_extends}
 use Rattle.ini_entries.specs.Texts.{items_of}
-use Rattle.ini_texts.specs.declared.entry.EntryMeaning.TheVariants as meaning
+use Rattle.ini_trees.specs.declared.entry.EntryMeaning.TheVariants as meaning
 use Rattle.ini_entries.proofs.EntryLaws.{no_extends, only_meaning}
 use Rattle.ini_entries.proofs.OptionLaws.{names_found}
 use Rattle.ini_entries.proofs.meaning.extends_meaning.Goals as goal

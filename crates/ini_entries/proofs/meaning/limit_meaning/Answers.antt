@@ -1,8 +1,8 @@
 use Rattle.std.proofs.Common.{ℕ, Some, refl, subst}
-use Rattle.ned_values.specs.ExpressionText.{IsExpressionText}
+use Rattle.ned_leaves.specs.ExpressionText.{IsExpressionText}
 use Rattle.ini_entries.specs.Meaning.{Tells}
 use Rattle.ini_entries.specs.Options.{time_literal, word_time_limit}
-use Rattle.ini_texts.specs.declared.entry.EntryMeaning.TheVariants as meaning
+use Rattle.ini_trees.specs.declared.entry.EntryMeaning.TheVariants as meaning
 use Rattle.ini_entries.proofs.EntryLaws.{no_limit, only_meaning}
 use Rattle.ini_entries.proofs.meaning.limit_meaning.Goals as goal
 

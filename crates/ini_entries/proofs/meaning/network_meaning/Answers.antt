@@ -1,6 +1,6 @@
 use Rattle.std.proofs.Common.{refl, sym, ◌∙◌}
 use Rattle.ini_entries.specs.Options.{word_network}
-use Rattle.ini_texts.specs.declared.entry.EntryMeaning.TheVariants as meaning
+use Rattle.ini_trees.specs.declared.entry.EntryMeaning.TheVariants as meaning
 use Rattle.ini_entries.proofs.EntryLaws.{no_network, only_meaning}
 use Rattle.ini_entries.proofs.meaning.network_meaning.Goals as goal
 

@@ -5,8 +5,8 @@ use Rattle.ini_pattern.specs.PatternOf.{pattern_of}
 use Rattle.ini_entries.specs.Keys.{ObjectKey}
 use Rattle.ini_entries.specs.Options.{IsObjectOption}
 use Rattle.ini_entries.specs.Texts.{Bytes}
-use Rattle.ini_texts.specs.declared.entry.EntryMeaning.TheVariants as meaning
-use Rattle.ini_texts.specs.declared.entry.ObjectEntry.{ObjectEntry}
+use Rattle.ini_trees.specs.declared.entry.EntryMeaning.TheVariants as meaning
+use Rattle.ini_trees.specs.declared.entry.ObjectEntry.{ObjectEntry}
 use Rattle.ini_entries.proofs.EntryLaws.{no_object, only_meaning, refused_object}
 use Rattle.ini_entries.proofs.meaning.object_meaning.Goals as goal
 

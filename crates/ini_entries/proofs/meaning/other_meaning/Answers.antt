@@ -1,5 +1,5 @@
 use Rattle.std.proofs.Common.{sym, ◌∙◌}
-use Rattle.ini_texts.specs.declared.entry.EntryMeaning.TheVariants as meaning
+use Rattle.ini_trees.specs.declared.entry.EntryMeaning.TheVariants as meaning
 use Rattle.ini_entries.proofs.EntryLaws.{no_other, only_meaning}
 use Rattle.ini_entries.proofs.meaning.other_meaning.Goals as goal
 

@@ -1,5 +1,5 @@
 use Rattle.std.proofs.lemmas.Result.{err_from_is_err_and}
-use Rattle.ini_texts.specs.declared.entry.EntryMeaning.TheVariants as meaning
+use Rattle.ini_trees.specs.declared.entry.EntryMeaning.TheVariants as meaning
 use Rattle.ini_entries.proofs.EntryLaws.{only_meaning, refused_parameter}
 use Rattle.ini_entries.proofs.meaning.parameter_meaning.Goals as goal
 

@@ -1,7 +1,7 @@
 use Rattle.std.proofs.Common.{refl, sym, ◌∙◌}
 use Rattle.ini_entries.specs.Options.{word_modes}
 use Rattle.ini_entries.proofs.OptionLaws.{no_modes, only_option}
-use Rattle.ini_texts.specs.declared.entry.ObjectOption.TheVariants as object
+use Rattle.ini_trees.specs.declared.entry.ObjectOption.TheVariants as object
 use Rattle.ini_entries.proofs.options.modes_option.Goals as goal
 
 pub returns-in-None : goal.returns-in-None

@@ -2,7 +2,7 @@ use Rattle.std.proofs.Common.{◌≡◌, Some, subst}
 use Rattle.ini_entries.specs.Meaning.{Tells}
 use Rattle.ini_entries.specs.Options.{truth_word}
 use Rattle.ini_entries.proofs.OptionLaws.{no_recording, only_option}
-use Rattle.ini_texts.specs.declared.entry.ObjectOption.TheVariants as object
+use Rattle.ini_trees.specs.declared.entry.ObjectOption.TheVariants as object
 use Rattle.ini_entries.proofs.options.recording_option.Goals as goal
 
 pub returns-in-None : goal.returns-in-None

@@ -1,4 +1,4 @@
-use Rattle.answer_engine.proofs.Order.{edited}
+use Rattle.param_engine.proofs.Order.{edited}
 use Rattle.inside_keys.specs.Values.{rules_of}
 use Rattle.inside_run.proofs.Exact.{exact}
 use Rattle.inside_run.proofs.laws.after_edit.Goals as goal

@@ -1,4 +1,4 @@
-use Rattle.answer_engine.proofs.Order.{closed, sorted}
+use Rattle.param_engine.proofs.Order.{closed, sorted}
 use Rattle.inside_keys.specs.Values.{rules_of}
 use Rattle.inside_run.proofs.Exact.{exact}
 use Rattle.inside_run.proofs.laws.rests_on_what_was_asked.Goals as goal

@@ -1,8 +1,8 @@
 -- what is left is what was to be done, and the table may be kept
 use Rattle.std.proofs.Common.{◌≡◌, ◌+◌}
 use Rattle.std.specs.Option.{option_copied}
-use Rattle.answer_engine.specs.Tables.{IsKept}
-use Rattle.answer_engine.specs.Turns.{came_to, asks}
+use Rattle.param_engine.specs.Tables.{IsKept}
+use Rattle.param_engine.specs.Turns.{came_to, asks}
 use Rattle.inside_keys.specs.Blamed as blame
 use Rattle.inside_keys.specs.Keys.{key}
 use Rattle.inside_keys.specs.Values.{asking_of, rules_of, value_at}

@@ -1,5 +1,5 @@
 use Rattle.std.proofs.Common.{◌∙◌, ap, sym, arith}
-use Rattle.asking.specs.Asking.{Done}
+use Rattle.param_following.specs.Asking.{Done}
 use Rattle.std.specs.Prelude.{Err}
 use Rattle.inside_keys.specs.Asked.{meant_then, valued_then}
 use Rattle.inside_keys.specs.Places.{meant_under}

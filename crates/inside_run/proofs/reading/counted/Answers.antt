@@ -1,7 +1,7 @@
 use Rattle.std.proofs.Common.{Ok, ap, sym, subst, ◌∙◌, rules}
 use Rattle.std.proofs.lemmas.Int.{to_z-of_z}
 use mir.Syntax.{w64}
-use Rattle.asking.specs.Asking.{Done}
+use Rattle.param_following.specs.Asking.{Done}
 use Rattle.inside_wiring.specs.Ends.{natural}
 use Rattle.inside_keys.specs.Values.{among, at_index, is_there}
 use Rattle.inside_keys.specs.declared.found.Found.TheVariants as found

@@ -1,5 +1,5 @@
 use Rattle.std.proofs.Common.{Err, ap, sym, ◌∙◌}
-use Rattle.asking.specs.Asking.{Done}
+use Rattle.param_following.specs.Asking.{Done}
 use Rattle.inside_keys.specs.Values as values
 use Rattle.inside_run.proofs.types.named_type.Goals as goal
 

@@ -1,5 +1,5 @@
 use Rattle.std.proofs.Common.{Some, length, ap, sym, ◌∙◌}
-use Rattle.ini_texts.specs.Entries.{last_name}
+use Rattle.ini_trees.specs.Entries.{last_name}
 use Rattle.ned_types.specs.Flat.{or_else}
 use Rattle.inside_parts.specs.Names.{position_of}
 use Rattle.inside_keys.specs.Settings.{type_names}

@@ -1,6 +1,6 @@
 use Rattle.std.proofs.Common.{Some, sym, ◌∙◌, ap, arith}
-use Rattle.answer_engine.specs.Tables.{said}
-use Rattle.answer_engine.proofs.Going.{kept_value}
+use Rattle.param_engine.specs.Tables.{said}
+use Rattle.param_engine.proofs.Going.{kept_value}
 use Rattle.inside_keys.specs.Values.{rules_of}
 use Rattle.inside_run.proofs.Alike.{known_alike}
 use Rattle.inside_run.proofs.Exact.{exact}

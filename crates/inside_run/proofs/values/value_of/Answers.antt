@@ -1,8 +1,8 @@
 use Rattle.std.proofs.Common.{◌≡◌, Some, subst, sym}
 use Rattle.std.specs.Prelude.{IfOk, OnOk}
-use Rattle.asking.specs.Following.{Rules, value_of}
-use Rattle.answer_engine.specs.Tables.{IsKept, found_in}
-use Rattle.answer_engine.specs.Working.{AreBegunOnce}
+use Rattle.param_following.specs.Following.{Rules, value_of}
+use Rattle.param_engine.specs.Tables.{IsKept, found_in}
+use Rattle.param_engine.specs.Working.{AreBegunOnce}
 use Rattle.inside_parts.specs.declared.fault.Fault.{Fault}
 use Rattle.inside_keys.specs.declared.found.Found.{Found}
 use Rattle.inside_keys.specs.declared.key.Key.{Key}

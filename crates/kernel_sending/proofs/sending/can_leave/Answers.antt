@@ -1,5 +1,5 @@
 use Rattle.std.proofs.Common.{◌∙◌, sym, ap, List, ℕ, Bool}
-use Rattle.run_questions.specs.declared.answer.Question.TheVariants.{GateSize}
+use Rattle.model_questions.specs.declared.answer.Question.TheVariants.{GateSize}
 use Rattle.run_semantics.specs.Perform.{asking}
 use Rattle.run_semantics.specs.Routes.{is_out_gate}
 use Rattle.kernel_sending.proofs.sending.can_leave.Goals as goal

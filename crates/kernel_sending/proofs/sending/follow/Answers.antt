@@ -1,5 +1,5 @@
 use Rattle.std.proofs.Common.{◌∙◌, ◌<◌, ◌≤◌, ◌-◌, ◌+◌, List, Some, None, arith, ap, sym, subst, refl}
-use Rattle.run_questions.specs.declared.record.Record.{Record}
+use Rattle.model_questions.specs.declared.record.Record.{Record}
 use Rattle.run_semantics.specs.Routes.{is_simple}
 use Rattle.run_semantics.specs.Perform.{chain, most_hops}
 use Rattle.kernel_actions.proofs.Growing.{growth_on}

@@ -1,5 +1,5 @@
 use Rattle.std.proofs.Common.{◌∙◌, sym, ap, List, ℕ, Option}
-use Rattle.run_questions.specs.declared.answer.Question.TheVariants.{Hop}
+use Rattle.model_questions.specs.declared.answer.Question.TheVariants.{Hop}
 use Rattle.run_semantics.specs.declared.routes.NextHop.{NextHop}
 use Rattle.run_semantics.specs.Perform.{asking}
 use Rattle.run_semantics.specs.Routes.{hop_by}

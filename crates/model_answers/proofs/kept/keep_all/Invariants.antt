@@ -1,4 +1,4 @@
-use Rattle.answer_engine.specs.Tables.{IsKept}
+use Rattle.param_engine.specs.Tables.{IsKept}
 use Rattle.inside_keys.specs.Values.{rules_of}
 use Rattle.model_settings.specs.Standings.{setting_of}
 use Rattle.model_answers.proofs.kept.keep_all.Given as goal

@@ -1,5 +1,5 @@
 use Rattle.std.proofs.Common.{◌≡◌, drop}
-use Rattle.answer_engine.specs.Tables.{IsKept}
+use Rattle.param_engine.specs.Tables.{IsKept}
 use Rattle.inside_keys.specs.Values.{rules_of}
 use Rattle.model_answers.specs.Keyed.{fault_of_sizes}
 use Rattle.model_answers.specs.Reading.{settings_of}

@@ -1,7 +1,7 @@
 use Rattle.std.proofs.Common.{◌≡◌, ◌++◌, drop}
-use Rattle.answer_engine.specs.Tables.{IsKept}
+use Rattle.param_engine.specs.Tables.{IsKept}
 use Rattle.inside_keys.specs.Values.{rules_of}
-use Rattle.run_questions.specs.Answers.{with_values}
+use Rattle.model_questions.specs.Answers.{with_values}
 use Rattle.model_answers.specs.Keyed.{names_in, value_in}
 use Rattle.model_answers.specs.Reading.{settings_of}
 use Rattle.model_answers.proofs.keyed.push_lines.Given as goal

@@ -1,5 +1,5 @@
 use Rattle.std.proofs.Common.{◌≡◌, drop}
-use Rattle.run_questions.specs.Gates.{half_of}
+use Rattle.model_questions.specs.Gates.{half_of}
 use Rattle.model_answers.proofs.named.half_named.Given as goal
 
 abbrev pub invariant-loop-gate : goal.invariant-loop-gate

@@ -1,5 +1,5 @@
 use Rattle.std.proofs.Common.{◌≡◌, ◌++◌, drop}
-use Rattle.models.specs.Models.{entries_in}
+use Rattle.model_data.specs.Models.{entries_in}
 use Rattle.recorders.specs.Scalars.{mode_lines}
 use Rattle.recorders.proofs.scalars.push_modes.Given as goal
 

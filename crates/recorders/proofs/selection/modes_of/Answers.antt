@@ -1,7 +1,7 @@
 use Rattle.std.proofs.Common.{ap, ◌∙◌, List}
 use Rattle.std.specs.Prelude.{codes}
 use Rattle.std.specs.Option.{option_copied}
-use Rattle.models.specs.Models.{entries_in}
+use Rattle.model_data.specs.Models.{entries_in}
 use Rattle.ned_trees.specs.declared.declarations.RecordedMode.{RecordedMode}
 use Rattle.recorders.specs.Selection.{recorded_modes, option_of}
 use Rattle.recorders.proofs.selection.modes_of.Goals as goal

@@ -1,5 +1,5 @@
 use Rattle.std.proofs.Common.{◌≡◌, drop}
-use Rattle.models.specs.Models.{entries_in}
+use Rattle.model_data.specs.Models.{entries_in}
 use Rattle.recorders.specs.Selection.{records_scalar_among}
 use Rattle.recorders.proofs.selection.records_scalar_among.Given as goal
 

@@ -1,5 +1,5 @@
 use Rattle.std.proofs.Common.{◌≡◌, ◌∙◌, sym, true, false}
-use Rattle.models.specs.Models.{entries_in}
+use Rattle.model_data.specs.Models.{entries_in}
 use Rattle.recorders.proofs.Reading.{vector_added, vector_left_out}
 use Rattle.recorders.specs.Places.{is_any_of}
 use Rattle.recorders.specs.Selection.{records_vector}

@@ -1,5 +1,5 @@
 use Rattle.std.proofs.Common.{◌≡◌, drop}
-use Rattle.models.specs.Models.{entries_in}
+use Rattle.model_data.specs.Models.{entries_in}
 use Rattle.recorders.specs.Wanted.{has_output_among}
 use Rattle.recorders.proofs.wanted.has_output_among.Given as goal
 

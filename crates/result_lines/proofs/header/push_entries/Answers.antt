@@ -1,7 +1,7 @@
 use Rattle.std.proofs.Common.{◌≡◌, ◌++◌, [], List, Vec, Global, ℕ, ap, sym, ◌∙◌, append-nil}
-use Rattle.ini_texts.specs.Numbers.{holds}
-use Rattle.ini_texts.specs.Sections.{entries_under}
-use Rattle.ini_texts.specs.Words.{Bytes}
+use Rattle.ini_trees.specs.Numbers.{holds}
+use Rattle.ini_trees.specs.Sections.{entries_under}
+use Rattle.ini_trees.specs.Words.{Bytes}
 use Rattle.result_lines.specs.Sections.{entries_at, EntryLists}
 use Rattle.result_lines.proofs.HeaderLaws.{section_done}
 use Rattle.result_lines.proofs.SectionLaws.{none_under}

@@ -1,5 +1,5 @@
 use Rattle.std.proofs.Common.{◌≡◌, ◌++◌, drop}
-use Rattle.ini_texts.specs.Sections.{entries_along}
+use Rattle.ini_trees.specs.Sections.{entries_along}
 use Rattle.result_lines.specs.Header.{config_lines}
 use Rattle.result_lines.proofs.header.push_entries.Given as goal
 

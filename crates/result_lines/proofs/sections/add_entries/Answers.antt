@@ -1,10 +1,10 @@
 use Rattle.std.proofs.Common.{◌≡◌, ◌++◌, ◌∷◌, ◌+◌, ℕ, List, Option, length, drop, sym, ap, ◌∙◌}
 use Rattle.std.proofs.lemmas.List.{drop_more}
 use Rattle.std.specs.Option.{option_copied}
-use Rattle.ini_texts.specs.declared.lines.IniLine.{IniLine}
-use Rattle.ini_texts.specs.Numbers.{name_at}
-use Rattle.ini_texts.specs.Sections.{entries_from}
-use Rattle.ini_texts.specs.Words.{Bytes}
+use Rattle.ini_trees.specs.declared.lines.IniLine.{IniLine}
+use Rattle.ini_trees.specs.Numbers.{name_at}
+use Rattle.ini_trees.specs.Sections.{entries_from}
+use Rattle.ini_trees.specs.Words.{Bytes}
 use Rattle.result_lines.specs.Sections.{entries_at}
 use Rattle.result_lines.proofs.SectionLaws.{line_done}
 use Rattle.result_lines.proofs.sections.add_entries.Goals as goal

@@ -1,7 +1,7 @@
 use Rattle.std.proofs.Common.{◌≡◌, ◌++◌, ℕ, ◌<◌, length, drop}
 use Rattle.std.specs.Option.{option_copied}
-use Rattle.ini_texts.specs.Numbers.{name_at}
-use Rattle.ini_texts.specs.Sections.{entries_from, entries_under}
+use Rattle.ini_trees.specs.Numbers.{name_at}
+use Rattle.ini_trees.specs.Sections.{entries_from, entries_under}
 use Rattle.result_lines.specs.Sections.{entries_at}
 use Rattle.result_lines.proofs.sections.add_entries.Given as goal
 

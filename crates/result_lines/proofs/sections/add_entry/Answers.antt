@@ -1,8 +1,8 @@
 use Rattle.std.proofs.Common.{◌≡◌, ◌++◌, ◌<◌, ℕ, length, Option, Some, sym, ap, subst}
 use Rattle.std.specs.Option.{option_copied}
-use Rattle.ini_texts.specs.Numbers.{name_at}
-use Rattle.ini_texts.specs.Sections.{entry_here, is_in}
-use Rattle.ini_texts.specs.Words.{Bytes}
+use Rattle.ini_trees.specs.Numbers.{name_at}
+use Rattle.ini_trees.specs.Sections.{entry_here, is_in}
+use Rattle.ini_trees.specs.Words.{Bytes}
 use Rattle.result_lines.specs.Sections.{entries_at, one_of}
 use Rattle.result_lines.proofs.SectionLaws.{added_to_none}
 use Rattle.result_lines.proofs.sections.add_entry.Goals as goal

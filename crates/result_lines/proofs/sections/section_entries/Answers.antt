@@ -1,4 +1,4 @@
-use Rattle.ini_texts.proofs.NumberedLaws.{sections_of}
+use Rattle.ini_trees.proofs.NumberedLaws.{sections_of}
 use Rattle.result_lines.proofs.sections.section_entries.Goals as goal
 
 pub add_entries-requires-clause-apart : goal.add_entries-requires-clause-apart

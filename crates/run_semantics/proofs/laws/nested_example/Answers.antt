@@ -1,5 +1,5 @@
 use Rattle.std.proofs.Common.{refl}
-use Rattle.run_questions.specs.Records.{place_of}
+use Rattle.model_questions.specs.Records.{place_of}
 use Rattle.run_semantics.specs.Run.{most_nested}
 use Rattle.run_semantics.specs.Subtree.{inner_first, outer_first}
 use Rattle.run_semantics.proofs.laws.nested_example.Goals as goal

@@ -1,5 +1,5 @@
 use Rattle.std.proofs.Common.{refl}
-use Rattle.run_questions.specs.Records.{place_of}
+use Rattle.model_questions.specs.Records.{place_of}
 use Rattle.run_semantics.specs.Perform.{most_hops}
 use Rattle.run_semantics.proofs.laws.sending_example.Goals as goal
 

@@ -1,12 +1,12 @@
 use Rattle.std.proofs.Common.{◌++◌, option_map, ap, ◌∙◌}
 use Rattle.run_semantics.specs.Run.{standing}
-use Rattle.saved_boxes.specs.Saved.{seats_held}
-use Rattle.checkpointed_runs.specs.Kept.{boxes_in, waiting_in}
-use Rattle.checkpointed_runs.specs.Running.{parts_in}
+use Rattle.kernel_boxes.specs.Saved.{seats_held}
+use Rattle.checkpoint_runs.specs.Kept.{boxes_in, waiting_in}
+use Rattle.checkpoint_runs.specs.Running.{parts_in}
 use Rattle.checkpoints.specs.Stored.{counts_in}
 use Rattle.kernel.specs.Kernels.{seats_in, world_in}
 use Rattle.edit_session.specs.Sessions.{completed_of, editing_of}
-use Rattle.checkpointed_runs.proofs.Counting.{kept_counts}
+use Rattle.checkpoint_runs.proofs.Counting.{kept_counts}
 use Rattle.edit_session.proofs.Valid.{edited_same, kept_edited}
 use Rattle.edit_session.proofs.session.Session.accept.Goals as goal
 

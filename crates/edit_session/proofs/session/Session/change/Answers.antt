@@ -1,5 +1,5 @@
 use Rattle.std.proofs.Common.{sym, subst, ◌∙◌}
-use Rattle.models.specs.declared.model.Model.{Model}
+use Rattle.model_data.specs.declared.model.Model.{Model}
 use Rattle.model_edits.specs.Edited.{IsEditOf}
 use Rattle.edit_session.specs.Sessions.{editing_of}
 use Rattle.edit_session.proofs.Changes.{changed_by}

@@ -1,6 +1,6 @@
 use Rattle.std.proofs.Common.{option_map, sym, ◌∙◌}
 use Rattle.kernel.specs.Kernels.{seats_in, world_in}
-use Rattle.checkpointed_runs.specs.Kept.{waiting_in}
+use Rattle.checkpoint_runs.specs.Kept.{waiting_in}
 use Rattle.edit_session.specs.Sessions.{completed_of}
 use Rattle.edit_session.proofs.Boxes.{kept_declined}
 use Rattle.edit_session.proofs.session.Session.decline.Goals as goal

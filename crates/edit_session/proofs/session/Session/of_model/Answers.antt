@@ -1,5 +1,5 @@
 use Rattle.kernel.specs.Kernels.{seats_in, world_in}
-use Rattle.saved_boxes.specs.Saved.{seats_held}
+use Rattle.kernel_boxes.specs.Saved.{seats_held}
 use Rattle.edit_session.proofs.Beginning.{begins_fresh}
 use Rattle.edit_session.proofs.Valid.{kept_begun}
 use Rattle.edit_session.proofs.session.Session.of_model.Goals as goal

@@ -1,6 +1,6 @@
 use Rattle.std.proofs.Common.{◌≤◌, List, ℕ, length, sym, subst}
 use Rattle.checkpoints.specs.Stored.{counts_in, most_stored}
-use Rattle.checkpointed_runs.proofs.Most.{few_stored}
+use Rattle.checkpoint_runs.proofs.Most.{few_stored}
 use Rattle.edit_session.proofs.session.Session.positions.Goals as goal
 
 pub returns-clause-few : goal.returns-clause-few

@@ -3,9 +3,9 @@ use Rattle.std.proofs.Math.Facts.{Fits-lt-pow}
 use Rattle.kernel_actions.specs.declared.position.Position.{Position}
 use Rattle.checkpoints.specs.Stored.{counts_in, counts_of, Timeline}
 use Rattle.model_answers.specs.Answering.{answers_of}
-use Rattle.checkpointed_runs.specs.Positions.{last_count, HasStored, is_given_up}
+use Rattle.checkpoint_runs.specs.Positions.{last_count, HasStored, is_given_up}
 use Rattle.kernel.specs.Kernels.{seats_in, world_in}
-use Rattle.checkpointed_runs.specs.Kept.{waiting_in}
+use Rattle.checkpoint_runs.specs.Kept.{waiting_in}
 use Rattle.edit_session.proofs.GivenUp.{kept_cut}
 use Rattle.edit_session.proofs.session.Session.run.Goals as goal
 

@@ -3,9 +3,9 @@ use Rattle.std.proofs.Math.Facts.{Fits-lt-pow}
 use Rattle.model_answers.specs.Answering.{answers_of}
 use Rattle.checkpoints.specs.Stored.{counts_in}
 use Rattle.kernel.specs.Kernels.{seats_in, world_in}
-use Rattle.checkpointed_runs.specs.Positions.{CanBeStored, is_done}
-use Rattle.checkpointed_runs.specs.Kept.{boxes_in, waiting_in}
-use Rattle.checkpointed_runs.specs.Running.{kept_boxes}
+use Rattle.checkpoint_runs.specs.Positions.{CanBeStored, is_done}
+use Rattle.checkpoint_runs.specs.Kept.{boxes_in, waiting_in}
+use Rattle.checkpoint_runs.specs.Running.{kept_boxes}
 use Rattle.edit_session.proofs.Boxes.{kept_waiting, seen_waiting}
 use Rattle.edit_session.specs.Sessions.{editing_of}
 use Rattle.edit_session.proofs.Valid.{fresh_done, kept_done}

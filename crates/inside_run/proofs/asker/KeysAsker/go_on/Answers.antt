@@ -1,5 +1,5 @@
 use Rattle.std.proofs.Common.{◌+◌, ◌≤◌, subst}
-use Rattle.answer_engine.specs.Turns.{asks}
+use Rattle.param_engine.specs.Turns.{asks}
 use Rattle.inside_run.specs.declared.progress.Progress.{Progress}
 use Rattle.inside_run.specs.Weights.{weight}
 use Rattle.inside_run.proofs.asker.KeysAsker.go_on.Goals as goal

@@ -2,7 +2,7 @@ use Rattle.module_api.specs.declared.call.Prompt.TheVariants.{Finish}
 use Rattle.std.proofs.Common.{refl}
 use Rattle.run_semantics.specs.declared.occasions.Occasion.TheVariants.{End}
 use Rattle.kernel.specs.Kernels.{seats_in}
-use Rattle.saved_boxes.specs.Seats.{module_in}
+use Rattle.kernel_boxes.specs.Seats.{module_in}
 use Rattle.kernel.proofs.Calling.{passed_over}
 use Rattle.kernel.proofs.Starting.{told_none}
 use Rattle.kernel.proofs.kernel.Kernel.call_last.Goals as goal

@@ -1,6 +1,6 @@
 use Rattle.std.proofs.Common.{List, ap, ◌∙◌, subst}
-use Rattle.run_questions.specs.declared.record.Record.{Record}
-use Rattle.shown_modules.specs.Tables.{shown_of, AreShown, IsShown}
+use Rattle.model_questions.specs.declared.record.Record.{Record}
+use Rattle.kernel_call_views.specs.Tables.{shown_of, AreShown, IsShown}
 use Rattle.kernel.specs.Kernels.{world_in}
 use Rattle.kernel.proofs.Calling.{ok_step}
 use Rattle.kernel.proofs.Shown.{told_shown, told_itself, named_step, lent_shown, shown_grows}

@@ -1,9 +1,9 @@
 use Rattle.std.proofs.Common.{Ok, map, sym, ap, ◌∙◌, subst}
 use Rattle.module_api.specs.declared.call.Call.{Call}
-use Rattle.run_questions.specs.Answers.{parameters_of}
+use Rattle.model_questions.specs.Answers.{parameters_of}
 use Rattle.run_semantics.specs.World.{World}
 use Rattle.run_semantics.specs.Perform.{On, answered}
-use Rattle.saved_boxes.specs.Seats.{seat_of, AreKept}
+use Rattle.kernel_boxes.specs.Seats.{seat_of, AreKept}
 use Rattle.kernel.specs.Seats.{world_of, IsCalled}
 use Rattle.kernel.specs.Kernels.{seats_in}
 use Rattle.kernel_actions.specs.Positions.{IsGrownFrom}

@@ -1,7 +1,7 @@
 use Rattle.std.proofs.Common.{ap, ◌∙◌, arith, map}
 use Rattle.run_semantics.specs.World.{World}
 use Rattle.run_semantics.proofs.Sound.{ask_noted-next}
-use Rattle.saved_boxes.specs.Seats.{instance_of}
+use Rattle.kernel_boxes.specs.Seats.{instance_of}
 use Rattle.kernel.specs.Kernels.{seats_in, world_in}
 use Rattle.kernel.proofs.Calling.{ok_step}
 use Rattle.kernel.proofs.Following.{follow_broken, follow_on}

@@ -1,7 +1,7 @@
 use Rattle.std.proofs.Common.{ap, ◌∙◌}
-use Rattle.saved_boxes.specs.Saved.{seats_held}
-use Rattle.saved_boxes.specs.Staying.{staying}
-use Rattle.saved_boxes.proofs.Saving.{seats_rise}
+use Rattle.kernel_boxes.specs.Saved.{seats_held}
+use Rattle.kernel_boxes.specs.Staying.{staying}
+use Rattle.kernel_boxes.proofs.Saving.{seats_rise}
 use Rattle.kernel.specs.Kernels.{seats_in, world_in}
 use Rattle.kernel.proofs.Backwards.{can_take, those_left}
 use Rattle.kernel.proofs.kernel.Kernel.go_back.Goals as goal

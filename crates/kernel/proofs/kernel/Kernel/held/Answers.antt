@@ -1,7 +1,7 @@
 use Rattle.std.proofs.Common.{map, refl}
-use Rattle.saved_boxes.specs.Seats.{instance_of}
-use Rattle.saved_boxes.proofs.Going.{ids_rise}
-use Rattle.saved_boxes.proofs.Saving.{seats_rise}
+use Rattle.kernel_boxes.specs.Seats.{instance_of}
+use Rattle.kernel_boxes.proofs.Going.{ids_rise}
+use Rattle.kernel_boxes.proofs.Saving.{seats_rise}
 use Rattle.kernel.specs.Kernels.{seats_in}
 use Rattle.kernel.proofs.kernel.Kernel.held.Goals as goal
 

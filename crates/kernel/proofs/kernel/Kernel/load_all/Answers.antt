@@ -1,10 +1,10 @@
 use Rattle.std.proofs.Common.{refl, sym, ap, ◌∙◌}
 use Rattle.std.proofs.lemmas.List.{drop_all}
 use Rattle.kernel.specs.Kernels.{seats_in, world_in}
-use Rattle.saved_boxes.specs.Saved.{with_states}
-use Rattle.saved_boxes.proofs.Keeping.{still_kept}
-use Rattle.saved_boxes.proofs.Loading.{next_takes, next_left, modules_loaded}
-use Rattle.saved_boxes.proofs.Saving.{seats_rise}
+use Rattle.kernel_boxes.specs.Saved.{with_states}
+use Rattle.kernel_boxes.proofs.Keeping.{still_kept}
+use Rattle.kernel_boxes.proofs.Loading.{next_takes, next_left, modules_loaded}
+use Rattle.kernel_boxes.proofs.Saving.{seats_rise}
 use Rattle.kernel.proofs.kernel.Kernel.load_all.Goals as goal
 
 pub loop-instance-init : goal.loop-instance-init

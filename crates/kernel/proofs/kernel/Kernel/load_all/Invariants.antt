@@ -1,6 +1,6 @@
 use Rattle.std.proofs.Common.{◌≡◌, drop}
 use Rattle.kernel.specs.Kernels.{world_in, KeepsBoxes}
-use Rattle.saved_boxes.specs.Saved.{with_states}
+use Rattle.kernel_boxes.specs.Saved.{with_states}
 use Rattle.kernel.proofs.kernel.Kernel.load_all.Given as goal
 
 -- the boxes are of the same modules, and what is left to load is what was, but for those that took their states

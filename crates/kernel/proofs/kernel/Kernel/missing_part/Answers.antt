@@ -1,10 +1,10 @@
 use Rattle.std.proofs.Common.{◌+◌, List, sym, ap, ◌∙◌, length, drop, slice_get, take, unwrap_or}
 use Rattle.run_semantics.specs.Run.{Part, needs, parts_from, standing}
 use Rattle.kernel.specs.Kernels.{world_in}
-use Rattle.saved_boxes.specs.Staying.{first_without}
+use Rattle.kernel_boxes.specs.Staying.{first_without}
 use Rattle.kernel.proofs.Behind.{next_missing}
 use Rattle.kernel.proofs.Waiting.{fresh_standing}
-use Rattle.saved_boxes.specs.Saved.{instances_held, seats_held}
+use Rattle.kernel_boxes.specs.Saved.{instances_held, seats_held}
 use Rattle.kernel.proofs.kernel.Kernel.missing_part.Goals as goal
 
 pub returns : goal.returns

@@ -2,7 +2,7 @@ use Rattle.std.proofs.Common.{◌+◌, refl, sym, ◌∙◌, arith, drop}
 use Rattle.run_semantics.specs.Perform.{On, flow_of}
 use Rattle.run_semantics.specs.Run.{initialize, one_stage}
 use Rattle.kernel.specs.Kernels.{world_in}
-use Rattle.saved_boxes.proofs.Keeping.{still_kept}
+use Rattle.kernel_boxes.proofs.Keeping.{still_kept}
 use Rattle.kernel.proofs.Starting.{stops, each_step, each_ends}
 use Rattle.kernel.proofs.kernel.Kernel.one_stage.Goals as goal
 

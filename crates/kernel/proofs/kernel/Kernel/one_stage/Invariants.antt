@@ -1,6 +1,6 @@
 use Rattle.std.proofs.Common.{◌≡◌, ◌+◌, ◌*◌, ◌≤◌, drop}
 use Rattle.run_semantics.specs.Run.{one_stage}
-use Rattle.shown_modules.specs.Tables.{AreShown}
+use Rattle.kernel_call_views.specs.Tables.{AreShown}
 use Rattle.kernel.specs.Kernels.{world_in, KeepsBoxes}
 use Rattle.kernel.proofs.kernel.Kernel.one_stage.Given as goal
 

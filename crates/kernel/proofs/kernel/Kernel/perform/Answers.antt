@@ -2,7 +2,7 @@ use Rattle.std.proofs.Common.{◌∙◌, ℕ, Option, Some, ap, sym, refl, map}
 use Rattle.sim_time.specs.Time.{time_sum}
 use Rattle.module_api.specs.declared.reply.Action.{Action}
 use Rattle.run_semantics.specs.Perform.{perform, sent}
-use Rattle.saved_boxes.specs.Seats.{instance_of}
+use Rattle.kernel_boxes.specs.Seats.{instance_of}
 use Rattle.kernel.specs.Kernels.{seats_in, world_in}
 use Rattle.kernel.proofs.Apart.{deed_is}
 use Rattle.kernel.proofs.Calling.{ok_step}

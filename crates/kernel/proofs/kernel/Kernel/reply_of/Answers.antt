@@ -1,8 +1,8 @@
 use Rattle.std.proofs.Common.{sym, ap, ◌∙◌, map, option_map}
 use Rattle.module_tree.specs.Boxes.{box_of, with_box}
 use Rattle.module_tree.proofs.Seats.{gone}
-use Rattle.saved_boxes.specs.Seats.{seat_of}
-use Rattle.saved_boxes.proofs.Seating.{means_in, none_out_of, put_back_in}
+use Rattle.kernel_boxes.specs.Seats.{seat_of}
+use Rattle.kernel_boxes.proofs.Seating.{means_in, none_out_of, put_back_in}
 use Rattle.kernel.proofs.kernel.Kernel.reply_of.Goals as goal
 
 pub returns-in_default-clause-served : goal.returns-in_default-clause-served

@@ -3,7 +3,7 @@ use Rattle.run_semantics.specs.Perform.{On, flow_of}
 use Rattle.run_semantics.specs.Run.{stages_from}
 use Rattle.kernel.specs.Kernels.{world_in}
 use Rattle.kernel.proofs.Starting.{stops, stages_on}
-use Rattle.saved_boxes.proofs.Keeping.{still_kept}
+use Rattle.kernel_boxes.proofs.Keeping.{still_kept}
 use Rattle.kernel.proofs.kernel.Kernel.stages.Goals as goal
 
 pub returns-in_default-clause-kept : goal.returns-in_default-clause-kept

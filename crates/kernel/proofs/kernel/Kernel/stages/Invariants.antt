@@ -1,6 +1,6 @@
 use Rattle.std.proofs.Common.{◌≡◌, ◌-◌, ◌*◌, ◌^◌, ◌≤◌}
 use Rattle.run_semantics.specs.Run.{stages_from}
-use Rattle.shown_modules.specs.Tables.{AreShown}
+use Rattle.kernel_call_views.specs.Tables.{AreShown}
 use Rattle.kernel.specs.Kernels.{world_in, KeepsBoxes}
 use Rattle.kernel.proofs.kernel.Kernel.stages.Given as goal
 

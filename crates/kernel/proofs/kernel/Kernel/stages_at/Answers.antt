@@ -1,7 +1,7 @@
 use Rattle.std.proofs.Common.{Some, sym, ap, ◌∙◌, option_map}
 use Rattle.std.specs.Option.{option_copied}
 use Rattle.kernel.specs.Seats.{stages_of}
-use Rattle.saved_boxes.proofs.Seating.{means_in}
+use Rattle.kernel_boxes.proofs.Seating.{means_in}
 use Rattle.kernel.proofs.kernel.Kernel.stages_at.Goals as goal
 
 pub returns-in-Some : goal.returns-in-Some

@@ -1,8 +1,8 @@
 use Rattle.std.proofs.Common.{◌≡◌, sym, ap, ◌∙◌, map, subst}
 use Rattle.run_semantics.specs.Perform.{On}
 use Rattle.run_semantics.specs.Run.{needs, ready, standing}
-use Rattle.saved_boxes.specs.Saved.{seats_held}
-use Rattle.saved_boxes.specs.Seats.{instance_of, seat_of, AreOfKinds}
+use Rattle.kernel_boxes.specs.Saved.{seats_held}
+use Rattle.kernel_boxes.specs.Seats.{instance_of, seat_of, AreOfKinds}
 use Rattle.kernel.specs.Kernels.{seats_in, world_in}
 use Rattle.kernel.specs.Seats.{world_of}
 use Rattle.kernel.proofs.Waiting.{fresh_kinds, fresh_ready, fresh_standing, no_seats}

@@ -4,7 +4,7 @@ use Rattle.run_semantics.specs.declared.occasions.Occasion.TheVariants.{Event}
 use Rattle.run_semantics.proofs.Sound.{call_leaves}
 use Rattle.run_semantics.specs.Event.{call_module, message_of}
 use Rattle.run_semantics.specs.Run.{settled}
-use Rattle.saved_boxes.specs.Seats.{instance_of}
+use Rattle.kernel_boxes.specs.Seats.{instance_of}
 use Rattle.kernel.specs.Kernels.{seats_in, world_in}
 use Rattle.kernel.proofs.Apart.{with_modules}
 use Rattle.kernel.proofs.Shown.{shown_grows}

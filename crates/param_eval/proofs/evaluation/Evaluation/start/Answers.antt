@@ -1,5 +1,5 @@
 use Rattle.std.proofs.Common.{◌∙◌, ap}
-use Rattle.asking.proofs.Binds.{bind_done}
+use Rattle.param_following.proofs.Binds.{bind_done}
 use Rattle.param_eval.specs.Evaluating.{valued_then}
 use Rattle.param_eval.specs.Values.{valued}
 use Rattle.param_eval.proofs.evaluation.Evaluation.start.Goals as goal

@@ -1,6 +1,0 @@
-use Rattle.std.proofs.Common.{◌≡◌, drop}
-use Rattle.agreement.specs.Same.{same_inside}
-use Rattle.agreement.proofs.same.same_elements.Given as goal
-
-abbrev pub invariant-loop-index : goal.invariant-loop-index
-invariant-loop-index l = same_inside (drop l.index l.one) (drop l.index l.other) ≡ same_inside l.one l.other

@@ -1,6 +1,0 @@
-use Rattle.std.proofs.Common.{sym, ◌∙◌}
-use Rattle.agreement.proofs.Sameness.{injections_are}
-use Rattle.agreement.proofs.same.same_injections.Goals as goal
-
-pub returns : goal.returns
-returns c = λ e. injections_are c.args.one.now c.args.other.now (sym c.same_listed.ensures ∙ e)

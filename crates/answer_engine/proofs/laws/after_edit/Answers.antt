@@ -1,5 +1,0 @@
-use Rattle.answer_engine.proofs.Order.{edited}
-use Rattle.answer_engine.proofs.laws.after_edit.Goals as goal
-
-pub returns : goal.returns
-returns g c = λ before after es exact kept. edited before after es exact kept

@@ -1,5 +1,0 @@
-use Rattle.answer_engine.proofs.Order.{sorted}
-use Rattle.answer_engine.proofs.laws.kept_is_sorted.Goals as goal
-
-pub returns : goal.returns
-returns g c = λ rules es exact kept. sorted rules exact es kept

@@ -1,5 +1,0 @@
-use Rattle.asking.proofs.Circles.{count}
-use Rattle.asking.proofs.laws.count_is_no_matter.Goals as goal
-
-pub returns : goal.returns
-returns g c = λ rules. count rules

@@ -1,6 +1,0 @@
-use Rattle.std.proofs.Common.{◌≡◌, true}
-use Rattle.asking.proofs.Enough.{enough}
-use Rattle.asking.proofs.laws.is_enough.Goals as goal
-
-pub returns : goal.returns
-returns g c = λ rules inside. enough rules (λ k. inside k ≡ true)

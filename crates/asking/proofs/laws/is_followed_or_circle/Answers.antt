@@ -1,5 +1,0 @@
-use Rattle.asking.proofs.Circles.{followed_or_circle}
-use Rattle.asking.proofs.laws.is_followed_or_circle.Goals as goal
-
-pub returns : goal.returns
-returns g c = λ rules. followed_or_circle rules

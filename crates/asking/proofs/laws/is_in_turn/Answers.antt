@@ -1,5 +1,0 @@
-use Rattle.asking.proofs.Binds.{in_turn}
-use Rattle.asking.proofs.laws.is_in_turn.Goals as goal
-
-pub returns : goal.returns
-returns g c = in_turn

@@ -1,0 +1,224 @@
+-- A run goes on, and leaves its positions.
+use Rattle.std.proofs.Common.{◌≡◌, ℕ, zero, suc, ◌+◌, ◌-◌, ◌≤◌, ◌<◌, ◌&&◌, nat_lt, not, Bool, true, false, cond, List, refl, sym, ap, ◌∙◌, arith, subst, if◌then◌else◌}
+use Rattle.std.proofs.lemmas.Bool.Decides.{nat_tests}
+use Rattle.checkpoints.specs.Stored.{counts_in, counts_of, ends_at, is_multiple, with_count, AreBelow, Timeline}
+use Rattle.kernel_actions.specs.declared.position.Position.{Position}
+use Rattle.module_api.specs.Behaviour.{Behaviour}
+use Rattle.model_questions.specs.Answers.{Answers}
+use Rattle.run_semantics.specs.declared.outcome.Outcome.{Outcome}
+use Rattle.run_semantics.specs.declared.outcome.Outcome.TheVariants.{Ended, EventLimit, TimeLimit}
+use Rattle.run_semantics.specs.Event.{event}
+use Rattle.run_semantics.specs.Perform.{Flow, On, Stopped, Broken}
+use Rattle.run_semantics.specs.Run.{Stage, Running, Over, Ran, after, stopped, run_to, settled, next_stage, went, is_fault, is_after_limit}
+use Rattle.run_semantics.specs.Upcoming.{Upcoming, Comes, Nothing, upcoming}
+use Rattle.run_semantics.specs.World.{World}
+use Rattle.run_semantics.proofs.Counts.{event_count, runs_on, upcoming_count}
+use Rattle.run_semantics.proofs.Sound.{in_flow}
+use Rattle.run_semantics.proofs.Looking.{beside}
+use Rattle.checkpoint_runs.specs.Kept.{lasting, is_owed, taken_if, HasBegun, HasGoneOn, HasLeft}
+use Rattle.checkpoint_runs.specs.declared.running.Stood.{Stood}
+use Rattle.checkpoint_runs.specs.declared.running.Stood.TheVariants as stood
+use Rattle.checkpoint_runs.specs.Positions.{behind, numbers_from, passed}
+use Rattle.checkpoint_runs.proofs.Whole.{run_within}
+use Rattle.checkpoint_runs.proofs.Counting.{behind_next, left_is, of_counts, one_stored, paid, passed_not, stored_below, to_counts, Below}
+
+-- ---- how many events are counted where a run is over
+
+false_true : false ≡ true → ⊥
+false_true e = cc
+
+-- an event that ended in a fault is counted; where none began the world is as it was
+abbrev Counts : World → Stage → Type 0
+Counts w (Running v) = Unit {0}
+Counts w (Over v outcome) = (is_fault outcome ≡ true → v.count ≡ suc w.count) × (is_fault outcome ≡ false → v ≡ w)
+
+either_counts : (w : World) (c : Bool) (s t : Stage) → Counts w s → Counts w t → Counts w (if c then s else t)
+either_counts w true s t h g = h
+either_counts w false s t h g = g
+
+settled_counts : (w : World) (fl : Flow) → (in_flow fl).count ≡ suc w.count → Counts w (settled fl)
+settled_counts w (On v) e = tt
+settled_counts w (Stopped v) e = tt
+settled_counts w (Broken v path f) e = (λ _. e, λ t. absurd (false_true (sym t)))
+
+went_counts : (b : Behaviour) (m : Answers) (w : World) (up : Upcoming) → (beside up).count ≡ w.count → Counts w (went b m w up)
+went_counts b m w (Nothing u) e = (λ t. absurd (false_true t), λ _. refl)
+went_counts b m w (Comes u p rest) e =
+    either_counts w (is_after_limit m u.records p) (Over w TimeLimit) (settled (event b m p rest u)) (λ t. absurd (false_true t), λ _. refl)
+    (settled_counts w (event b m p rest u) (let c = event_count b m p rest u in omega (arith, c, e)))
+
+next_counts : (b : Behaviour) (m : Answers) (w : World) → Counts w (next_stage b m (Running w))
+next_counts b m w = either_counts w w.ended (Over w Ended) (went b m w (upcoming m w)) (λ t. absurd (false_true t), λ _. refl) (went_counts b m w (upcoming m w) (upcoming_count m w))
+
+over_counts : (b : Behaviour) (m : Answers) (w v : World) (outcome : Outcome) → Over v outcome ≡ next_stage b m (Running w) → Counts w (Over v outcome)
+over_counts b m w v outcome e = subst (Counts w) (sym e) (next_counts b m w)
+
+-- the count of a run that goes on
+pub count_is : (b : Behaviour) (m : Answers) (k : ℕ) (w : World) → Running w ≡ after b m k → w.count ≡ k
+count_is b m k w e = runs_on b m k w (sym e)
+
+pub going_at : (b : Behaviour) (m : Answers) (k : ℕ) (w : World) → Running w ≡ after b m k → Running w ≡ after b m w.count
+going_at b m k w e = subst (λ n. Running w ≡ after b m n) (sym (count_is b m k w e)) e
+
+-- ---- one event more
+
+-- what is stored, after so many events
+abbrev pub StoredAt : ℕ → Timeline Position → Timeline Position → ℕ → Type 0
+StoredAt from before t k = counts_in t ≡ behind is_multiple (counts_in before) (numbers_from (suc from) (k - from))
+
+pub stored_first : (from : ℕ) (t : Timeline Position) → StoredAt from t t from
+stored_first from t = let z : from - from ≡ 0 = omega arith in rw z refl
+
+pub stored_next : (from k : ℕ) (before old new : Timeline Position) (p : Position) → from ≤ k → p.count ≡ suc k → new ≡ taken_if (is_multiple old.interval (suc k)) p old → StoredAt from before old k → StoredAt from before new (suc k)
+stored_next from k before old new p l c e h =
+    let d : suc k - from ≡ suc (k - from) = omega (arith, l) in
+    let n : suc from + (k - from) ≡ suc k = omega (arith, l) in
+    one_stored (is_multiple old.interval (suc k)) p old new e
+    ∙ ap (λ x. if is_multiple old.interval (suc k) then with_count x (counts_in old) else counts_in old) c
+    ∙ ap (λ t. passed is_multiple t (suc k)) h
+    ∙ ap (λ x. passed is_multiple (behind is_multiple (counts_in before) (numbers_from (suc from) (k - from))) x) (sym n)
+    ∙ sym (behind_next is_multiple (counts_in before) (suc from) (k - from))
+    ∙ ap (λ x. behind is_multiple (counts_in before) (numbers_from (suc from) x)) (sym d)
+
+-- ---- counts below
+
+stored_within : (from k n : ℕ) (before t : Timeline Position) → from ≤ k → suc k ≤ n → AreBelow (suc from) before.stored → StoredAt from before t k → AreBelow n t.stored
+stored_within from k n before t l s b h =
+    of_counts n t.stored (subst (λ (u : Timeline ℕ). Below n u.stored) (sym h) (stored_below from (k - from) n (counts_in before) (omega (arith, l, s)) (to_counts (suc from) before.stored b)))
+
+-- one more may be stored after them
+pub below_next : (from k : ℕ) (before t : Timeline Position) → from ≤ k → AreBelow (suc from) before.stored → StoredAt from before t k → AreBelow (suc k) t.stored
+below_next from k before t l b h = stored_within from k (suc k) before t l (omega arith) b h
+
+-- ---- how a run came to its end
+
+lasting_at : (f : Bool) (c k : ℕ) → (f ≡ true → c ≡ suc k) → (f ≡ false → c ≡ k) → lasting f c ≡ k
+lasting_at true c k h g = let e = h refl in omega (arith, e)
+lasting_at false c k h g = g refl
+
+grew_at : (f : Bool) (c k from : ℕ) → from ≤ k → (f ≡ true → c ≡ suc k) → (f ≡ false → c ≡ k) → from ≤ c
+grew_at true c k from l h g = let e = h refl in omega (arith, e, l)
+grew_at false c k from l h g = let e = g refl in omega (arith, e, l)
+
+pub gone_over : (b : Behaviour) (m : Answers) (from k : ℕ) (before t : Timeline Position) (w v : World) (outcome : Outcome) → from ≤ k → Running w ≡ after b m k → Over v outcome ≡ next_stage b m (Running w)
+    → StoredAt from before t k → HasGoneOn b m from before t v outcome
+gone_over b m from k before t w v outcome l going over h =
+    let at : w.count ≡ k = count_is b m k w going in
+    let c : Counts w (Over v outcome) = over_counts b m w v outcome over in
+    let fault : is_fault outcome ≡ true → v.count ≡ suc k = λ e. c.0 e ∙ ap suc at in
+    let none : is_fault outcome ≡ false → v.count ≡ k = λ e. ap (λ (x : World). x.count) (c.1 e) ∙ at in
+    record {
+      grew = grew_at (is_fault outcome) v.count k from l fault none;
+      faulted = λ f. let e = fault f in omega (arith, e, l);
+      lasts = λ f. subst (λ (x : World). Running x ≡ after b m x.count) (sym (c.1 f)) (going_at b m k w going);
+      counts = subst (λ n. counts_in t ≡ behind is_multiple (counts_in before) (numbers_from (suc from) (n - from))) (sym (lasting_at (is_fault outcome) v.count k fault none)) h;
+    }
+
+stops_without : (w : World) (outcome : Outcome) (c : Bool) → outcome ≡ (if c then Ended else EventLimit) → is_fault outcome ≡ false
+stops_without w outcome true e = ap is_fault e
+stops_without w outcome false e = ap is_fault e
+
+pub gone_stopped : (b : Behaviour) (m : Answers) (from k : ℕ) (before t : Timeline Position) (w : World) (outcome : Outcome) → from ≤ k → Running w ≡ after b m k → record { world = w; outcome = outcome } ≡ stopped (Running w)
+    → StoredAt from before t k → HasGoneOn b m from before t w outcome
+gone_stopped b m from k before t w outcome l going e h =
+    let at : w.count ≡ k = count_is b m k w going in
+    let f : is_fault outcome ≡ false = stops_without w outcome w.ended (ap (λ (r : Ran). r.outcome) e) in
+    record {
+      grew = omega (arith, at, l);
+      faulted = λ g. absurd (false_true (sym f ∙ g));
+      lasts = λ g. going_at b m k w going;
+      counts = rw f (subst (λ n. counts_in t ≡ behind is_multiple (counts_in before) (numbers_from (suc from) (n - from))) (sym at) h);
+    }
+
+-- ---- and what it leaves
+
+-- an event could not be executed
+pub begun_after : (b : Behaviour) (m : Answers) (limit from k : ℕ) (at : Stood) (before t : Timeline Position) (w : World) → at ≡ stood.After k → from ≤ k → k ≤ limit → Running w ≡ after b m k → StoredAt from before t k → HasBegun b m limit from at before t
+begun_after b m limit from k at before t w e l few going h =
+    subst (λ (x : Stood). HasBegun b m limit from x before t) (sym e) (record { going = (w, going); limited = few; grew = l; counts = h })
+
+-- the position after an event could not be taken
+pub begun_untaken : (b : Behaviour) (m : Answers) (limit from k : ℕ) (at : Stood) (before t : Timeline Position) (w : World) → at ≡ stood.Untaken (suc k) → from ≤ k → suc k ≤ limit → Running w ≡ after b m (suc k) → StoredAt from before t k → HasBegun b m limit from at before t
+begun_untaken b m limit from k at before t w e l few going h =
+    let d : k - from ≡ suc k - suc from = omega arith in
+    subst (λ (x : Stood). HasBegun b m limit from x before t) (sym e)
+    (record { going = (w, going); limited = few; grew = omega (arith, l); counts = h ∙ ap (λ n. behind is_multiple (counts_in before) (numbers_from (suc from) n)) d })
+
+pub left_gone : (b : Behaviour) (m : Answers) (limit from : ℕ) (before mid new : Timeline Position) (w : World) (outcome : Outcome) (p : Position) → AreBelow (suc from) before.stored → run_to b m limit ≡ record { world = w; outcome = outcome }
+    → HasGoneOn b m from before mid w outcome → p.count ≡ w.count → new ≡ taken_if (is_owed from (is_fault outcome) w.count (counts_of mid.stored)) p mid → HasLeft from before new (run_to b m limit)
+left_gone b m limit from before mid new w outcome p below ran g c e =
+    let f : Bool = is_fault outcome in
+    let last : ℕ = w.count in
+    subst (λ (r : Ran). HasLeft from before new r) (sym ran) (record {
+      grew = g.grew;
+      faulted = g.faulted;
+      counts =
+          one_stored (is_owed from f last (counts_of mid.stored)) p mid new e
+          ∙ ap (λ n. if is_owed from f last (counts_of mid.stored) then with_count n (counts_in mid) else counts_in mid) c
+          ∙ ap (paid from f last) g.counts
+          ∙ sym (left_is from last f (counts_in before) g.grew g.faulted (to_counts (suc from) before.stored below));
+    })
+
+not_is : (f : Bool) → not f ≡ true → f ≡ false
+not_is true e = absurd (false_true e)
+not_is false e = refl
+
+-- where a position is owed the run could go on
+not_both : (s t : Bool) → s && t ≡ true → s ≡ true
+not_both true t e = refl
+not_both false t e = absurd (false_true e)
+
+pub owed_lasts : (b : Behaviour) (m : Answers) (from : ℕ) (before t : Timeline Position) (w : World) (outcome : Outcome) → HasGoneOn b m from before t w outcome
+    → is_owed from (is_fault outcome) w.count (counts_of t.stored) ≡ true → Running w ≡ after b m w.count
+owed_lasts b m from before t w outcome g owed =
+    g.lasts (not_is (is_fault outcome) (not_both (not (is_fault outcome)) (nat_lt from w.count && not (ends_at w.count (counts_of t.stored))) owed))
+
+-- a position that is owed is not stored yet
+and_true : (s t : Bool) → s && t ≡ true → (s ≡ true) × (t ≡ true)
+and_true true t e = (refl, e)
+and_true false t e = absurd (false_true e)
+
+less_of : (m n : ℕ) → nat_lt m n ≡ true → m < n
+less_of m n e = grind (arith, nat_tests)
+
+-- which is after where the run went on, and none was taken there
+pub record IsOwedAt (from last : ℕ) (before t : Timeline Position) : Type 0 where
+  pub behind_it : from < last
+  pub counts : counts_in t ≡ behind is_multiple (counts_in before) (numbers_from (suc from) (last - suc from))
+
+pub owed_at : (b : Behaviour) (m : Answers) (from : ℕ) (before t : Timeline Position) (w : World) (outcome : Outcome) → HasGoneOn b m from before t w outcome
+    → is_owed from (is_fault outcome) w.count (counts_of t.stored) ≡ true → IsOwedAt from w.count before t
+owed_at b m from before t w outcome g owed =
+    let last : ℕ = w.count in
+    let one = and_true (not (is_fault outcome)) (nat_lt from last && not (ends_at last (counts_of t.stored))) owed in
+    let two = and_true (nat_lt from last) (not (ends_at last (counts_of t.stored))) one.1 in
+    let l : from < last = less_of from last two.0 in
+    let none : ends_at last (counts_of t.stored) ≡ false = not_is (ends_at last (counts_of t.stored)) two.1 in
+    let d : last - from ≡ suc (last - suc from) = omega (arith, l) in
+    let n : suc from + (last - suc from) ≡ last = omega (arith, l) in
+    let f : is_fault outcome ≡ false = not_is (is_fault outcome) one.0 in
+    let u : Timeline ℕ = behind is_multiple (counts_in before) (numbers_from (suc from) (last - suc from)) in
+    let all : counts_in t ≡ behind is_multiple (counts_in before) (numbers_from (suc from) (last - from)) = rw f at g.counts in
+    let is : counts_in t ≡ passed is_multiple u last =
+    all ∙ ap (λ k. behind is_multiple (counts_in before) (numbers_from (suc from) k)) d ∙ behind_next is_multiple (counts_in before) (suc from) (last - suc from)
+    ∙ ap (passed is_multiple u) n in
+    record { behind_it = l; counts = is ∙ passed_not last u (ap (λ (x : Timeline ℕ). ends_at last x.stored) (sym is) ∙ none) }
+
+pub owed_below : (b : Behaviour) (m : Answers) (from : ℕ) (before t : Timeline Position) (w : World) (outcome : Outcome) → AreBelow (suc from) before.stored → HasGoneOn b m from before t w outcome
+    → is_owed from (is_fault outcome) w.count (counts_of t.stored) ≡ true → AreBelow w.count t.stored
+owed_below b m from before t w outcome below g owed =
+    let last : ℕ = w.count in
+    let at = owed_at b m from before t w outcome g owed in
+    let l : from < last = at.behind_it in
+    let z : (last - suc from) ≡ (last - 1) - from = omega (arith, l) in
+    stored_within from (last - 1) last before t (omega (arith, l)) (omega (arith, l)) below (at.counts ∙ ap (λ n. behind is_multiple (counts_in before) (numbers_from (suc from) n)) z)
+
+-- the position after the last event could not be taken
+pub begun_owed : (b : Behaviour) (m : Answers) (limit from : ℕ) (at : Stood) (before mid t : Timeline Position) (w : World) (outcome : Outcome) → at ≡ stood.Untaken w.count → run_to b m limit ≡ record { world = w; outcome = outcome }
+    → HasGoneOn b m from before mid w outcome → is_owed from (is_fault outcome) w.count (counts_of mid.stored) ≡ true → t ≡ mid → HasBegun b m limit from at before t
+begun_owed b m limit from at before mid t w outcome e ran g owed same =
+    let here = owed_at b m from before mid w outcome g owed in
+    let l : from < w.count = here.behind_it in
+    let few : w.count ≤ limit = omega (arith, run_within b m limit, ap (λ (r : Ran). r.world.count) ran) in
+    subst (λ (x : Stood). HasBegun b m limit from x before t) (sym e)
+    (record { going = (w, owed_lasts b m from before mid w outcome g owed); limited = few; grew = omega (arith, l); counts = ap counts_in same ∙ here.counts })

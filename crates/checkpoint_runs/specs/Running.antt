@@ -1,0 +1,154 @@
+-- A run that gets its boxes and gets on, and what it leaves.
+use Rattle.std.specs.Prelude.{◌≡◌, ◌⊎◌, ◌<◌, ◌^◌, ℕ, false, List, [], ◌∷◌, ◌++◌, Option, Some, None, map, if◌then◌else◌}
+use Rattle.module_api.specs.Behaviour.{Behaviour}
+use Rattle.model_questions.specs.Answers.{Answers}
+use Rattle.run_semantics.specs.declared.outcome.Outcome.{Outcome}
+use Rattle.run_semantics.specs.World.{World, HasRoom}
+use Rattle.run_semantics.specs.Perform.{Flow, On, Stopped, Broken}
+use Rattle.run_semantics.specs.Run.{Part, first_unknown, needs, prepared, standing, start, Over, Ran, run_to}
+use Rattle.run_semantics.specs.Ending.{ending}
+use Rattle.kernel.specs.declared.request.Request.{Request}
+use Rattle.kernel_boxes.specs.Seats.{Seat, instance_of}
+use Rattle.kernel.specs.Seats.{AreFirst, AreFresh, IsUnstarted, missing_of, missing_part}
+use Rattle.checkpoint_runs.specs.declared.running.Phase.{Phase}
+use Rattle.checkpoint_runs.specs.declared.running.Phase.TheVariants.{Idle, Waiting, Declined}
+use Rattle.checkpoint_runs.specs.declared.running.Advance.{Advance}
+use Rattle.checkpoint_runs.specs.declared.running.Advance.TheVariants as advance
+use Rattle.checkpoint_runs.specs.declared.running.Standing.{Standing}
+use Rattle.checkpoint_runs.specs.declared.running.Standing.TheVariants as stands
+use Rattle.checkpoints.specs.Stored.{Timeline}
+use Rattle.checkpoint_runs.specs.Positions.{cut, positions_after, start_of, starts_within}
+
+-- A FRESH RUN of the model, stopped after at most so many events, with its ending
+abbrev pub fresh_run : Behaviour → Answers → ℕ → Ran
+fresh_run b m limit = ending b m (run_to b m limit)
+
+-- ---- boxes that a run needs
+
+-- the modules of boxes
+abbrev pub parts_in : List Seat → List Part
+parts_in seats = standing (map instance_of seats)
+
+-- the box that a run needs next once there are these: setup makes the modules, and of those that need one the first without one is asked for
+abbrev pub wanted_after : Flow → List Part → Option Request
+wanted_after (On w) boxes = missing_of w boxes
+wanted_after (Stopped w) boxes = None
+wanted_after (Broken w path f) boxes = None
+
+abbrev pub wanted_by : Answers → List Part → Option Request
+wanted_by m boxes = wanted_after (prepared m) boxes
+
+-- a run that waits goes on with its boxes; any other begins with none
+abbrev pub kept_boxes : Phase → List Part → List Part
+kept_boxes (Waiting from at) boxes = boxes
+kept_boxes Idle boxes = []
+kept_boxes Declined boxes = []
+
+-- the box that a run needs first: one that begins at a position needs none
+abbrev pub needed_by : Answers → Option ℕ → List Part → Option Request
+needed_by m None kept = wanted_by m kept
+needed_by m (Some start) kept = None
+
+-- of these modules those before the first one whose class the catalogue doesn't know
+abbrev pub known_first : Behaviour → List Part → List Part
+known_first b [] = []
+known_first b (p ∷ ps) = if b.known p.kind then p ∷ known_first b ps else []
+
+-- where such a one is among them their start can't be made, and the boxes are those that were supplied before it was asked for
+abbrev pub boxes_unless : Option Part → List Part → List Part → List Part
+boxes_unless None standing supplied = standing
+boxes_unless (Some unknown) standing supplied = supplied
+
+abbrev pub boxes_of : Behaviour → Flow → List Part → List Part
+boxes_of b (On w) standing = boxes_unless (first_unknown b (needs w)) standing (known_first b (needs w))
+boxes_of b (Stopped w) standing = standing
+boxes_of b (Broken w path f) standing = []
+
+-- THE BOXES THAT A RUN LEAVES: one for each simple module that stands in its end
+abbrev pub boxes_left : Behaviour → Answers → ℕ → List Part
+boxes_left b m limit = boxes_of b (prepared m) (standing (fresh_run b m limit).world.modules)
+
+-- no box was declined
+abbrev pub IsUndeclined : Phase → Type 0
+IsUndeclined Idle = Unit {0}
+IsUndeclined (Waiting from at) = Unit {0}
+IsUndeclined Declined = ⊥
+
+-- ---- where a run stands
+
+-- A network that was set up, and is not started: no module has a state, and the boxes that wait are those of the first modules that need one.
+pub record IsFilled (b : Behaviour) (m : Answers) (w : World) (waiting : List Seat) : Type 0 where
+  pub prepared_is : On w ≡ prepared m
+  pub next : w.next ≡ 0
+  pub none : w.modules ≡ []
+  pub unstarted : IsUnstarted w
+  pub first : AreFirst b w waiting
+
+-- the next box was declined
+pub record IsDeclined (b : Behaviour) (m : Answers) (w : World) (waiting : List Seat) : Type 0 where
+  pub filled : IsFilled b m w waiting
+  pub part : Part
+  pub missing : missing_part w (parts_in waiting) ≡ Some part
+  pub unknown : b.known part.kind ≡ false
+
+-- where a run stands
+abbrev pub IsLive : Behaviour → Answers → World → List Seat → Phase → Type 0
+IsLive b m w waiting Idle = Unit {0}
+IsLive b m w waiting (Waiting from at) = IsFilled b m w waiting
+IsLive b m w waiting Declined = IsDeclined b m w waiting
+
+-- each module that needs a box has one that waits
+pub record CanStart (b : Behaviour) (m : Answers) (w : World) (waiting : List Seat) : Type 0 where
+  pub prepared_is : On w ≡ prepared m
+  pub next : w.next ≡ 0
+  pub none : w.modules ≡ []
+  pub fresh : AreFresh b (needs w) waiting
+
+-- a fresh run, stopped after at most n events, with its end
+abbrev pub whole_run : Behaviour → Answers → ℕ → World → Outcome → Type 0
+whole_run b m n w outcome = fresh_run b m n ≡ record { world = w; outcome = outcome }
+
+-- A run of the model, stopped after at most so many events, left this; numbers are far from running out.
+pub record IsStopped (b : Behaviour) (m : Answers) (limit : ℕ) (ran : Ran) : Type 0 where
+  pub room : HasRoom ran.world
+  pub count : ran.world.count < 2 ^ 64
+  pub ran_is : run_to b m limit ≡ ran
+
+-- ---- how a run gets on
+
+-- where a run stands that has its boxes, waits for one, or can't begin
+abbrev pub Stands : Behaviour → Answers → List Part → World → List Seat → Standing → Type 0
+Stands b m kept w waiting (stands.Over outcome) =
+    (Over w outcome ≡ start b m) × (w.modules ≡ []) × (parts_in waiting ≡ boxes_of b (prepared m) [])
+Stands b m kept w waiting (stands.Missing request) =
+    IsFilled b m w waiting × (missing_of w (parts_in waiting) ≡ Some request) × (parts_in waiting ≡ kept)
+Stands b m kept w waiting stands.Ready = CanStart b m w waiting
+
+-- what it waits for is what its model wants after so many boxes; it doesn't go on while there is such a box
+abbrev pub Wants : Answers → List Part → Phase → Standing → Type 0
+Wants m kept phase (stands.Missing request) = IsUndeclined phase × (wanted_by m kept ≡ Some request)
+Wants m kept phase (stands.Over outcome) = (phase ≡ Declined) ⊎ (wanted_by m kept ≡ None)
+Wants m kept phase stands.Ready = (phase ≡ Declined) ⊎ (wanted_by m kept ≡ None)
+
+-- a run waits with the boxes that it kept, as it begins with setup; no position is stored
+pub record IsWaiting (b : Behaviour) (m : Answers) (limit : ℕ) (kept : List Part) (phase : Phase) (old : Timeline ℕ) (w : World) (waiting : List Seat) (new : Timeline ℕ) (request : Request) : Type 0 where
+  pub filled : IsFilled b m w waiting
+  pub kept_is : parts_in waiting ≡ kept
+  pub undeclined : IsUndeclined phase
+  pub wanted : wanted_by m kept ≡ Some request
+  pub start : start_of limit old.stored ≡ None
+  pub positions : new ≡ cut None old
+
+-- a run is done that began there, and it has left its positions
+pub record IsEnded (b : Behaviour) (m : Answers) (limit : ℕ) (kept : List Part) (phase : Phase) (old : Timeline ℕ) (w : World) (waiting : List Seat) (new : Timeline ℕ) (from : Option ℕ) (outcome : Outcome) : Type 0 where
+  pub whole : whole_run b m limit w outcome
+  pub boxes : standing w.modules ++ parts_in waiting ≡ boxes_left b m limit
+  pub start : from ≡ start_of limit old.stored
+  pub within : starts_within from w.count
+  pub needs_none : (phase ≡ Declined) ⊎ (needed_by m (start_of limit old.stored) kept ≡ None)
+  pub positions : new ≡ positions_after b m limit old
+
+-- where a run is after it was asked for, with the positions before and after
+abbrev pub Advances : Behaviour → Answers → ℕ → List Part → Phase → Timeline ℕ → World → List Seat → Timeline ℕ → Advance → Type 0
+Advances b m limit kept phase old w waiting new (advance.Waits request) = IsWaiting b m limit kept phase old w waiting new request
+Advances b m limit kept phase old w waiting new (advance.Ends from outcome) = IsEnded b m limit kept phase old w waiting new from outcome

@@ -1,0 +1,590 @@
+//! A run, from setup or from a position, and the positions that it leaves.
+
+ghost use Rattle.std.specs.Prelude.{◌≡◌, ◌≤◌, ◌&&◌, ◌++◌, ◌∷◌, [], nat_lt, not, true, None, OnOk, OnErr, IfOk, IfErr, length};
+ghost use Rattle.model_answers.specs.Answering.{answers_of};
+ghost use Rattle.run_semantics.specs.Run.{prepared, run_to, settled, stage_of};
+ghost use Rattle.kernel_actions.specs.Positions.{position_of};
+ghost use Rattle.kernel_call_views.specs.Tables.{AreShown};
+ghost use Rattle.kernel.specs.Kernels.{seats_in, world_in, ran_in, HasKinds};
+ghost use Rattle.checkpoints.specs.Stored.{counts_in, counts_of, is_multiple, last_of, AreBelow, AreRising, IsBegun};
+ghost use Rattle.checkpoint_runs.specs.Running.{boxes_left, fresh_run, kept_boxes, parts_in, Advances, CanStart, IsDeclined, IsFilled, IsLive, IsStopped, IsUndeclined, Stands, Wants};
+ghost use Rattle.checkpoint_runs.specs.Kept.{boxes_in, cut_to_last, kept_up_to, taken_if, waiting_in, HasBegun, HasGood, HasGoneOn, HasLeft, IsBack, IsBesideKernel, IsGoing};
+ghost use Rattle.checkpoint_runs.specs.Positions.{last_count, positions_after, start_of, HasStored};
+ghost use Rattle.kernel_boxes.specs.Seats.{Seat, AreBelow as AreOfSmallerIds};
+ghost use Rattle.kernel_boxes.specs.Saved.{instances_held};
+ghost use Rattle.checkpoint_runs.specs.declared.running.Phase.{Phase};
+ghost use Rattle.checkpoint_runs.specs.declared.running.Stood.{Stood};
+
+use crate::observer::Observer;
+use checkpoints::positions::Positions;
+use kernel::kernel::Kernel;
+use kernel::request::Request;
+use kernel_call_views::ShownModules;
+use model_answers::asked::AskedModel;
+use model_answers::evaluated::EvaluatedModel;
+use module_api::catalogue::Catalogue;
+use module_api::simple_module::SimpleModule;
+use module_tree::Tree;
+use run_answers::{Answers, ModelMarker};
+use run_semantics::outcome::{Fault, Outcome};
+use sim_values::NoMemory;
+use std::alloc::{AllocFailed, Global};
+use std::marker::{Brand, PhantomData};
+
+/// At which point of a run boxes are wanted.
+#[derive(Clone, Copy, PartialEq, Eq)]
+pub enum Point {
+    /// Its network is set up, and is to be started.
+    Setup,
+}
+
+/// Where a run stands between two calls.
+#[derive(Clone, Copy, PartialEq, Eq)]
+pub enum Phase {
+    /// No run waits.
+    Idle,
+    /// A run waits for the box of a module, at that point. It began at a position of so many events, or with setup.
+    Waiting(Option<u64>, Point),
+    /// There is no box for the module that the run waited for.
+    Declined,
+}
+
+/// Where a run stands, or stood when memory ran out.
+#[derive(Clone, Copy, PartialEq, Eq)]
+pub enum Stood {
+    /// Event zero is not done.
+    Before,
+    /// After so many events, with the positions that were due by then.
+    After(u64),
+    /// After so many events, of which the last one's position is not taken.
+    Untaken(u64),
+    /// All its events are executed, and its positions are stored.
+    Ending,
+}
+
+/// Where a run stands before its first event.
+#[derive(Drop)]
+pub enum Standing {
+    /// It can't begin.
+    Over(Outcome),
+    /// A module has no box yet.
+    Missing(Request),
+    /// Each module has its box.
+    Ready,
+}
+
+/// Where a run is after it was asked for.
+#[derive(Drop)]
+pub enum Advance {
+    /// It waits for the box of a module.
+    Waits(Request),
+    /// It is done. It began at a position of so many events, or with setup.
+    Ends(Option<u64>, Outcome),
+}
+
+/// The kernel of a session, and the positions to which it can go back.
+pub struct Runner<C: Catalogue> {
+    pub kernel: Kernel<C>,
+    /// The boxes that wait for the start of their modules: no world knows of them.
+    pub waiting: Tree<Box<dyn SimpleModule>>,
+    /// With the interval: after each multiple of so many events a run leaves a position.
+    pub positions: Positions,
+    /// Where the run stands that was asked for last.
+    pub stood: Stood,
+    /// What the kernel holds, so that contracts can name what boxes say of themselves.
+    pub holds: PhantomData<Box<dyn SimpleModule>>,
+}
+
+// Written out, so that a crate which drops one need not prove what that does.
+impl<C: Catalogue> Drop for Runner<C> {
+    fn drop(self) {
+        let Runner {
+            kernel: _,
+            waiting: _,
+            positions: _,
+            stood: _,
+            holds: _,
+        } = self;
+    }
+}
+
+impl<C: Catalogue> Runner<C> {
+    // ---- from setup to the boxes
+
+    /// The module that a run which is set up needs a box for, if there is one.
+    fn next_box<M: ModelMarker>(&self, alloc: Global) -> Result<Standing, NoMemory>
+        requires filled { let waiting = waiting_in SimpleModule-box self.now in
+            IsFilled C.behaviour M.answers (world_in SimpleModule-box self.now.kernel) waiting }
+        ensures stands { let world = world_in SimpleModule-box self.now.kernel in
+            let waiting = waiting_in SimpleModule-box self.now in
+            IfOk result (λ standing.
+            Stands C.behaviour M.answers (parts_in waiting) world waiting standing) }
+        ensures wants { let waiting = waiting_in SimpleModule-box self.now in
+            IfOk result (λ standing. (phase : Phase)
+            → IsUndeclined phase → Wants M.answers (parts_in waiting) phase standing) }
+    {
+        match self.kernel.missing(alloc, &self.waiting)? {
+            Some(request) => Ok(Standing::Missing(request)),
+            None => Ok(Standing::Ready),
+        }
+    }
+
+    /// Sets the network up anew, as the model answers. All boxes are dropped.
+    fn set_network_up<M: ModelMarker>(
+        &mut self,
+        alloc: Global,
+        model: &EvaluatedModel,
+    ) -> Result<Option<Outcome>, NoMemory>
+        requires asked { answers_of model.now ≡ M.answers }
+        requires kinds { HasKinds C.behaviour SimpleModule-box self.old.kernel }
+        ensures kinds { HasKinds C.behaviour SimpleModule-box self.new.kernel }
+        ensures kept { IsBesideKernel self.old self.new }
+        ensures empty { OnOk result (seats_in SimpleModule-box self.new.kernel ≡ []) }
+        ensures none { waiting_in SimpleModule-box self.new ≡ [] }
+        ensures step { IfOk result (λ over.
+            stage_of over (world_in SimpleModule-box self.new.kernel) ≡ settled (prepared M.answers)) }
+    {
+        self.waiting.clear();
+        let mut answers = AskedModel::<M>::new(alloc, model)?;
+        self.kernel.setup(alloc, &mut answers)
+    }
+
+    /// Sets a run up anew, up to its boxes.
+    fn set_up<M: ModelMarker>(
+        &mut self,
+        alloc: Global,
+        model: &EvaluatedModel,
+    ) -> Result<Standing, NoMemory>
+        requires asked { answers_of model.now ≡ M.answers }
+        requires kinds { HasKinds C.behaviour SimpleModule-box self.old.kernel }
+        ensures kinds { HasKinds C.behaviour SimpleModule-box self.new.kernel }
+        ensures kept { IsBesideKernel self.old self.new }
+        ensures stands { let left = world_in SimpleModule-box self.new.kernel in
+            let waiting = waiting_in SimpleModule-box self.new in
+            IfOk result (λ standing.
+            Stands C.behaviour M.answers [] left waiting standing) }
+        ensures wants { IfOk result (λ standing.
+            (phase : Phase) → IsUndeclined phase → Wants M.answers [] phase standing) }
+    {
+        match self.set_network_up::<M>(alloc, model)? {
+            Some(outcome) => Ok(Standing::Over(outcome)),
+            None => {
+                let standing = self.next_box::<M>(alloc)?;
+                Ok(standing)
+            }
+        }
+    }
+
+    /// The end of a run for one of whose modules there is no box.
+    fn declined<M: ModelMarker>(&self, alloc: Global) -> Result<Standing, NoMemory>
+        requires declined { let waiting = waiting_in SimpleModule-box self.now in
+            IsDeclined C.behaviour M.answers (world_in SimpleModule-box self.now.kernel) waiting }
+        ensures stands { let world = world_in SimpleModule-box self.now.kernel in
+            let waiting = waiting_in SimpleModule-box self.now in
+            IfOk result (λ standing.
+            Stands C.behaviour M.answers [] world waiting standing) }
+        ensures over { IfOk result (λ standing. Wants M.answers [] Phase.Declined standing) }
+    {
+        let request = self.kernel.missing(alloc, &self.waiting)?.unwrap();
+        Ok(Standing::Over(Outcome::Fault(self.kernel.count(), request.path, Fault::UnknownClass)))
+    }
+
+    /// Where a run stands that begins with setup: one that waits goes on, any other is set up.
+    fn stand<M: ModelMarker>(
+        &mut self,
+        alloc: Global,
+        model: &EvaluatedModel,
+        phase: Phase,
+    ) -> Result<Standing, NoMemory>
+        requires asked { answers_of model.now ≡ M.answers }
+        requires live { let world = world_in SimpleModule-box self.old.kernel in
+            let waiting = waiting_in SimpleModule-box self.old in
+            IsLive C.behaviour M.answers world waiting phase }
+        requires kinds { HasKinds C.behaviour SimpleModule-box self.old.kernel }
+        ensures kinds { HasKinds C.behaviour SimpleModule-box self.new.kernel }
+        ensures kept { IsBesideKernel self.old self.new }
+        ensures stands { let kept = kept_boxes phase (boxes_in SimpleModule-box self.old) in
+            let left = world_in SimpleModule-box self.new.kernel in
+            let waiting = waiting_in SimpleModule-box self.new in
+            IfOk result (λ standing. Stands C.behaviour M.answers kept left waiting standing) }
+        ensures wants { let kept = kept_boxes phase (boxes_in SimpleModule-box self.old) in
+            IfOk result (λ standing. Wants M.answers kept phase standing) }
+    {
+        match phase {
+            Phase::Idle => {
+                let standing = self.set_up::<M>(alloc, model)?;
+                Ok(standing)
+            }
+            Phase::Waiting(_from, _point) => {
+                let standing = self.next_box::<M>(alloc)?;
+                Ok(standing)
+            }
+            Phase::Declined => {
+                let standing = self.declined::<M>(alloc)?;
+                Ok(standing)
+            }
+        }
+    }
+
+    /// Supplies the box of the module of that id, or hands it back where memory runs out. All that wait are of smaller ids.
+    pub fn supply(
+        &mut self,
+        id: u32,
+        held: Box<dyn SimpleModule>,
+    ) -> Result<(), AllocFailed<Box<dyn SimpleModule>>>
+        requires above { AreOfSmallerIds id (instances_held SimpleModule-box self.old.waiting) }
+        ensures kernel { self.new.kernel ≡ self.old.kernel }
+        ensures kept { IsBesideKernel self.old self.new }
+        ensures ok { let supplied : Seat = record { id = id; box = meaning held } in
+            OnOk result (waiting_in SimpleModule-box self.new
+            ≡ waiting_in SimpleModule-box self.old ++ supplied ∷ []) }
+        ensures err { OnErr result
+            (waiting_in SimpleModule-box self.new ≡ waiting_in SimpleModule-box self.old) }
+        ensures returned { IfErr result (λ failed. failed.value ≡ held) }
+    {
+        self.waiting.place(id, held)
+    }
+
+    /// How many boxes there are: those of the modules that were started, and those that wait.
+    pub fn held(&self) -> u128
+        ensures { result ≡ length (boxes_in SimpleModule-box self.now) }
+    {
+        self.kernel.held() as u128 + self.waiting.len() as u128
+    }
+
+    // ---- positions
+
+    /// Stores the position where the run stands, if it is due, and notes where that is. Where memory runs out the stored ones stay.
+    fn keep_if(&mut self, alloc: Global, due: bool) -> Result<(), NoMemory>
+        requires below { due ≡ true
+            → AreBelow (world_in SimpleModule-box self.old.kernel).count self.old.positions.stored }
+        ensures kept { self.new.kernel ≡ self.old.kernel }
+        ensures waiting { self.new.waiting ≡ self.old.waiting }
+        ensures ok { let position = position_of (world_in SimpleModule-box self.old.kernel) in
+            OnOk result (self.new.positions ≡ taken_if due position self.old.positions) }
+        ensures stood { let count = (world_in SimpleModule-box self.old.kernel).count in
+            OnOk result (self.new.stood ≡ Stood.After count) }
+        ensures err { OnErr result (self.new.positions ≡ self.old.positions) }
+        ensures untaken { let count = (world_in SimpleModule-box self.old.kernel).count in
+            OnErr result (self.new.stood ≡ Stood.Untaken count) }
+        ensures due { OnErr result (due ≡ true) }
+    {
+        let count = self.kernel.count();
+        self.stood = Stood::After(count);
+        if due {
+            self.stood = Stood::Untaken(count);
+            let position = self.kernel.position(alloc)?;
+            self.positions.take(position)?;
+            self.stood = Stood::After(count);
+        }
+        Ok(())
+    }
+
+    /// Goes back to the last position up to the limit, and gives up those after it; where there is none, nothing changes.
+    fn go_back<M: ModelMarker>(
+        &mut self,
+        alloc: Global,
+        limit: u64,
+    ) -> Result<Option<u64>, NoMemory>
+        requires kinds { HasKinds C.behaviour SimpleModule-box self.old.kernel }
+        requires good { HasGood C.behaviour M.answers SimpleModule-box self.old }
+        ensures kinds { HasKinds C.behaviour SimpleModule-box self.new.kernel }
+        ensures good { HasGood C.behaviour M.answers SimpleModule-box self.new }
+        ensures back { IfOk result (λ start.
+            (start ≡ start_of limit (counts_of self.old.positions.stored))
+            × IsBack C.behaviour M.answers SimpleModule-box limit self.old self.new start) }
+        ensures err { OnErr result (HasStored C.behaviour M.answers limit (counts_in self.old.positions)
+            self.new.stood (counts_in self.new.positions)) }
+    {
+        let Some(position) = self.positions.at_most(limit) else {
+            return Ok(None);
+        };
+        let start = position.count();
+        let _ids_rise = self.kernel.held();
+        self.waiting.clear();
+        self.stood = Stood::After(start);
+        let back = self.kernel.go_back(alloc, position);
+        self.positions.cut_after(start);
+        // No box is missing: no module comes or goes while a run goes on, so its boxes are those of each position that it left.
+        back?;
+        Ok(Some(start))
+    }
+
+    /// Gives up the positions after an event, or all of them.
+    pub fn keep_up_to(&mut self, event: Option<u64>)
+        ensures kernel { self.new.kernel ≡ self.old.kernel }
+        ensures waiting { self.new.waiting ≡ self.old.waiting }
+        ensures positions { self.new.positions ≡ kept_up_to event self.old.positions }
+    {
+        match event {
+            Some(event) => self.positions.cut_after(event),
+            None => self.positions.clear(),
+        }
+    }
+
+    /// Cuts the lists that only grow to what the last position has of them, and answers its count of events. Where there is no position
+    /// nothing changes.
+    pub fn cut_back(&mut self) -> Option<u64>
+        requires { HasKinds C.behaviour SimpleModule-box self.old.kernel }
+        ensures seats { seats_in SimpleModule-box self.new.kernel
+            ≡ seats_in SimpleModule-box self.old.kernel }
+        ensures waiting { self.new.waiting ≡ self.old.waiting }
+        ensures positions { self.new.positions ≡ self.old.positions }
+        ensures stood { self.new.stood ≡ self.old.stood }
+        ensures rising { AreRising self.old.positions.stored }
+        ensures last { result ≡ last_count (counts_of self.old.positions.stored) }
+        ensures world { world_in SimpleModule-box self.new.kernel
+            ≡ cut_to_last (last_of self.old.positions.stored) (world_in SimpleModule-box self.old.kernel) }
+    {
+        let Some(position) = self.positions.last() else {
+            return None;
+        };
+        self.kernel.cut_back(position);
+        Some(position.count())
+    }
+
+    // ---- events
+
+    /// Tells the observer how many events are executed, and when the last one was.
+    fn tell<W: Observer>(&self, observer: &mut W) {
+        observer.event(self.kernel.count(), self.kernel.clock());
+    }
+
+    /// Goes on to the limit or to an end, and tells the observer of each event. After each one whose number is a multiple of the interval as it
+    /// is then, a position is stored.
+    fn go_on<A: Answers, W: Observer>(
+        &mut self,
+        alloc: Global,
+        model: &mut A,
+        shown: &mut ShownModules,
+        limit: u64,
+        observer: &mut W,
+    ) -> Result<Outcome, NoMemory>
+        requires going { IsGoing C.behaviour A.answers SimpleModule-box limit self.old }
+        requires kinds { HasKinds C.behaviour SimpleModule-box self.old.kernel }
+        requires shown { let before = world_in SimpleModule-box self.old.kernel in
+            AreShown A.answers before.records shown.old }
+        ensures kinds { HasKinds C.behaviour SimpleModule-box self.new.kernel }
+        ensures good { HasGood C.behaviour A.answers SimpleModule-box self.new }
+        ensures waiting { self.new.waiting ≡ self.old.waiting }
+        ensures begun { let from = (world_in SimpleModule-box self.old.kernel).count in
+            OnErr result (HasBegun C.behaviour A.answers limit from self.new.stood self.old.positions
+            self.new.positions) }
+        ensures ran { IfOk result (λ outcome. IsStopped C.behaviour A.answers limit
+            (ran_in SimpleModule-box outcome self.new.kernel)) }
+        ensures stored { let from = (world_in SimpleModule-box self.old.kernel).count in
+            let left = world_in SimpleModule-box self.new.kernel in
+            IfOk result (λ outcome. HasGoneOn C.behaviour A.answers from self.old.positions
+            self.new.positions left outcome) }
+        ensures shown { let left = world_in SimpleModule-box self.new.kernel in
+            OnOk result (AreShown A.answers left.records shown.new) }
+    {
+        let last_time = model.time_limit();
+        for _k in self.kernel.count()..limit {
+            if let Some(outcome) = self.kernel.step(alloc, model, last_time, shown)? {
+                return Ok(outcome);
+            }
+            self.tell(observer);
+            let due = is_multiple(self.positions.interval(), self.kernel.count());
+            self.keep_if(alloc, due)?;
+        }
+        Ok(self.kernel.outcome_of(None))
+    }
+
+    /// Goes on to the limit or to an end, and ends the run. A position is stored after its last event too, unless that ended in a fault. The
+    /// observer is told where it begins, and of each event.
+    fn run_on<A: Answers, W: Observer>(
+        &mut self,
+        alloc: Global,
+        model: &mut A,
+        shown: &mut ShownModules,
+        limit: u64,
+        observer: &mut W,
+    ) -> Result<Outcome, NoMemory>
+        requires going { IsGoing C.behaviour A.answers SimpleModule-box limit self.old }
+        requires kinds { HasKinds C.behaviour SimpleModule-box self.old.kernel }
+        requires shown { let before = world_in SimpleModule-box self.old.kernel in
+            AreShown A.answers before.records shown.old }
+        ensures kinds { HasKinds C.behaviour SimpleModule-box self.new.kernel }
+        ensures good { HasGood C.behaviour A.answers SimpleModule-box self.new }
+        ensures waiting { self.new.waiting ≡ self.old.waiting }
+        ensures ran { IfOk result (λ outcome. fresh_run C.behaviour A.answers limit
+            ≡ ran_in SimpleModule-box outcome self.new.kernel) }
+        ensures left { let from = (world_in SimpleModule-box self.old.kernel).count in
+            let ran = run_to C.behaviour A.answers limit in
+            OnOk result (HasLeft from self.old.positions self.new.positions ran) }
+        ensures stopped { let from = (world_in SimpleModule-box self.old.kernel).count in
+            HasBegun C.behaviour A.answers limit from self.new.stood self.old.positions
+            self.new.positions }
+    {
+        let from = self.kernel.count();
+        observer.begin(from, limit);
+        let outcome = self.go_on(alloc, model, shown, limit, observer)?;
+        let last = self.kernel.count();
+        let due = is_owed(from, outcome.is_fault(), last, self.positions.ends_at(last));
+        self.keep_if(alloc, due)?;
+        self.stood = Stood::Ending;
+        self.kernel.finish(alloc, model, shown, outcome)
+    }
+
+    /// A whole run from where each module has its box: its events, and its end.
+    fn complete<A: Answers, W: Observer>(
+        &mut self,
+        alloc: Global,
+        model: &mut A,
+        shown: &mut ShownModules,
+        limit: u64,
+        observer: &mut W,
+    ) -> Result<Outcome, NoMemory>
+        requires ready { let waiting = waiting_in SimpleModule-box self.old in
+            CanStart C.behaviour A.answers (world_in SimpleModule-box self.old.kernel) waiting }
+        requires none { IsBegun self.old.positions }
+        requires stood { self.old.stood ≡ Stood.Before }
+        requires shown { let before = world_in SimpleModule-box self.old.kernel in
+            AreShown A.answers before.records shown.old }
+        ensures kinds { HasKinds C.behaviour SimpleModule-box self.new.kernel }
+        ensures none { waiting_in SimpleModule-box self.new ≡ [] }
+        ensures good { HasGood C.behaviour A.answers SimpleModule-box self.new }
+        ensures ran { IfOk result (λ outcome. fresh_run C.behaviour A.answers limit
+            ≡ ran_in SimpleModule-box outcome self.new.kernel) }
+        ensures boxes { let left = boxes_in SimpleModule-box self.new in
+            OnOk result (left ≡ boxes_left C.behaviour A.answers limit) }
+        ensures left { OnOk result (counts_in self.new.positions
+            ≡ positions_after C.behaviour A.answers limit (counts_in self.old.positions)) }
+        ensures stopped { HasStored C.behaviour A.answers limit (counts_in self.old.positions)
+            self.new.stood (counts_in self.new.positions) }
+    {
+        match self.kernel.start(alloc, model, shown, &mut self.waiting)? {
+            Some(outcome) => self.kernel.finish(alloc, model, shown, outcome),
+            None => {
+                self.keep_if(alloc, true)?;
+                self.run_on(alloc, model, shown, limit, observer)
+            }
+        }
+    }
+
+    /// Runs from setup, or finds the box that is needed first. There is no position after which it could begin.
+    fn begin<M: ModelMarker, W: Observer>(
+        &mut self,
+        alloc: Global,
+        model: &EvaluatedModel,
+        phase: Phase,
+        limit: u64,
+        observer: &mut W,
+    ) -> Result<Advance, NoMemory>
+        requires asked { answers_of model.now ≡ M.answers }
+        requires live { let world = world_in SimpleModule-box self.old.kernel in
+            let waiting = waiting_in SimpleModule-box self.old in
+            IsLive C.behaviour M.answers world waiting phase }
+        requires kinds { HasKinds C.behaviour SimpleModule-box self.old.kernel }
+        requires none { IsBegun self.old.positions }
+        requires stood { self.old.stood ≡ Stood.Before }
+        ensures kinds { HasKinds C.behaviour SimpleModule-box self.new.kernel }
+        ensures good { HasGood C.behaviour M.answers SimpleModule-box self.new }
+        ensures advances { let kept = kept_boxes phase (boxes_in SimpleModule-box self.old) in
+            let left = world_in SimpleModule-box self.new.kernel in
+            let waiting = waiting_in SimpleModule-box self.new in
+            IfOk result (λ advance.
+            Advances C.behaviour M.answers limit kept phase (counts_in self.old.positions) left waiting
+            (counts_in self.new.positions) advance) }
+        ensures stopped { HasStored C.behaviour M.answers limit (counts_in self.old.positions)
+            self.new.stood (counts_in self.new.positions) }
+    {
+        match self.stand::<M>(alloc, model, phase)? {
+            Standing::Over(outcome) => Ok(Advance::Ends(None, outcome)),
+            Standing::Missing(request) => Ok(Advance::Waits(request)),
+            Standing::Ready => {
+                let mut answers = AskedModel::<M>::new(alloc, model)?;
+                let mut shown = ShownModules::new(alloc);
+                let outcome = self.complete(alloc, &mut answers, &mut shown, limit, observer)?;
+                Ok(Advance::Ends(None, outcome))
+            }
+        }
+    }
+
+    /// Runs the model for at most so many events, from the last position up to there or from setup, or finds the box that is needed first. The
+    /// observer is told of each event that is executed.
+    pub fn carry_on<W: Observer>(
+        &mut self,
+        alloc: Global,
+        model: &EvaluatedModel,
+        phase: Phase,
+        limit: u64,
+        observer: &mut W,
+    ) -> Result<Advance, NoMemory>
+        requires live { let world = world_in SimpleModule-box self.old.kernel in
+            let waiting = waiting_in SimpleModule-box self.old in
+            IsLive C.behaviour (answers_of model.now) world waiting phase }
+        requires kinds { HasKinds C.behaviour SimpleModule-box self.old.kernel }
+        requires good { HasGood C.behaviour (answers_of model.now) SimpleModule-box self.old }
+        ensures kinds { HasKinds C.behaviour SimpleModule-box self.new.kernel }
+        ensures good { HasGood C.behaviour (answers_of model.now) SimpleModule-box self.new }
+        ensures advances { let kept = kept_boxes phase (boxes_in SimpleModule-box self.old) in
+            let left = world_in SimpleModule-box self.new.kernel in
+            let waiting = waiting_in SimpleModule-box self.new in
+            IfOk result (λ advance.
+            Advances C.behaviour (answers_of model.now) limit kept phase (counts_in self.old.positions) left waiting
+            (counts_in self.new.positions) advance) }
+        ensures stopped { HasStored C.behaviour (answers_of model.now) limit (counts_in self.old.positions)
+            self.new.stood (counts_in self.new.positions) }
+    {
+        self.carry_on_as::<Brand, W>(alloc, model, phase, limit, observer)
+    }
+
+    /// Runs the model M for at most so many events, from the last position up to there or from setup, or finds the box that is needed first. The
+    /// observer is told of each event that is executed.
+    fn carry_on_as<M: ModelMarker, W: Observer>(
+        &mut self,
+        alloc: Global,
+        model: &EvaluatedModel,
+        phase: Phase,
+        limit: u64,
+        observer: &mut W,
+    ) -> Result<Advance, NoMemory>
+        requires asked { answers_of model.now ≡ M.answers }
+        requires live { let world = world_in SimpleModule-box self.old.kernel in
+            let waiting = waiting_in SimpleModule-box self.old in
+            IsLive C.behaviour M.answers world waiting phase }
+        requires kinds { HasKinds C.behaviour SimpleModule-box self.old.kernel }
+        requires good { HasGood C.behaviour M.answers SimpleModule-box self.old }
+        ensures kinds { HasKinds C.behaviour SimpleModule-box self.new.kernel }
+        ensures good { HasGood C.behaviour M.answers SimpleModule-box self.new }
+        ensures advances { let kept = kept_boxes phase (boxes_in SimpleModule-box self.old) in
+            let left = world_in SimpleModule-box self.new.kernel in
+            let waiting = waiting_in SimpleModule-box self.new in
+            IfOk result (λ advance.
+            Advances C.behaviour M.answers limit kept phase (counts_in self.old.positions) left waiting
+            (counts_in self.new.positions) advance) }
+        ensures stopped { HasStored C.behaviour M.answers limit (counts_in self.old.positions)
+            self.new.stood (counts_in self.new.positions) }
+    {
+        match self.go_back::<M>(alloc, limit)? {
+            Some(start) => {
+                let mut answers = AskedModel::<M>::new(alloc, model)?;
+                let mut shown = ShownModules::new(alloc);
+                let outcome = self.run_on(alloc, &mut answers, &mut shown, limit, observer)?;
+                Ok(Advance::Ends(Some(start), outcome))
+            }
+            None => {
+                self.positions.clear();
+                self.stood = Stood::Before;
+                self.begin::<M, W>(alloc, model, phase, limit, observer)
+            }
+        }
+    }
+}
+
+/// Whether so many events are a multiple of the interval.
+fn is_multiple(interval: u64, count: u64) -> bool
+    requires { 1 ≤ interval }
+    ensures { result ≡ is_multiple interval count }
+{
+    count % interval == 0
+}
+
+/// Whether a run that went on from so many events owes a position after its last one: where none is taken there.
+fn is_owed(from: u64, fault: bool, last: u64, ends_there: bool) -> bool
+    ensures { result ≡ not fault && (nat_lt from last && not ends_there) }
+{
+    !fault && from < last && !ends_there
+}

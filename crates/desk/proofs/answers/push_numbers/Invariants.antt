@@ -1,7 +1,0 @@
-use Rattle.std.proofs.Common.{◌≡◌, ◌++◌, drop}
-use Rattle.desk_clients.specs.Answers.{numbers_text}
-use Rattle.desk.proofs.answers.push_numbers.Given as goal
-
--- what is added, and what is left to be added
-abbrev pub invariant-loop-number : goal.invariant-loop-number
-invariant-loop-number l = l.text.items ++ numbers_text (drop l.number-index l.numbers) ≡ l.fn.text.items ++ numbers_text l.numbers

@@ -1,0 +1,279 @@
+//! The desk.
+
+ghost use Rattle.std.specs.Prelude.{◌≡◌, ◌↔◌, None, IsSome, length, OnOk, OnErr, IfOk, IfErr, option_map, option_copied};
+ghost use Rattle.edit_session.specs.Editing.{Completed, IsFor, IsUnknown, wanted_of, with_box};
+ghost use Rattle.edit_session.specs.Files.{scalars_of_run, vectors_of_run, FileWritten};
+ghost use Rattle.edit_session.specs.Sessions.{editing_of, IsSound};
+ghost use Rattle.checkpoint_runs.specs.declared.running.Phase.{Phase};
+ghost use Rattle.edit_session.specs.declared.session.SupplyReason.{SupplyReason};
+ghost use Rattle.desk_commands.specs.Commands.{command_of};
+ghost use Rattle.desk_client.specs.Answers.{held_text, positions_text, IsTold};
+ghost use Rattle.model_edits.specs.declared.edit.Edit.TheVariants as edits;
+ghost use Rattle.desk_answers.specs.Turns.{editing_at, limit_at, limit_after, AnswersEdit, AnswersLine, Forgoes, IsRunTurn, IsSettled, IsToldIn, MayBeDone, StaysSettled};
+
+use crate::answers::{Answer, done, edited_text, held_text, positions_text, refused, refused_as};
+use checkpoint_runs::observer::Observer;
+use desk_client::told::Told;
+use desk_commands::commands::{Command, command_of};
+use edit_session::session::{FileFault, NotWanted, Progress, Session, SupplyFault};
+use kernel::request::Request;
+use model_edits::edit::Edit;
+use module_api::catalogue::Catalogue;
+use module_api::simple_module::SimpleModule;
+use result_lines::writer::Out;
+use run_semantics::outcome::Outcome;
+use sim_values::NoMemory;
+use sim_values::text::Text;
+use std::alloc::Global;
+use std::marker::PhantomData;
+
+/// What the desk answers.
+#[derive(Drop)]
+pub enum DeskTurn {
+    Text(Answer),
+    /// A run waits for a box. Supply it or decline it, and then go on.
+    Want(Request),
+}
+
+/// A session that takes lines of text.
+pub struct Desk<C: Catalogue> {
+    alloc: Global,
+    session: Session<C>,
+    /// The limit of the last run.
+    limit: u64,
+    /// What the session holds, so that contracts can name what boxes say of themselves.
+    holds: PhantomData<Box<dyn SimpleModule>>,
+}
+
+// Written out, so that a crate which drops one need not prove what that does.
+impl<C: Catalogue> Drop for Desk<C> {
+    fn drop(self) {
+        let Desk {
+            alloc: _,
+            session: _,
+            limit: _,
+            holds: _,
+        } = self;
+    }
+}
+
+impl<C: Catalogue> Desk<C> {
+    /// The desk of a session. The limit of its last run is 0, as long as none was asked for.
+    pub fn of_session(alloc: Global, session: Session<C>) -> Desk<C>
+        requires sound { IsSound C.behaviour SimpleModule-box session }
+        ensures sound { IsSettled C.behaviour SimpleModule-box result }
+        ensures editing { editing_at SimpleModule-box result ≡ editing_of SimpleModule-box session }
+        ensures limit { limit_at result ≡ 0 }
+    {
+        Desk {
+            alloc,
+            session,
+            limit: 0,
+            holds: PhantomData,
+        }
+    }
+
+    /// Answers a command line. One that asks to write files, or names a file that is to be read, is no command here: who asks does
+    /// these. Where memory runs out the line has no answer: the model is what it was, and a line that asks for no
+    /// run changed nothing; one that asks for a run left what that left.
+    pub fn line<W: Observer>(&mut self, line: &[u8], observer: &mut W) -> Result<DeskTurn, NoMemory>
+        requires sound { IsSettled C.behaviour SimpleModule-box self.old }
+        ensures sound { IsSettled C.behaviour SimpleModule-box self.new }
+        ensures answer { let before = editing_at SimpleModule-box self.old in
+            let after = editing_at SimpleModule-box self.new in
+            IfOk result (λ turn. AnswersLine C.behaviour before line.now turn after) }
+        ensures told { IfOk result (λ turn. IsToldIn turn) }
+        ensures limit { limit_at self.new ≡ limit_after (command_of line.now) (limit_at self.old) }
+        ensures memory { let before = editing_at SimpleModule-box self.old in
+            let after = editing_at SimpleModule-box self.new in
+            OnErr result (Forgoes C.behaviour (command_of line.now) before after) }
+    {
+        match command_of(self.alloc, line)? {
+            Command::Run(limit) => self.run(limit, observer),
+            Command::Edit(edit) => Ok(DeskTurn::Text(self.edit(edit)?)),
+            Command::Positions => Ok(DeskTurn::Text(self.positions()?)),
+            Command::Held => Ok(DeskTurn::Text(self.held()?)),
+            Command::Write | Command::Unknown | Command::Ned(_, _) => Ok(DeskTurn::Text(Answer {
+                text: refused_as(self.alloc, b"Command")?,
+                told: Told::NoCommand,
+            })),
+            Command::TooLarge => Ok(DeskTurn::Text(Answer {
+                text: refused_as(self.alloc, b"TooLarge")?,
+                told: Told::TooLarge,
+            })),
+        }
+    }
+
+    /// Changes the model as the edit says, or answers why not. Where memory runs out the edit isn't made.
+    pub fn edit(&mut self, edit: Edit) -> Result<Answer, NoMemory>
+        requires sound { IsSettled C.behaviour SimpleModule-box self.old }
+        ensures sound { IsSettled C.behaviour SimpleModule-box self.new }
+        ensures answer { let before = editing_at SimpleModule-box self.old in
+            let after = editing_at SimpleModule-box self.new in
+            IfOk result (λ answer. AnswersEdit C.behaviour before edit answer.text after) }
+        ensures told { IfOk result (λ answer. IsTold answer.told answer.text) }
+        ensures limit { limit_at self.new ≡ limit_at self.old }
+        ensures memory { OnErr result (self.new ≡ self.old) }
+    {
+        let number = self.session.number_given(&edit);
+        match self.session.change(edit) {
+            Ok(change) => {
+                // The answer is made before the change: so where it has no room nothing is changed.
+                let text = edited_text(self.alloc, change.edited.valid_to, number)?;
+                self.session.accept(change);
+                Ok(Answer {
+                    text,
+                    told: Told::Edited(number),
+                })
+            }
+            Err(refusal) => refused(self.alloc, refusal),
+        }
+    }
+
+    /// Changes the NED file of that number, counted from 0, to be this text, or answers why not. Where memory runs out the edit isn't made.
+    pub fn ned(&mut self, file: u64, text: Text) -> Result<Answer, NoMemory>
+        requires sound { IsSettled C.behaviour SimpleModule-box self.old }
+        ensures sound { IsSettled C.behaviour SimpleModule-box self.new }
+        ensures answer { let before = editing_at SimpleModule-box self.old in
+            let after = editing_at SimpleModule-box self.new in
+            IfOk result (λ answer. AnswersEdit C.behaviour before (edits.ReplaceNed file text) answer.text after) }
+        ensures told { IfOk result (λ answer. IsTold answer.told answer.text) }
+        ensures limit { limit_at self.new ≡ limit_at self.old }
+        ensures memory { OnErr result (self.new ≡ self.old) }
+    {
+        self.edit(Edit::ReplaceNed(file as usize, text))
+    }
+
+    /// Runs the model for at most so many events, from the greatest stored position up to there or from setup, or goes on with the
+    /// run that waits. The observer is told of each event that is executed. Where memory runs out there is no answer: no run is done, or this
+    /// one is.
+    pub fn run<W: Observer>(&mut self, limit: u64, observer: &mut W) -> Result<DeskTurn, NoMemory>
+        requires sound { IsSettled C.behaviour SimpleModule-box self.old }
+        ensures kept { StaysSettled C.behaviour SimpleModule-box self.old self.new }
+        ensures limit { limit_at self.new ≡ limit }
+        ensures ran { let before = editing_at SimpleModule-box self.old in
+            let after = editing_at SimpleModule-box self.new in
+            IfOk result (λ turn. IsRunTurn C.behaviour before limit turn after) }
+        ensures told { IfOk result (λ turn. IsToldIn turn) }
+        ensures memory { let before = editing_at SimpleModule-box self.old in
+            let after = editing_at SimpleModule-box self.new in
+            OnErr result (MayBeDone C.behaviour before limit after) }
+    {
+        self.limit = limit;
+        match self.session.run(limit, observer)? {
+            Progress::Want(request) => Ok(DeskTurn::Want(request)),
+            Progress::Done(report) => Ok(DeskTurn::Text(done(self.alloc, report)?)),
+        }
+    }
+
+    /// Goes on with the last run. Where memory runs out there is no answer: no run is done, or this one is.
+    pub fn go_on<W: Observer>(&mut self, observer: &mut W) -> Result<DeskTurn, NoMemory>
+        requires sound { IsSettled C.behaviour SimpleModule-box self.old }
+        ensures kept { StaysSettled C.behaviour SimpleModule-box self.old self.new }
+        ensures limit { limit_at self.new ≡ limit_at self.old }
+        ensures ran { let before = editing_at SimpleModule-box self.old in
+            let after = editing_at SimpleModule-box self.new in
+            IfOk result (λ turn. IsRunTurn C.behaviour before (limit_at self.old) turn after) }
+        ensures told { IfOk result (λ turn. IsToldIn turn) }
+        ensures memory { let before = editing_at SimpleModule-box self.old in
+            let after = editing_at SimpleModule-box self.new in
+            OnErr result (MayBeDone C.behaviour before (limit_at self.old) after) }
+    {
+        self.run(self.limit, observer)
+    }
+
+    /// Gives the module that the run waits for its box, or hands the box back.
+    pub fn supply(&mut self, held: Box<dyn SimpleModule>) -> Result<(), SupplyFault>
+        requires wanted { let editing = editing_at SimpleModule-box self.old in
+            IsFor C.behaviour (wanted_of editing) (meaning held) }
+        requires sound { IsSettled C.behaviour SimpleModule-box self.old }
+        ensures sound { IsSettled C.behaviour SimpleModule-box self.new }
+        ensures ok { let editing = editing_at SimpleModule-box self.old in
+            OnOk result (IsSome (wanted_of editing)
+            × (editing_at SimpleModule-box self.new ≡ with_box editing)) }
+        ensures err { let editing = editing_at SimpleModule-box self.old in
+            IfErr result (λ fault. (fault.held ≡ held)
+            × (editing_at SimpleModule-box self.new ≡ editing)
+            × (fault.reason ≡ SupplyReason.NotWanted ↔ wanted_of editing ≡ None)) }
+        ensures limit { limit_at self.new ≡ limit_at self.old }
+    {
+        self.session.supply(held)
+    }
+
+    /// Says that there is no box for the module that the run waits for.
+    pub fn decline(&mut self) -> Result<(), NotWanted>
+        requires unknown { let editing = editing_at SimpleModule-box self.old in
+            IsUnknown C.behaviour (wanted_of editing) }
+        requires sound { IsSettled C.behaviour SimpleModule-box self.old }
+        ensures sound { IsSettled C.behaviour SimpleModule-box self.new }
+        ensures ok { let editing = editing_at SimpleModule-box self.old in
+            OnOk result (IsSome (wanted_of editing)
+            × (editing_at SimpleModule-box self.new ≡ record editing { phase = Phase.Declined })) }
+        ensures err { let editing = editing_at SimpleModule-box self.old in
+            OnErr result ((wanted_of editing ≡ None)
+            × (editing_at SimpleModule-box self.new ≡ editing)) }
+        ensures limit { limit_at self.new ≡ limit_at self.old }
+    {
+        self.session.decline()
+    }
+
+    /// Answers after which events a position is stored.
+    pub fn positions(&self) -> Result<Answer, NoMemory>
+        ensures text { let editing = editing_at SimpleModule-box self.now in
+            IfOk result (λ answer. answer.text ≡ positions_text editing.positions.stored) }
+        ensures told { IfOk result (λ answer. IsTold answer.told answer.text) }
+    {
+        Ok(Answer {
+            text: positions_text(self.alloc, self.session.positions())?,
+            told: Told::Positions,
+        })
+    }
+
+    /// Answers how many boxes there are.
+    pub fn held(&self) -> Result<Answer, NoMemory>
+        ensures text { let editing = editing_at SimpleModule-box self.now in
+            IfOk result (λ answer. answer.text ≡ held_text (length editing.boxes)) }
+        ensures told { IfOk result (λ answer. IsTold answer.told answer.text) }
+    {
+        Ok(Answer {
+            text: held_text(self.alloc, self.session.held())?,
+            told: Told::Held,
+        })
+    }
+
+    /// Writes the scalar file of the last run.
+    pub fn scalars<O: Out>(&self, out: &mut O) -> Result<(), FileFault>
+        requires sound { IsSettled C.behaviour SimpleModule-box self.now }
+        ensures written { let editing = editing_at SimpleModule-box self.now in
+            let text = scalars_of_run C.behaviour editing.model in
+            FileWritten text editing.done (O.taken out.old) (O.taken out.new) result }
+    {
+        self.session.scalars(out)
+    }
+
+    /// Writes the vector file of the last run.
+    pub fn vectors<O: Out>(&self, out: &mut O) -> Result<(), FileFault>
+        requires sound { IsSettled C.behaviour SimpleModule-box self.now }
+        ensures written { let editing = editing_at SimpleModule-box self.now in
+            let text = vectors_of_run C.behaviour editing.model in
+            FileWritten text editing.done (O.taken out.old) (O.taken out.new) result }
+    {
+        self.session.vectors(out)
+    }
+
+    /// The name of the configuration that is selected.
+    pub fn config(&self) -> &[u8]
+        ensures { result.now ≡ (editing_at SimpleModule-box self.now).model.config }
+    {
+        self.session.config()
+    }
+
+    /// How the last run ended, where one is done.
+    pub fn outcome(&self) -> Option<&Outcome>
+        requires sound { IsSettled C.behaviour SimpleModule-box self.now }
+        ensures { let editing = editing_at SimpleModule-box self.now in
+            option_copied result ≡ option_map (λ (d : Completed). d.outcome) editing.done }
+    {
+        self.session.outcome()
+    }
+}

@@ -1,0 +1,43 @@
+-- No model needs more boxes than there may be modules.
+use Rattle.std.proofs.Common.{ℕ, suc, ◌≤◌, Bool, true, false, cond, not, ◌&&◌, List, [], ◌∷◌, Option, Some, None, filter, length, arith, refl}
+use Rattle.std.proofs.lemmas.List.Filters.{length-filter_both}
+use Rattle.model_data.specs.declared.model.Model.{Model}
+use Rattle.model_answers.specs.Answering.{answers_of}
+use Rattle.model_questions.specs.declared.record.Record.{Record}
+use Rattle.run_semantics.specs.Perform.{Flow, On, Stopped, Broken}
+use Rattle.run_semantics.specs.Run.{Part, needs, parts_from, parts_of, prepared, with_class}
+use Rattle.run_semantics.specs.Subtree.{among}
+use Rattle.run_semantics.specs.World.{live_of}
+use Rattle.run_semantics.proofs.Bounds.{IsFew, few_last}
+use Rattle.run_semantics.proofs.Setting.{Stays, prepared_stays}
+use Rattle.kernel_boxes.specs.Staying.{is_held}
+use Rattle.desk_server.specs.Boxes.{boxes_lacking, lacking, lacking_after, most_boxes}
+
+with_few : (id : ℕ) (class : Option (List ℕ)) (parts : List Part) (n : ℕ) → length parts ≤ n → length (with_class id class parts) ≤ suc n
+with_few id (Some kind) parts n few = omega (arith, few)
+with_few id None parts n few = omega (arith, few)
+
+few_parts : (id : ℕ) (rs : List Record) → length (parts_from id rs) ≤ length rs
+few_parts id [] = omega arith
+few_parts id (r ∷ rs) = with_few id r.class (parts_from (suc id) rs) (length rs) (few_parts (suc id) rs)
+
+few_some : (is : Part → Bool) (ps : List Part) → length (filter is ps) ≤ length ps
+few_some is ps = let both = length-filter_both is (λ p. not (is p)) (λ p. refl) ps in omega (arith, both)
+
+few_lacking : (boxes ps : List Part) → lacking boxes ps ≤ length ps
+few_lacking boxes [] = omega arith
+few_lacking boxes (p ∷ ps) = by (is_held p.id boxes) (few_lacking boxes ps)
+  where
+    by : (t : Bool) → lacking boxes ps ≤ length ps → cond t (lacking boxes ps) (suc (lacking boxes ps)) ≤ suc (length ps)
+    by true l = omega (arith, l)
+    by false l = omega (arith, l)
+
+few_after : (fl : Flow) (boxes : List Part) → Stays IsFew fl → lacking_after fl boxes ≤ most_boxes
+few_after (On w) boxes h = omega (arith, few_lacking boxes (needs w), few_some (λ (p : Part). not (among p.id w.started) && among p.id (live_of w)) (parts_of w), few_parts 1 w.records, h.few)
+few_after (Stopped w) boxes h = absurd h
+few_after (Broken w path f) boxes h = omega arith
+
+pub few_boxes : (m : Model) (boxes : List Part) → boxes_lacking m boxes ≤ most_boxes
+few_boxes m boxes =
+    few_after (prepared (answers_of m)) boxes
+    (prepared_stays IsFew (answers_of m) few_last (record { dead = refl; few = omega arith }) (λ name. record { dead = refl; few = omega arith }))

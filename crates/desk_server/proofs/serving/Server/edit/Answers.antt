@@ -1,0 +1,18 @@
+use Rattle.std.proofs.Common.{ap, ◌∙◌, rules}
+use Rattle.desk_answers.specs.Turns.{editing_at}
+use Rattle.module_stock.specs.Stock.{stock}
+use Rattle.desk_server.specs.Serving.{seen_in}
+use Rattle.desk_server.proofs.Hearing.{tells_edit, tells_no_edit}
+use Rattle.desk_server.proofs.Telling.{serves_told}
+use Rattle.desk_server.proofs.serving.Server.edit.Goals as goal
+
+pub returns-in-Ok : goal.returns-in-Ok
+returns-in-Ok g c = serves_told c.hear.ensures c.hear.ensures.stops c.edit.ensures.sound (search rules)
+    (tells_edit stock c.args.edit _ (seen_in (λ b. (g.dyn-1.0.entry b.vtable).1) g.K.Client.asked g.K.Client.heard g.K.Client.left c.hear.new.self) c.in-Ok.answer.text c.hear.result c.hear.ensures.asked c.hear.ensures.left
+    (c.hear.ensures.running ∙ c.requires.idle) (rw c.hear.ensures.desk c.in-Ok.ensures.answer) (rw c.as_bytes.ensures at c.hear.ensures.heard))
+
+pub returns-in-Err : goal.returns-in-Err
+returns-in-Err g c = serves_told c.out_of_memory.ensures c.out_of_memory.ensures.stops c.edit.ensures.sound (search rules)
+    (tells_no_edit stock c.args.edit (seen_in (λ b. (g.dyn-1.0.entry b.vtable).1) g.K.Client.asked g.K.Client.heard g.K.Client.left c.args.self.now)
+    (seen_in (λ b. (g.dyn-1.0.entry b.vtable).1) g.K.Client.asked g.K.Client.heard g.K.Client.left c.out_of_memory.new.self) c.out_of_memory.result c.out_of_memory.ensures.asked c.out_of_memory.ensures.left
+    c.out_of_memory.ensures.running (ap (editing_at (λ b. (g.dyn-1.0.entry b.vtable).1)) (c.out_of_memory.ensures.desk ∙ c.in-Err.ensures.memory)) c.out_of_memory.ensures.heard)

@@ -1,0 +1,33 @@
+-- The boxes that a run needs.
+use Rattle.std.specs.Prelude.{ℕ, suc, ◌+◌, List, [], ◌∷◌, if◌then◌else◌}
+use Rattle.model_data.specs.declared.model.Model.{Model}
+use Rattle.model_answers.specs.Answering.{answers_of}
+use Rattle.run_semantics.specs.Perform.{Flow, On, Stopped, Broken}
+use Rattle.run_semantics.specs.Run.{Part, needs, prepared}
+use Rattle.kernel_boxes.specs.Staying.{is_held}
+use Rattle.checkpoint_runs.specs.declared.running.Phase.{Phase}
+use Rattle.checkpoint_runs.specs.declared.running.Phase.TheVariants.{Idle, Waiting, Declined}
+
+-- how many of these modules have none of these boxes
+abbrev pub lacking : List Part → List Part → ℕ
+lacking boxes [] = 0
+lacking boxes (p ∷ ps) = if is_held p.id boxes then lacking boxes ps else suc (lacking boxes ps)
+
+-- how many boxes a run needs besides these
+abbrev pub lacking_after : Flow → List Part → ℕ
+lacking_after (On w) boxes = lacking boxes (needs w)
+lacking_after (Stopped w) boxes = 0
+lacking_after (Broken w path f) boxes = 0
+
+abbrev pub boxes_lacking : Model → List Part → ℕ
+boxes_lacking m boxes = lacking_after (prepared (answers_of m)) boxes
+
+-- no model has more modules, and so none needs more boxes
+abbrev pub most_boxes : ℕ
+most_boxes = 65536
+
+-- How many turns a run takes at most: a turn for each box that it doesn't hold yet, and one more where a box may be declined.
+abbrev pub left_of : Phase → Model → List Part → ℕ
+left_of Idle m boxes = boxes_lacking m [] + 2
+left_of (Waiting from at) m boxes = boxes_lacking m boxes + 1
+left_of Declined m boxes = 0

@@ -1,0 +1,265 @@
+-- A desk with a client, from one turn to the next.
+use Rattle.std.specs.Prelude.{◌≡◌, ◌⊎◌, ◌≤◌, ◌<◌, ℕ, ◌+◌, ◌*◌, List, [], ◌∷◌, ◌++◌, length, Option, Some, None, IsSome, option_map}
+use Rattle.module_api.specs.Behaviour.{Behaviour}
+use Rattle.model_data.specs.declared.model.Model.{Model}
+use Rattle.desk_commands.specs.declared.commands.Command.{Command}
+use Rattle.desk_commands.specs.declared.commands.Command.TheVariants as command
+use Rattle.module_stock.specs.Modules.{module_of}
+use Rattle.module_stock.specs.declared.modules.StockModule.{StockModule}
+use Rattle.edit_session.specs.Editing.{Completed, Editing, completed, wanted_of, IsFor}
+use Rattle.edit_session.specs.Files.{scalars_of_run, vectors_of_run}
+use Rattle.checkpoint_runs.specs.Positions.{cut, start_of}
+use Rattle.kernel_boxes.specs.Seats.{Members}
+use Rattle.desk_answers.specs.Turns.{editing_at, IsSettled}
+use Rattle.checkpoint_runs.specs.declared.running.Phase.TheVariants.{Declined}
+use Rattle.desk_server.specs.Boxes.{left_of, most_boxes}
+use Rattle.desk_server.specs.Served.{Machine, AreHeard, BeginsToHear, Hears, HearsRun, IsBroken, command_asked}
+use Rattle.transcripts.specs.Heard.{Heard}
+use Rattle.transcripts.specs.declared.asked.Asked.{Asked}
+use Rattle.desk_server.specs.declared.serving.Next.{Next}
+use Rattle.desk_server.specs.declared.serving.Next.TheVariants as next
+use Rattle.desk_server.specs.declared.serving.Server.{Server}
+use Rattle.desk_client.specs.declared.clients.Stop.{Stop}
+use Rattle.desk_client.specs.declared.clients.Stop.TheVariants as stop
+use Rattle.desk_server.specs.declared.serving.Turn.{Turn}
+use Rattle.desk_server.specs.declared.serving.Turn.TheVariants as turn
+
+-- what is seen of a desk with a client: its session; what the client asked and heard, and how often it may still ask; and the limit of the run that
+-- is going on, if there is one
+pub record Seen : Type 0 where
+  pub editing : Editing
+  pub asked : List Asked
+  pub heard : List Heard
+  pub may : ℕ
+  pub running : Option ℕ
+
+abbrev pub seen : Editing → List Asked → List Heard → ℕ → Option ℕ → Seen
+seen e asked heard may running = record { editing = e; asked = asked; heard = heard; may = may; running = running }
+
+-- ---- what stays true
+
+-- the session is where the plain machine is
+pub record IsAt (b : Behaviour) (e : Editing) (s : Machine) : Type 0 where
+  pub model : e.model ≡ s.model
+  pub done : e.done ≡ option_map (completed b s.model) s.last
+  pub held : length e.boxes ≡ s.held
+  pub known : e.known ≡ s.known
+  pub positions : e.positions ≡ s.positions
+
+-- A run to that limit is the same of the session and of the plain machine: of the same model, it begins at the same position, and up to there the same
+-- ones stay, with the same interval.
+pub record RunsAlike (limit : ℕ) (e : Editing) (s : Machine) : Type 0 where
+  pub model : e.model ≡ s.model
+  pub start : start_of limit e.positions.stored ≡ start_of limit s.positions.stored
+  pub kept : cut (start_of limit e.positions.stored) e.positions ≡ cut (start_of limit s.positions.stored) s.positions
+
+-- All that was asked is heard.
+pub record IsServed (b : Behaviour) (s : Machine) (v : Seen) : Type 0 where
+  pub machine : Machine
+  pub at : IsAt b v.editing machine
+  pub heard : AreHeard b s v.asked v.heard machine
+
+-- A run to that limit was asked last, and goes on; all before is heard. It began with setup, and where the machine has positions, all after the limit,
+-- the session has none any more.
+pub record IsGoing (b : Behaviour) (s : Machine) (limit : ℕ) (v : Seen) : Type 0 where
+  pub before : List Asked
+  pub last : Asked
+  pub all : v.asked ≡ before ++ last ∷ []
+  pub runs : command_asked last ≡ command.Run limit
+  pub machine : Machine
+  pub alike : RunsAlike limit v.editing machine
+  pub heard : AreHeard b s before v.heard machine
+
+abbrev pub StandsBy : Option ℕ → Behaviour → Machine → Seen → Type 0
+StandsBy None b s v = IsServed b s v
+StandsBy (Some limit) b s v = IsGoing b s limit v
+
+-- what was asked is heard, but for a run that goes on
+abbrev pub Stands : Behaviour → Machine → Seen → Type 0
+Stands b s v = StandsBy v.running b s v
+
+-- it did, and it does still
+abbrev pub GoesOnServing : Behaviour → Seen → Seen → Type 0
+GoesOnServing b before after = (s : Machine) → Stands b s before → Stands b s after
+
+-- ---- what is left to be done
+
+abbrev pub going : Option ℕ → ℕ → ℕ
+going None left = 0
+going (Some limit) left = left + 1
+
+abbrev pub left_in_run : Editing → ℕ
+left_in_run e = left_of e.phase e.model e.boxes
+
+-- how many turns are left at most: for each thing that may be asked, as many as a model may need boxes, and four more
+abbrev pub left_seen : Seen → ℕ
+left_seen v = v.may * (most_boxes + 4) + going v.running (left_in_run v.editing)
+
+-- ---- how it ends
+
+-- all that was asked is heard; or not all of the last
+abbrev pub EndsServing : Behaviour → Machine → Seen → Stop → Type 0
+EndsServing b s v stop.End = IsServed b s v
+EndsServing b s v stop.Gone = IsServed b s v ⊎ IsBroken b s v.asked v.heard
+EndsServing b s v (stop.Device page written) = IsBroken b s v.asked v.heard
+
+abbrev pub Ends : Behaviour → Machine → List Asked → List Heard → Stop → Type 0
+Ends b s asked heard stop.End = (s' : Machine) × AreHeard b s asked heard s'
+Ends b s asked heard stop.Gone = ((s' : Machine) × AreHeard b s asked heard s') ⊎ IsBroken b s asked heard
+Ends b s asked heard (stop.Device page written) = IsBroken b s asked heard
+
+-- A client is served no more only where that is true of it which it says of the reason.
+abbrev pub MayStopAt : (Stop → Type 0) → Next → Type 0
+MayStopAt stops next.GoOn = Unit {0}
+MayStopAt stops (next.Stop why) = stops why
+
+abbrev pub MayStopIn : (Stop → Type 0) → Turn → Type 0
+MayStopIn stops (turn.Need made) = Unit {0}
+MayStopIn stops (turn.Over n) = MayStopAt stops n
+
+-- one thing is heard, or the client is gone
+abbrev pub HearsOne : Heard → List Heard → List Heard → Next → Type 0
+HearsOne h before after next.GoOn = after ≡ before ++ h ∷ []
+HearsOne h before after (next.Stop stop.Gone) = after ≡ before
+HearsOne h before after (next.Stop _) = ⊥
+
+-- ---- turns
+
+abbrev pub IsNextServing : Behaviour → Seen → Seen → Next → Type 0
+IsNextServing b before after next.GoOn = GoesOnServing b before after × (left_seen after < left_seen before)
+IsNextServing b before after (next.Stop why) = (s : Machine) → Stands b s before → EndsServing b s after why
+
+-- A run waits for a box, and a module was made for it.
+pub record NeedsBox (b : Behaviour) (before after : Seen) (made : StockModule) : Type 0 where
+  pub goes_on : GoesOnServing b before after
+  pub wanted : IsFor b (wanted_of after.editing) (module_of made)
+  pub waits : IsSome (wanted_of after.editing)
+  pub going : IsSome after.running
+  pub left : left_seen after ≤ left_seen before
+
+abbrev pub IsServingTurn : Behaviour → Seen → Seen → Turn → Type 0
+IsServingTurn b before after (turn.Need made) = NeedsBox b before after made
+IsServingTurn b before after (turn.Over n) = IsNextServing b before after n
+
+-- ---- what a command comes to that is asked where no run goes on
+
+-- All of it is heard, and the session is where the machine then is.
+abbrev pub IsHeardNow : Behaviour → Command → Seen → Seen → Type 0
+IsHeardNow b c before after = (s : Machine) → IsAt b before.editing s
+    → (front : List Heard) × (s' : Machine) × (after.heard ≡ before.heard ++ front) × Hears b s c front s' × IsAt b after.editing s'
+
+-- The same of a run, whatever was done before.
+abbrev pub IsHeardRun : Behaviour → ℕ → Seen → Seen → Type 0
+IsHeardRun b limit before after = (after.asked ≡ before.asked) × (after.may ≡ before.may) × (after.running ≡ None)
+    × ((s : Machine) → RunsAlike limit before.editing s
+    → (front : List Heard) × (s' : Machine) × (after.heard ≡ before.heard ++ front) × HearsRun b s limit front s' × IsAt b after.editing s')
+
+-- The first part of it is heard, or nothing, and no more, wherever the machine may be.
+pub record IsCutOff (b : Behaviour) (c : Command) (may_be : Machine → Type 0) (before after : Seen) : Type 0 where
+  pub asked : after.asked ≡ before.asked
+  pub more : List Heard
+  pub heard : after.heard ≡ before.heard ++ more
+  pub begins : (s : Machine) → may_be s → BeginsToHear b s c more
+
+abbrev pub HearsNext : Behaviour → Command → Seen → Seen → Next → Type 0
+HearsNext b c before after next.GoOn =
+    (after.asked ≡ before.asked) × (after.may ≡ before.may) × (after.running ≡ None) × IsHeardNow b c before after
+HearsNext b c before after (next.Stop stop.End) = ⊥
+HearsNext b c before after (next.Stop why) = IsCutOff b c (IsAt b before.editing) before after
+
+-- the files of the last run, where one is done
+abbrev pub AreFilled : Behaviour → Model → Option Completed → List ℕ → List ℕ → Type 0
+AreFilled b m None scalars vectors = ⊥
+AreFilled b m (Some done) scalars vectors = (scalars ≡ scalars_of_run b m done.limit) × (vectors ≡ vectors_of_run b m done.limit)
+
+-- ---- a server
+
+module _ {O K X : Type 0} {Y : X → Type 0} where
+  -- what is seen of a server, by what its client says of itself
+  abbrev pub seen_in : Members X Y → (K → List Asked) → (K → List Heard) → (K → ℕ) → Server O K X Y → Seen
+  seen_in members asked heard may server = seen (editing_at members server.desk) (asked server.client) (heard server.client) (may server.client) server.running
+
+  -- what it keeps
+  abbrev pub IsServer : Behaviour → Members X Y → Server O K X Y → Type 0
+  IsServer b members server = IsSettled b members server.desk
+
+  -- What each step that answers a command takes for granted.
+  pub record IsReady (b : Behaviour) (members : Members X Y) (keeps : K → Type 0) (server : Server O K X Y) : Type 0 where
+    -- the desk keeps what it keeps
+    pub sound : IsServer b members server
+    -- no run goes on
+    pub idle : server.running ≡ None
+    -- the client keeps true of itself what it says
+    pub kept : keeps server.client
+
+  -- What each step comes to, by what the client says of itself. The step's own relation, and which of its answers end it, are handed over: it answers a
+  -- `Next` or a `Turn`.
+  pub record Serves {R : Type 0} (b : Behaviour) (members : Members X Y) (asked_of : K → List Asked) (heard_of : K → List Heard) (may_ask : K → ℕ)
+      (keeps : K → Type 0) (label_of : K → ℕ) (stops_of : K → Stop → Type 0) (may_stop : (Stop → Type 0) → R → Type 0) (is_step : Seen → Seen → R → Type 0)
+      (before after : Server O K X Y) (answer : R) : Type 0 where
+    -- the client keeps true of itself what it says
+    pub kept : keeps after.client
+    -- its label is that from before
+    pub label : label_of after.client ≡ label_of before.client
+    -- it is served no more only where that is true of it which it says of the reason
+    pub stops : may_stop (stops_of after.client) answer
+    -- the desk keeps what it keeps
+    pub sound : IsServer b members after
+    -- what is seen before and after the step, and what it answers, are as its relation says
+    pub comes : is_step (seen_in members asked_of heard_of may_ask before) (seen_in members asked_of heard_of may_ask after) answer
+
+  -- The client hears this, an answer or that memory ran out, or is gone, and nothing else changes but which run goes on.
+  pub record Tells (asked_of : K → List Asked) (heard_of : K → List Heard) (may_ask : K → ℕ) (keeps : K → Type 0) (label_of : K → ℕ)
+      (stops_of : K → Stop → Type 0) (told : Heard) (goes_on : Option ℕ) (before after : Server O K X Y) (answer : Next) : Type 0 where
+    -- the client keeps true of itself what it says
+    pub kept : keeps after.client
+    -- its label is that from before
+    pub label : label_of after.client ≡ label_of before.client
+    -- it is served no more only where that is true of it which it says of the reason
+    pub stops : MayStopAt (stops_of after.client) answer
+    -- the desk is that from before
+    pub desk : after.desk ≡ before.desk
+    -- the limit of the run that goes on, if there is one
+    pub running : after.running ≡ goes_on
+    -- it asked nothing
+    pub asked : asked_of after.client ≡ asked_of before.client
+    -- it may ask as often as before
+    pub left : may_ask after.client ≡ may_ask before.client
+    -- it heard what it is told, or is gone
+    pub heard : HearsOne told (heard_of before.client) (heard_of after.client) answer
+
+-- ---- runs
+
+-- It waits for a box, as it began with setup.
+pub record WaitsIn (before after : Seen) (limit : ℕ) : Type 0 where
+  pub asked : after.asked ≡ before.asked
+  pub heard : after.heard ≡ before.heard
+  pub may : after.may ≡ before.may
+  pub running : after.running ≡ Some limit
+  pub model : after.editing.model ≡ before.editing.model
+  pub start : start_of limit before.editing.positions.stored ≡ None
+  pub positions : after.editing.positions ≡ cut None before.editing.positions
+
+-- a box is made for what the run waits for, or there may be no such box, and the run is told so
+abbrev pub IsMetIn : Behaviour → Editing → Editing → Turn → Type 0
+IsMetIn b before after (turn.Need made) = (after ≡ before) × IsFor b (wanted_of after) (module_of made)
+IsMetIn b before after (turn.Over next.GoOn) = after ≡ record before { phase = Declined }
+IsMetIn b before after (turn.Over (next.Stop why)) = ⊥
+
+-- A run to that limit is done and its answer is heard, or memory ran out; it waits for a box of what is made, or was told that there is none; or the
+-- client is gone.
+abbrev pub IsRunIn : Behaviour → ℕ → Seen → Seen → Turn → Type 0
+IsRunIn b limit before after (turn.Need made) =
+    WaitsIn before after limit × IsFor b (wanted_of after.editing) (module_of made) × IsSome (wanted_of after.editing)
+    × (left_in_run after.editing ≤ left_in_run before.editing)
+IsRunIn b limit before after (turn.Over next.GoOn) =
+    (WaitsIn before after limit × (left_in_run after.editing < left_in_run before.editing))
+    ⊎ IsHeardRun b limit before after
+IsRunIn b limit before after (turn.Over (next.Stop stop.Gone)) = IsCutOff b (command.Run limit) (RunsAlike limit before.editing) before after
+IsRunIn b limit before after (turn.Over (next.Stop _)) = ⊥
+
+-- What a command comes to that is asked where no run goes on: a run goes on or is heard; all else is heard at once.
+abbrev pub ComesTo : Behaviour → Command → Seen → Seen → Turn → Type 0
+ComesTo b (command.Run limit) before after t = IsRunIn b limit before after t
+ComesTo b c before after (turn.Over n) = HearsNext b c before after n
+ComesTo b c before after (turn.Need made) = ⊥

@@ -1,6 +1,0 @@
-use Rattle.std.proofs.Common.{◌≡◌, take, map}
-use Rattle.ini_texts.specs.Numbered.{line_at}
-use Rattle.ini_texts.proofs.chain.rests_of.Given as goal
-
-abbrev pub invariant-loop-base : goal.invariant-loop-base
-invariant-loop-base l = l.rests.items ≡ map (line_at l.lines) (take l.base-index l.row)

@@ -1,7 +1,0 @@
-use Rattle.std.proofs.Common.{◌∙◌, ap}
-use Rattle.ini_texts.proofs.MergeLaws.{tail_of_drop}
-use Rattle.ini_texts.specs.Merge.{tail}
-use Rattle.ini_texts.proofs.merge.Rest.advance.Goals as goal
-
-pub returns-then-self-len : goal.returns-then-self-len
-returns-then-self-len c = tail_of_drop c.self.inside.numbers c.self.inside.taken ∙ ap tail c.self.view_is

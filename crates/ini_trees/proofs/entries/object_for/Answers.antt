@@ -1,0 +1,9 @@
+use Rattle.ini_trees.specs.Sections.{entries_along}
+use Rattle.ini_trees.proofs.TextLaws.{option_of_text, no_option_of}
+use Rattle.ini_trees.proofs.entries.object_for.Goals as goal
+
+pub returns-in-Ok : goal.returns-in-Ok
+returns-in-Ok c = option_of_text c.in-Ok.text.now c.args.path.now (entries_along c.args.chain.now c.args.lines.now) _ c.matched_option.ensures c.in-Ok.ensures.cases.0 c.in-Ok.ensures.cases.1
+
+pub returns-in-Err : goal.returns-in-Err
+returns-in-Err c = no_option_of c.args.path.now (entries_along c.args.chain.now c.args.lines.now) c.in-Err.ensures.cases.0

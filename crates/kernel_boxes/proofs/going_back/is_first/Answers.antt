@@ -1,0 +1,14 @@
+use Rattle.std.proofs.Common.{sym, ap, ◌∙◌, option_map}
+use Rattle.std.specs.Option.{option_copied}
+use Rattle.kernel_boxes.specs.Staying.{is_first}
+use Rattle.kernel_boxes.proofs.Seating.{means_in}
+use Rattle.kernel_boxes.proofs.going_back.is_first.Goals as goal
+
+pub returns-in-Some : goal.returns-in-Some
+returns-in-Some g c =
+    c.is_of_first.ensures
+    ∙ sym (ap (is_first c.args.id c.args.saved.now) (means_in (λ v. (g.dyn-1.0.entry v.vtable).1.meaning v.value) c.args.id c.args.boxes.now.seats ∙ ap (option_map (λ v. (g.dyn-1.0.entry v.vtable).1.meaning v.value)) (sym c.get.ensures ∙ ap option_copied c.in-Some.is)))
+
+pub returns-in-None : goal.returns-in-None
+returns-in-None g c =
+    sym (ap (is_first c.args.id c.args.saved.now) (means_in (λ v. (g.dyn-1.0.entry v.vtable).1.meaning v.value) c.args.id c.args.boxes.now.seats ∙ ap (option_map (λ v. (g.dyn-1.0.entry v.vtable).1.meaning v.value)) (sym c.get.ensures ∙ ap option_copied c.in-None.is)))

@@ -1,0 +1,28 @@
+-- What two models have in common.
+use Rattle.std.specs.Prelude.{◌≡◌, Bool, true, false, ◌&&◌, List, [], ◌∷◌}
+use Rattle.model_questions.specs.declared.answer.Asked.{Asked}
+use Rattle.model_questions.specs.declared.answer.Question.{Question}
+use Rattle.model_questions.specs.declared.answer.Question.TheVariants.{Root, Build, Param, GateSize, Hop, HopBack, BeyondLimit, InjectionBefore}
+use Rattle.model_questions.specs.Answers.{Answers}
+use Rattle.model_agreement.specs.declared.common.Common.{Common}
+
+-- What is said to be common to two models is.
+pub record IsCommon (m n : Answers) (c : Common) : Type 0 where
+  pub limit_is : c.limit ≡ true → m.time_limit ≡ n.time_limit
+  pub injections_are : c.injections ≡ true → m.injections ≡ n.injections
+
+-- whether a question is about what is common alone
+abbrev pub is_about : Common → Question → Bool
+is_about c Root = false
+is_about c (Build id) = false
+is_about c (Param id name) = false
+is_about c (GateSize id name) = false
+is_about c (Hop id name index) = false
+is_about c (HopBack id name index) = false
+is_about c (BeyondLimit time) = c.limit
+is_about c (InjectionBefore due last) = c.injections
+
+-- whether these questions are
+abbrev pub are_about : Common → List Asked → Bool
+are_about c [] = true
+are_about c (a ∷ rest) = is_about c a.question && are_about c rest

@@ -1,0 +1,183 @@
+//! Questions to a model, and their answers.
+
+ghost use Rattle.std.specs.Prelude.{◌≡◌, IfOk};
+ghost use Rattle.model_questions.specs.Answers.{is_beyond};
+
+use model_injections::injection::{Due, Injection, Turn};
+use module_api::call::Gate;
+use sim_time::SimTime;
+use sim_values::text::Text;
+use sim_values::value::Value;
+use sqlite_items::Items;
+use std::alloc::{AllocError, Global};
+
+/// What a run asks of its model. All that it takes from the model is an answer to one of these.
+#[derive(PartialEq, Eq, Hash, Drop)]
+pub enum Question {
+    /// Which network is run.
+    Root,
+    /// What is inside of the compound module of that id.
+    Build(u32),
+    /// The value of a parameter of the module of that id.
+    Param(u32, Text),
+    /// The direction and size of a gate of the module of that id.
+    GateSize(u32, Text),
+    /// The next gate after a gate of the module of that id, by its name and index, and the channel on the way.
+    Hop(u32, Text, u32),
+    /// The gate from which a message comes from outside to a gate of the module of that id, by its name and index.
+    HopBack(u32, Text, u32),
+    /// Whether an event at that time, in picoseconds, is later than the option sim-time-limit allows.
+    BeyondLimit(u64),
+    /// The injection that goes before an event that is due then, or that goes where no event is left;
+    /// of those after this one, which was delivered last.
+    InjectionBefore(Option<Due>, Option<Turn>),
+}
+
+impl Question {
+    /// An equal question.
+    pub fn copy(&self, alloc: Global) -> Result<Question, AllocError>
+        ensures { IfOk result (λ copy. copy ≡ self.now) }
+    {
+        match self {
+            Question::Root => Ok(Question::Root),
+            Question::Build(id) => Ok(Question::Build(*id)),
+            Question::Param(id, name) => Ok(Question::Param(*id, name.copy(alloc)?)),
+            Question::GateSize(id, name) => Ok(Question::GateSize(*id, name.copy(alloc)?)),
+            Question::Hop(id, name, index) => Ok(Question::Hop(*id, name.copy(alloc)?, *index)),
+            Question::HopBack(id, name, index) => {
+                Ok(Question::HopBack(*id, name.copy(alloc)?, *index))
+            }
+            Question::BeyondLimit(time) => Ok(Question::BeyondLimit(*time)),
+            Question::InjectionBefore(due, last) => Ok(Question::InjectionBefore(*due, *last)),
+        }
+    }
+}
+
+/// A question, with the number of the event in which it was asked.
+#[derive(Drop)]
+pub struct Asked {
+    pub event: u64,
+    pub question: Question,
+}
+
+/// Why a model can't answer with a value, or a compound module can't be built.
+#[derive(Clone, Copy, PartialEq, Eq)]
+pub enum ModelFault {
+    /// A submodule's type isn't declared.
+    UnknownType,
+    /// The type that was chosen for a submodule doesn't keep the interface that it has to keep.
+    Interface,
+    /// A parameter has no value.
+    Unassigned,
+    /// A value rests on itself.
+    Circle,
+    /// A number of an expression is outside -2^63 to 2^63 - 1, or an amount to shift by is outside 0 to 63.
+    Overflow,
+    /// A quotient in an expression is no whole number, something is divided by zero, or an exponent is below zero.
+    Inexact,
+    /// A value is of another kind than its parameter, or than its operator wants, or the size of a vector of submodules is negative.
+    Mismatch,
+    /// A gate's index is out of range, no gate is free, or the size of a gate vector is outside 0 to 65,536.
+    GateSize,
+    /// There is no such submodule or gate, its direction is another, or it is a vector where a single gate is named, or the other way round.
+    NoGate,
+    /// A gate is used by two connections.
+    AlreadyConnected,
+    /// A gate that has to be connected isn't.
+    Unconnected,
+    /// The loops of a compound module make more than 1,000,000 turns.
+    TooManyTurns,
+    /// There would be more modules than may be.
+    TooManyModules,
+    /// Modules are nested too deep.
+    TooDeep,
+}
+
+/// A submodule that a compound module is built with.
+#[derive(Drop)]
+pub struct Built {
+    pub name: Text,
+    /// Its place in its vector, none where it is no vector's element.
+    pub index: Option<u32>,
+    /// The class of a simple module, none for a compound module.
+    pub class: Option<Text>,
+}
+
+/// Which module a hop leads to, seen from the one whose gate was asked about.
+#[derive(Drop)]
+pub enum Neighbour {
+    /// The module itself.
+    Itself,
+    /// The module around it.
+    Around,
+    /// A submodule of the module around it, by its name and index.
+    Beside(Text, Option<u32>),
+    /// A submodule of its own, by its name and index.
+    Inside(Text, Option<u32>),
+}
+
+/// The three kinds of channels (OMNeT++ Simulation Manual, "Channels").
+#[derive(Clone, Copy, PartialEq, Eq)]
+pub enum ChannelKind {
+    /// No delay.
+    Ideal,
+    /// A delay.
+    Delay,
+    /// A delay, and a rate at which bits are transmitted.
+    Datarate,
+}
+
+/// The channel of a connection.
+#[derive(Clone, Copy, Drop)]
+pub struct Channel {
+    pub kind: ChannelKind,
+    /// How long a message is on the way, zero at an ideal channel.
+    pub delay: SimTime,
+    /// In bits per second; 0: a transmission takes no time.
+    pub datarate: u64,
+    /// Whether it loses each message.
+    pub disabled: bool,
+}
+
+/// A gate that a hop leads to, and the channel on the way.
+#[derive(Drop)]
+pub struct NextGate {
+    pub neighbour: Neighbour,
+    /// The gate's name; that of a half has its mark, as `port$i`.
+    pub gate: Text,
+    /// Its place in its vector, 0 of a scalar gate.
+    pub index: u32,
+    pub channel: Channel,
+}
+
+/// What a model answers.
+#[derive(Drop)]
+pub enum Answer {
+    /// The name of the network.
+    Root(Text),
+    /// The submodules, in the order in which they are created.
+    Inside(Items<Built>),
+    Value(Value),
+    /// A gate, or a half of one: its own name, its direction and its size.
+    Gate(Gate),
+    /// The gate at the other end of a hop, none where the gate is not connected.
+    Next(Option<NextGate>),
+    /// The fault, with the path that it is told with.
+    Fault(Text, ModelFault),
+    /// Whether the time is later than the limit.
+    Beyond(bool),
+    /// The injection that goes next, or that the next event goes first.
+    Injection(Option<Injection>),
+    /// There is no such thing.
+    Absent,
+}
+
+/// Whether a time is later than this limit, where there is one, both in picoseconds. A time equal to the limit is not.
+pub fn is_beyond(limit: Option<u64>, time: u64) -> bool
+    ensures { result ≡ is_beyond limit time }
+{
+    match limit {
+        Some(limit) => limit < time,
+        None => false,
+    }
+}

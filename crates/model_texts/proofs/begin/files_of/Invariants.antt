@@ -1,6 +1,0 @@
-use Rattle.std.proofs.Common.{take}
-use Rattle.model_texts.specs.Models.{AreNedFiles}
-use Rattle.model_texts.proofs.begin.files_of.Given as goal
-
-abbrev pub invariant-loop-number : goal.invariant-loop-number
-invariant-loop-number l = AreNedFiles (take l.number l.text-items) l.files

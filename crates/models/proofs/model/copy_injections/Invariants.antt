@@ -1,5 +1,0 @@
-use Rattle.std.proofs.Common.{◌≡◌, ◌++◌, drop}
-use Rattle.models.proofs.model.copy_injections.Given as goal
-
-abbrev pub invariant-loop-injection : goal.invariant-loop-injection
-invariant-loop-injection l = l.copy ++ drop l.injection-index l.injections ≡ l.injections

@@ -1,0 +1,7 @@
+use Rattle.std.proofs.Common.{◌≡◌, not, drop}
+use Rattle.ned_inheritance.specs.Places.{first_from}
+use Rattle.ned_types.specs.Types.{is_submodule_known}
+use Rattle.ned_inheritance.proofs.faults.first_unknown.Given as goal
+
+abbrev pub invariant-loop-at : goal.invariant-loop-at
+invariant-loop-at l = first_from (λ s. not (is_submodule_known l.named s)) l.at (drop l.at l.submodules) ≡ first_from (λ s. not (is_submodule_known l.named s)) 0 l.submodules

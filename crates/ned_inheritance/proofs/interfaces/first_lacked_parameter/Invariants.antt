@@ -1,0 +1,7 @@
+use Rattle.std.proofs.Common.{◌≡◌, drop}
+use Rattle.ned_inheritance.specs.Places.{first_from}
+use Rattle.ned_inheritance.specs.Interfaces.{lacks_parameter}
+use Rattle.ned_inheritance.proofs.interfaces.first_lacked_parameter.Given as goal
+
+abbrev pub invariant-loop-at : goal.invariant-loop-at
+invariant-loop-at l = first_from (λ w. lacks_parameter l.lines w) l.at (drop l.at l.wanted) ≡ first_from (λ w. lacks_parameter l.lines w) 0 l.wanted

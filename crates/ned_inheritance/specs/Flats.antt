@@ -1,0 +1,88 @@
+-- Flat types, made from those of their bases.
+use Rattle.std.specs.Prelude.{◌≡◌, ℕ, true, false, ◌&&◌, List, [], ◌++◌, drop, is_some, unwrap_or, Option, Some, None, if◌then◌else◌}
+use Rattle.std.specs.Borrow.{Bor}
+use Rattle.std.specs.Map.{lookup}
+use Rattle.std.specs.Str.{bytes_eq}
+use Rattle.ned_trees.specs.declared.declarations.SectionLine.{SectionLine}
+use Rattle.ned_trees.specs.declared.declarations.TypeDeclaration.{TypeDeclaration}
+use Rattle.ned_types.specs.Flat.{class_in, class_of, named_or}
+use Rattle.ned_types.specs.Types.{has_duplicate, is_interface_kind, is_simple_kind, is_type_named}
+use Rattle.ned_types.specs.WellFormed.{IsAmong}
+use Rattle.ned_inheritance.specs.Inheritance.{class_lines, flat_type, has_other_base, joined_connections, no_connections, with_members}
+use Rattle.ned_inheritance.specs.Named.{flat_by_lines, HaveLines, StandBehind}
+
+-- a type of that class that extends another, before it has any member
+abbrev pub bare_heir_with : List ℕ → TypeDeclaration → TypeDeclaration
+bare_heir_with class t = record {
+  kind = t.kind;
+  name = t.name;
+  base = t.base;
+  interfaces = [];
+  lines = class_lines (is_simple_kind t.kind) class;
+  gates = [];
+  submodules = [];
+  connections = no_connections;
+}
+
+-- the lines of a flat type, but for that of its class, which stands before the others where it is a simple type that extends another
+abbrev pub own_lines : TypeDeclaration → List SectionLine
+own_lines flat = if is_simple_kind flat.kind && is_some flat.base then drop 1 flat.lines else flat.lines
+
+-- a type with all that a flat type has after its own
+abbrev pub with_inherited : TypeDeclaration → TypeDeclaration → TypeDeclaration
+with_inherited flat base = record {
+  kind = flat.kind;
+  name = flat.name;
+  base = flat.base;
+  interfaces = flat.interfaces ++ base.interfaces;
+  lines = flat.lines ++ own_lines base;
+  gates = flat.gates ++ base.gates;
+  submodules = flat.submodules ++ base.submodules;
+  connections = joined_connections flat.connections base.connections;
+}
+
+-- the flat type of a type whose base has this flat type
+abbrev pub heir_over : TypeDeclaration → TypeDeclaration → TypeDeclaration
+heir_over base t = with_members (with_inherited (bare_heir_with (named_or (class_in t.lines) (class_of base)) t) base) t
+
+-- the same of a type whose base is none of the types, as a built-in channel
+abbrev pub heir_alone : TypeDeclaration → TypeDeclaration
+heir_alone t = with_members (bare_heir_with (class_of t) t) t
+
+abbrev pub heir_by : Option TypeDeclaration → TypeDeclaration → TypeDeclaration
+heir_by (Some base) t = heir_over base t
+heir_by None t = heir_alone t
+
+-- flat types by their names
+abbrev pub FlatEntries : Type 0
+FlatEntries = List (Bor (List ℕ) × TypeDeclaration)
+
+abbrev pub flat_at : FlatEntries → List ℕ → Option TypeDeclaration
+flat_at entries name = lookup (λ k. bytes_eq name k.now) entries
+
+abbrev pub flat_by_base : FlatEntries → TypeDeclaration → Option (List ℕ) → TypeDeclaration
+flat_by_base entries t None = t
+flat_by_base entries t (Some name) = heir_by (flat_at entries name) t
+
+-- the flat type of a type, where these are those of all that it extends, and lines of interfaces
+abbrev pub flat_behind : List (Bor (List ℕ) × List TypeDeclaration) → FlatEntries → TypeDeclaration → TypeDeclaration
+flat_behind lines entries t = if is_interface_kind t.kind then flat_by_lines lines t else flat_by_base entries t t.base
+
+-- the flat type that stands at the name of a type; the type itself where there is none
+abbrev pub found_at : FlatEntries → TypeDeclaration → TypeDeclaration
+found_at entries t = unwrap_or (flat_at entries t.name) t
+
+-- a flat type was added at the name of a type
+abbrev pub AddsFlat : FlatEntries → FlatEntries → TypeDeclaration → TypeDeclaration → Type 0
+AddsFlat before after t flat = (name : List ℕ) → flat_at after name ≡ (if bytes_eq t.name name then Some flat else flat_at before name)
+
+-- at the name of each type that was seen stands its flat type, and at other names none
+abbrev pub HaveFlats : FlatEntries → List TypeDeclaration → List TypeDeclaration → Type 0
+HaveFlats entries types seen =
+    ((t : TypeDeclaration) → IsAmong t types → is_type_named t.name seen ≡ true → flat_at entries t.name ≡ Some (flat_type types t))
+    × ((name : List ℕ) → is_type_named name seen ≡ false → flat_at entries name ≡ None)
+
+-- the flat types of an order, where each type stands after all that it extends
+abbrev pub FlatsAlong : List (Bor (List ℕ) × List TypeDeclaration) → FlatEntries → List TypeDeclaration → Type 0
+FlatsAlong lines entries order =
+    (types : List TypeDeclaration) → has_duplicate types ≡ false → has_other_base types ≡ false → HaveLines lines types → StandBehind types [] order → HaveFlats entries types order

@@ -1,0 +1,97 @@
+//! Why the program ends early.
+
+ghost use Rattle.std.specs.Prelude.{◌≡◌};
+ghost use Rattle.clap.specs.Values.{kind_of};
+ghost use Rattle.sim_values.specs.Memory.{no_memory};
+ghost use Rattle.nedrun_exit.specs.Stops.{IsFailed, status_of, words_status};
+ghost use Rattle.nedrun_exit.specs.declared.stops.Stop.TheVariants as stops;
+
+use clap::error::ErrorKind;
+use sim_values::NoMemory;
+use sim_values::text::Text;
+use std::alloc::{AllocError, AllocFailed, Global};
+use std::io;
+
+/// Why the program ends early.
+#[derive(Drop)]
+pub enum Stop {
+    /// The words aren't as they should be, or ask for help.
+    Words(clap::Error),
+    /// The texts make no model: the text of the refusal, and the diagnostic.
+    Refused(Text, String),
+    /// A file, a folder or a stream failed: which, and what failed.
+    Failed(String, io::Error),
+    /// As many command lines were read as are read at most.
+    Spent,
+    /// The last run ended in a fault, and the words want that told by the status.
+    Fault,
+    /// Memory ran out.
+    NoMemory(NoMemory),
+}
+
+impl Stop {
+    /// What ends the program where a file, a folder or a stream failed.
+    pub fn failed(alloc: Global, what: &str, name: &str, error: io::Error) -> Stop
+        ensures { IsFailed what.now name.now error result }
+    {
+        match format!(in alloc; "{name}: {what}") {
+            Ok(line) => Stop::Failed(line, error),
+            Err(error) => error.into(),
+        }
+    }
+
+    /// The status of a program that ends for it.
+    pub fn status(&self) -> u8
+        ensures { result ≡ status_of self.now }
+    {
+        match self {
+            Stop::Words(error) => words_status(error),
+            Stop::Refused(_, _) => 2,
+            Stop::Fault => 3,
+            Stop::Failed(_, _) | Stop::Spent | Stop::NoMemory(_) => 1,
+        }
+    }
+}
+
+/// The status after words that aren't as they should be.
+fn words_status(error: &clap::Error) -> u8
+    ensures { result ≡ words_status (kind_of error.now) }
+{
+    match error.kind() {
+        ErrorKind::OutOfMemory => 1,
+        ErrorKind::DisplayHelp | ErrorKind::DisplayVersion => 0,
+        _ => 2,
+    }
+}
+
+impl From<clap::Error> for Stop {
+    ghost from_gives = { λ error stop. stop ≡ stops.Words error };
+
+    fn from(error: clap::Error) -> Stop {
+        Stop::Words(error)
+    }
+}
+
+impl From<NoMemory> for Stop {
+    ghost from_gives = { λ error stop. stop ≡ stops.NoMemory error };
+
+    fn from(error: NoMemory) -> Stop {
+        Stop::NoMemory(error)
+    }
+}
+
+impl From<AllocError> for Stop {
+    ghost from_gives = { λ error stop. stop ≡ stops.NoMemory no_memory };
+
+    fn from(error: AllocError) -> Stop {
+        Stop::NoMemory(error.into())
+    }
+}
+
+impl<T: Drop> From<AllocFailed<T>> for Stop {
+    ghost from_gives = { λ _ stop. stop ≡ stops.NoMemory no_memory };
+
+    fn from(failed: AllocFailed<T>) -> Stop {
+        Stop::NoMemory(failed.into())
+    }
+}

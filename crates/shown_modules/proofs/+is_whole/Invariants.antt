@@ -1,4 +1,0 @@
-use Rattle.shown_modules.proofs.+is_whole.Given as goal
-
-abbrev pub decreases-is_whole : goal.decreases-is_whole
-decreases-is_whole l = l.depth

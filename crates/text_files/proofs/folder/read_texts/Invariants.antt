@@ -1,6 +1,0 @@
-use Rattle.std.proofs.Common.{take}
-use Rattle.text_files.specs.Folders.{AreTextsOf}
-use Rattle.text_files.proofs.folder.read_texts.Given as goal
-
-abbrev pub invariant-loop-number : goal.invariant-loop-number
-invariant-loop-number g l = AreTextsOf (g.F.Folder.gave l.folder) (take l.number l.paths) l.texts

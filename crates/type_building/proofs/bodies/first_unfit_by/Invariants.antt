@@ -1,7 +1,0 @@
-use Rattle.std.proofs.Common.{◌≡◌, drop}
-use Rattle.std.specs.List.{list_any}
-use Rattle.type_building.specs.Seen.{names_in, is_unfit_over}
-use Rattle.type_building.proofs.bodies.first_unfit_by.Given as goal
-
-abbrev pub invariant-loop-at : goal.invariant-loop-at
-invariant-loop-at l = list_any (is_unfit_over (names_in l.declared.keys) (names_in l.fixed.keys)) (drop l.at l.body) ≡ list_any (is_unfit_over (names_in l.declared.keys) (names_in l.fixed.keys)) l.body

@@ -1,8 +1,0 @@
-use Rattle.std.proofs.Common.{◌≡◌, not, drop}
-use Rattle.type_building.specs.Places.{first_from}
-use Rattle.ned_types.specs.Types.{type_named}
-use Rattle.type_building.specs.Interfaces.{is_interface_for}
-use Rattle.type_building.proofs.interfaces.first_other_interface.Given as goal
-
-abbrev pub invariant-loop-at : goal.invariant-loop-at
-invariant-loop-at l = first_from (λ n. not (is_interface_for l.kind (type_named n l.named))) l.at (drop l.at l.names) ≡ first_from (λ n. not (is_interface_for l.kind (type_named n l.named))) 0 l.names

@@ -1,9 +1,0 @@
-use Rattle.std.proofs.Common.{◌≡◌, length}
-use Rattle.type_building.specs.Inheritance.{all_behind, types_in}
-use Rattle.type_building.proofs.lines.add_behind.Given as goal
-
-abbrev pub invariant-loop-rest : goal.invariant-loop-rest
-invariant-loop-rest l = all_behind l.line (types_in l.rest) ≡ all_behind l.fn.line (types_in l.more)
-
-abbrev pub decreases-loop-rest : goal.decreases-loop-rest
-decreases-loop-rest l = length l.rest

@@ -1,6 +1,0 @@
-use Rattle.std.proofs.Common.{◌≡◌, ◌++◌, drop}
-use Rattle.type_building.specs.Inheritance.{types_in}
-use Rattle.type_building.proofs.order.add_references.Given as goal
-
-abbrev pub invariant-loop-declared : goal.invariant-loop-declared
-invariant-loop-declared l = types_in l.refs.items ++ drop l.declared-index l.types ≡ types_in l.fn.refs.items ++ l.types

@@ -1,6 +1,0 @@
-use Rattle.std.proofs.Common.{◌∙◌}
-use Rattle.type_building.proofs.SectionLaws.{looked_up}
-use Rattle.type_building.proofs.sections.is_seen.Goals as goal
-
-pub returns : goal.returns
-returns c = c.contains.ensures ∙ looked_up c.args.name.now c.args.seen.now.keys

@@ -1,5 +1,0 @@
-use Rattle.worked_runs.proofs.Runs.{three_ticks_run}
-use Rattle.worked_runs.proofs.three_ticks.Goals as goal
-
-pub returns : goal.returns
-returns c = three_ticks_run
